@@ -1,0 +1,15 @@
+//! The names that the whole host speaks of: sites and aliases, paths, digests, cells, and the files
+//! that were uploaded.
+#![tactic(auto)]
+
+//mod blobs;
+//mod cells;
+mod digests;
+mod names;
+//mod paths;
+
+//pub use blobs::{BlobInfo, Uploads};
+//pub use cells::Cell;
+pub use digests::{BadDigest, Digest};
+pub use names::{AliasName, BadName, Name, SiteName};
+//pub use paths::{FilePath, PathError};
