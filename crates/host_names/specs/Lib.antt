@@ -1,3 +1,4 @@
 pub mod Name
+pub mod Path
 pub mod Hex
 pub mod Digests
