@@ -3,13 +3,13 @@
 #![tactic(auto)]
 
 //mod blobs;
-//mod cells;
+mod cells;
 mod digests;
 mod names;
 mod paths;
 
 //pub use blobs::{BlobInfo, Uploads};
-//pub use cells::Cell;
+pub use cells::Cell;
 pub use digests::{BadDigest, Digest};
 pub use names::{AliasName, BadName, Name, SiteName};
 pub use paths::{FilePath, PathError};

@@ -185,3 +185,19 @@ impl AliasName {
         self.0.as_str()
     }
 }
+
+impl fmt::Display for SiteName {
+    ghost output = { λ site. Some site.0 };
+
+    fn fmt<W: fmt::Write>(&self, f: &mut fmt::Formatter<W>) -> fmt::Result {
+        f.pad(self.as_str())
+    }
+}
+
+impl fmt::Display for AliasName {
+    ghost output = { λ alias. Some alias.0 };
+
+    fn fmt<W: fmt::Write>(&self, f: &mut fmt::Formatter<W>) -> fmt::Result {
+        f.pad(self.as_str())
+    }
+}
