@@ -4,3 +4,4 @@ pub mod Hex
 pub mod Digests
 pub mod Cells
 pub mod CellOrder
+pub mod Blobs

@@ -2,13 +2,13 @@
 //! that were uploaded.
 #![tactic(auto)]
 
-//mod blobs;
+mod blobs;
 mod cells;
 mod digests;
 mod names;
 mod paths;
 
-//pub use blobs::{BlobInfo, Uploads};
+pub use blobs::{BlobInfo, Uploads};
 pub use cells::Cell;
 pub use digests::{BadDigest, Digest};
 pub use names::{AliasName, BadName, Name, SiteName};
