@@ -1,20 +1,26 @@
 -- What has been uploaded.
-use Rattle.std.specs.Prelude.{◌≡◌, ℕ, List, Some, IsSome, is_some, if◌then◌else◌}
-use Rattle.std.specs.FinMap.{FinMap, get, contains_key, insert}
+use Rattle.std.specs.Prelude.{◌≡◌, ℕ, List, map, Some, if◌then◌else◌}
+use Rattle.std.specs.FinMap.{FinMap, get, contains_key, insert, from_entries}
 use Rattle.sha1.specs.Sha1 as sha
 use Rattle.host_names.specs.declared.digests.Digest.{Digest}
 use Rattle.host_names.specs.Digests.{digest_cmp}
+
+-- the digest of some bytes (FIPS 180-4)
+abbrev pub digest_of : List ℕ → Digest
+digest_of bytes = record { 0 = sha.sha1 bytes }
 
 -- the bytes of each file that was uploaded, under its digest
 abbrev pub Contents : Type 0
 Contents = FinMap digest_cmp (List ℕ)
 
--- each file stands under its own digest (FIPS 180-4)
+-- each file stands under its own digest
 abbrev pub AreDigested : Contents → Type 0
 AreDigested files = (digest : Digest) (bytes : List ℕ) → get files digest ≡ Some bytes → digest.0 ≡ sha.sha1 bytes
 
 -- the files with one more, unless its digest stands for a file already, which it then keeps
 abbrev pub with_file : Contents → List ℕ → Contents
-with_file files bytes =
-    let digest : Digest = record { 0 = sha.sha1 bytes } in
-    if contains_key files digest then files else insert files digest bytes
+with_file files bytes = if contains_key files (digest_of bytes) then files else insert files (digest_of bytes) bytes
+
+-- the bytes of files that are kept in a list
+abbrev pub stored : {File : Type 0} → (File → List ℕ) → List (Digest × File) → Contents
+stored bytes files = from_entries (map (λ e. (e.0, bytes e.1)) files)

@@ -7,9 +7,11 @@ mod cells;
 mod digests;
 mod names;
 mod paths;
+mod uploads;
 
 pub use blobs::{BlobInfo, Uploads};
 pub use cells::Cell;
 pub use digests::{BadDigest, Digest};
 pub use names::{AliasName, BadName, Name, SiteName};
 pub use paths::{FilePath, PathError};
+pub use uploads::MemoryUploads;

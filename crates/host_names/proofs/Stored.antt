@@ -1,0 +1,105 @@
+-- What the entries of a map from digests to files stand for.
+use Rattle.std.proofs.Common.{◌≡◌, ℕ, Bool, true, false, cond, Result, Ok, Err, OnOk, IfOk, List, [], ◌∷◌, map, Option, Some, None, option_map, refl, sym, ap, subst, ◌∙◌}
+use Rattle.std.specs.BTreeMap.{is_at}
+use Rattle.std.specs.Cmp.Lexicographic.{slice_cmp}
+use Rattle.std.specs.FinMap.{get, find, insert, contains_key, from_entries, get-from_entries, get-insert, get-empty, same_map}
+use Rattle.std.specs.Map.{lookup}
+use Rattle.std.specs.Ordering.{eq_by_cmp, nat_cmp, is_eq}
+use Rattle.std.specs.declared.cmp.Ordering.{Ordering}
+use Rattle.std.specs.declared.cmp.Ordering.TheVariants.{Less, Equal, Greater}
+use Rattle.std.proofs.lemmas.Cmp.{eq_by_cmp_equiv}
+use Rattle.sha1.specs.Sha1 as sha
+use Rattle.host_names.specs.declared.digests.Digest.{Digest}
+use Rattle.host_names.specs.Digests.{digest_cmp, digest_cmp_total, digest_cmp-IsAntisymmetric}
+use Rattle.host_names.specs.Blobs.{Contents, AreDigested, digest_of, with_file, stored}
+
+option_map-cond : {A B : Type 0} (f : A → B) (b : Bool) (x : A) (o : Option A) → cond b (Some (f x)) (option_map f o) ≡ option_map f (cond b (Some x) o)
+option_map-cond f true x o = refl
+option_map-cond f false x o = refl
+
+is_eq-true : (o : Ordering) → is_eq o ≡ true → o ≡ Equal
+is_eq-true Less e = cc e
+is_eq-true Equal e = refl
+is_eq-true Greater e = cc e
+
+-- a map with a file more is digested, where the file stands under its own digest
+pub AreDigested-insert : (files : Contents) (bytes : List ℕ) → AreDigested files → AreDigested (insert files (digest_of bytes) bytes)
+AreDigested-insert files bytes h digest found e =
+    let here = sym (get-insert digest_cmp_total files (digest_of bytes) bytes digest) ∙ e in
+    elim (eq_by_cmp digest_cmp digest (digest_of bytes)) as (λ b. eq_by_cmp digest_cmp digest (digest_of bytes) ≡ b → cond b (Some bytes) (get files digest) ≡ Some found → digest.0 ≡ sha.sha1 found) [
+      | true ↦ λ tie same.
+          let at : digest ≡ digest_of bytes = digest_cmp-IsAntisymmetric digest (digest_of bytes) (is_eq-true _ tie) in
+          let it : bytes ≡ found = cc same in
+          ap (λ (d : Digest). d.0) at ∙ ap sha.sha1 it
+      | false ↦ λ tie same. h digest found same
+    ] refl here
+
+-- a map without files is digested
+pub AreDigested-none : {File : Type 0} (bytes : File → List ℕ) (files : List _) → files ≡ [] → AreDigested (stored bytes files)
+AreDigested-none bytes files none digest found e =
+    let empty : get (stored bytes []) digest ≡ Some found = rw none at e in
+    cc (sym (get-empty {X = List ℕ} digest_cmp digest) ∙ empty)
+
+module _ {File : Type 0} (bytes : File → List ℕ) where
+  find-stored : (files : List (Digest × File)) (q : Digest) → find digest_cmp q (map (λ e. (e.0, bytes e.1)) files) ≡ option_map bytes (lookup (is_at (digest_cmp q)) files)
+  find-stored [] q = refl
+  find-stored (e ∷ files) q =
+      ap (cond (is_at (digest_cmp q) e.0) (Some (bytes e.1))) (find-stored files q) ∙ option_map-cond bytes (is_at (digest_cmp q) e.0) e.1 _
+
+  pub get-stored : (files : List (Digest × File)) (q : Digest) → get (stored bytes files) q ≡ option_map bytes (lookup (is_at (digest_cmp q)) files)
+  get-stored files q = get-from_entries digest_cmp_total _ q ∙ find-stored files q
+
+  -- files that differ at one digest
+  pub stored-insert : (old new : List (Digest × File)) (digest : Digest) (file : File)
+      → ((q : Digest) → lookup (is_at (digest_cmp q)) new ≡ cond (is_at (digest_cmp digest) q) (Some file) (lookup (is_at (digest_cmp q)) old))
+      → stored bytes new ≡ insert (stored bytes old) digest (bytes file)
+  stored-insert old new digest file h = same_map digest_cmp_total digest_cmp-IsAntisymmetric _ _ (λ q.
+      get-stored new q ∙ ap (option_map bytes) (h q) ∙ sym (option_map-cond bytes _ file _)
+      ∙ ap (λ b. cond b (Some (bytes file)) (option_map bytes (lookup (is_at (digest_cmp q)) old))) ((eq_by_cmp_equiv digest_cmp_total).symm digest q)
+      ∙ sym (get-insert digest_cmp_total (stored bytes old) digest (bytes file) q ∙ ap (cond (eq_by_cmp digest_cmp q digest) (Some (bytes file))) (get-stored old q)))
+
+  same_digest : (digest : Digest) (text : List ℕ) → digest.0 ≡ sha.sha1 text → digest ≡ digest_of text
+  same_digest digest text e = ap (λ (d : List ℕ). record { 0 = d }) e
+
+  -- a file under the digest of these bytes is known already
+  pub known_file : (files : List (Digest × File)) (kept : Contents) (digest : Digest) (text : List ℕ) (file : File)
+      → stored bytes files ≡ kept → digest.0 ≡ sha.sha1 text → Some file ≡ lookup (is_at (digest_cmp digest)) files
+      → (kept ≡ with_file kept text) × (get kept (digest_of text) ≡ Some (bytes file))
+  known_file files kept digest text file is named found =
+      let at : get kept (digest_of text) ≡ Some (bytes file) =
+        ap (λ k. get k (digest_of text)) (sym is) ∙ ap (get (stored bytes files)) (sym (same_digest digest text named))
+        ∙ get-stored files digest ∙ ap (option_map bytes) (sym found) in
+      (rw at refl, at)
+
+  -- the file of these bytes is new
+  pub new_file : (old new : List (Digest × File)) (kept : Contents) (digest : Digest) (text : List ℕ) (file : File)
+      → stored bytes old ≡ kept → AreDigested (stored bytes old) → digest.0 ≡ sha.sha1 text → bytes file ≡ text
+      → lookup (is_at (digest_cmp digest)) old ≡ None
+      → ((q : Digest) → lookup (is_at (digest_cmp q)) new ≡ cond (is_at (digest_cmp digest) q) (Some file) (lookup (is_at (digest_cmp q)) old))
+      → (stored bytes new ≡ with_file kept text) × (get (stored bytes new) (digest_of text) ≡ Some (bytes file)) × AreDigested (stored bytes new)
+  new_file old new kept digest text file is digested named holds absent updates =
+      let at = same_digest digest text named in
+      let none : get kept (digest_of text) ≡ None =
+        ap (λ k. get k (digest_of text)) (sym is) ∙ ap (get (stored bytes old)) (sym at) ∙ get-stored old digest ∙ ap (option_map bytes) absent in
+      let more : stored bytes new ≡ insert (stored bytes old) digest (bytes file) = stored-insert old new digest file updates in
+      let added : stored bytes new ≡ insert kept (digest_of text) text =
+        more ∙ ap (λ k. insert k digest (bytes file)) is ∙ ap (λ d. insert kept d (bytes file)) at ∙ ap (insert kept (digest_of text)) holds in
+      let same : stored bytes new ≡ with_file kept text = rw none added in
+      let tie : eq_by_cmp digest_cmp (digest_of text) (digest_of text) ≡ true = (eq_by_cmp_equiv digest_cmp_total).refl (digest_of text) in
+      (
+        same,
+        ap (λ k. get k (digest_of text)) added ∙ get-insert digest_cmp_total kept (digest_of text) text (digest_of text)
+        ∙ ap (λ b. cond b (Some text) (get kept (digest_of text))) tie ∙ ap Some (sym holds),
+        let P : Contents → Type 0 = AreDigested in
+        subst P (sym added) (AreDigested-insert kept text (subst P is digested)),
+      )
+
+-- what holds in any case holds at `Ok`
+pub on_ok : {A E : Type 0} {P : Type 0} (r : Result A E) → P → OnOk r P
+on_ok (Ok x) p = p
+on_ok (Err e) p = tt
+
+-- what is found where the first of two equal values is
+pub if_ok_same : {A B E : Type 0} (f : A → B) (r : Result A E) (x : B) (found : Option B) → IfOk r (λ y. f y ≡ x) → found ≡ Some x → IfOk r (λ y. found ≡ Some (f y))
+if_ok_same f (Ok y) x found same e = e ∙ ap Some (sym same)
+if_ok_same f (Err e) x found same h = tt
