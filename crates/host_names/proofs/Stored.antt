@@ -67,8 +67,8 @@ module _ {File : Type 0} (bytes : File → List ℕ) where
       → (kept ≡ with_file kept text) × (get kept (digest_of text) ≡ Some (bytes file))
   known_file files kept digest text file is named found =
       let at : get kept (digest_of text) ≡ Some (bytes file) =
-        ap (λ k. get k (digest_of text)) (sym is) ∙ ap (get (stored bytes files)) (sym (same_digest digest text named))
-        ∙ get-stored files digest ∙ ap (option_map bytes) (sym found) in
+      ap (λ k. get k (digest_of text)) (sym is) ∙ ap (get (stored bytes files)) (sym (same_digest digest text named))
+      ∙ get-stored files digest ∙ ap (option_map bytes) (sym found) in
       (rw at refl, at)
 
   -- the file of these bytes is new
@@ -80,18 +80,17 @@ module _ {File : Type 0} (bytes : File → List ℕ) where
   new_file old new kept digest text file is digested named holds absent updates =
       let at = same_digest digest text named in
       let none : get kept (digest_of text) ≡ None =
-        ap (λ k. get k (digest_of text)) (sym is) ∙ ap (get (stored bytes old)) (sym at) ∙ get-stored old digest ∙ ap (option_map bytes) absent in
+      ap (λ k. get k (digest_of text)) (sym is) ∙ ap (get (stored bytes old)) (sym at) ∙ get-stored old digest ∙ ap (option_map bytes) absent in
       let more : stored bytes new ≡ insert (stored bytes old) digest (bytes file) = stored-insert old new digest file updates in
       let added : stored bytes new ≡ insert kept (digest_of text) text =
-        more ∙ ap (λ k. insert k digest (bytes file)) is ∙ ap (λ d. insert kept d (bytes file)) at ∙ ap (insert kept (digest_of text)) holds in
+      more ∙ ap (λ k. insert k digest (bytes file)) is ∙ ap (λ d. insert kept d (bytes file)) at ∙ ap (insert kept (digest_of text)) holds in
       let same : stored bytes new ≡ with_file kept text = rw none added in
-      let tie : eq_by_cmp digest_cmp (digest_of text) (digest_of text) ≡ true = (eq_by_cmp_equiv digest_cmp_total).refl (digest_of text) in
-      (
+      let tie : eq_by_cmp digest_cmp (digest_of text) (digest_of text) ≡ true = (eq_by_cmp_equiv digest_cmp_total).refl (digest_of text) in (
         same,
         ap (λ k. get k (digest_of text)) added ∙ get-insert digest_cmp_total kept (digest_of text) text (digest_of text)
-        ∙ ap (λ b. cond b (Some text) (get kept (digest_of text))) tie ∙ ap Some (sym holds),
+            ∙ ap (λ b. cond b (Some text) (get kept (digest_of text))) tie ∙ ap Some (sym holds),
         let P : Contents → Type 0 = AreDigested in
-        subst P (sym added) (AreDigested-insert kept text (subst P is digested)),
+            subst P (sym added) (AreDigested-insert kept text (subst P is digested)),
       )
 
 -- what holds in any case holds at `Ok`

@@ -7,6 +7,8 @@ mod cells;
 mod digests;
 mod names;
 mod paths;
+#[cfg(test)]
+mod tests;
 mod uploads;
 
 pub use blobs::{BlobInfo, Uploads};
