@@ -1,0 +1,83 @@
+"""A small repository in a folder of its own, for tests of the scripts at the top of this one.
+
+Its crates hold no code, and the toolchain is a stand-in, `fake_rt`, so that a build takes no time.
+"""
+
+import os
+import pathlib
+import shutil
+import subprocess
+import sys
+import tempfile
+
+TOP = pathlib.Path(__file__).resolve().parent.parent
+FAKE_RT = pathlib.Path(__file__).resolve().parent / "fake_rt"
+
+# What the scripts may call beside rt. A PATH of these alone has no toolchain on it, wherever that is installed.
+TOOLS = "bash cat chmod dirname env find flock mkdir mktemp readlink rm rmdir sleep tail tee touch".split()
+
+
+class Sandbox:
+    """The repository, its PATH with the stand-in for rt, and what that was called for."""
+
+    def __init__(self, *scripts):
+        self.room = tempfile.TemporaryDirectory(prefix="filehost-test-")
+        self.folder = pathlib.Path(self.room.name).resolve()
+        self.top = self.folder / "repository"
+        self.calls_file = self.folder / "calls"
+        (self.top / "crates").mkdir(parents=True)
+        for script in scripts:
+            (self.top / script).parent.mkdir(exist_ok=True)
+            shutil.copy(TOP / script, self.top / script)
+        self.tools = self.folder / "tools"
+        self.tools.mkdir()
+        for tool in TOOLS:
+            (self.tools / tool).symlink_to(shutil.which(tool))
+        (self.tools / "python3").symlink_to(sys.executable)
+        (self.folder / "toolchain").mkdir()
+        shutil.copy(FAKE_RT, self.folder / "toolchain" / "rt")
+
+    def close(self):
+        self.room.cleanup()
+
+    def write(self, path, text="", mode=0o644):
+        """Writes a file of the repository, and returns its place."""
+        file = self.top / path
+        file.parent.mkdir(parents=True, exist_ok=True)
+        file.write_text(text)
+        file.chmod(mode)
+        return file
+
+    def add_crates(self, listing):
+        """Writes crates.txt, and a source, a definition and a proof for each crate that it lists."""
+        self.write("crates.txt", listing)
+        for line in listing.splitlines():
+            name = line.partition("#")[0].partition(":")[0].strip()
+            if name:
+                self.write(f"crates/{name}/src/{'main' if name == 'filehost' else 'lib'}.rt", "first")
+                self.write(f"crates/{name}/specs/Lib.antt")
+                self.write(f"crates/{name}/proofs/Lib.antt")
+
+    def let_time_pass(self):
+        """Makes all that is there older, in the order that it has, so that what is written next is newer."""
+        for path in [self.top, *self.top.rglob("*")]:
+            told = path.stat()
+            os.utime(path, ns=(told.st_atime_ns, told.st_mtime_ns - 10_000_000_000))
+
+    def environment(self, has_toolchain=True, **more):
+        path = [str(self.folder / "toolchain")] * has_toolchain + [str(self.tools)]
+        return {"PATH": ":".join(path), "CALLS": str(self.calls_file), **more}
+
+    def run(self, *words, at=None, given=b"", has_toolchain=True, **more):
+        """Runs a command to its end, and returns its status and what it wrote, as text."""
+        environment = self.environment(has_toolchain, **more)
+        ran = subprocess.run(words, cwd=at or self.top, input=given, env=environment, capture_output=True, timeout=60)
+        return ran.returncode, ran.stdout.decode(), ran.stderr.decode()
+
+    def calls(self):
+        """The calls of rt since this was last asked, each as `CRATE: WORDS`."""
+        if not self.calls_file.exists():
+            return []
+        lines = self.calls_file.read_text().splitlines()
+        self.calls_file.unlink()
+        return lines

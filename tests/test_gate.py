@@ -1,0 +1,134 @@
+"""The gate ./test and the runner tests/run: nothing that failed is counted as passed, and all is counted."""
+
+import shutil
+import sys
+import unittest
+
+from sandbox import Sandbox
+
+PARTS = """\
+import os, sys
+print("the end-to-end tests")
+print(os.environ["RUN_SAYS"])
+sys.exit(int(os.environ["RUN_STATUS"]))
+"""
+
+FAKE_APT_GET = """#!/usr/bin/env bash
+printf 'apt-get %s\\n' "$1" >>"$CALLS"
+[[ $1 != install ]] || cp "$PYTHON" "${0%/*}/python3"
+"""
+
+
+class Gate(unittest.TestCase):
+    def setUp(self):
+        self.sandbox = Sandbox("test", ".ci/run", "filehost")
+        self.addCleanup(self.sandbox.close)
+        self.sandbox.write("tests/run", PARTS)
+
+    def launch(self):
+        """Calls the launcher, and returns which crates it had proved."""
+        self.sandbox.run(str(self.sandbox.top / "filehost"))
+        return [call.partition(":")[0] for call in self.sandbox.calls()]
+
+    def gate(self, ci="3 passed, 0 failed", ci_status=0, run="2 passed, 0 failed", run_status=0, command="test", **how):
+        """Runs the gate over parts that say and answer this, and returns its status and its lines."""
+        how.update(CI_SAYS=f"every proof\n{ci}\n", CI_STATUS=str(ci_status))
+        how.update(RUN_SAYS=run, RUN_STATUS=str(run_status))
+        status, out, _ = self.sandbox.run(str(self.sandbox.top / command), **how)
+        return status, out.splitlines()
+
+    def assert_ends(self, answer, status, last):
+        self.assertEqual((answer[0], answer[1][-1]), (status, last))
+
+    def test_counts_both_parts_and_shows_what_they_print(self):
+        status, lines = self.gate()
+        shown = ["every proof", "3 passed, 0 failed", "the end-to-end tests", "2 passed, 0 failed", "5 passed, 0 failed"]
+        self.assertEqual((status, lines), (0, shown))
+
+    def test_fails_where_a_part_counts_failures(self):
+        self.assert_ends(self.gate(ci="3 passed, 2 failed", ci_status=1), 1, "5 passed, 2 failed")
+        self.assert_ends(self.gate(run="1 passed, 1 failed", run_status=1), 1, "4 passed, 1 failed")
+        self.assert_ends(self.gate(ci="3 passed, 2 failed"), 1, "5 passed, 2 failed")
+
+    def test_fails_where_a_part_prints_no_count(self):
+        self.assert_ends(self.gate(ci="killed", ci_status=137), 1, "2 passed, 1 failed")
+        self.assert_ends(self.gate(ci="all is well"), 1, "2 passed, 1 failed")
+        self.assert_ends(self.gate(run="Traceback", run_status=1), 1, "3 passed, 1 failed")
+
+    def test_fails_where_a_part_ends_badly_after_its_count(self):
+        self.assert_ends(self.gate(ci_status=1), 1, "5 passed, 1 failed")
+        self.assert_ends(self.gate(run_status=1), 1, "5 passed, 1 failed")
+
+    def test_fails_where_nothing_ran(self):
+        self.assert_ends(self.gate(ci="0 passed, 0 failed", run="0 passed, 0 failed"), 1, "0 passed, 0 failed")
+
+    def test_leaves_the_program_that_it_proved(self):
+        self.sandbox.add_crates("low:\nfilehost: low\n")
+        self.sandbox.let_time_pass()
+        self.gate()
+        self.sandbox.calls()
+        self.assertEqual(self.launch(), [])
+
+    def test_leaves_what_was_edited_meanwhile_to_be_built(self):
+        self.sandbox.add_crates("low:\nfilehost: low\n")
+        self.sandbox.let_time_pass()
+        self.gate(EDIT_MEANWHILE=str(self.sandbox.top / "crates/low/src/lib.rt"), SECONDS_A_CRATE="0.1")
+        self.sandbox.calls()
+        self.assertEqual(self.launch(), ["low", "filehost"])
+
+    def test_says_that_the_toolchain_is_missing(self):
+        self.assert_ends(self.gate(has_toolchain=False), 1, "0 passed, 1 failed")
+
+    def test_installs_python_where_it_is_missing(self):
+        tools = self.sandbox.tools
+        (tools / "python3").unlink()
+        python = self.sandbox.write("python", f'#!/usr/bin/env bash\nexec {sys.executable} "$@"\n', 0o755)
+        (tools / "cp").symlink_to(shutil.which("cp"))
+        for name, text in (("apt-get", FAKE_APT_GET), ("sudo", '#!/usr/bin/env bash\nexec "$@"\n')):
+            (tools / name).write_text(text)
+            (tools / name).chmod(0o755)
+        self.assert_ends(self.gate(PYTHON=str(python)), 0, "5 passed, 0 failed")
+        self.assertEqual(self.sandbox.calls(), ["apt-get update", "apt-get install", "repository: ci"])
+        self.assert_ends(self.gate(), 0, "5 passed, 0 failed")
+        self.assertEqual(self.sandbox.calls(), ["repository: ci"])
+
+    def test_fails_where_python_cannot_be_installed(self):
+        (self.sandbox.tools / "python3").unlink()
+        self.assert_ends(self.gate(), 1, "0 passed, 1 failed")
+
+    def test_works_from_any_folder_and_as_the_merge_gate(self):
+        for command in ("test", ".ci/run"):
+            with self.subTest(command):
+                self.assert_ends(self.gate(command=command, at=self.sandbox.folder), 0, "5 passed, 0 failed")
+                self.assertEqual(self.sandbox.calls(), ["repository: ci"])
+
+
+class Runner(unittest.TestCase):
+    def setUp(self):
+        self.sandbox = Sandbox("tests/run")
+        self.addCleanup(self.sandbox.close)
+
+    def assert_counts(self, body, status, last):
+        if body is not None:
+            text = f"import unittest\nclass It(unittest.TestCase):\n    def test_first(self): pass\n{body}"
+            self.sandbox.write("tests/test_it.py", text)
+        answer = self.sandbox.run("python3", "tests/run")
+        self.assertEqual((answer[0], answer[1].splitlines()[-1]), (status, last))
+
+    def test_counts_what_passed_and_what_did_not(self):
+        self.assert_counts("", 0, "1 passed, 0 failed")
+        self.assert_counts("    def test_second(self): self.fail()\n", 1, "1 passed, 1 failed")
+        self.assert_counts("    def test_second(self): raise OSError\n", 1, "1 passed, 1 failed")
+
+    def test_counts_a_skipped_test_as_failed(self):
+        self.assert_counts("    def test_second(self): self.skipTest('later')\n", 1, "1 passed, 1 failed")
+
+    def test_counts_a_file_that_cannot_be_read_as_failed(self):
+        self.assert_counts("import no_such_module\n", 1, "0 passed, 1 failed")
+
+    def test_fails_where_there_is_no_test(self):
+        self.assert_counts(None, 1, "0 passed, 0 failed")
+
+
+if __name__ == "__main__":
+    unittest.main()

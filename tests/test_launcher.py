@@ -1,0 +1,193 @@
+"""The launcher ./filehost: it builds what has to be built, once, and then is the program."""
+
+import os
+import signal
+import subprocess
+import time
+import unittest
+
+from sandbox import Sandbox
+
+CRATES = """\
+# name: what it stands on
+filehost: upper thiserror   # the program
+other: low
+upper: middle low
+low: sha1
+middle: low
+"""
+IN_ORDER = ["low: lib", "middle: lib", "upper: lib", "filehost: run -- --version"]
+OWN_STATUS = 7
+
+
+class Launcher(unittest.TestCase):
+    def setUp(self):
+        self.sandbox = Sandbox("filehost")
+        self.addCleanup(self.sandbox.close)
+        self.launcher = str(self.sandbox.top / "filehost")
+
+    def call(self, *words, **how):
+        return self.sandbox.run(self.launcher, *words, **how)
+
+    def add_built_program(self):
+        self.sandbox.add_crates(CRATES)
+        self.assertEqual(self.call()[0], OWN_STATUS)
+        self.sandbox.calls()
+        self.sandbox.let_time_pass()
+
+    def assert_refuses(self, answer, *words):
+        """It ended with status 1 and wrote one line, on standard error, that has these words."""
+        status, out, err = answer
+        self.assertEqual((status, out), (1, ""))
+        self.assertEqual(len(err.splitlines()), 1, err)
+        self.assertTrue(err.startswith("filehost: "), err)
+        for word in words:
+            self.assertIn(word, err)
+
+    def test_says_that_there_is_no_program_yet(self):
+        self.sandbox.write("crates.txt", "# name: what it stands on\n")
+        self.assert_refuses(self.call(), "no program", "crates/filehost")
+        self.assertEqual(self.sandbox.calls(), [])
+
+    def test_says_that_the_toolchain_is_missing(self):
+        self.sandbox.add_crates(CRATES)
+        self.assert_refuses(self.call(has_toolchain=False), "toolchain is missing", "rt on PATH")
+
+    def test_says_that_the_program_is_not_listed(self):
+        self.sandbox.add_crates(CRATES)
+        self.sandbox.write("crates.txt", "low:\n")
+        self.assert_refuses(self.call(), "crates.txt", "filehost")
+
+    def test_proves_what_the_program_stands_on_lowest_first(self):
+        self.sandbox.add_crates(CRATES)
+        self.call()
+        self.assertEqual(self.sandbox.calls(), IN_ORDER)
+
+    def test_shows_on_standard_error_how_far_a_build_is(self):
+        self.sandbox.add_crates(CRATES)
+        _, out, err = self.call()
+        self.assertNotIn("proving", out)
+        progress = [line for line in err.splitlines() if line.startswith("[")]
+        crates = ["low (3 left)", "middle (2 left)", "upper (1 left)", "filehost (0 left)"]
+        self.assertEqual(progress, [f"[{place}/4] proving {crate}" for place, crate in enumerate(crates, 1)])
+
+    def test_gives_the_program_its_arguments_input_and_status(self):
+        self.sandbox.add_crates(CRATES)
+        words = ["solo", "--store", "a folder", "", "*", "two\nlines", "--"]
+        shown = "".join(f"<{word}>" for word in words) + f" in {self.sandbox.folder}\n"
+        for what in ("a call that builds", "a later call"):
+            with self.subTest(what):
+                status, out, _ = self.call(*words, at=self.sandbox.folder, given=b"GET / \r\n\0end")
+                self.assertEqual((status, out), (OWN_STATUS, shown + "GET / \r\n\0end"))
+
+    def test_starts_at_once_where_nothing_has_changed(self):
+        self.add_built_program()
+        status, _, err = self.call(has_toolchain=False)
+        self.assertEqual((status, err), (OWN_STATUS, ""))
+
+    def test_works_through_symbolic_links_from_any_folder(self):
+        self.sandbox.add_crates(CRATES)
+        elsewhere = self.sandbox.folder / "else where"
+        elsewhere.mkdir()
+        (elsewhere / "to it").symlink_to("../repository/filehost")
+        (elsewhere / "serve").symlink_to("to it")
+        self.launcher = "./serve"
+        status, out, _ = self.call("solo", at=elsewhere)
+        self.assertEqual((status, out), (OWN_STATUS, f"<solo> in {elsewhere}\n"))
+        self.assertEqual(self.sandbox.calls(), IN_ORDER)
+
+    def test_builds_again_where_a_source_is_newer(self):
+        self.sandbox.add_crates(CRATES)
+        for path in ("crates.txt", "crates/low/src/lib.rt", "crates/upper/specs/Lib.antt",
+                     "crates/middle/proofs/send/Answers.antt", "crates/filehost/src/main.rt"):
+            with self.subTest(path):
+                self.add_built_program()
+                self.sandbox.write(path, CRATES if path == "crates.txt" else "second")
+                self.assertEqual(self.call()[0], OWN_STATUS)
+                self.assertEqual(self.sandbox.calls(), IN_ORDER)
+
+    def test_builds_again_where_a_source_was_removed(self):
+        self.sandbox.add_crates(CRATES)
+        source = self.sandbox.write("crates/low/src/names.rt")
+        self.add_built_program()
+        source.unlink()
+        self.assertEqual(self.call()[0], OWN_STATUS)
+        self.assertEqual(self.sandbox.calls(), IN_ORDER)
+
+    def test_builds_nothing_where_other_files_are_newer(self):
+        self.add_built_program()
+        for path in ("README.md", "docs/PROOFS.md", "crates/low/must-fail/wrong.edit"):
+            self.sandbox.write(path)
+        self.call()
+        self.assertEqual(self.sandbox.calls(), [])
+
+    def test_builds_again_what_was_edited_during_the_build(self):
+        self.sandbox.add_crates(CRATES)
+        self.sandbox.let_time_pass()
+        edited = self.sandbox.top / "crates/low/src/lib.rt"
+        self.call(EDIT_MEANWHILE=str(edited), SECONDS_A_CRATE="0.1")
+        self.sandbox.calls()
+        self.call()
+        self.assertEqual(self.sandbox.calls(), IN_ORDER)
+
+    def test_says_where_a_build_failed_and_runs_no_older_program(self):
+        log = self.sandbox.top / "crates/filehost/out/build.log"
+        for crate in ("low", "filehost"):
+            with self.subTest(crate):
+                self.add_built_program()
+                broken = self.sandbox.write(f"crates/{crate}/src/broken")
+                for what in ("the first call", "the next call"):
+                    status, out, err = self.call()
+                    self.assertEqual((status, out), (1, ""), what)
+                    self.assertEqual(err.splitlines()[-1], f"filehost: the build failed at {crate}: see {log}")
+                    self.assertIn(f"an open goal of {crate}", log.read_text())
+                broken.unlink()
+                self.assertEqual(self.call()[0], OWN_STATUS)
+
+    def test_builds_again_after_a_build_that_was_cut_off(self):
+        program = self.sandbox.top / "crates/filehost/out/filehost"
+        busy = self.sandbox.folder / "calls.busy"
+        for moment, cut_at, why in (
+            ("in its first crate", busy, {"SECONDS_A_CRATE": "60"}),
+            ("with the program made", program, {"SECONDS_AFTER_BUILD": "60"}),
+        ):
+            with self.subTest(moment):
+                self.add_built_program()
+                program.unlink()
+                self.cut_off(cut_at, why)
+                if busy.exists():
+                    busy.rmdir()
+                self.sandbox.calls()
+                self.assertEqual(self.call()[0], OWN_STATUS)
+                self.assertEqual(self.sandbox.calls(), IN_ORDER)
+
+    def cut_off(self, file, why):
+        """Starts a build, and kills it with all that it started as soon as the file is there."""
+        building = self.start(stdout=subprocess.DEVNULL, stderr=subprocess.DEVNULL, start_new_session=True, **why)
+        while building.poll() is None and not file.exists():
+            time.sleep(0.01)
+        os.killpg(building.pid, signal.SIGKILL)
+        building.wait()
+
+    def start(self, *words, stdout=subprocess.PIPE, stderr=subprocess.PIPE, start_new_session=False, **more):
+        how = {"stdin": subprocess.DEVNULL, "stdout": stdout, "stderr": stderr, "start_new_session": start_new_session}
+        return subprocess.Popen([self.launcher, *words], env=self.sandbox.environment(**more), **how)
+
+    def test_lets_the_program_take_its_place(self):
+        self.add_built_program()
+        program = self.start("pid")
+        out, _ = program.communicate(timeout=60)
+        self.assertEqual(out.decode(), str(program.pid))
+
+    def test_builds_once_for_two_calls_at_once(self):
+        self.sandbox.add_crates(CRATES)
+        callers = [self.start("solo", SECONDS_A_CRATE="0.2") for _ in range(2)]
+        said = [caller.communicate(timeout=60) for caller in callers]
+        self.assertEqual([caller.returncode for caller in callers], [OWN_STATUS] * 2)
+        self.assertEqual([out.startswith(b"<solo> in ") for out, _ in said], [True] * 2)
+        self.assertEqual(self.sandbox.calls(), IN_ORDER)
+        self.assertEqual(sum(b"another call is building" in err for _, err in said), 1)
+
+
+if __name__ == "__main__":
+    unittest.main()
