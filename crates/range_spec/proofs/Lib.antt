@@ -1,0 +1,4 @@
+mod Fronts
+mod Plain
+mod Positions
+mod Selecting

@@ -1,0 +1,4 @@
+pub mod Answers
+pub mod Asks
+pub mod Chosen
+pub mod Reading

@@ -1,0 +1,9 @@
+//! Byte ranges of RFC 9110, section 14: what the value of a Range field asks for, and which bytes of a file that
+//! chooses. No call allocates.
+#![tactic(auto)]
+
+mod grammar;
+mod selection;
+
+pub use grammar::{Asked, Spec, Specs, parse};
+pub use selection::{Choice, Intervals, select};
