@@ -1,6 +1,5 @@
 -- The one plain text.
 use Rattle.std.proofs.Common.{◌≡◌, ◌≢◌, ℕ, ◌-◌, ◌^◌, ◌<◌, min, false, List, [], ◌∷◌, ◌++◌, refl, ap, arith, append_assoc, ◌∙◌, sym}
-
 use Rattle.std.proofs.lemmas.Bool.Decides.{nat_tests}
 use Rattle.std.proofs.lemmas.List.{append_cancel_left, append-nil}
 use Rattle.std.specs.Prelude.{codes, length, ◌==◌, Some, IfSome, IfNone}
@@ -37,7 +36,7 @@ pub plain_after : (text rest after : List ℕ) (first last position : ℕ) → t
     → (p : IsPlainText text first last) → (position ≡ first) × (after ≡ codes "-" ++ p.last_digits)
 plain_after text rest after first last position e q ended p =
     let both = one_numeral q.digits p.first_digits after (codes "-" ++ p.last_digits) q.position_is.numeral p.first_position.numeral ended (omega arith)
-        (sym q.parts ∙ plain_rest text rest first last e p) in
+    (sym q.parts ∙ plain_rest text rest first last e p) in
     (one_position _ _ _ _ q.position_is p.first_position both.0, both.1)
 
 -- no first position
@@ -79,8 +78,8 @@ is_plain text rest after more tail first last e q dash r none = record {
   first_digits = q.digits;
   last_digits = r.digits;
   parts =
-    e ∙ ap (λ t. codes "bytes=" ++ t) (q.parts ∙ ap (λ t. q.digits ++ t) (dash ∙ ap (λ t. codes "-" ++ t) (r.parts ∙ ap (λ t. r.digits ++ t) none ∙ append-nil r.digits)))
-    ∙ sym (append_assoc (codes "bytes=" ++ q.digits) (codes "-") r.digits ∙ append_assoc (codes "bytes=") q.digits (codes "-" ++ r.digits));
+      e ∙ ap (λ t. codes "bytes=" ++ t) (q.parts ∙ ap (λ t. q.digits ++ t) (dash ∙ ap (λ t. codes "-" ++ t) (r.parts ∙ ap (λ t. r.digits ++ t) none ∙ append-nil r.digits)))
+      ∙ sym (append_assoc (codes "bytes=" ++ q.digits) (codes "-") r.digits ∙ append_assoc (codes "bytes=") q.digits (codes "-" ++ r.digits));
   first_position = q.position_is;
   last_position = r.position_is;
 }

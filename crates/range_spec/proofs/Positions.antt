@@ -30,7 +30,7 @@ position_more text position digit rest after p d = record {
   position_is = record {
     numeral = (omega (arith, length-append p.digits (d.byte ∷ [])), digits_push 10 p.digits d.byte p.position_is.numeral.1 (omega arith));
     value =
-      rw (digits_value_push 10 p.digits d.byte, d.value_is)
-      (capped (digits_value 10 p.digits) position digit (2 ^ 64 - 1) p.position_is.value);
+        rw (digits_value_push 10 p.digits d.byte, d.value_is)
+        (capped (digits_value 10 p.digits) position digit (2 ^ 64 - 1) p.position_is.value);
   };
 }

@@ -4,7 +4,7 @@
 --     suffix-range = "-" suffix-length
 -- The unit is `bytes`, in any case. The elements of the set are parted by commas, and an empty one asks for nothing (section 5.6.1).
 use Rattle.std.specs.Prelude.{◌≡◌, ℕ, ◌-◌, ◌^◌, ◌≤◌, ◌⊎◌, min, List, [], ◌∷◌, ◌++◌, length, codes, Some, None}
-use Rattle.std.specs.List.{AllByRecursion, join_with_byte}
+use Rattle.std.specs.List.{All, AllByRecursion, join_with_byte}
 use Rattle.std.specs.Str.{str_to_ascii_lowercase}
 use Rattle.std.specs.Str.Parse.{IsNumeral, digits_value}
 use Rattle.range_spec.specs.declared.grammar.Spec.{Spec}
@@ -15,6 +15,12 @@ abbrev pub IsInOrder : Spec → Type 0
 IsInOrder (From first (Some last)) = first ≤ last
 IsInOrder (From first None) = Unit {0}
 IsInOrder (Suffix n) = Unit {0}
+
+-- what a value may ask for: 1 to 16 specs, each in order
+pub record IsAskable (specs : List Spec) : Type 0 where
+  pub some : 1 ≤ length specs
+  pub few : length specs ≤ 16
+  pub in_order : All IsInOrder specs
 
 -- one or more decimal digits, and the number that they stand for: at most the greatest `u64`
 pub record IsPosition (digits : List ℕ) (position : ℕ) : Type 0 where

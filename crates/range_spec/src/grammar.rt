@@ -1,6 +1,6 @@
 //! The value of a Range field.
-ghost use Rattle.std.specs.Prelude.{◌≡◌, ◌+◌, ◌<◌, ◌≤◌, ℕ, [], ◌∷◌, length, All, IfSome, IfNone, Some};
-ghost use Rattle.range_spec.specs.Asks.{IsInOrder, AsksRanges, IsPlainText, IsSinglePlainRange};
+ghost use Rattle.std.specs.Prelude.{◌≡◌, ◌↔◌, ℕ, [], ◌∷◌, IsTrue, IsSome, IfSome, IfNone, Some};
+ghost use Rattle.range_spec.specs.Asks.{IsInOrder, IsAskable, AsksRanges, IsPlainText, IsSinglePlainRange};
 ghost use Rattle.range_spec.specs.Answers.{IfSpecs};
 ghost use Rattle.range_spec.specs.Reading.{BeginsNoDigit, IsDigitBefore, IsPositionBefore};
 
@@ -16,6 +16,18 @@ pub enum Spec {
     Suffix(u64),
 }
 
+impl Spec {
+    /// Whether its last position, if it has one, is not below its first.
+    pub fn is_in_order(self) -> bool
+        ensures { IsTrue result ↔ IsInOrder self }
+    {
+        match self {
+            Spec::From(first, Some(last)) => first <= last,
+            _ => true,
+        }
+    }
+}
+
 /// Every byte.
 impl Default for Spec {
     fn default() -> Self {
@@ -24,24 +36,38 @@ impl Default for Spec {
 }
 
 /// The specs that one field asks for, in order: 1 to 16 of them, each with its last position not below its first.
-#[derive(Debug, Drop)]
+#[derive(Debug, PartialEq, Eq, Drop)]
 pub struct Specs {
     list: ArrayVec<Spec, 16>,
 }
 
 impl Model for Specs {
-    ghost use Rattle.std.specs.Prelude.{List, ◌≤◌, length, All};
+    ghost use Rattle.std.specs.Prelude.{List};
     ghost use Rattle.range_spec.specs.declared.grammar.Spec.{Spec};
-    ghost use Rattle.range_spec.specs.Asks.{IsInOrder};
+    ghost use Rattle.range_spec.specs.Asks.{IsAskable};
 
     ghost Value = { List Spec };
 
     ghost view = { λ s. s.list.items };
 
-    ghost invariant = { λ s. (1 ≤ length s.list.items) × All IsInOrder s.list.items };
+    ghost invariant = { λ s. IsAskable s.list.items };
+
+    ghost inverse = { λ specs. record { list = record { items = specs } } };
 }
 
 impl Specs {
+    /// The list of these specs, if a field may ask for it.
+    pub fn new(specs: &[Spec]) -> Option<Self>
+        ensures askable { IsSome result ↔ IsAskable specs.now }
+        ensures value { IfSome result (λ list. list ≡ specs.now) }
+    {
+        if specs.is_empty() || !specs.iter().all(|spec| spec.is_in_order()) {
+            return None;
+        }
+        let list = ArrayVec::try_from(specs).ok()?;
+        Some(Specs { list })
+    }
+
     /// The list of one spec.
     fn one(spec: Spec) -> Self
         requires { IsInOrder spec }
@@ -55,16 +81,14 @@ impl Specs {
     /// The specs, in the order asked.
     pub fn as_slice(&self) -> &[Spec]
         ensures value { result.now ≡ self.now }
-        ensures some { 1 ≤ length self.now }
-        ensures few { length self.now ≤ 16 }
-        ensures in_order { All IsInOrder self.now }
+        ensures askable { IsAskable self.now }
     {
         self.list.as_slice()
     }
 }
 
 /// What a Range field asks for.
-#[derive(Debug, Drop)]
+#[derive(Debug, PartialEq, Eq, Drop)]
 pub enum Asked {
     /// Nothing that is understood: the field is ignored (RFC 9110, section 14.2).
     Ignore,
@@ -81,7 +105,10 @@ pub fn parse(value: &[u8]) -> Asked
         → result ≡ Asked.Specs (Spec.From first (Some last) ∷ []) }
 {
     match plain_pair(value) {
-        Some((first, last)) if first <= last => Asked::Specs(Specs::one(Spec::From(first, Some(last)))),
+        Some((first, last)) if first <= last => Asked::Specs(Specs::one(Spec::From(
+            first,
+            Some(last),
+        ))),
         _ => Asked::Ignore,
     }
 }

@@ -3,7 +3,11 @@
 #![tactic(auto)]
 
 mod grammar;
+mod laws;
 mod selection;
+#[cfg(test)]
+mod tests;
 
 pub use grammar::{Asked, Spec, Specs, parse};
+pub use laws::one_reading;
 pub use selection::{Choice, Intervals, select};

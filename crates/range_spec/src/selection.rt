@@ -8,7 +8,7 @@ use crate::{Spec, Specs};
 use arrayvec::ArrayVec;
 use std::marker::Model;
 /// Intervals of positions, each with its first and its last byte, both included: 16 at most, in the order asked.
-#[derive(Debug, Drop)]
+#[derive(Debug, PartialEq, Eq, Drop)]
 pub struct Intervals {
     list: ArrayVec<(u64, u64), 16>,
 }
@@ -19,10 +19,22 @@ impl Model for Intervals {
     ghost Value = { List (ℕ × ℕ) };
 
     ghost view = { λ s. s.list.items };
+
+    ghost inverse = { λ intervals. record { list = record { items = intervals } } };
+}
+
+impl Intervals {
+    /// The intervals, in the order asked.
+    pub fn as_slice(&self) -> &[(u64, u64)]
+        ensures value { result.now ≡ self.now }
+        ensures few { length self.now ≤ 16 }
+    {
+        self.list.as_slice()
+    }
 }
 
 /// What a reply to a range request sends of a file.
-#[derive(Debug, Drop)]
+#[derive(Debug, PartialEq, Eq, Drop)]
 pub enum Choice {
     /// The whole file, as if no range had been asked for.
     Whole,
@@ -33,6 +45,7 @@ pub enum Choice {
     /// No spec can be satisfied: status 416.
     None416,
 }
+
 impl Spec {
     /// The first and the last position of this spec in a file of `size` bytes, or `None` where it can't be satisfied.
     fn interval(self, size: u64) -> Option<(u64, u64)>

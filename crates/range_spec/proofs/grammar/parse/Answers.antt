@@ -19,5 +19,6 @@ returns-in-Some-clause-each_plain c = λ first last p.
 
 pub returns-in_default-clause-each_plain : goal.returns-in_default-clause-each_plain
 returns-in_default-clause-each_plain c = λ first last p. elim c.in_default.branch [
-    in_default-via-in-Some+else-first-last w ↦ absurd (out_of_order _ _ _ _ _ w.in-Some.ensures.found p w.if-first-last.false)
-  | in_default-via-in_default w ↦ absurd (w.in_default.ensures.none first last p.plain) ]
+  | in_default-via-in-Some+else-first-last w ↦ absurd (out_of_order _ _ _ _ _ w.in-Some.ensures.found p w.if-first-last.false)
+  | in_default-via-in_default w ↦ absurd (w.in_default.ensures.none first last p.plain)
+]

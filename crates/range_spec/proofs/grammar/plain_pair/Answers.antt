@@ -34,7 +34,7 @@ returns-clause-found c =
     let dash = strip_prefix_is Decides-eqb c.in_ok-first.rest.now (codes "-") (Some c.in_ok-strip_prefix-2.field-0) c.in_ok-strip_prefix-2.ensures.cases in
     rw (c.then_some.ensures, c.is_empty.ensures)
     (if_nothing_left (λ pair. IsPlainText c.args.value.now pair.0 pair.1) c.in_ok-last.rest.now (c.in_ok-first.first, c.in_ok-last.last)
-      (λ none. is_plain _ _ _ _ _ _ _ unit c.in_ok-first.ensures.found dash c.in_ok-last.ensures.found none))
+    (λ none. is_plain _ _ _ _ _ _ _ unit c.in_ok-first.ensures.found dash c.in_ok-last.ensures.found none))
 
 pub returns-clause-none : goal.returns-clause-none
 returns-clause-none c =
@@ -42,4 +42,4 @@ returns-clause-none c =
     let dash = strip_prefix_is Decides-eqb c.in_ok-first.rest.now (codes "-") (Some c.in_ok-strip_prefix-2.field-0) c.in_ok-strip_prefix-2.ensures.cases in
     rw (c.then_some.ensures, c.is_empty.ensures)
     (if_something_left ((first last : ℕ) → IsPlainText c.args.value.now first last → ⊥) c.in_ok-last.rest.now (c.in_ok-first.first, c.in_ok-last.last)
-      (λ some first last p. not_plain_end _ _ _ _ _ _ _ _ _ unit c.in_ok-first.ensures.found c.in_ok-first.ensures.ended dash c.in_ok-last.ensures.found c.in_ok-last.ensures.ended some p))
+    (λ some first last p. not_plain_end _ _ _ _ _ _ _ _ _ unit c.in_ok-first.ensures.found c.in_ok-first.ensures.ended dash c.in_ok-last.ensures.found c.in_ok-last.ensures.ended some p))

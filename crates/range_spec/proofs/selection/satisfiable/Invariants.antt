@@ -7,4 +7,5 @@ abbrev pub invariant-loop-spec : goal.invariant-loop-spec
 invariant-loop-spec l = record {
   each : l.intervals.items ≡ filter_map (interval_of l.size) (take l.spec-index l.specs);
   few : length l.intervals.items ≤ l.spec-index;
-  within : All (LiesWithin l.size) l.intervals.items }
+  within : All (LiesWithin l.size) l.intervals.items;
+}
