@@ -65,9 +65,9 @@ spec_no_comma text (Suffix n) p = rw p.2 (λ e. omega arith, position_no_comma _
 element_no_comma : (text : List ℕ) (specs : List Spec) → IsElement text specs → AllByRecursion IsNoComma text
 element_no_comma text [] p = all_weaker IsBlankByte IsNoComma blank_no_comma text p
 element_no_comma text (spec ∷ []) p =
-    rw p.7 (all_append IsNoComma (p.0 ++ p.1) p.2
+    rw p.6 (all_append IsNoComma (p.0 ++ p.1) p.2
     (all_append IsNoComma p.0 p.1 (all_weaker IsBlankByte IsNoComma blank_no_comma p.0 p.3) (spec_no_comma p.1 spec p.4))
-    (all_weaker IsBlankByte IsNoComma blank_no_comma p.2 p.6))
+    (all_weaker IsBlankByte IsNoComma blank_no_comma p.2 p.5))
 element_no_comma text (spec ∷ other ∷ more) p = absurd p
 
 -- the text isn't empty, and doesn't begin with a byte of this kind
@@ -151,7 +151,7 @@ one_spec text text' after after' (Suffix n) (Suffix m) p q blank blank' e =
 not_blank : (text : List ℕ) (spec : Spec) → IsBlank text → IsElement text (spec ∷ []) → ⊥
 not_blank text spec blank p =
     begins_both IsBlankByte (p.1 ++ p.2) (spec_begins p.1 p.2 spec p.4)
-    (all_back IsBlankByte p.0 (p.1 ++ p.2) (subst (AllByRecursion IsBlankByte) (p.7 ∙ append_assoc p.0 p.1 p.2) blank))
+    (all_back IsBlankByte p.0 (p.1 ++ p.2) (subst (AllByRecursion IsBlankByte) (p.6 ∙ append_assoc p.0 p.1 p.2) blank))
 
 -- an element asks for one list of specs
 one_element : (text : List ℕ) (specs others : List Spec) → IsElement text specs → IsElement text others → specs ≡ others
@@ -161,8 +161,8 @@ one_element text (s ∷ []) [] p q = absurd (not_blank text s q p)
 one_element text (s ∷ []) (t ∷ []) p q =
     let both = fronts_agree IsBlankByte p.0 q.0 (p.1 ++ p.2) (q.1 ++ q.2) p.3 q.3
     (begins_no IsBlankByte (p.1 ++ p.2) (spec_begins p.1 p.2 s p.4)) (begins_no IsBlankByte (q.1 ++ q.2) (spec_begins q.1 q.2 t q.4))
-    (sym (p.7 ∙ append_assoc p.0 p.1 p.2) ∙ q.7 ∙ append_assoc q.0 q.1 q.2) in
-    ap (λ spec. spec ∷ []) (one_spec p.1 q.1 p.2 q.2 s t p.4 q.4 p.6 q.6 both.1)
+    (sym (p.6 ∙ append_assoc p.0 p.1 p.2) ∙ q.6 ∙ append_assoc q.0 q.1 q.2) in
+    ap (λ spec. spec ∷ []) (one_spec p.1 q.1 p.2 q.2 s t p.4 q.4 p.5 q.5 both.1)
 one_element text (s ∷ s' ∷ ss) others p q = absurd p
 one_element text [] (t ∷ t' ∷ ts) p q = absurd q
 one_element text (s ∷ []) (t ∷ t' ∷ ts) p q = absurd q
@@ -217,6 +217,6 @@ one_reading text specs others p q =
     let sets = same_length p.unit q.unit (codes "=" ++ join_with_byte 44 p.elements) (codes "=" ++ join_with_byte 44 q.elements) (five ∙ sym five')
     (sym (append_assoc p.unit (codes "=") (join_with_byte 44 p.elements)) ∙ sym p.parts ∙ q.parts ∙ append_assoc q.unit (codes "=") (join_with_byte 44 q.elements)) in
     one_list p.elements q.elements specs others p.asked q.asked
-    (some_elements p.elements specs p.asked p.some
+    (some_elements p.elements specs p.asked p.askable.some
     ∙ ap (λ t. codes "," ++ t) (append_cancel_left (codes "=") (join_with_byte 44 p.elements) (join_with_byte 44 q.elements) sets)
-    ∙ sym (some_elements q.elements others q.asked q.some))
+    ∙ sym (some_elements q.elements others q.asked q.askable.some))

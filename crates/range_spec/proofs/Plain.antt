@@ -1,11 +1,12 @@
 -- The one plain text.
 use Rattle.std.proofs.Common.{◌≡◌, ◌≢◌, ℕ, ◌-◌, ◌^◌, ◌<◌, min, false, List, [], ◌∷◌, ◌++◌, refl, ap, arith, append_assoc, ◌∙◌, sym}
+use Rattle.std.proofs.lemmas.List.Elements.{All-cons, All-nil}
 use Rattle.std.proofs.lemmas.Bool.Decides.{nat_tests}
 use Rattle.std.proofs.lemmas.List.{append_cancel_left, append-nil}
 use Rattle.std.specs.Prelude.{codes, length, ◌==◌, Some, IfSome, IfNone}
 use Rattle.std.specs.Bool.{then_some}
 use Rattle.std.specs.Str.Parse.{IsNumeral, digits_value}
-use Rattle.range_spec.specs.Asks.{IsPosition, IsPlainText, IsSinglePlainRange, AsksRanges}
+use Rattle.range_spec.specs.Asks.{IsInOrder, IsPosition, IsPlainText, IsSinglePlainRange, AsksRanges}
 use Rattle.range_spec.specs.declared.grammar.Spec.TheVariants.{From}
 use Rattle.range_spec.specs.Reading.{BeginsNoDigit, IsPositionBefore}
 use Rattle.range_spec.proofs.Fronts.{fronts_agree, IsDigit, all_digits, begins_no_digit}
@@ -115,9 +116,12 @@ plain_asks text first last p =
       elements = range ∷ [];
       parts = p.plain.parts ∙ append_assoc (codes "bytes=" ++ a) (codes "-") b ∙ append_assoc (codes "bytes=") a (codes "-" ++ b) ∙ ap (λ t. codes "bytes=" ++ t) (sym (append_assoc a (codes "-") b));
       bytes_unit = refl;
-      asked = (From first (Some last) ∷ [], [], ([], range, [], tt, (a, b, p.plain.first_position, p.plain.last_position, refl), p.in_order, tt, sym (append-nil range)), refl, refl);
-      some = omega arith;
-      few = omega arith;
+      asked = (From first (Some last) ∷ [], [], ([], range, [], tt, (a, b, p.plain.first_position, p.plain.last_position, refl), tt, sym (append-nil range)), refl, refl);
+      askable = record {
+        some = omega arith;
+        few = omega arith;
+        in_order = All-cons IsInOrder (From first (Some last)) [] p.in_order (All-nil IsInOrder);
+      };
     }
 
 -- a plain text whose positions are out of order is none of those that are understood

@@ -18,12 +18,12 @@ position_from_digit text digit rest d = record {
 }
 
 -- the value with one more digit, where both are cut to the greatest position
-capped : (v p d m : ℕ) → p ≡ min v m → min (min (p * 10) m + d) m ≡ min (v * 10 + d) m
+capped : (v p d m : ℕ) → p ≡ min v m → min (p * 10 + d) m ≡ min (v * 10 + d) m
 capped v p d m h = omega arith
 
 -- one more digit
 pub position_more : (text : List ℕ) (position digit : ℕ) (rest after : List ℕ) → IsPositionBefore text position rest → IsDigitBefore rest digit after
-    → IsPositionBefore text (min (min (position * 10) (2 ^ 64 - 1) + digit) (2 ^ 64 - 1)) after
+    → IsPositionBefore text (min (position * 10 + digit) (2 ^ 64 - 1)) after
 position_more text position digit rest after p d = record {
   digits = p.digits ++ d.byte ∷ [];
   parts = p.parts ∙ ap (λ t. p.digits ++ t) d.parts ∙ sym (append_assoc p.digits (d.byte ∷ []) after);

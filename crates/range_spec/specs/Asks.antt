@@ -43,7 +43,7 @@ abbrev pub IsElement : List ℕ → List Spec → Type 0
 IsElement text [] = IsBlank text
 IsElement text (spec ∷ []) =
     (before : List ℕ) × (middle : List ℕ) × (after : List ℕ)
-    × IsBlank before × IsSpecText middle spec × IsInOrder spec × IsBlank after × (text ≡ before ++ middle ++ after)
+    × IsBlank before × IsSpecText middle spec × IsBlank after × (text ≡ before ++ middle ++ after)
 IsElement text (spec ∷ other ∷ more) = ⊥
 
 -- these elements ask for these specs, in order
@@ -52,15 +52,14 @@ AreElements [] specs = specs ≡ []
 AreElements (element ∷ elements) specs =
     (own : List Spec) × (others : List Spec) × IsElement element own × AreElements elements others × (specs ≡ own ++ others)
 
--- the whole value: it asks for 1 to 16 specs
+-- the whole value: `bytes`, an equals sign, and elements parted by commas, which ask for a list that may be asked for
 pub record AsksRanges (text : List ℕ) (specs : List Spec) : Type 0 where
   pub unit : List ℕ
   pub elements : List (List ℕ)
   pub parts : text ≡ unit ++ codes "=" ++ join_with_byte 44 elements
   pub bytes_unit : str_to_ascii_lowercase unit ≡ codes "bytes"
   pub asked : AreElements elements specs
-  pub some : 1 ≤ length specs
-  pub few : length specs ≤ 16
+  pub askable : IsAskable specs
 
 -- the text is `bytes=FIRST-LAST`, in lower case, with nothing round its parts
 pub record IsPlainText (text : List ℕ) (first last : ℕ) : Type 0 where

@@ -1,5 +1,5 @@
 //! The value of a Range field.
-ghost use Rattle.std.specs.Prelude.{◌≡◌, ◌↔◌, ℕ, [], ◌∷◌, IsTrue, IsSome, IfSome, IfNone, Some};
+ghost use Rattle.std.specs.Prelude.{◌≡◌, ◌+◌, ◌-◌, ◌*◌, ◌^◌, ◌↔◌, ℕ, min, [], ◌∷◌, IsTrue, IsSome, IfSome, IfNone, Some};
 ghost use Rattle.range_spec.specs.Asks.{IsInOrder, IsAskable, AsksRanges, IsPlainText, IsSinglePlainRange};
 ghost use Rattle.range_spec.specs.Answers.{IfSpecs};
 ghost use Rattle.range_spec.specs.Reading.{BeginsNoDigit, IsDigitBefore, IsPositionBefore};
@@ -30,13 +30,18 @@ impl Spec {
 
 /// Every byte.
 impl Default for Spec {
+    ghost use Rattle.std.specs.Prelude.{◌≡◌, None};
+    ghost use Rattle.range_spec.specs.declared.grammar.Spec.TheVariants.{From};
+
+    ghost is_default = { λ spec. spec ≡ From 0 None };
+
     fn default() -> Self {
         Spec::From(0, None)
     }
 }
 
 /// The specs that one field asks for, in order: 1 to 16 of them, each with its last position not below its first.
-#[derive(Debug, PartialEq, Eq, Drop)]
+#[derive(Clone, Debug, PartialEq, Eq, Drop)]
 pub struct Specs {
     list: ArrayVec<Spec, 16>,
 }
@@ -88,7 +93,7 @@ impl Specs {
 }
 
 /// What a Range field asks for.
-#[derive(Debug, PartialEq, Eq, Drop)]
+#[derive(Clone, Debug, PartialEq, Eq, Drop)]
 pub enum Asked {
     /// Nothing that is understood: the field is ignored (RFC 9110, section 14.2).
     Ignore,
@@ -105,10 +110,10 @@ pub fn parse(value: &[u8]) -> Asked
         → result ≡ Asked.Specs (Spec.From first (Some last) ∷ []) }
 {
     match plain_pair(value) {
-        Some((first, last)) if first <= last => Asked::Specs(Specs::one(Spec::From(
-            first,
-            Some(last),
-        ))),
+        Some((first, last)) if first <= last => {
+            let spec = Spec::From(first, Some(last));
+            Asked::Specs(Specs::one(spec))
+        }
         _ => Asked::Ignore,
     }
 }
@@ -132,10 +137,17 @@ fn leading_position(text: &[u8]) -> Option<(u64, &[u8])>
     let (digit, mut rest) = leading_digit(text)?;
     let mut position = u64::from(digit);
     while let Some((digit, after)) = leading_digit(rest) {
-        position = position.saturating_mul(10).saturating_add(u64::from(digit));
+        position = with_digit(position, digit);
         rest = after;
     }
     Some((position, rest))
+}
+
+/// The position with one more digit. One above the greatest `u64` counts as that.
+fn with_digit(position: u64, digit: u8) -> u64
+    ensures { result ≡ min (position * 10 + digit) (2 ^ 64 - 1) }
+{
+    position.saturating_mul(10).saturating_add(u64::from(digit))
 }
 
 /// The value of the digit at the front, and what follows it.

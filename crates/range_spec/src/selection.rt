@@ -7,8 +7,9 @@ ghost use Rattle.range_spec.specs.Chosen.{chosen, interval_of, intervals_in, Lie
 use crate::{Spec, Specs};
 use arrayvec::ArrayVec;
 use std::marker::Model;
+
 /// Intervals of positions, each with its first and its last byte, both included: 16 at most, in the order asked.
-#[derive(Debug, PartialEq, Eq, Drop)]
+#[derive(Clone, Debug, PartialEq, Eq, Drop)]
 pub struct Intervals {
     list: ArrayVec<(u64, u64), 16>,
 }
@@ -34,7 +35,7 @@ impl Intervals {
 }
 
 /// What a reply to a range request sends of a file.
-#[derive(Debug, PartialEq, Eq, Drop)]
+#[derive(Clone, Debug, PartialEq, Eq, Drop)]
 pub enum Choice {
     /// The whole file, as if no range had been asked for.
     Whole,

@@ -6,5 +6,4 @@ loop-digit-init c = rw c.from-position.ensures (position_from_digit _ _ _ c.in_o
 
 pub loop-digit-preserved : goal.loop-digit-preserved
 loop-digit-preserved c =
-    rw (c.saturating_add-position.ensures, c.saturating_mul.ensures, c.from.ensures)
-    (position_more _ _ _ _ _ c.loop-digit.invariant c.in-Some.ensures.found)
+    rw c.with_digit-position.ensures (position_more _ _ _ _ _ c.loop-digit.invariant c.in-Some.ensures.found)
