@@ -1,5 +1,5 @@
 -- A value asks for one list of specs.
-use Rattle.std.proofs.Common.{◌≡◌, ℕ, ◌+◌, ◌<◌, ◌≤◌, List, [], ◌∷◌, ◌++◌, length, refl, ap, arith, append_assoc, ◌∙◌, sym, subst, inl, inr, Some, None, lit≤}
+use Rattle.std.proofs.Common.{◌≡◌, ℕ, ◌<◌, ◌≤◌, List, [], ◌∷◌, ◌++◌, length, refl, ap, arith, append_assoc, ◌∙◌, sym, subst, inl, inr, Some, None, lit≤}
 use Rattle.std.specs.Prelude.{codes, ◌⊎◌}
 use Rattle.std.specs.List.{AllByRecursion, join_with_byte}
 use Rattle.std.specs.Char.{digit_value, to_ascii_lowercase}
@@ -9,6 +9,9 @@ use Rattle.range_spec.specs.declared.grammar.Spec.{Spec}
 use Rattle.range_spec.specs.declared.grammar.Spec.TheVariants.{From, Suffix}
 use Rattle.range_spec.specs.Asks.{IsPosition, IsSpecText, IsBlank, IsElement, AreElements, AsksRanges}
 use Rattle.range_spec.specs.Reading.{BeginsNoDigit}
+use Rattle.range_spec.specs.Understood.{IsUnderstoodAs}
+use Rattle.range_spec.specs.declared.grammar.Asked.{Asked}
+use Rattle.range_spec.specs.declared.grammar.Asked.TheVariants.{Ignore, Specs}
 use Rattle.range_spec.proofs.Fronts.{fronts_agree, BeginsNo, IsDigit, all_digits}
 use Rattle.range_spec.proofs.Plain.{no_numeral, one_position, one_numeral}
 
@@ -220,3 +223,10 @@ one_reading text specs others p q =
     (some_elements p.elements specs p.asked p.askable.some
     ∙ ap (λ t. codes "," ++ t) (append_cancel_left (codes "=") (join_with_byte 44 p.elements) (join_with_byte 44 q.elements) sets)
     ∙ sym (some_elements q.elements others q.asked q.askable.some))
+
+-- and has one answer
+pub one_answer : (text : List ℕ) (one another : Asked) → IsUnderstoodAs text one → IsUnderstoodAs text another → one ≡ another
+one_answer text Ignore Ignore p q = refl
+one_answer text Ignore (Specs specs) p q = absurd (p specs q.0 q.1)
+one_answer text (Specs specs) Ignore p q = absurd (q specs p.0 p.1)
+one_answer text (Specs specs) (Specs others) p q = ap (λ list. Specs list) (one_reading text specs others p.0 q.0)

@@ -6,7 +6,9 @@ use Rattle.std.proofs.lemmas.List.{append_cancel_left, append-nil}
 use Rattle.std.specs.Prelude.{codes, length, ◌==◌, Some, IfSome, IfNone}
 use Rattle.std.specs.Bool.{then_some}
 use Rattle.std.specs.Str.Parse.{IsNumeral, digits_value}
-use Rattle.range_spec.specs.Asks.{IsInOrder, IsPosition, IsPlainText, IsSinglePlainRange, AsksRanges}
+use Rattle.range_spec.specs.Asks.{IsInOrder, IsPosition, AsksRanges}
+use Rattle.range_spec.specs.Understood.{IsPlainText, IsSinglePlainRange, IsPlain}
+use Rattle.range_spec.specs.declared.grammar.Spec.{Spec}
 use Rattle.range_spec.specs.declared.grammar.Spec.TheVariants.{From}
 use Rattle.range_spec.specs.Reading.{BeginsNoDigit, IsPositionBefore}
 use Rattle.range_spec.proofs.Fronts.{fronts_agree, IsDigit, all_digits, begins_no_digit}
@@ -129,3 +131,7 @@ pub out_of_order : (text : List ℕ) (first last m n : ℕ) → IsPlainText text
 out_of_order text first last m n p q below =
     let both = one_plain text first last m n p q.plain in
     omega (arith, both.0, both.1, q.in_order)
+
+-- nor does it ask for what is understood
+pub not_understood : (text : List ℕ) (first last : ℕ) (specs : List Spec) → IsPlainText text first last → last < first → AsksRanges text specs → IsPlain text specs → ⊥
+not_understood text first last specs p below asks plain = out_of_order text first last plain.0 plain.1 p plain.3 below

@@ -1,9 +1,7 @@
 -- A position read digit by digit.
-use Rattle.std.proofs.Common.{◌≡◌, ℕ, ◌+◌, ◌-◌, ◌*◌, ◌^◌, ◌<◌, ◌≤◌, min, List, [], ◌∷◌, ◌++◌, length, arith, refl, append_assoc, length-append, ◌∙◌, ap, sym}
+use Rattle.std.proofs.Common.{◌≡◌, ℕ, ◌+◌, ◌-◌, ◌*◌, ◌^◌, min, List, [], ◌∷◌, ◌++◌, arith, append_assoc, length-append, ◌∙◌, ap, sym}
 use Rattle.std.proofs.lemmas.Int.Digits.{digits_value_push, digits_push}
-use Rattle.std.specs.Char.{digit_value}
 use Rattle.std.specs.Str.Parse.{digits_value}
-use Rattle.range_spec.specs.Asks.{IsPosition}
 use Rattle.range_spec.specs.Reading.{IsDigitBefore, IsPositionBefore}
 
 -- the first digit

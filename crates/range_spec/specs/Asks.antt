@@ -60,16 +60,3 @@ pub record AsksRanges (text : List ℕ) (specs : List Spec) : Type 0 where
   pub bytes_unit : str_to_ascii_lowercase unit ≡ codes "bytes"
   pub asked : AreElements elements specs
   pub askable : IsAskable specs
-
--- the text is `bytes=FIRST-LAST`, in lower case, with nothing round its parts
-pub record IsPlainText (text : List ℕ) (first last : ℕ) : Type 0 where
-  pub first_digits : List ℕ
-  pub last_digits : List ℕ
-  pub parts : text ≡ codes "bytes=" ++ first_digits ++ codes "-" ++ last_digits
-  pub first_position : IsPosition first_digits first
-  pub last_position : IsPosition last_digits last
-
--- the values that are understood so far
-pub record IsSinglePlainRange (text : List ℕ) (first last : ℕ) : Type 0 where
-  pub plain : IsPlainText text first last
-  pub in_order : first ≤ last

@@ -1,5 +1,5 @@
 -- Which bytes of a file some specs choose, by RFC 9110, sections 14.1.2 and 15.5.17.
-use Rattle.std.specs.Prelude.{◌≡◌, ℕ, ◌+◌, ◌-◌, ◌<◌, ◌≤◌, ◌==◌, nat_lt, min, if◌then◌else◌, List, [], ◌∷◌, sum_by, Option, Some, None, unwrap_or}
+use Rattle.std.specs.Prelude.{ℕ, ◌+◌, ◌-◌, ◌<◌, ◌≤◌, ◌==◌, nat_lt, min, if◌then◌else◌, List, [], ◌∷◌, sum_by, Option, Some, None, unwrap_or}
 use Rattle.std.specs.List.{filter_map}
 use Rattle.range_spec.specs.declared.grammar.Spec.{Spec}
 use Rattle.range_spec.specs.declared.grammar.Spec.TheVariants.{From, Suffix}

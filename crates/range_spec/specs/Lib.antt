@@ -1,4 +1,4 @@
-pub mod Answers
 pub mod Asks
 pub mod Chosen
 pub mod Reading
+pub mod Understood

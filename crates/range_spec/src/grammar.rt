@@ -1,8 +1,8 @@
 //! The value of a Range field.
 ghost use Rattle.std.specs.Prelude.{◌≡◌, ◌+◌, ◌-◌, ◌*◌, ◌^◌, ◌↔◌, ℕ, min, [], ◌∷◌, IsTrue, IsSome, IfSome, IfNone, Some};
-ghost use Rattle.range_spec.specs.Asks.{IsInOrder, IsAskable, AsksRanges, IsPlainText, IsSinglePlainRange};
-ghost use Rattle.range_spec.specs.Answers.{IfSpecs};
+ghost use Rattle.range_spec.specs.Asks.{IsInOrder, IsAskable};
 ghost use Rattle.range_spec.specs.Reading.{BeginsNoDigit, IsDigitBefore, IsPositionBefore};
+ghost use Rattle.range_spec.specs.Understood.{IsPlainText, IsSinglePlainRange, IsUnderstoodAs};
 
 use arrayvec::ArrayVec;
 use std::marker::Model;
@@ -104,8 +104,7 @@ pub enum Asked {
 /// Reads the value of a Range field, in one pass. So far it reads a single range with both its positions, as
 /// `bytes=0-499`, and ignores every other text.
 pub fn parse(value: &[u8]) -> Asked
-    ensures asked { IfSpecs result (AsksRanges value.now) }
-    ensures plain { IfSpecs result (λ specs. (first : ℕ) × (last : ℕ) × IsSinglePlainRange value.now first last) }
+    ensures understood { IsUnderstoodAs value.now result }
     ensures each_plain { (first last : ℕ) → IsSinglePlainRange value.now first last
         → result ≡ Asked.Specs (Spec.From first (Some last) ∷ []) }
 {

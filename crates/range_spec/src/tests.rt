@@ -1,3 +1,6 @@
+ghost use Rattle.std.specs.Prelude.{Some, None, [], ◌∷◌, ◌++◌, codes};
+ghost use Rattle.range_spec.specs.Asks.{AsksRanges};
+
 use crate::{Asked, Choice, Spec, Specs, parse, select};
 use std::process::Abort;
 use std::test::Fail;
@@ -143,4 +146,16 @@ fn chooses_several_intervals(rt: HostRuntime) {
         chosen(&rt, &[Spec::From(0, None); 16], GREATEST),
         Choice::Whole
     );
+}
+
+/// What the definition says of a value with each form of the grammar.
+fn each_form_is_asked_for()
+    ensures { AsksRanges (codes "Bytes=20-,, 0-0 ,-5")
+        (Spec.From 20 None ∷ Spec.From 0 (Some 0) ∷ Spec.Suffix 5 ∷ []) }
+{}
+
+#[test]
+fn definition_takes_each_form() {
+    // The proof of its clause is the test.
+    each_form_is_asked_for();
 }

@@ -1,14 +1,20 @@
-use Rattle.std.proofs.Common.{◌≡◌, ◌≤◌, ℕ, [], ◌∷◌, Some, arith, ap, sym, ◌∙◌}
-use Rattle.range_spec.specs.Asks.{IsSinglePlainRange}
-use Rattle.range_spec.specs.declared.grammar.Asked.TheVariants.{Ignore, Specs}
-use Rattle.range_spec.specs.declared.grammar.Spec.TheVariants.{From}
-use Rattle.range_spec.proofs.Plain.{plain_asks, one_plain, out_of_order}
+use Rattle.std.proofs.Common.{◌≡◌, ap, refl, ◌∙◌}
+use Rattle.range_spec.specs.Understood.{IsSinglePlainRange}
+use Rattle.range_spec.specs.declared.grammar.Asked.TheVariants.{Specs}
+use Rattle.range_spec.proofs.Plain.{plain_asks, one_plain, out_of_order, not_understood}
 use Rattle.range_spec.proofs.grammar.parse.Goals as goal
 use Rattle.range_spec.proofs.grammar.parse.Goals.{in_default-via-in-Some+else-first-last, in_default-via-in_default}
 
-pub returns-in-Some-clause-asked : goal.returns-in-Some-clause-asked
-returns-in-Some-clause-asked c =
-    rw c.one.ensures (plain_asks _ _ _ (record { plain = c.in-Some.ensures.found; in_order = c.if-first-last.true }))
+pub returns-in-Some-clause-understood : goal.returns-in-Some-clause-understood
+returns-in-Some-clause-understood c =
+    let plain : IsSinglePlainRange c.args.value.now c.in-Some.first c.in-Some.last = record { plain = c.in-Some.ensures.found; in_order = c.if-first-last.true } in
+    rw c.one.ensures (plain_asks _ _ _ plain, (c.in-Some.first, c.in-Some.last, refl, plain))
+
+pub returns-in_default-clause-understood : goal.returns-in_default-clause-understood
+returns-in_default-clause-understood c = λ specs asks plain. elim c.in_default.branch [
+  | in_default-via-in-Some+else-first-last w ↦ not_understood _ _ _ _ w.in-Some.ensures.found w.if-first-last.false asks plain
+  | in_default-via-in_default w ↦ w.in_default.ensures.none plain.0 plain.1 plain.3.plain
+]
 
 pub returns-in-Some-clause-each_plain : goal.returns-in-Some-clause-each_plain
 returns-in-Some-clause-each_plain c = λ first last p.

@@ -1,9 +1,9 @@
-use Rattle.std.proofs.Common.{◌≡◌, ◌≢◌, ◌++◌, List, ℕ, Some, None, []}
+use Rattle.std.proofs.Common.{ℕ, Some, None}
 use Rattle.std.specs.Prelude.{codes}
 use Rattle.std.proofs.lemmas.Bool.Decides.{Decides-eqb}
 use Rattle.std.proofs.lemmas.Slice.Eq.{strip_prefix_is}
 use Rattle.range_spec.proofs.Plain.{not_plain_first, not_plain_dash, not_plain_last, not_plain_end, is_plain, if_nothing_left, if_something_left}
-use Rattle.range_spec.specs.Asks.{IsPlainText}
+use Rattle.range_spec.specs.Understood.{IsPlainText}
 use Rattle.range_spec.proofs.grammar.plain_pair.Goals as goal
 
 -- src/grammar.rt:94:25

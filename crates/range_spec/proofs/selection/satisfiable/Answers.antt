@@ -1,4 +1,4 @@
-use Rattle.std.proofs.Common.{◌≡◌, arith, None, ◌∙◌, sym, ap, ◌++◌, ◌∷◌, []}
+use Rattle.std.proofs.Common.{arith, None, ◌∙◌, sym}
 use Rattle.std.proofs.lemmas.List.Elements.{All-push}
 use Rattle.range_spec.specs.declared.grammar.Spec.TheVariants.{From}
 use Rattle.range_spec.specs.Chosen.{LiesWithin, interval_of}
