@@ -16,13 +16,13 @@ IsInOrder (From first (Some last)) = first ≤ last
 IsInOrder (From first None) = Unit {0}
 IsInOrder (Suffix n) = Unit {0}
 
--- what a value may ask for: 1 to 16 specs, each in order
+-- what a value may ask for: 1 to 16 specs, each in order; longer lists are not understood
 pub record IsAskable (specs : List Spec) : Type 0 where
   pub some : 1 ≤ length specs
   pub few : length specs ≤ 16
   pub in_order : All IsInOrder specs
 
--- one or more decimal digits, and the number that they stand for: at most the greatest `u64`
+-- one or more decimal digits, and the position that they stand for: their value, or the greatest `u64` where that is less
 pub record IsPosition (digits : List ℕ) (position : ℕ) : Type 0 where
   pub numeral : IsNumeral 10 digits
   pub value : position ≡ min (digits_value 10 digits) (2 ^ 64 - 1)

@@ -9,5 +9,5 @@ mod selection;
 mod tests;
 
 pub use grammar::{Asked, Spec, Specs, parse};
-pub use laws::one_reading;
+pub use laws::{interval_is_what_is_asked_for, one_reading};
 pub use selection::{Choice, Intervals, select};
