@@ -1,0 +1,5 @@
+mod Fronts
+mod OneReading
+mod Plain
+mod Positions
+mod Selecting

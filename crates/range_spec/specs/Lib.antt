@@ -1,0 +1,4 @@
+pub mod Asks
+pub mod Chosen
+pub mod Reading
+pub mod Understood
