@@ -1,10 +1,9 @@
 -- What the entries of a map from digests to files stand for.
-use Rattle.std.proofs.Common.{◌≡◌, ℕ, Bool, true, false, cond, Result, Ok, Err, OnOk, IfOk, List, [], ◌∷◌, map, Option, Some, None, option_map, refl, sym, ap, subst, ◌∙◌}
+use Rattle.std.proofs.Common.{◌≡◌, ℕ, Bool, true, false, cond, Result, Ok, Err, OnOk, IfOk, List, [], ◌∷◌, map, Option, Some, None, is_some, option_map, refl, sym, ap, subst, ◌∙◌}
 use Rattle.std.specs.BTreeMap.{is_at}
-use Rattle.std.specs.Cmp.Lexicographic.{slice_cmp}
-use Rattle.std.specs.FinMap.{get, find, insert, contains_key, from_entries, get-from_entries, get-insert, get-empty, same_map}
+use Rattle.std.specs.FinMap.{get, find, insert, get-from_entries, get-insert, get-empty, same_map}
 use Rattle.std.specs.Map.{lookup}
-use Rattle.std.specs.Ordering.{eq_by_cmp, nat_cmp, is_eq}
+use Rattle.std.specs.Ordering.{eq_by_cmp, is_eq}
 use Rattle.std.specs.declared.cmp.Ordering.{Ordering}
 use Rattle.std.specs.declared.cmp.Ordering.TheVariants.{Less, Equal, Greater}
 use Rattle.std.proofs.lemmas.Cmp.{eq_by_cmp_equiv}
@@ -71,6 +70,13 @@ module _ {File : Type 0} (bytes : File → List ℕ) where
       ∙ get-stored files digest ∙ ap (option_map bytes) (sym found) in
       (rw at refl, at)
 
+  -- no file under the digest of these bytes is known
+  pub unknown_file : (files : List (Digest × File)) (kept : Contents) (digest : Digest) (text : List ℕ)
+      → stored bytes files ≡ kept → digest.0 ≡ sha.sha1 text → lookup (is_at (digest_cmp digest)) files ≡ None → get kept (digest_of text) ≡ None
+  unknown_file files kept digest text is named absent =
+      ap (λ k. get k (digest_of text)) (sym is) ∙ ap (get (stored bytes files)) (sym (same_digest digest text named))
+      ∙ get-stored files digest ∙ ap (option_map bytes) absent
+
   -- the file of these bytes is new
   pub new_file : (old new : List (Digest × File)) (kept : Contents) (digest : Digest) (text : List ℕ) (file : File)
       → stored bytes old ≡ kept → AreDigested (stored bytes old) → digest.0 ≡ sha.sha1 text → bytes file ≡ text
@@ -92,6 +98,14 @@ module _ {File : Type 0} (bytes : File → List ℕ) where
         let P : Contents → Type 0 = AreDigested in
             subst P (sym added) (AreDigested-insert kept text (subst P is digested)),
       )
+
+-- a file that is new is found afterwards
+pub with_file-found : (kept : Contents) (text : List ℕ) → get kept (digest_of text) ≡ None → get (with_file kept text) (digest_of text) ≡ Some text
+with_file-found kept text none =
+    let tie : eq_by_cmp digest_cmp (digest_of text) (digest_of text) ≡ true = (eq_by_cmp_equiv digest_cmp_total).refl (digest_of text) in
+    ap (λ o. get (cond (is_some o) kept (insert kept (digest_of text) text)) (digest_of text)) none
+    ∙ get-insert digest_cmp_total kept (digest_of text) text (digest_of text)
+    ∙ ap (λ b. cond b (Some text) (get kept (digest_of text))) tie
 
 -- what holds in any case holds at `Ok`
 pub on_ok : {A E : Type 0} {P : Type 0} (r : Result A E) → P → OnOk r P

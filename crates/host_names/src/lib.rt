@@ -5,6 +5,7 @@
 mod blobs;
 mod cells;
 mod digests;
+mod laws;
 mod names;
 mod paths;
 #[cfg(test)]
@@ -14,6 +15,7 @@ mod uploads;
 pub use blobs::{BlobInfo, Uploads};
 pub use cells::Cell;
 pub use digests::{BadDigest, Digest};
+pub use laws::cells_have_one_order;
 pub use names::{AliasName, BadName, Name, SiteName};
 pub use paths::{FilePath, PathError};
 pub use uploads::MemoryUploads;

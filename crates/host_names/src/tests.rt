@@ -141,6 +141,12 @@ fn keeps_uploads(rt: HostRuntime) -> Result<(), Fail> {
     let again = uploads.add(rt.alloc(), Vec::from_slice(rt.alloc(), b"hello")?)?;
     assert_eq!(rt; again.bytes(), b"hello".as_slice());
     uploads.add(rt.alloc(), Vec::new(rt.alloc()))?;
+    uploads.keep(Arc::new(rt.alloc(), BlobInfo::of(rt.alloc(), b"shared")?)?)?;
+    uploads.keep(again)?;
+    let shared = uploads
+        .find(&Digest::of_bytes(b"shared"))
+        .map(|file| file.bytes());
+    assert_eq!(rt; shared, Some(b"shared".as_slice()));
     let found: Option<&[u8]> = uploads.find(&hello).map(|file| file.bytes());
     assert_eq!(rt; found, Some(b"hello".as_slice()));
     assert!(rt; uploads.find(&Digest::of_bytes(b"")).is_some());

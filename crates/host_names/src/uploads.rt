@@ -54,9 +54,24 @@ impl MemoryUploads {
             Some(known) => Arc::try_clone(known),
             None => {
                 let file = Arc::new(alloc, info)?;
-                let answer = Arc::try_clone(&file)?;
+                self.keep(Arc::try_clone(&file)?)?;
+                Ok(file)
+            }
+        }
+    }
+
+    /// Adds a file that was uploaded elsewhere, which is then shared. A digest that is known keeps its file.
+    /// Without memory nothing changes.
+    pub fn keep(&mut self, file: Arc<BlobInfo>) -> Result<(), AllocError>
+        ensures ok { OnOk result (self.new ≡ with_file self.old file.value) }
+        ensures err { OnErr result (self.new ≡ self.old) }
+    {
+        let digest = file.digest();
+        match self.files.get(&digest) {
+            Some(_) => Ok(()),
+            None => {
                 self.files.insert(digest, file)?;
-                Ok(answer)
+                Ok(())
             }
         }
     }

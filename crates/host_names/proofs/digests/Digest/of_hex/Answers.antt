@@ -1,4 +1,4 @@
-use Rattle.std.proofs.Common.{◌≡◌, sym, ◌∙◌, refl}
+use Rattle.std.proofs.Common.{sym, ◌∙◌, refl}
 use Rattle.hex.proofs.HexLemmas.{IsOk-decode_sized}
 use Rattle.host_names.proofs.HexText.{decode_sized-again}
 use Rattle.host_names.proofs.digests.Digest.of_hex.Goals as goal

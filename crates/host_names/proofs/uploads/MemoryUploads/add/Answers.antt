@@ -1,6 +1,8 @@
-use Rattle.std.proofs.Common.{◌≡◌, Some, sym, ap, ◌∙◌}
+use Rattle.std.proofs.Common.{Some, sym, ap, ◌∙◌}
+use Rattle.std.specs.FinMap as map
 use Rattle.sha1.specs.Sha1 as sha
-use Rattle.host_names.proofs.Stored.{known_file, new_file, on_ok, if_ok_same}
+use Rattle.host_names.specs.Blobs.{digest_of, with_file}
+use Rattle.host_names.proofs.Stored.{known_file, unknown_file, with_file-found, on_ok, if_ok_same}
 use Rattle.host_names.proofs.uploads.MemoryUploads.add.Goals as goal
 
 pub returns-in-Some-clause-ok : goal.returns-in-Some-clause-ok
@@ -15,23 +17,10 @@ returns-in-Some-clause-file c =
     c.self.view_is (c.digest-digest.ensures ∙ ap sha.sha1 c.from-info.ensures) c.in-Some.ensures.value in
     if_ok_same (λ file. file.value) c.try_clone.result _ _ c.try_clone.ensures known.1
 
-pub invariant_of-self-in-None : goal.invariant_of-self-in-None
-invariant_of-self-in-None c =
-    let added = new_file (λ file. file.value) c.self.inside.files.entries c.insert.new.self.entries c.args.self.now c.digest-digest.result c.args.bytes.items c.in_ok-file-in-None.file
-    c.self.view_is c.self.invariant (c.digest-digest.ensures ∙ ap sha.sha1 c.from-info.ensures) (c.in_ok-file-in-None.ensures.ok ∙ c.from-info.ensures)
-    (sym c.in-None.ensures.value) c.in_ok-insert-in-None.ensures.updates.0 in
-    added.2
-
-pub returns-in_ok-insert-in-None-clause-ok : goal.returns-in_ok-insert-in-None-clause-ok
-returns-in_ok-insert-in-None-clause-ok c =
-    let added = new_file (λ file. file.value) c.self.inside.files.entries c.insert.new.self.entries c.args.self.now c.digest-digest.result c.args.bytes.items c.in_ok-file-in-None.file
-    c.self.view_is c.self.invariant (c.digest-digest.ensures ∙ ap sha.sha1 c.from-info.ensures) (c.in_ok-file-in-None.ensures.ok ∙ c.from-info.ensures)
-    (sym c.in-None.ensures.value) c.in_ok-insert-in-None.ensures.updates.0 in
-    added.0
-
-pub returns-in_ok-insert-in-None-clause-file : goal.returns-in_ok-insert-in-None-clause-file
-returns-in_ok-insert-in-None-clause-file c =
-    let added = new_file (λ file. file.value) c.self.inside.files.entries c.insert.new.self.entries c.args.self.now c.digest-digest.result c.args.bytes.items c.in_ok-file-in-None.file
-    c.self.view_is c.self.invariant (c.digest-digest.ensures ∙ ap sha.sha1 c.from-info.ensures) (c.in_ok-file-in-None.ensures.ok ∙ c.from-info.ensures)
-    (sym c.in-None.ensures.value) c.in_ok-insert-in-None.ensures.updates.0 in
-    added.1 ∙ ap Some (sym c.in_ok-answer-in-None.ensures)
+pub returns-in_ok-keep-in-None-clause-file : goal.returns-in_ok-keep-in-None-clause-file
+returns-in_ok-keep-in-None-clause-file c =
+    let same = c.in_ok-file-in-None.ensures.ok ∙ c.from-info.ensures in
+    let none = unknown_file (λ file. file.value) c.self.inside.files.entries c.args.self.now c.digest-digest.result c.args.bytes.items
+    c.self.view_is (c.digest-digest.ensures ∙ ap sha.sha1 c.from-info.ensures) (sym c.in-None.ensures.value) in
+    ap (λ files. map.get files (digest_of c.args.bytes.items)) (c.in_ok-keep-in-None.ensures.ok ∙ ap (with_file c.args.self.now) (c.in_ok-try_clone-in-None.ensures ∙ same))
+    ∙ with_file-found c.args.self.now c.args.bytes.items none ∙ ap Some (sym same)
