@@ -1,0 +1,4 @@
+pub mod HeadText
+pub mod Scanning
+pub mod Requests
+pub mod Fields
