@@ -1,2 +1,4 @@
 pub mod HeadEnds
+pub mod RequestLines
+pub mod Searches
 pub mod Windows

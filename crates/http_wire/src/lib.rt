@@ -2,7 +2,10 @@
 #![tactic(auto)]
 
 mod buffers;
+mod faults;
 mod scans;
 mod sources;
+mod wires;
 
+pub use faults::{BodyFault, HeadFault, LengthFault};
 pub use sources::{ReadFailed, Source, Whole};
