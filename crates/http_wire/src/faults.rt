@@ -1,5 +1,7 @@
 //! What can go wrong on a connection.
+ghost use Rattle.std.specs.Prelude.{◌≡◌};
 
+use std::alloc::AllocError;
 use thiserror::Error;
 
 /// Why no head was read.
@@ -17,6 +19,16 @@ pub enum HeadFault {
     /// No memory for the head.
     #[error("no memory for the head of a request")]
     OutOfMemory,
+}
+
+impl From<AllocError> for HeadFault {
+    ghost use Rattle.http_wire.specs.declared.faults.HeadFault.TheVariants.{OutOfMemory};
+
+    ghost from_gives = { λ _ e. e ≡ OutOfMemory };
+
+    fn from(_error: AllocError) -> HeadFault {
+        HeadFault::OutOfMemory
+    }
 }
 
 /// Why a head announces no body that is read.
@@ -39,4 +51,14 @@ pub enum BodyFault {
     /// No memory for the body.
     #[error("no memory for the body of a request")]
     OutOfMemory,
+}
+
+impl From<AllocError> for BodyFault {
+    ghost use Rattle.http_wire.specs.declared.faults.BodyFault.TheVariants.{OutOfMemory};
+
+    ghost from_gives = { λ _ e. e ≡ OutOfMemory };
+
+    fn from(_error: AllocError) -> BodyFault {
+        BodyFault::OutOfMemory
+    }
 }

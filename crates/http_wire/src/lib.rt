@@ -3,9 +3,13 @@
 
 mod buffers;
 mod faults;
+mod fields;
+mod heads;
 mod scans;
 mod sources;
 mod wires;
 
 pub use faults::{BodyFault, HeadFault, LengthFault};
+pub use fields::Values;
+pub use heads::Head;
 pub use sources::{ReadFailed, Source, Whole};
