@@ -2,3 +2,4 @@ pub mod HeadText
 pub mod Scanning
 pub mod Requests
 pub mod Fields
+pub mod Wires

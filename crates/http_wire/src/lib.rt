@@ -1,10 +1,12 @@
 //! HTTP/1.1 on a stream of bytes: request heads and bodies in, replies out.
 #![tactic(auto)]
 
+mod bodies;
 mod buffers;
 mod faults;
 mod fields;
 mod heads;
+mod lengths;
 mod scans;
 mod sources;
 mod wires;
@@ -12,4 +14,6 @@ mod wires;
 pub use faults::{BodyFault, HeadFault, LengthFault};
 pub use fields::Values;
 pub use heads::Head;
+pub use lengths::check_body;
+pub use wires::Wire;
 pub use sources::{ReadFailed, Source, Whole};
