@@ -4,5 +4,6 @@ pub mod Numerals
 pub mod Parsing
 pub mod RequestLines
 pub mod Searches
+pub mod SentParts
 pub mod Taking
 pub mod Windows

@@ -3,3 +3,5 @@ pub mod Scanning
 pub mod Requests
 pub mod Fields
 pub mod Wires
+pub mod Sending
+pub mod Replies

@@ -62,3 +62,8 @@ impl From<AllocError> for BodyFault {
         BodyFault::OutOfMemory
     }
 }
+
+/// A write failed: of the reply the first so many bytes went out.
+#[derive(Clone, Copy, Debug, PartialEq, Eq, Error)]
+#[error("a write failed after {0} bytes of the reply")]
+pub struct WriteFault(pub u64);
