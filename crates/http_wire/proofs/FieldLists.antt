@@ -1,7 +1,7 @@
 -- Lemmas on the values of the fields of one name.
-use Rattle.std.proofs.Common.{◌≡◌, ℕ, ◌≤◌, Bool, true, false, List, [], ◌∷◌, map, refl, sym, ap, ◌∙◌}
+use Rattle.std.proofs.Common.{◌≡◌, ℕ, Bool, true, false, List, ◌∷◌, refl}
 use Rattle.std.specs.Prelude.{◌↔◌}
-use Rattle.std.specs.Str.{bytes_eq, str_to_ascii_lowercase}
+use Rattle.std.specs.Str.{str_to_ascii_lowercase}
 use Rattle.std.proofs.lemmas.Bool.{iff_false, false_from_ne_true}
 use Rattle.std.proofs.lemmas.Slice.Eq.{bytes_eq-Decides}
 use Rattle.http_wire.specs.Fields.{is_named, values_of}

@@ -1,10 +1,10 @@
 -- The bytes after the head's end, found byte by byte, are those after the first head by lines, and none are found
 -- where there is no such head.
-use Rattle.std.proofs.Common.{◌≡◌, ◌≢◌, ℕ, ◌+◌, ◌<◌, ◌≤◌, ◌⊎◌, inl, inr, Bool, true, false, List, [], ◌∷◌, ◌++◌, length, length-append, take, drop, Option, Some, None, refl, sym, ap, ◌∙◌, subst, append_assoc, append-nil, arith, eqb}
+use Rattle.std.proofs.Common.{◌≡◌, ◌≢◌, ℕ, ◌<◌, inl, inr, true, false, List, [], ◌∷◌, ◌++◌, length, length-append, Option, Some, None, refl, sym, ap, ◌∙◌, subst, append_assoc, append-nil, arith, eqb}
 use Rattle.std.specs.Prelude.{All}
 use Rattle.std.specs.List.{flat_map}
-use Rattle.std.proofs.lemmas.Bool.{ne_eqb, eqb-true, eqb-false, cases_eq, cases_Bool, eq-eqb, false≢true, true≢false}
-use Rattle.std.proofs.lemmas.List.{take_at, flat_map_more, append_cancel_left}
+use Rattle.std.proofs.lemmas.Bool.{ne_eqb, cases_eq, cases_Bool, eq-eqb, false≢true, true≢false}
+use Rattle.std.proofs.lemmas.List.{flat_map_more}
 use Rattle.std.proofs.lemmas.List.Elements.{All-head, All-tail, All-push, All-nil}
 use Rattle.http_wire.specs.declared.scans.State.{State}
 use Rattle.http_wire.specs.declared.scans.State.TheVariants.{Before, BeforeReturn, Text, Between, BetweenReturn, Done}
@@ -38,11 +38,11 @@ line_run [] x h = absurd (h.text (inl refl))
 line_run (b ∷ line) x h =
     let other : eqb b 10 ≡ false = ne_eqb b 10 (All-head (λ b. b ≢ line_feed) b line h.one_line) in
     elim (cases_eq b 13) [
-      inl e ↦ (let both = return_run line x (subst (λ c. IsTextLine (c ∷ line)) e h) in rw e both)
-    | inr ne ↦ (
-        let plain : eqb b 13 ≡ false = ne_eqb b 13 ne in
-        let rest = text_run line x (All-tail (λ b. b ≢ line_feed) b line h.one_line) in
-        (rw (other, plain) rest, rw (other, plain) rest))
+      | inl e ↦ (let both = return_run line x (subst (λ c. IsTextLine (c ∷ line)) e h) in rw e both)
+      | inr ne ↦ (
+          let plain : eqb b 13 ≡ false = ne_eqb b 13 ne in
+          let rest = text_run line x (All-tail (λ b. b ≢ line_feed) b line h.one_line) in
+          (rw (other, plain) rest, rw (other, plain) rest))
     ]
 
 ended-append : (line x : List ℕ) → ended line ++ x ≡ line ++ line_feed ∷ x
@@ -79,8 +79,8 @@ head_run text x h =
     let front = flat_map ended h.before in
     let middle = flat_map ended h.lines in
     let regroup : text ++ x ≡ front ++ (middle ++ (ended h.last ++ x)) =
-        ap (λ t. t ++ x) h.text_is ∙ append_assoc front (middle ++ ended h.last) x
-        ∙ ap (λ t. front ++ t) (append_assoc middle (ended h.last) x) in
+    ap (λ t. t ++ x) h.text_is ∙ append_assoc front (middle ++ ended h.last) x
+    ∙ ap (λ t. front ++ t) (append_assoc middle (ended h.last) x) in
     ap (rest_from Before) regroup
     ∙ before_run h.before (middle ++ (ended h.last ++ x)) h.before_empty
     ∙ some_lines_run h.lines (ended h.last ++ x) h.some h.lines_text
@@ -185,6 +185,7 @@ longer_part bytes b h ne = record {
   };
   bytes_is = ap (λ u. u ++ b ∷ []) h.bytes_is ∙ append_assoc h.whole h.part (b ∷ []);
 }
+
 -- a line of text begins, with a byte or after a CR
 new_part : (bytes part : List ℕ) → Lines bytes → IsTextLine part → PartLine (bytes ++ part)
 new_part bytes part h t = record { whole = bytes; part = part; before = h; part_text = t; bytes_is = refl }
@@ -205,36 +206,36 @@ two_bytes b lf = record {
 -- one more byte
 step_means : (s : State) (bytes : List ℕ) (b : ℕ) → is_done s ≡ false → Means s bytes → Means (step_of s b) (bytes ++ b ∷ [])
 step_means Before bytes b nd h = elim (cases_eq b 10) [
-    inl lf ↦ (rw (eq-eqb b 10 lf) (subst (λ c. OnlyEmpty (bytes ++ c ∷ [])) (sym lf) (more_empty bytes [] h (inl refl))))
+  | inl lf ↦ (rw (eq-eqb b 10 lf) (subst (λ c. OnlyEmpty (bytes ++ c ∷ [])) (sym lf) (more_empty bytes [] h (inl refl))))
   | inr nlf ↦ rw (ne_eqb b 10 nlf) (elim (cases_eq b 13) [
-      inl cr ↦ rw (eq-eqb b 13 cr) (bytes, h, ap (λ c. bytes ++ c ∷ []) cr)
+    | inl cr ↦ rw (eq-eqb b 13 cr) (bytes, h, ap (λ c. bytes ++ c ∷ []) cr)
     | inr ncr ↦ rw (ne_eqb b 13 ncr) (new_part bytes (b ∷ []) (no_lines bytes h) (one_byte b nlf ncr))
-    ])
-  ]
+  ])
+]
 step_means BeforeReturn bytes b nd (front, h, e) = elim (cases_eq b 10) [
-    inl lf ↦ rw (eq-eqb b 10 lf) (subst OnlyEmpty (sym (ap (λ u. u ++ b ∷ []) e ∙ append_assoc front (13 ∷ []) (b ∷ []) ∙ ap (λ c. front ++ 13 ∷ c ∷ []) lf))
-        (more_empty front (13 ∷ []) h (inr refl)))
+  | inl lf ↦ rw (eq-eqb b 10 lf) (subst OnlyEmpty (sym (ap (λ u. u ++ b ∷ []) e ∙ append_assoc front (13 ∷ []) (b ∷ []) ∙ ap (λ c. front ++ 13 ∷ c ∷ []) lf))
+      (more_empty front (13 ∷ []) h (inr refl)))
   | inr nlf ↦ rw (ne_eqb b 10 nlf) (subst PartLine (sym (ap (λ u. u ++ b ∷ []) e ∙ append_assoc front (13 ∷ []) (b ∷ [])))
-        (new_part front (13 ∷ b ∷ []) (no_lines front h) (two_bytes b nlf)))
-  ]
+      (new_part front (13 ∷ b ∷ []) (no_lines front h) (two_bytes b nlf)))
+]
 step_means Text bytes b nd h = elim (cases_eq b 10) [
-    inl lf ↦ rw (eq-eqb b 10 lf) (subst SomeLines (sym (ap (λ u. u ++ b ∷ []) h.bytes_is ∙ append_assoc h.whole h.part (b ∷ []) ∙ ap (λ c. h.whole ++ (h.part ++ c ∷ [])) lf))
-        (more_lines h.whole h.part h.before h.part_text))
+  | inl lf ↦ rw (eq-eqb b 10 lf) (subst SomeLines (sym (ap (λ u. u ++ b ∷ []) h.bytes_is ∙ append_assoc h.whole h.part (b ∷ []) ∙ ap (λ c. h.whole ++ (h.part ++ c ∷ [])) lf))
+      (more_lines h.whole h.part h.before h.part_text))
   | inr nlf ↦ rw (ne_eqb b 10 nlf) (longer_part bytes b h nlf)
-  ]
+]
 step_means Between bytes b nd h = elim (cases_eq b 10) [
-    inl lf ↦ rw (eq-eqb b 10 lf) (subst (λ c. IsHeadText (bytes ++ c ∷ [])) (sym lf) (the_head bytes [] h (inl refl)))
+  | inl lf ↦ rw (eq-eqb b 10 lf) (subst (λ c. IsHeadText (bytes ++ c ∷ [])) (sym lf) (the_head bytes [] h (inl refl)))
   | inr nlf ↦ rw (ne_eqb b 10 nlf) (elim (cases_eq b 13) [
-      inl cr ↦ rw (eq-eqb b 13 cr) (bytes, h, ap (λ c. bytes ++ c ∷ []) cr)
+    | inl cr ↦ rw (eq-eqb b 13 cr) (bytes, h, ap (λ c. bytes ++ c ∷ []) cr)
     | inr ncr ↦ rw (ne_eqb b 13 ncr) (new_part bytes (b ∷ []) h.all (one_byte b nlf ncr))
-    ])
-  ]
+  ])
+]
 step_means BetweenReturn bytes b nd (front, h, e) = elim (cases_eq b 10) [
-    inl lf ↦ rw (eq-eqb b 10 lf) (subst IsHeadText (sym (ap (λ u. u ++ b ∷ []) e ∙ append_assoc front (13 ∷ []) (b ∷ []) ∙ ap (λ c. front ++ 13 ∷ c ∷ []) lf))
-        (the_head front (13 ∷ []) h (inr refl)))
+  | inl lf ↦ rw (eq-eqb b 10 lf) (subst IsHeadText (sym (ap (λ u. u ++ b ∷ []) e ∙ append_assoc front (13 ∷ []) (b ∷ []) ∙ ap (λ c. front ++ 13 ∷ c ∷ []) lf))
+      (the_head front (13 ∷ []) h (inr refl)))
   | inr nlf ↦ rw (ne_eqb b 10 nlf) (subst PartLine (sym (ap (λ u. u ++ b ∷ []) e ∙ append_assoc front (13 ∷ []) (b ∷ [])))
-        (new_part front (13 ∷ b ∷ []) h.all (two_bytes b nlf)))
-  ]
+      (new_part front (13 ∷ b ∷ []) h.all (two_bytes b nlf)))
+]
 step_means Done bytes b nd h = absurd (true≢false nd)
 
 done_means : (s : State) (bytes : List ℕ) → is_done s ≡ true → Means s bytes → IsHeadText bytes
@@ -249,16 +250,16 @@ done_means Done bytes d h = h
 found : (s : State) (bytes x rest : List ℕ) → Means s bytes → rest_from s x ≡ Some rest
     → (text : List ℕ) × IsHeadText (bytes ++ text) × (x ≡ text ++ rest)
 found s bytes [] rest h e = elim (cases_Bool (is_done s)) [
-    inl d ↦ (let same : Some [] ≡ Some rest = rw d at e in ([], subst IsHeadText (sym (append-nil bytes)) (done_means s bytes d h), cc))
+  | inl d ↦ (let same : Some [] ≡ Some rest = rw d at e in ([], subst IsHeadText (sym (append-nil bytes)) (done_means s bytes d h), cc))
   | inr d ↦ (let same : ◌≡◌ {A = Option (List ℕ)} None (Some rest) = rw d at e in cc)
-  ]
+]
 found s bytes (b ∷ x) rest h e = elim (cases_Bool (is_done s)) [
-    inl d ↦ (let same : Some (b ∷ x) ≡ Some rest = rw d at e in ([], subst IsHeadText (sym (append-nil bytes)) (done_means s bytes d h), cc))
+  | inl d ↦ (let same : Some (b ∷ x) ≡ Some rest = rw d at e in ([], subst IsHeadText (sym (append-nil bytes)) (done_means s bytes d h), cc))
   | inr d ↦ (
       let on : rest_from (step_of s b) x ≡ Some rest = rw d at e in
       let later = found (step_of s b) (bytes ++ b ∷ []) x rest (step_means s bytes b d h) on in
       (b ∷ later.0, subst IsHeadText (append_assoc bytes (b ∷ []) later.0) later.1, ap (λ u. b ∷ u) later.2))
-  ]
+]
 
 -- where an end is found, the stream has a head
 pub head_found : (stream rest : List ℕ) → rest_from Before stream ≡ Some rest → (text : List ℕ) × HasHead stream text rest

@@ -2,6 +2,7 @@ pub mod FieldLists
 pub mod HeadEnds
 pub mod Numerals
 pub mod Parsing
+pub mod ReplyPieces
 pub mod RequestLines
 pub mod Searches
 pub mod SentParts

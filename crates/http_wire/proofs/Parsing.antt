@@ -1,10 +1,8 @@
 -- What the parser of `httparse` says of a head that is taken, and the other way round.
-use Rattle.std.proofs.Common.{◌≡◌, ◌≢◌, ℕ, ◌≤◌, ◌<◌, List, [], ◌++◌, length, drop, Option, Some, Ok, Err, Result, Bool, true, refl, sym, ap, ◌∙◌, subst, append-nil, arith, map, take}
-use Rattle.std.specs.Prelude.{slice_get, All, IsTrue}
+use Rattle.std.proofs.Common.{◌≡◌, ℕ, ◌≤◌, List, [], ◌++◌, length, drop, Some, Ok, sym, ap, ◌∙◌, append-nil, arith, take}
+use Rattle.std.specs.Prelude.{slice_get, IsTrue}
 use Rattle.std.proofs.lemmas.List.{length-take, length-map}
 use Rattle.std.proofs.lemmas.List.Elements.{All-weaker}
-use Rattle.httparse.specs.declared.Error.{Error}
-use Rattle.httparse.specs.declared.Status.{Status}
 use Rattle.httparse.specs.declared.Status.TheVariants.{Complete}
 use Rattle.httparse.specs.declared.spans.HeaderSpan.{HeaderSpan}
 use Rattle.httparse.specs.declared.spans.RequestSpans.{RequestSpans}
@@ -12,8 +10,8 @@ use Rattle.httparse.specs.Grammar as grammar
 use Rattle.httparse.specs.Grammar.{RequestHead, print_request, ReadsRequest}
 use Rattle.httparse.specs.Spans.{IsRequestAt, FindsRequest, span_bytes, header_bytes, name_and_value}
 use Rattle.http_header.specs.Token as token
-use Rattle.http_wire.specs.HeadText.{IsHeadText, HasHead}
-use Rattle.http_wire.specs.Requests.{IsTaken, Says, parts_of, RequestParts}
+use Rattle.http_wire.specs.HeadText.{IsHeadText}
+use Rattle.http_wire.specs.Requests.{IsTaken}
 use Rattle.http_wire.specs.Scanning.{rest_from}
 use Rattle.http_wire.specs.declared.scans.State.TheVariants.{Before}
 use Rattle.http_wire.proofs.HeadEnds.{head_runs}
@@ -42,7 +40,7 @@ text_is_head text headers spans head whole found =
     let rest = drop spans.len text in
     let one : rest_from Before text ≡ Some [] = head_runs text text [] record { head = whole; stream_is = sym (append-nil text) } in
     let other : rest_from Before text ≡ Some rest =
-        head_runs text (print_request head) rest record { head = request_is_head head found.reads.0; stream_is = found.reads.1 } in
+    head_runs text (print_request head) rest record { head = request_is_head head found.reads.0; stream_is = found.reads.1 } in
     let none : rest ≡ [] = cc in
     found.reads.1 ∙ ap (λ u. print_request head ++ u) none ∙ append-nil (print_request head)
 
@@ -53,8 +51,12 @@ pub taken_from : (text : List ℕ) (headers : List HeaderSpan) (spans : RequestS
     → (x : RequestHead) × IsTaken x × (text ≡ print_request x) × IsRequestAt text headers spans x
 taken_from text headers spans head whole found version path room =
     let count : length head.fields ≤ 64 =
-        omega (arith, room, length-take spans.headers headers,
-            sym (length-map (take spans.headers headers) (header_bytes text)) ∙ ap length found.fields ∙ length-map head.fields name_and_value) in
+    omega (
+      arith,
+      room,
+      length-take spans.headers headers,
+      sym (length-map (take spans.headers headers) (header_bytes text)) ∙ ap length found.fields ∙ length-map head.fields name_and_value,
+    ) in
     let taken : IsTaken head = record {
       lawful = found.reads.0;
       version = sym found.version ∙ version;

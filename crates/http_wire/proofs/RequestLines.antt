@@ -1,12 +1,11 @@
 -- Each request head of the grammar, as its bytes, is a head by lines.
-use Rattle.std.proofs.Common.{◌≡◌, ◌≢◌, ℕ, ◌+◌, ◌<◌, ◌≤◌, ◌⊎◌, inl, inr, Bool, true, false, not, List, [], ◌∷◌, ◌++◌, length, length-append, map, refl, sym, ap, ◌∙◌, subst, append_assoc, append-nil, arith, eqb}
+use Rattle.std.proofs.Common.{◌≡◌, ◌≢◌, ℕ, ◌+◌, ◌<◌, ◌≤◌, inl, inr, Bool, true, not, List, [], ◌∷◌, ◌++◌, length, length-append, map, refl, sym, ap, ◌∙◌, subst, append_assoc, arith, eqb}
 use Rattle.std.specs.Prelude.{All, codes, IsTrue}
 use Rattle.std.specs.List.{flat_map, list_all}
 use Rattle.std.proofs.lemmas.Bool.{false≢true, and_parts, eqb-false, not-true}
-use Rattle.std.proofs.lemmas.List.Elements.{All-append, All-cons, All-nil, All-head, All-tail, All-weaker, All-map}
-use Rattle.std.proofs.lemmas.List.Folds.{flat_map-map}
+use Rattle.std.proofs.lemmas.List.Elements.{All-append, All-cons, All-nil, All-weaker, All-map}
 use Rattle.httparse.specs.Ascii.{space, colon}
-use Rattle.httparse.specs.Grammar.{is_token_byte, is_uri_byte, is_value_byte, AllPass, LineEnd, crlf, lf, print_end, print_blank, print_version, Field, print_field, IsField, print_section, RequestHead, print_request, IsRequestHead}
+use Rattle.httparse.specs.Grammar.{is_token_byte, is_uri_byte, is_value_byte, AllPass, LineEnd, crlf, lf, print_end, print_blank, print_version, Field, print_field, IsField, RequestHead, print_request, IsRequestHead}
 use Rattle.http_wire.specs.HeadText.{line_feed, carriage_return, ended, IsEmptyLine, IsTextLine, IsHeadText}
 
 abbrev IsOneLine : List ℕ → Type 0
@@ -60,9 +59,9 @@ long_is_text : (line : List ℕ) → IsOneLine line → 1 < length line → IsTe
 long_is_text line h long = record {
   one_line = h;
   text = λ e. elim e [
-      inl p ↦ (let short = ap length p in omega arith)
+    | inl p ↦ (let short = ap length p in omega arith)
     | inr p ↦ (let short = ap length p in omega arith)
-    ];
+  ];
 }
 
 ended-move : (xs : List ℕ) (e : LineEnd) → xs ++ print_end e ≡ ended (xs ++ end_line e)
@@ -93,8 +92,8 @@ field_is_text f h =
     let raw = one_line_from_pass is_value_byte value_byte_is_plain f.raw h.raw in
     long_is_text (field_line f)
     (one_line-append (f.name ++ colon ∷ f.raw) (end_line f.end)
-        (one_line-append f.name (colon ∷ f.raw) name (one_line-cons colon f.raw (λ e. absurd (omega arith)) raw))
-        (end_is_one_line f.end))
+    (one_line-append f.name (colon ∷ f.raw) name (one_line-cons colon f.raw (λ e. absurd (omega arith)) raw))
+    (end_is_one_line f.end))
     (omega (arith, length-append (f.name ++ colon ∷ f.raw) (end_line f.end), length-append f.name (colon ∷ f.raw), h.name.0))
 
 fields_are_text : (fields : List Field) → All IsField fields → All IsTextLine (map field_line fields)
@@ -119,10 +118,10 @@ start_is_text h l =
     let line = words ++ space ∷ print_version h.minor in
     long_is_text (start_line h)
     (one_line-append line (end_line h.line_end)
-        (one_line-append words (space ∷ print_version h.minor)
-            (one_line-append h.method (space ∷ h.target) method (one_line-cons space h.target (λ e. absurd (omega arith)) target))
-            (one_line-cons space (print_version h.minor) (λ e. absurd (omega arith)) (version_is_one_line h.minor l.minor)))
-        (end_is_one_line h.line_end))
+    (one_line-append words (space ∷ print_version h.minor)
+    (one_line-append h.method (space ∷ h.target) method (one_line-cons space h.target (λ e. absurd (omega arith)) target))
+    (one_line-cons space (print_version h.minor) (λ e. absurd (omega arith)) (version_is_one_line h.minor l.minor)))
+    (end_is_one_line h.line_end))
     (omega (arith, length-append line (end_line h.line_end), length-append words (space ∷ print_version h.minor), length-append h.method (space ∷ h.target), l.method.0))
 
 -- the whole head

@@ -1,5 +1,5 @@
 -- The search for the end of a head in bytes that come in pieces.
-use Rattle.std.proofs.Common.{◌≡◌, ◌≢◌, ℕ, ◌+◌, ◌-◌, ◌<◌, ◌≤◌, ◌⊎◌, inl, inr, Bool, true, false, List, [], ◌∷◌, ◌++◌, length, length-append, length-drop, take, drop, Option, Some, None, IfSome, refl, sym, ap, ◌∙◌, subst, append_assoc, append-nil, arith}
+use Rattle.std.proofs.Common.{◌≡◌, ◌≢◌, ℕ, ◌+◌, ◌<◌, ◌≤◌, ◌⊎◌, inl, inr, true, false, List, [], ◌∷◌, ◌++◌, length, length-append, length-drop, take, drop, Option, Some, None, IfSome, refl, sym, ap, ◌∙◌, subst, append_assoc, append-nil, arith}
 use Rattle.std.specs.Io.KnownBytes.{Keeps, IsAtEnd, Consumes, prepend_known}
 use Rattle.std.proofs.lemmas.Bool.{both_ways, cases_lt}
 use Rattle.std.proofs.lemmas.List.{take-append-drop, drop-append-le, drop_all, drop-drop, append_cancel_right, take_at, take-append-le, nil_from_length}
@@ -38,7 +38,7 @@ pub head_before : (bytes : List ℕ) (state : State) (scanned : ℕ) → HasScan
 head_before bytes state scanned h d =
     let rest = drop scanned bytes in
     let found : rest_from Before bytes ≡ Some rest =
-        ap (rest_from Before) (sym (append-nil bytes)) ∙ h.same [] ∙ rest_from-some state (rest ++ []) d ∙ ap Some (append-nil rest) in
+    ap (rest_from Before) (sym (append-nil bytes)) ∙ h.same [] ∙ rest_from-some state (rest ++ []) d ∙ ap Some (append-nil rest) in
     let head = head_found bytes rest found in
     subst IsHeadText (append_cancel_right head.0 (take scanned bytes) rest (sym head.1.stream_is ∙ sym (take-append-drop scanned bytes))) head.1.head
 
@@ -63,11 +63,11 @@ scanned_more bytes piece state next scanned count h nd within through same = rec
 head_within : (bytes more text rest : List ℕ) → HasHead (bytes ++ more) text rest → length text ≤ length bytes → rest_from Before bytes ≢ None
 head_within bytes more text rest h fits none =
     let text_is : text ≡ take (length text) bytes =
-        sym (take_at text rest (length text) refl) ∙ ap (take (length text)) (sym h.stream_is) ∙ take-append-le (length text) bytes more fits in
+    sym (take_at text rest (length text) refl) ∙ ap (take (length text)) (sym h.stream_is) ∙ take-append-le (length text) bytes more fits in
     let whole : bytes ≡ text ++ drop (length text) bytes =
-        sym (take-append-drop (length text) bytes) ∙ ap (λ u. u ++ drop (length text) bytes) (sym text_is) in
+    sym (take-append-drop (length text) bytes) ∙ ap (λ u. u ++ drop (length text) bytes) (sym text_is) in
     let found : rest_from Before bytes ≡ Some (drop (length text) bytes) =
-        head_runs bytes text (drop (length text) bytes) record { head = h.head; stream_is = whole } in
+    head_runs bytes text (drop (length text) bytes) record { head = h.head; stream_is = whole } in
     cc
 
 -- where the whole room has no end of a head, the head is too long
@@ -78,9 +78,9 @@ overlong_from (Some stream) None bytes kept full none = absurd kept
 overlong_from (Some stream) (Some more) bytes kept full none = record {
   long = omega (arith, ap length kept, length-append bytes more);
   beyond = λ text rest h. elim (cases_lt head_limit (length text)) [
-      inl lt ↦ lt
+    | inl lt ↦ lt
     | inr le ↦ absurd (head_within bytes more text rest (subst (λ s. HasHead s text rest) (sym kept) h) (omega arith) none)
-    ];
+  ];
 }
 
 -- where all that came has no end of a head, the stream is cut short

@@ -1,5 +1,5 @@
 -- What leaves the stream where bytes leave the buffer before it.
-use Rattle.std.proofs.Common.{◌≡◌, ℕ, ◌≤◌, List, [], ◌++◌, length, length-append, take, drop, Option, Some, None, sym, ap, ◌∙◌, append_assoc, append-nil, arith}
+use Rattle.std.proofs.Common.{◌≡◌, ℕ, ◌≤◌, List, [], ◌++◌, length, take, drop, Option, Some, None, sym, ap, ◌∙◌, append_assoc, append-nil, arith}
 use Rattle.std.specs.Io.KnownBytes.{Keeps, Consumes, prepend_known}
 use Rattle.std.proofs.lemmas.List.{take-append-drop, length-take-le}
 use Rattle.http_wire.specs.HeadText.{IsHeadText, head_limit}

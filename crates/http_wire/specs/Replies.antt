@@ -1,5 +1,5 @@
 -- The head of a reply, and the whole reply, as they are written (RFC 9112, section 4; RFC 9110, section 8 and 14.4).
-use Rattle.std.specs.Prelude.{ℕ, Bool, List, [], ◌∷◌, ◌++◌, Option, Some, None, codes, decimal, unwrap_or}
+use Rattle.std.specs.Prelude.{ℕ, List, [], ◌∷◌, ◌++◌, Option, Some, None, codes, decimal, unwrap_or}
 use Rattle.std.specs.Option.{option_map}
 use Rattle.std.specs.Bool.{then_some}
 use Rattle.http.specs.StatusCode.{code_digits, reason_phrase}

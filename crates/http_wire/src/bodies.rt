@@ -42,7 +42,11 @@ fn read_rest<S: Source>(source: &mut S, body: &mut [u8], start: usize) -> Result
 }
 
 /// Reads a body that fills its place, from the buffer and then from the source behind it.
-pub fn read_into<S: Source>(buffer: &mut Buffer, source: &mut S, body: &mut [u8]) -> Result<(), BodyFault>
+pub fn read_into<S: Source>(
+    buffer: &mut Buffer,
+    source: &mut S,
+    body: &mut [u8],
+) -> Result<(), BodyFault>
     ensures ok { OnOk result (Consumes (prepend_known buffer.old (S.left source.old)) (prepend_known buffer.new (S.left source.new)) body.new) }
     ensures part { OnErr result ((bytes : List ℕ) × (length bytes < length body.old)
         × Consumes (prepend_known buffer.old (S.left source.old)) (prepend_known buffer.new (S.left source.new)) bytes) }

@@ -85,7 +85,11 @@ fn pack(bytes: &mut Vec<u8>, start: usize, end: usize) -> usize
 }
 
 /// Reads some bytes into the room from `end` on.
-pub fn read_behind<S: Source>(source: &mut S, bytes: &mut [u8], end: usize) -> Result<usize, ReadFailed>
+pub fn read_behind<S: Source>(
+    source: &mut S,
+    bytes: &mut [u8],
+    end: usize,
+) -> Result<usize, ReadFailed>
     requires { end < length bytes.old }
     ensures grown { IfOk result (λ count. (piece : List ℕ) × (take (end + count) bytes.new ≡ take end bytes.old ++ piece)
         × (length piece ≡ count) × Consumes (S.left source.old) (S.left source.new) piece) }

@@ -46,7 +46,11 @@ impl<'h> Iterator for Values<'h> {
     fn next(&mut self) -> Option<&'h [u8]> {
         while let Some((first, others)) = self.fields.split_first() {
             self.fields = others;
-            if first.name.of(self.text).eq_ignore_ascii_case(self.name.as_bytes()) {
+            if first
+                .name
+                .of(self.text)
+                .eq_ignore_ascii_case(self.name.as_bytes())
+            {
                 return Some(first.value.of(self.text));
             }
         }

@@ -37,10 +37,10 @@ impl Model for Head {
     ghost Value = { RequestParts };
 
     ghost view = { λ h. record {
-        method = h.method;
-        target = string_bytes h.target;
-        minor = h.minor;
-        fields = map (header_bytes h.text.items) h.fields.items;
+      method = h.method;
+      target = string_bytes h.target;
+      minor = h.minor;
+      fields = map (header_bytes h.text.items) h.fields.items;
     } };
 
     ghost invariant = { λ h. All (IsHeaderWithin (vec_len h.text)) h.fields.items };

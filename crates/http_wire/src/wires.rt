@@ -78,7 +78,11 @@ impl<S: Source> Wire<S> {
 }
 
 // Takes the next head from the buffer and the source behind it.
-fn take_head<S: Source>(alloc: Global, buffer: &mut Buffer, source: &mut S) -> Result<Head, HeadFault>
+fn take_head<S: Source>(
+    alloc: Global,
+    buffer: &mut Buffer,
+    source: &mut S,
+) -> Result<Head, HeadFault>
     ensures ok { IfOk result (λ head. (text : List ℕ) × TakesHead (prepend_known buffer.old (S.left source.old)) (prepend_known buffer.new (S.left source.new)) text × Says text head) }
     ensures bad { IsErrOf result HeadFault.BadHead → ((text : List ℕ) × TakesHead (prepend_known buffer.old (S.left source.old)) (prepend_known buffer.new (S.left source.new)) text × SaysNothing text)
         ⊎ (IfSome (prepend_known buffer.old (S.left source.old)) Overlong × Keeps (prepend_known buffer.old (S.left source.old)) (prepend_known buffer.new (S.left source.new))) }

@@ -1,4 +1,4 @@
-use Rattle.std.proofs.Common.{◌≡◌, ◌∙◌, sym, ap, length, List, ℕ, arith}
+use Rattle.std.proofs.Common.{◌≡◌, ◌∙◌, sym, ap, length, arith}
 use Rattle.std.specs.Prelude.{slice_get}
 use Rattle.std.proofs.lemmas.Bool.{iff_false}
 use Rattle.http_wire.proofs.Parsing.{taken_at, taken_from}
@@ -18,6 +18,6 @@ returns-else-spans-eq1-clause-none c head taken e =
     let finds = rw (c.in-Ok-Complete.field-0-is, c.requires.size) at c.in-Ok-Complete.ensures.found in
     let at = taken_at c.args.text.now c.parse_request.new.headers c.in-Ok-Complete.spans head finds taken e in
     elim c.else-spans-eq1.branch [
-      else-spans-eq1-via-then-spans-eq1+else-is_path w ↦ iff_false w.is_path.ensures w.if-is_path.false (ap (λ t. slice_get t 0) (w.of.ensures ∙ at.path) ∙ taken.path)
-    | else-spans-eq1-via-else-spans-eq1 w ↦ w.if-spans-eq1.false (at.version ∙ taken.version)
+      | else-spans-eq1-via-then-spans-eq1+else-is_path w ↦ iff_false w.is_path.ensures w.if-is_path.false (ap (λ t. slice_get t 0) (w.of.ensures ∙ at.path) ∙ taken.path)
+      | else-spans-eq1-via-else-spans-eq1 w ↦ w.if-spans-eq1.false (at.version ∙ taken.version)
     ]

@@ -1,4 +1,4 @@
-use Rattle.std.proofs.Common.{◌≡◌, ◌<◌, ◌≤◌, ◌+◌, ◌*◌, ◌-◌, ◌^◌, ◌∙◌, sym, ap, length, List, ℕ, arith, get_or}
+use Rattle.std.proofs.Common.{◌≡◌, ◌∙◌, sym, length, arith, get_or}
 use Rattle.std.specs.Int.{IsInRange}
 use Rattle.std.proofs.lemmas.Bool.{eqb-false}
 use Rattle.http_wire.proofs.Numerals.{byte_is_digit, digit_is, step_fits, step_value, step_digits, numeral_whole}
@@ -25,11 +25,12 @@ pub loop-byte-preserved : goal.loop-byte-preserved
 loop-byte-preserved c =
     let text = c.args.text.now in
     let i = c.loop-byte.byte-index in
-    let digit : IsInRange 48 57 (get_or text i 0) = c.if-not-is_ascii_digit.ensures.cases in
-    (step_value text i c.loop-byte.value c.in_ok-value.value c.loop-byte-test.true c.loop-byte.invariant.0 digit
-        (omega (arith, c.in_ok-value.ensures.1, c.in_ok-checked_mul.ensures.1, c.from.ensures)),
-     step_digits text i c.loop-byte-test.true c.loop-byte.invariant.1 digit,
-     omega (arith, c.in_ok-value.ensures.0, c.in_ok-value.ensures.1))
+    let digit : IsInRange 48 57 (get_or text i 0) = c.if-not-is_ascii_digit.ensures.cases in (
+      step_value text i c.loop-byte.value c.in_ok-value.value c.loop-byte-test.true c.loop-byte.invariant.0 digit
+          (omega (arith, c.in_ok-value.ensures.1, c.in_ok-checked_mul.ensures.1, c.from.ensures)),
+      step_digits text i c.loop-byte-test.true c.loop-byte.invariant.1 digit,
+      omega (arith, c.in_ok-value.ensures.0, c.in_ok-value.ensures.1),
+    )
 
 pub returns-clause-some : goal.returns-clause-some
 returns-clause-some c =

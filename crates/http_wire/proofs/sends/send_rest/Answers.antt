@@ -8,6 +8,7 @@ returns-in-Ok-clause-ok g c start text s =
 
 pub returns-in-Err-clause-err : goal.returns-in-Err-clause-err
 returns-in-Err-clause-err g c start text s =
-    let part = c.in-Err.ensures.err in
-    (drop c.in-Err.count c.args.rest.now,
-     rw c.saturating_add-in-Err.ensures (sent_some start _ _ text c.args.sent.now c.args.rest.now c.in-Err.count s part.0 part.1))
+    let part = c.in-Err.ensures.err in (
+      drop c.in-Err.count c.args.rest.now,
+      rw c.saturating_add-in-Err.ensures (sent_some start _ _ text c.args.sent.now c.args.rest.now c.in-Err.count s part.0 part.1),
+    )

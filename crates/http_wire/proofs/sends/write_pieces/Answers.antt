@@ -1,6 +1,5 @@
-use Rattle.std.proofs.Common.{◌≡◌, ap, sym, subst, take, [], List, ℕ, Option, Bor}
+use Rattle.std.proofs.Common.{take, [], List, ℕ, Bor}
 use Rattle.std.specs.List.{flat_map}
-use Rattle.std.specs.Io.KnownBytes.{Appends}
 use Rattle.std.proofs.lemmas.Result.{err_from_is_err_and, on_ok_weaker}
 use Rattle.std.proofs.lemmas.List.{take_all}
 use Rattle.http_wire.specs.Sending.{Sent}
@@ -22,5 +21,5 @@ returns-clause-ok g c =
     let text = flat_map (λ (p : Bor (List ℕ)). p.now) (take i pieces) in
     on_ok_weaker c.flush.result
     (λ (s : Sent start held text c.flush.new.self.sent []).
-        rw (← take_all i pieces c.loop-piece-test.false) (sent_whole start held text c.flush.new.self.sent s))
+    rw (← take_all i pieces c.loop-piece-test.false) (sent_whole start held text c.flush.new.self.sent s))
     (c.flush.ensures.ok _ _ c.loop-piece.invariant)

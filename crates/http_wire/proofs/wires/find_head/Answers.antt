@@ -1,5 +1,4 @@
-use Rattle.std.proofs.Common.{◌≡◌, ◌<◌, sym, ap, arith, Bool, true, false, length, ◌∙◌, Option, List, ℕ}
-use Rattle.std.specs.Io.KnownBytes.{IsAtEnd}
+use Rattle.std.proofs.Common.{◌≡◌, ◌<◌, sym, ap, arith, false, length, ◌∙◌}
 use Rattle.http_wire.specs.Scanning.{is_done}
 use Rattle.http_wire.proofs.Searches.{none_found, head_before, overlong_from, cut_short_from, at_end_before}
 use Rattle.http_wire.proofs.wires.find_head.Goals as goal

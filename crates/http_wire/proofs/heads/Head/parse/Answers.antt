@@ -1,4 +1,4 @@
-use Rattle.std.proofs.Common.{◌≡◌, ◌∙◌, sym, subst, List, ℕ}
+use Rattle.std.proofs.Common.{◌∙◌, sym, subst}
 use Rattle.httparse.specs.Grammar.{IsToken}
 use Rattle.http_wire.proofs.Parsing.{same_tokens}
 use Rattle.http_wire.proofs.heads.Head.parse.Goals as goal
