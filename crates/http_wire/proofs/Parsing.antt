@@ -1,4 +1,4 @@
--- What the parser of `httparse` says of a head that is taken, and the other way round.
+-- What the parser of `httparse` says of a head that is served, and the other way round.
 use Rattle.std.proofs.Common.{◌≡◌, ℕ, ◌≤◌, List, [], ◌++◌, length, drop, Some, Ok, sym, ap, ◌∙◌, append-nil, arith, take}
 use Rattle.std.specs.Prelude.{slice_get, IsTrue}
 use Rattle.std.proofs.lemmas.List.{length-take, length-map}
@@ -11,18 +11,18 @@ use Rattle.httparse.specs.Grammar.{RequestHead, print_request, ReadsRequest}
 use Rattle.httparse.specs.Spans.{IsRequestAt, FindsRequest, span_bytes, header_bytes, name_and_value}
 use Rattle.http_header.specs.Token as token
 use Rattle.http_wire.specs.HeadText.{IsHeadText}
-use Rattle.http_wire.specs.Requests.{IsTaken}
+use Rattle.http_wire.specs.Requests.{IsServed}
 use Rattle.http_wire.specs.Scanning.{rest_from}
 use Rattle.http_wire.specs.declared.scans.State.TheVariants.{Before}
 use Rattle.http_wire.proofs.HeadEnds.{head_runs}
 use Rattle.http_wire.proofs.RequestLines.{request_is_head}
 
--- a head that is taken is the one that the parser answered
-pub taken_at : (text : List ℕ) (headers : List HeaderSpan) (spans : RequestSpans) (head : RequestHead)
-    → FindsRequest text 64 headers (Ok (Complete spans)) → IsTaken head → text ≡ print_request head
+-- a head that is served is the one that the parser answered
+pub served_at : (text : List ℕ) (headers : List HeaderSpan) (spans : RequestSpans) (head : RequestHead)
+    → FindsRequest text 64 headers (Ok (Complete spans)) → IsServed head → text ≡ print_request head
     → IsRequestAt text headers spans head
-taken_at text headers spans head finds taken e =
-    finds head [] (taken.lawful, e ∙ sym (append-nil (print_request head))) taken.room
+served_at text headers spans head finds served e =
+    finds head [] (served.lawful, e ∙ sym (append-nil (print_request head))) served.room
 
 same : (b : ℕ) → IsTrue (grammar.is_token_byte b) → IsTrue (token.is_token_byte b)
 unfolding grammar.is_token_byte token.is_token_byte
@@ -44,12 +44,12 @@ text_is_head text headers spans head whole found =
     let none : rest ≡ [] = cc in
     found.reads.1 ∙ ap (λ u. print_request head ++ u) none ∙ append-nil (print_request head)
 
--- such an answer is a head that is taken, where it is of HTTP/1.1 and has a path
-pub taken_from : (text : List ℕ) (headers : List HeaderSpan) (spans : RequestSpans) (head : RequestHead)
+-- such an answer is a head that is served, where it is of HTTP/1.1 and has a path
+pub served_from : (text : List ℕ) (headers : List HeaderSpan) (spans : RequestSpans) (head : RequestHead)
     → IsHeadText text → IsRequestAt text headers spans head → spans.version ≡ 1
     → slice_get (span_bytes text spans.path) 0 ≡ Some 47 → length headers ≡ 64
-    → (x : RequestHead) × IsTaken x × (text ≡ print_request x) × IsRequestAt text headers spans x
-taken_from text headers spans head whole found version path room =
+    → (x : RequestHead) × IsServed x × (text ≡ print_request x) × IsRequestAt text headers spans x
+served_from text headers spans head whole found version path room =
     let count : length head.fields ≤ 64 =
     omega (
       arith,
@@ -57,10 +57,10 @@ taken_from text headers spans head whole found version path room =
       length-take spans.headers headers,
       sym (length-map (take spans.headers headers) (header_bytes text)) ∙ ap length found.fields ∙ length-map head.fields name_and_value,
     ) in
-    let taken : IsTaken head = record {
+    let served : IsServed head = record {
       lawful = found.reads.0;
       version = sym found.version ∙ version;
       path = ap (λ t. slice_get t 0) (sym found.path) ∙ path;
       room = count;
     } in
-    (head, taken, text_is_head text headers spans head whole found, found)
+    (head, served, text_is_head text headers spans head whole found, found)

@@ -6,10 +6,10 @@ use crate::sources::{ReadFailed, Source};
 use std::alloc::{AllocError, Global};
 use std::marker::Model;
 
-/// How many bytes a buffer holds at most.
-pub const CAPACITY: usize = 16384;
+/// How many bytes a head has at most, the empty lines before it included, and a buffer holds.
+pub const HEAD_LIMIT: usize = 16384;
 
-/// Bytes that were read from a stream and not yet taken, at most `CAPACITY`. A contract sees their list.
+/// Bytes that were read from a stream and not yet taken, at most `HEAD_LIMIT` of them. A contract sees their list.
 #[derive(Drop)]
 pub struct Buffer {
     bytes: Vec<u8>,
@@ -31,7 +31,7 @@ impl Buffer {
         ensures { IfOk result (λ buffer. buffer ≡ []) }
     {
         Ok(Buffer {
-            bytes: vec![in alloc; 0; CAPACITY]?,
+            bytes: vec![in alloc; 0; HEAD_LIMIT]?,
             start: 0,
             end: 0,
         })
@@ -40,7 +40,7 @@ impl Buffer {
     /// The bytes.
     pub fn as_slice(&self) -> &[u8]
         ensures value { result.now ≡ self.now }
-        ensures fits { length self.now ≤ CAPACITY }
+        ensures fits { length self.now ≤ HEAD_LIMIT }
     {
         &self.bytes[self.start..self.end]
     }
@@ -55,7 +55,7 @@ impl Buffer {
 
     /// Reads more bytes behind the others; none come only at the end. A failure changes nothing.
     pub fn fill<S: Source>(&mut self, source: &mut S) -> Result<usize, ReadFailed>
-        requires room { length self.old < CAPACITY }
+        requires room { length self.old < HEAD_LIMIT }
         ensures grown { IfOk result (λ count. (bytes : List ℕ) × (self.new ≡ self.old ++ bytes) × (length bytes ≡ count)
             × Consumes (S.left source.old) (S.left source.new) bytes) }
         ensures end { result ≡ Ok 0 → IsAtEnd (S.left source.new) }

@@ -4,12 +4,12 @@ ghost use Rattle.httparse.specs.Grammar.{RequestHead, print_request};
 ghost use Rattle.httparse.specs.Spans.{IsRequestAt, IsRequestWithin};
 ghost use Rattle.http_wire.specs.Fields.{values_of};
 ghost use Rattle.http_wire.specs.HeadText.{IsHeadText};
-ghost use Rattle.http_wire.specs.Requests.{IsTaken, Says, SaysNothing};
+ghost use Rattle.http_wire.specs.Requests.{IsServed, version_of, Says, SaysNothing};
 
 use crate::faults::HeadFault;
 use crate::fields::Values;
-use http::Method;
 use http::method::MethodError;
+use http::{Method, Version};
 use httparse::Status;
 use httparse::spans::{EMPTY_HEADER_SPAN, HeaderSpan, RequestSpans, parse_request};
 use std::alloc::Global;
@@ -53,11 +53,11 @@ fn is_path(target: &[u8]) -> bool
     target.first().copied() == Some(b'/')
 }
 
-// Where the parts of the head lie, if it is one that is taken.
+// Where the parts of the head lie, if it is one that is served.
 fn find_parts(text: &[u8], room: &mut [HeaderSpan]) -> Option<RequestSpans>
     requires whole { IsHeadText text.now }
     requires size { length room.old ≡ FIELD_LIMIT }
-    ensures found { IfSome result (λ spans. (head : RequestHead) × IsTaken head × (text.now ≡ print_request head)
+    ensures found { IfSome result (λ spans. (head : RequestHead) × IsServed head × (text.now ≡ print_request head)
         × IsRequestAt text.now room.new spans head) }
     ensures within { IfSome result (IsRequestWithin text.now room.new) }
     ensures none { IfNone result (SaysNothing text.now) }
@@ -109,6 +109,17 @@ impl Head {
         ensures { result.now ≡ self.now.method }
     {
         &self.method
+    }
+
+    /// The version of HTTP.
+    pub fn version(&self) -> Version
+        ensures { result ≡ version_of self.now.minor }
+    {
+        if self.minor == 0 {
+            Version::HTTP_10
+        } else {
+            Version::HTTP_11
+        }
     }
 
     /// The target, as it stands in the head.

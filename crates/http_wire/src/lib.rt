@@ -14,9 +14,10 @@ mod sinks;
 mod sources;
 mod wires;
 
+pub use buffers::HEAD_LIMIT;
 pub use faults::{BodyFault, HeadFault, LengthFault, WriteFault};
 pub use fields::Values;
-pub use heads::Head;
+pub use heads::{FIELD_LIMIT, Head};
 pub use lengths::check_body;
 pub use replies::{ContentRange, ReplyHead, write_reply};
 pub use sinks::{Sink, WriteFailed};

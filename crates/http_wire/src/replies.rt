@@ -1,5 +1,5 @@
 //! Replies.
-ghost use Rattle.std.specs.Prelude.{◌≡◌, ◌≤◌, ◌<◌, length, codes, decimal, IfErr, OnOk, OnErr, [], ◌++◌, ◌+◌};
+ghost use Rattle.std.specs.Prelude.{◌≡◌, ◌≤◌, ◌<◌, length, codes, decimal, IfErr, OnOk, OnErr, [], ◌++◌, ◌+◌, None, false};
 ghost use Rattle.std.specs.Option.{option_map};
 ghost use Rattle.std.specs.List.{flat_map};
 ghost use Rattle.arrayvec.specs.ArrayVec.{array_vec_len};
@@ -38,6 +38,25 @@ pub struct ReplyHead<'a> {
     pub allow: Option<&'a str>,
     /// Whether the connection ends behind the reply.
     pub close: bool,
+}
+
+impl ReplyHead<'_> {
+    /// A head with a status and no field.
+    pub fn new(status: StatusCode) -> Self
+        ensures { result ≡ record { status = status; content_type = None; content_length = None; etag = None;
+            accept_ranges = false; content_range = None; allow = None; close = false } }
+    {
+        ReplyHead {
+            status,
+            content_type: None,
+            content_length: None,
+            etag: None,
+            accept_ranges: false,
+            content_range: None,
+            allow: None,
+            close: false,
+        }
+    }
 }
 
 // The digits of a number.

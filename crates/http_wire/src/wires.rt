@@ -6,7 +6,7 @@ ghost use Rattle.http_wire.specs.Requests.{Says, SaysNothing};
 ghost use Rattle.http_wire.specs.Wires.{TakesHead};
 
 use crate::bodies::read_into;
-use crate::buffers::{Buffer, CAPACITY};
+use crate::buffers::{Buffer, HEAD_LIMIT};
 use crate::faults::{BodyFault, HeadFault};
 use crate::heads::Head;
 use crate::scans::{State, scan};
@@ -116,7 +116,7 @@ fn find_head<S: Source>(buffer: &mut Buffer, source: &mut S) -> Result<usize, He
 {
     let (mut state, mut scanned) = scan(State::Before, buffer.as_slice());
     'reads: while !state.is_done() {
-        if buffer.as_slice().len() == CAPACITY {
+        if buffer.as_slice().len() == HEAD_LIMIT {
             return Err(HeadFault::BadHead);
         }
         let Ok(count) = buffer.fill(source) else {

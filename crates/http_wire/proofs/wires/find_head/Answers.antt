@@ -3,12 +3,12 @@ use Rattle.http_wire.specs.Scanning.{is_done}
 use Rattle.http_wire.proofs.Searches.{none_found, head_before, overlong_from, cut_short_from, at_end_before}
 use Rattle.http_wire.proofs.wires.find_head.Goals as goal
 
-pub returns-then-as_slice-eq-CAPACITY-clause-overlong :
-    goal.returns-then-as_slice-eq-CAPACITY-clause-overlong
-returns-then-as_slice-eq-CAPACITY-clause-overlong g c _ =
+pub returns-then-as_slice-eq-HEAD_LIMIT-clause-overlong :
+    goal.returns-then-as_slice-eq-HEAD_LIMIT-clause-overlong
+returns-then-as_slice-eq-HEAD_LIMIT-clause-overlong g c _ =
     let seen = c.reads in
     let nd : is_done seen.state ≡ false = sym c.reads-test.ensures in
-    let full : length seen.buffer ≡ 16384 = ap length (sym c.as_slice-in-reads.ensures.value) ∙ c.if-as_slice-eq-CAPACITY.true in
+    let full : length seen.buffer ≡ 16384 = ap length (sym c.as_slice-in-reads.ensures.value) ∙ c.if-as_slice-eq-HEAD_LIMIT.true in
     overlong_from _ _ seen.buffer seen.invariant.1 full (none_found seen.buffer seen.state seen.scanned seen.invariant.0 nd)
 
 pub returns-then-count-eq0-clause-ended : goal.returns-then-count-eq0-clause-ended
