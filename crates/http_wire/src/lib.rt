@@ -12,6 +12,8 @@ mod scans;
 mod sends;
 mod sinks;
 mod sources;
+#[cfg(test)]
+mod tests;
 mod wires;
 
 pub use buffers::HEAD_LIMIT;
@@ -20,6 +22,6 @@ pub use fields::Values;
 pub use heads::{FIELD_LIMIT, Head};
 pub use lengths::check_body;
 pub use replies::{ContentRange, ReplyHead, write_reply};
-pub use sinks::{Sink, WriteFailed};
-pub use sources::{ReadFailed, Source, Whole};
+pub use sinks::{Sink, WriteFailed, Writing};
+pub use sources::{ReadFailed, Reading, Source};
 pub use wires::Wire;

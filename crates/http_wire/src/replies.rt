@@ -43,8 +43,16 @@ pub struct ReplyHead<'a> {
 impl ReplyHead<'_> {
     /// A head with a status and no field.
     pub fn new(status: StatusCode) -> Self
-        ensures { result ≡ record { status = status; content_type = None; content_length = None; etag = None;
-            accept_ranges = false; content_range = None; allow = None; close = false } }
+        ensures { result ≡ record {
+          status = status;
+          content_type = None;
+          content_length = None;
+          etag = None;
+          accept_ranges = false;
+          content_range = None;
+          allow = None;
+          close = false;
+        } }
     {
         ReplyHead {
             status,

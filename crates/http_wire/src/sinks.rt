@@ -26,13 +26,17 @@ pub trait Sink {
         ensures cause { OnErr result may_fail };
 }
 
-impl<W: Write> Sink for W {
-    ghost held = { W.contents };
+/// A writer as a sink, whose writes may fail.
+#[derive(Debug, Drop)]
+pub struct Writing<W>(pub W);
+
+impl<W: Write> Sink for Writing<W> {
+    ghost held = { λ s. W.contents s.0 };
 
     ghost may_fail = { ⊤ };
 
     fn write_some(&mut self, bytes: &[u8]) -> Result<usize, WriteFailed> {
-        match self.write(bytes) {
+        match self.0.write(bytes) {
             Ok(0) if !bytes.is_empty() => Err(WriteFailed),
             Ok(count) => Ok(count),
             Err(_) => Err(WriteFailed),

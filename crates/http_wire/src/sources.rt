@@ -25,29 +25,31 @@ pub trait Source {
         ensures cause { OnErr result may_fail };
 }
 
-impl<R: Read> Source for R {
-    ghost left = { R.remaining };
+/// A reader as a source, whose reads may fail.
+#[derive(Debug, Drop)]
+pub struct Reading<R>(pub R);
+
+impl<R: Read> Source for Reading<R> {
+    ghost left = { λ s. R.remaining s.0 };
 
     ghost may_fail = { ⊤ };
 
     fn read_some(&mut self, buf: &mut [u8]) -> Result<usize, ReadFailed> {
-        self.read(buf).map_err(|_| ReadFailed)
+        self.0.read(buf).map_err(|_| ReadFailed)
     }
 }
 
-/// Bytes that lie in memory, whose reads never fail.
-#[derive(Clone, Copy, Debug)]
-pub struct Whole<'a>(pub &'a [u8]);
-
-impl Source for Whole<'_> {
-    ghost left = { λ s. Some s.0.now };
+/// Bytes in memory are a source whose reads never fail.
+impl Source for &[u8] {
+    ghost left = { λ s. Some s.now };
 
     ghost may_fail = { ⊥ };
 
     fn read_some(&mut self, buf: &mut [u8]) -> Result<usize, ReadFailed> {
-        let count = self.0.len().min(buf.len());
-        buf[..count].copy_from_slice(&self.0[..count]);
-        self.0 = &self.0[count..];
+        let count = self.len().min(buf.len());
+        let (front, rest) = self.split_at(count);
+        buf[..count].copy_from_slice(front);
+        *self = rest;
         Ok(count)
     }
 }
