@@ -1,9 +1,8 @@
 //! Requests on a stream: heads and bodies, one after another.
-ghost use Rattle.std.specs.Prelude.{◌≡◌, ◌≢◌, ◌≤◌, ◌<◌, ◌⊎◌, List, ℕ, length, take, vec_len, IfOk, IfErr, IfSome, IsErrOf, OnErr};
+ghost use Rattle.std.specs.Prelude.{◌≡◌, ◌≢◌, ◌≤◌, ◌<◌, List, ℕ, length, take, vec_len, IfOk, IfErr, IfSome, IsErrOf, OnErr};
 ghost use Rattle.std.specs.Io.KnownBytes.{Consumes, Keeps, IsAtEnd, prepend_known};
 ghost use Rattle.http_wire.specs.HeadText.{IsHeadText, CutShort, Overlong};
-ghost use Rattle.http_wire.specs.Requests.{Says, SaysNothing};
-ghost use Rattle.http_wire.specs.Wires.{TakesHead};
+ghost use Rattle.http_wire.specs.Wires.{ServesHead, RefusesHead};
 
 use crate::bodies::read_into;
 use crate::buffers::{Buffer, HEAD_LIMIT};
@@ -49,11 +48,8 @@ impl<S: Source> Wire<S> {
     /// A head, also one that is not answered, is taken from the stream with its last byte, and nothing behind it is.
     /// Any other error leaves the stream as it was.
     pub fn read_head(&mut self, alloc: Global) -> Result<Head, HeadFault>
-        ensures ok { IfOk result (λ head. (text : List ℕ) × TakesHead self.old self.new text × Says text head) }
-
-        // `BadHead`: a head that is not taken, or no end of one within the room.
-        ensures bad { IsErrOf result HeadFault.BadHead → ((text : List ℕ) × TakesHead self.old self.new text × SaysNothing text)
-            ⊎ (IfSome self.old Overlong × Keeps self.old self.new) }
+        ensures ok { IfOk result (ServesHead self.old self.new) }
+        ensures bad { IsErrOf result HeadFault.BadHead → RefusesHead self.old self.new }
         ensures ended { IsErrOf result HeadFault.Ended → IfSome self.old CutShort }
         ensures failed { IsErrOf result HeadFault.ReadFault → S.may_fail }
         ensures kept { IfErr result (λ e. e ≢ HeadFault.BadHead → Keeps self.old self.new) }
@@ -83,12 +79,18 @@ fn take_head<S: Source>(
     buffer: &mut Buffer,
     source: &mut S,
 ) -> Result<Head, HeadFault>
-    ensures ok { IfOk result (λ head. (text : List ℕ) × TakesHead (prepend_known buffer.old (S.left source.old)) (prepend_known buffer.new (S.left source.new)) text × Says text head) }
-    ensures bad { IsErrOf result HeadFault.BadHead → ((text : List ℕ) × TakesHead (prepend_known buffer.old (S.left source.old)) (prepend_known buffer.new (S.left source.new)) text × SaysNothing text)
-        ⊎ (IfSome (prepend_known buffer.old (S.left source.old)) Overlong × Keeps (prepend_known buffer.old (S.left source.old)) (prepend_known buffer.new (S.left source.new))) }
-    ensures ended { IsErrOf result HeadFault.Ended → IfSome (prepend_known buffer.old (S.left source.old)) CutShort }
+    ensures ok { let old = prepend_known buffer.old (S.left source.old) in
+        let new = prepend_known buffer.new (S.left source.new) in
+        IfOk result (ServesHead old new) }
+    ensures bad { let old = prepend_known buffer.old (S.left source.old) in
+        let new = prepend_known buffer.new (S.left source.new) in
+        IsErrOf result HeadFault.BadHead → RefusesHead old new }
+    ensures ended { let old = prepend_known buffer.old (S.left source.old) in
+        IsErrOf result HeadFault.Ended → IfSome old CutShort }
     ensures failed { IsErrOf result HeadFault.ReadFault → S.may_fail }
-    ensures kept { IfErr result (λ e. e ≢ HeadFault.BadHead → Keeps (prepend_known buffer.old (S.left source.old)) (prepend_known buffer.new (S.left source.new))) }
+    ensures kept { let old = prepend_known buffer.old (S.left source.old) in
+        let new = prepend_known buffer.new (S.left source.new) in
+        IfErr result (λ e. e ≢ HeadFault.BadHead → Keeps old new) }
 {
     let count = find_head(buffer, source)?;
     match Head::parse(alloc, &buffer.as_slice()[..count]) {
@@ -106,11 +108,14 @@ fn take_head<S: Source>(
 
 // Reads on until the head at the front of the buffer is whole, and answers its length.
 fn find_head<S: Source>(buffer: &mut Buffer, source: &mut S) -> Result<usize, HeadFault>
-    ensures kept { Keeps (prepend_known buffer.old (S.left source.old)) (prepend_known buffer.new (S.left source.new)) }
+    ensures kept { let old = prepend_known buffer.old (S.left source.old) in
+        Keeps old (prepend_known buffer.new (S.left source.new)) }
     ensures within { IfOk result (λ count. count ≤ length buffer.new) }
     ensures found { IfOk result (λ count. IsHeadText (take count buffer.new)) }
-    ensures ended { IsErrOf result HeadFault.Ended → IfSome (prepend_known buffer.old (S.left source.old)) CutShort }
-    ensures overlong { IsErrOf result HeadFault.BadHead → IfSome (prepend_known buffer.old (S.left source.old)) Overlong }
+    ensures ended { let old = prepend_known buffer.old (S.left source.old) in
+        IsErrOf result HeadFault.Ended → IfSome old CutShort }
+    ensures overlong { let old = prepend_known buffer.old (S.left source.old) in
+        IsErrOf result HeadFault.BadHead → IfSome old Overlong }
     ensures failed { IsErrOf result HeadFault.ReadFault → S.may_fail }
     ensures no_memory_needed { IfErr result (λ e. e ≢ HeadFault.OutOfMemory) }
 {
