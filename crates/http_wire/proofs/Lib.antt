@@ -1,0 +1,10 @@
+pub mod FieldLists
+pub mod HeadEnds
+pub mod Numerals
+pub mod Parsing
+pub mod ReplyPieces
+pub mod RequestLines
+pub mod Searches
+pub mod SentParts
+pub mod Taking
+pub mod Windows

@@ -1,0 +1,66 @@
+-- What the parser of `httparse` says of a head that is served, and the other way round.
+use Rattle.std.proofs.Common.{◌≡◌, ℕ, ◌≤◌, List, [], ◌++◌, length, drop, Some, Ok, sym, ap, ◌∙◌, append-nil, arith, take}
+use Rattle.std.specs.Prelude.{slice_get, IsTrue}
+use Rattle.std.proofs.lemmas.List.{length-take, length-map}
+use Rattle.std.proofs.lemmas.List.Elements.{All-weaker}
+use Rattle.httparse.specs.declared.Status.TheVariants.{Complete}
+use Rattle.httparse.specs.declared.spans.HeaderSpan.{HeaderSpan}
+use Rattle.httparse.specs.declared.spans.RequestSpans.{RequestSpans}
+use Rattle.httparse.specs.Grammar as grammar
+use Rattle.httparse.specs.Grammar.{RequestHead, print_request, ReadsRequest}
+use Rattle.httparse.specs.Spans.{IsRequestAt, FindsRequest, span_bytes, header_bytes, name_and_value}
+use Rattle.http_header.specs.Token as token
+use Rattle.http_wire.specs.HeadText.{IsHeadText}
+use Rattle.http_wire.specs.Requests.{IsServed}
+use Rattle.http_wire.specs.Scanning.{rest_from}
+use Rattle.http_wire.specs.declared.scans.State.TheVariants.{Before}
+use Rattle.http_wire.proofs.HeadEnds.{head_runs}
+use Rattle.http_wire.proofs.RequestLines.{request_is_head}
+
+-- a head that is served is the one that the parser answered
+pub served_at : (text : List ℕ) (headers : List HeaderSpan) (spans : RequestSpans) (head : RequestHead)
+    → FindsRequest text 64 headers (Ok (Complete spans)) → IsServed head → text ≡ print_request head
+    → IsRequestAt text headers spans head
+served_at text headers spans head finds served e =
+    finds head [] (served.lawful, e ∙ sym (append-nil (print_request head))) served.room
+
+same : (b : ℕ) → IsTrue (grammar.is_token_byte b) → IsTrue (token.is_token_byte b)
+unfolding grammar.is_token_byte token.is_token_byte
+same b h = h
+
+-- the parser and `http` have the same tokens
+pub same_tokens : (bytes : List ℕ) → grammar.IsToken bytes → token.IsToken bytes
+same_tokens bytes (some, pass) =
+    (some, All-weaker (λ b. IsTrue (grammar.is_token_byte b)) (λ b. IsTrue (token.is_token_byte b)) same bytes pass)
+
+-- what the parser answered is the whole text, which is one head by lines
+pub text_is_head : (text : List ℕ) (headers : List HeaderSpan) (spans : RequestSpans) (head : RequestHead)
+    → IsHeadText text → IsRequestAt text headers spans head → text ≡ print_request head
+text_is_head text headers spans head whole found =
+    let rest = drop spans.len text in
+    let one : rest_from Before text ≡ Some [] = head_runs text text [] record { head = whole; stream_is = sym (append-nil text) } in
+    let other : rest_from Before text ≡ Some rest =
+    head_runs text (print_request head) rest record { head = request_is_head head found.reads.0; stream_is = found.reads.1 } in
+    let none : rest ≡ [] = cc in
+    found.reads.1 ∙ ap (λ u. print_request head ++ u) none ∙ append-nil (print_request head)
+
+-- such an answer is a head that is served, where it is of HTTP/1.1 and has a path
+pub served_from : (text : List ℕ) (headers : List HeaderSpan) (spans : RequestSpans) (head : RequestHead)
+    → IsHeadText text → IsRequestAt text headers spans head → spans.version ≡ 1
+    → slice_get (span_bytes text spans.path) 0 ≡ Some 47 → length headers ≡ 64
+    → (x : RequestHead) × IsServed x × (text ≡ print_request x) × IsRequestAt text headers spans x
+served_from text headers spans head whole found version path room =
+    let count : length head.fields ≤ 64 =
+    omega (
+      arith,
+      room,
+      length-take spans.headers headers,
+      sym (length-map (take spans.headers headers) (header_bytes text)) ∙ ap length found.fields ∙ length-map head.fields name_and_value,
+    ) in
+    let served : IsServed head = record {
+      lawful = found.reads.0;
+      version = sym found.version ∙ version;
+      path = ap (λ t. slice_get t 0) (sym found.path) ∙ path;
+      room = count;
+    } in
+    (head, served, text_is_head text headers spans head whole found, found)

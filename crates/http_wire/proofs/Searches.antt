@@ -1,0 +1,102 @@
+-- The search for the end of a head in bytes that come in pieces.
+use Rattle.std.proofs.Common.{◌≡◌, ◌≢◌, ℕ, ◌+◌, ◌<◌, ◌≤◌, ◌⊎◌, inl, inr, true, false, List, [], ◌∷◌, ◌++◌, length, length-append, length-drop, take, drop, Option, Some, None, IfSome, refl, sym, ap, ◌∙◌, subst, append_assoc, append-nil, arith}
+use Rattle.std.specs.Io.KnownBytes.{Keeps, IsAtEnd, Consumes, prepend_known}
+use Rattle.std.proofs.lemmas.Bool.{both_ways, cases_lt}
+use Rattle.std.proofs.lemmas.List.{take-append-drop, drop-append-le, drop_all, drop-drop, append_cancel_right, take_at, take-append-le, nil_from_length}
+use Rattle.http_wire.specs.declared.scans.State.{State}
+use Rattle.http_wire.specs.declared.scans.State.TheVariants.{Before}
+use Rattle.http_wire.specs.HeadText.{IsHeadText, HasHead, CutShort, Overlong, head_limit}
+use Rattle.http_wire.specs.Scanning.{is_done, rest_from}
+use Rattle.http_wire.proofs.HeadEnds.{head_runs, head_found}
+
+-- the scan of the bytes is in that state after so many of them, and behind the others only if it found the end
+pub record HasScanned (bytes : List ℕ) (state : State) (scanned : ℕ) : Type 0 where
+  pub within : scanned ≤ length bytes
+  pub through : (is_done state ≡ true) ⊎ (scanned ≡ length bytes)
+  pub same : (more : List ℕ) → rest_from Before (bytes ++ more) ≡ rest_from state (drop scanned bytes ++ more)
+
+-- a scan that is not done has seen all bytes
+pub all_seen : (bytes : List ℕ) (state : State) (scanned : ℕ) → HasScanned bytes state scanned → is_done state ≡ false → scanned ≡ length bytes
+all_seen bytes state scanned h nd = elim h.through [ inl d ↦ absurd (both_ways (is_done state) nd d) | inr e ↦ e ]
+
+rest_from-none : (state : State) → is_done state ≡ false → rest_from state [] ≡ None
+rest_from-none state nd = rw nd refl
+
+rest_from-some : (state : State) (bytes : List ℕ) → is_done state ≡ true → rest_from state bytes ≡ Some bytes
+rest_from-some state [] d = rw d refl
+rest_from-some state (b ∷ bytes) d = rw d refl
+
+-- such a scan found no end
+pub none_found : (bytes : List ℕ) (state : State) (scanned : ℕ) → HasScanned bytes state scanned → is_done state ≡ false → rest_from Before bytes ≡ None
+none_found bytes state scanned h nd =
+    ap (rest_from Before) (sym (append-nil bytes)) ∙ h.same []
+    ∙ ap (rest_from state) (append-nil (drop scanned bytes) ∙ drop_all scanned bytes (let e = all_seen bytes state scanned h nd in omega arith))
+    ∙ rest_from-none state nd
+
+-- a scan that is done stands behind a head
+pub head_before : (bytes : List ℕ) (state : State) (scanned : ℕ) → HasScanned bytes state scanned → is_done state ≡ true → IsHeadText (take scanned bytes)
+head_before bytes state scanned h d =
+    let rest = drop scanned bytes in
+    let found : rest_from Before bytes ≡ Some rest =
+    ap (rest_from Before) (sym (append-nil bytes)) ∙ h.same [] ∙ rest_from-some state (rest ++ []) d ∙ ap Some (append-nil rest) in
+    let head = head_found bytes rest found in
+    subst IsHeadText (append_cancel_right head.0 (take scanned bytes) rest (sym head.1.stream_is ∙ sym (take-append-drop scanned bytes))) head.1.head
+
+-- the scan goes on through a piece that came
+pub scanned_more : (bytes piece : List ℕ) (state next : State) (scanned count : ℕ)
+    → HasScanned bytes state scanned → is_done state ≡ false
+    → count ≤ length (drop scanned (bytes ++ piece))
+    → (is_done next ≡ true) ⊎ (count ≡ length (drop scanned (bytes ++ piece)))
+    → ((more : List ℕ) → rest_from state (drop scanned (bytes ++ piece) ++ more) ≡ rest_from next (drop count (drop scanned (bytes ++ piece)) ++ more))
+    → HasScanned (bytes ++ piece) next (scanned + count)
+scanned_more bytes piece state next scanned count h nd within through same = record {
+  within = omega (arith, length-drop scanned (bytes ++ piece), length-append bytes piece, h.within);
+  through = elim through [ inl d ↦ inl d | inr e ↦ inr (omega (arith, length-drop scanned (bytes ++ piece), length-append bytes piece, h.within)) ];
+  same = λ more. ap (rest_from Before) (append_assoc bytes piece more)
+      ∙ h.same (piece ++ more)
+      ∙ ap (rest_from state) (sym (append_assoc (drop scanned bytes) piece more) ∙ ap (λ u. u ++ more) (sym (drop-append-le scanned bytes piece h.within)))
+      ∙ same more
+      ∙ ap (λ u. rest_from next (u ++ more)) (drop-drop count scanned (bytes ++ piece));
+}
+
+-- a head at the front of a longer stream that lies in the bytes is a head of the bytes
+head_within : (bytes more text rest : List ℕ) → HasHead (bytes ++ more) text rest → length text ≤ length bytes → rest_from Before bytes ≢ None
+head_within bytes more text rest h fits none =
+    let text_is : text ≡ take (length text) bytes =
+    sym (take_at text rest (length text) refl) ∙ ap (take (length text)) (sym h.stream_is) ∙ take-append-le (length text) bytes more fits in
+    let whole : bytes ≡ text ++ drop (length text) bytes =
+    sym (take-append-drop (length text) bytes) ∙ ap (λ u. u ++ drop (length text) bytes) (sym text_is) in
+    let found : rest_from Before bytes ≡ Some (drop (length text) bytes) =
+    head_runs bytes text (drop (length text) bytes) record { head = h.head; stream_is = whole } in
+    cc
+
+-- where the whole room has no end of a head, the head is too long
+pub overlong_from : (old known : Option (List ℕ)) (bytes : List ℕ) → Keeps old (prepend_known bytes known)
+    → length bytes ≡ head_limit → rest_from Before bytes ≡ None → IfSome old Overlong
+overlong_from None known bytes kept full none = tt
+overlong_from (Some stream) None bytes kept full none = absurd kept
+overlong_from (Some stream) (Some more) bytes kept full none = record {
+  long = omega (arith, ap length kept, length-append bytes more);
+  beyond = λ text rest h. elim (cases_lt head_limit (length text)) [
+    | inl lt ↦ lt
+    | inr le ↦ absurd (head_within bytes more text rest (subst (λ s. HasHead s text rest) (sym kept) h) (omega arith) none)
+  ];
+}
+
+-- where all that came has no end of a head, the stream is cut short
+pub cut_short_from : (old known : Option (List ℕ)) (bytes : List ℕ) → Keeps old (prepend_known bytes known)
+    → IsAtEnd known → length bytes < head_limit → rest_from Before bytes ≡ None → IfSome old CutShort
+cut_short_from None known bytes kept end short none = tt
+cut_short_from (Some stream) None bytes kept end short none = absurd kept
+cut_short_from (Some stream) (Some more) bytes kept end short none =
+    let all : stream ≡ bytes = sym kept ∙ ap (λ u. bytes ++ u) end ∙ append-nil bytes in
+    record {
+      short = rw all short;
+      no_head = λ text rest h. (let found : rest_from Before bytes ≡ Some rest = head_runs bytes text rest (subst (λ s. HasHead s text rest) all h) in absurd (cc));
+    }
+
+-- a reader that gave nothing and is at its end was there before
+pub at_end_before : (old new : Option (List ℕ)) (bytes : List ℕ) → Consumes old new bytes → length bytes ≡ 0 → IsAtEnd new → IsAtEnd old
+at_end_before None new bytes taken zero end = tt
+at_end_before (Some xs) None bytes taken zero end = absurd taken
+at_end_before (Some xs) (Some ys) bytes taken zero end = taken ∙ ap (λ u. u ++ ys) (nil_from_length bytes zero) ∙ end

@@ -1,0 +1,27 @@
+-- How the end of a head is found, byte by byte.
+use Rattle.std.specs.Prelude.{ℕ, Bool, true, false, List, [], ◌∷◌, Option, Some, None, ◌==◌, if◌then◌else◌}
+use Rattle.http_wire.specs.declared.scans.State.{State}
+use Rattle.http_wire.specs.declared.scans.State.TheVariants.{Before, BeforeReturn, Text, Between, BetweenReturn, Done}
+use Rattle.http_wire.specs.HeadText.{line_feed, carriage_return}
+
+-- the state after one more byte
+abbrev pub step_of : State → ℕ → State
+step_of Before b = if b == line_feed then Before else (if b == carriage_return then BeforeReturn else Text)
+step_of BeforeReturn b = if b == line_feed then Before else Text
+step_of Text b = if b == line_feed then Between else Text
+step_of Between b = if b == line_feed then Done else (if b == carriage_return then BetweenReturn else Text)
+step_of BetweenReturn b = if b == line_feed then Done else Text
+step_of Done b = Done
+
+abbrev pub is_done : State → Bool
+is_done Before = false
+is_done BeforeReturn = false
+is_done Text = false
+is_done Between = false
+is_done BetweenReturn = false
+is_done Done = true
+
+-- the bytes after the head's end, if it comes
+abbrev pub rest_from : State → List ℕ → Option (List ℕ)
+rest_from s [] = if is_done s then Some [] else None
+rest_from s (b ∷ bytes) = if is_done s then Some (b ∷ bytes) else rest_from (step_of s b) bytes

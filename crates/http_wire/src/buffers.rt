@@ -1,0 +1,103 @@
+//! Bytes that were read and not yet taken.
+ghost use Rattle.std.specs.Prelude.{◌≡◌, ℕ, ◌≤◌, ◌<◌, ◌+◌, ◌-◌, List, [], ◌++◌, length, take, drop, Ok, IfOk, OnErr, slice_range, vec_len};
+ghost use Rattle.std.specs.Io.KnownBytes.{Consumes, Keeps, IsAtEnd};
+
+use crate::sources::{ReadFailed, Source};
+use std::alloc::{AllocError, Global};
+use std::marker::Model;
+
+/// How many bytes a head has at most, the empty lines before it included, and a buffer holds.
+pub const HEAD_LIMIT: usize = 16384;
+
+/// Bytes that were read from a stream and not yet taken, at most `HEAD_LIMIT` of them. A contract sees their list.
+#[derive(Drop)]
+pub struct Buffer {
+    bytes: Vec<u8>,
+    start: usize,
+    end: usize,
+}
+
+impl Model for Buffer {
+    ghost Value = { List ℕ };
+
+    ghost view = { λ b. slice_range b.bytes.items b.start b.end };
+
+    ghost invariant = { λ b. (b.start ≤ b.end) × (b.end ≤ 16384) × (vec_len b.bytes ≡ 16384) };
+}
+
+impl Buffer {
+    /// An empty buffer, with all its room.
+    pub fn new(alloc: Global) -> Result<Buffer, AllocError>
+        ensures { IfOk result (λ buffer. buffer ≡ []) }
+    {
+        Ok(Buffer {
+            bytes: vec![in alloc; 0; HEAD_LIMIT]?,
+            start: 0,
+            end: 0,
+        })
+    }
+
+    /// The bytes.
+    pub fn as_slice(&self) -> &[u8]
+        ensures value { result.now ≡ self.now }
+        ensures fits { length self.now ≤ HEAD_LIMIT }
+    {
+        &self.bytes[self.start..self.end]
+    }
+
+    /// Takes the first `count` bytes away.
+    pub fn consume(&mut self, count: usize)
+        requires { count ≤ length self.old }
+        ensures { self.new ≡ drop count self.old }
+    {
+        self.start += count;
+    }
+
+    /// Reads more bytes behind the others; none come only at the end. A failure changes nothing.
+    pub fn fill<S: Source>(&mut self, source: &mut S) -> Result<usize, ReadFailed>
+        requires room { length self.old < HEAD_LIMIT }
+        ensures grown { IfOk result (λ count. (bytes : List ℕ) × (self.new ≡ self.old ++ bytes) × (length bytes ≡ count)
+            × Consumes (S.left source.old) (S.left source.new) bytes) }
+        ensures end { result ≡ Ok 0 → IsAtEnd (S.left source.new) }
+        ensures err { OnErr result ((self.new ≡ self.old) × Keeps (S.left source.old) (S.left source.new)) }
+        ensures cause { OnErr result S.may_fail }
+    {
+        self.end = pack(&mut self.bytes, self.start, self.end);
+        self.start = 0;
+        let count = read_behind(source, &mut self.bytes, self.end)?;
+        self.end += count;
+        Ok(count)
+    }
+}
+
+// Moves the bytes from `start` to `end` to the front, and answers how many they are.
+fn pack(bytes: &mut Vec<u8>, start: usize, end: usize) -> usize
+    requires ordered { start ≤ end }
+    requires in_range { end ≤ vec_len bytes.old }
+    ensures count { result + start ≡ end }
+    ensures moved { take result bytes.new.items ≡ slice_range bytes.old.items start end }
+    ensures len { vec_len bytes.new ≡ vec_len bytes.old }
+{
+    if start > 0 {
+        bytes.copy_within(start..end, 0);
+    }
+    end - start
+}
+
+/// Reads some bytes into the room from `end` on.
+pub fn read_behind<S: Source>(
+    source: &mut S,
+    bytes: &mut [u8],
+    end: usize,
+) -> Result<usize, ReadFailed>
+    requires { end < length bytes.old }
+    ensures grown { IfOk result (λ count. (piece : List ℕ) × (take (end + count) bytes.new ≡ take end bytes.old ++ piece)
+        × (length piece ≡ count) × Consumes (S.left source.old) (S.left source.new) piece) }
+    ensures within { IfOk result (λ count. end + count ≤ length bytes.old) }
+    ensures end { result ≡ Ok 0 → IsAtEnd (S.left source.new) }
+    ensures err { OnErr result ((take end bytes.new ≡ take end bytes.old) × Keeps (S.left source.old) (S.left source.new)) }
+    ensures cause { OnErr result S.may_fail }
+{
+    let count = source.read_some(&mut bytes[end..])?;
+    Ok(count)
+}

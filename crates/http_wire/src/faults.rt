@@ -1,0 +1,69 @@
+//! What can go wrong on a connection.
+ghost use Rattle.std.specs.Prelude.{◌≡◌};
+
+use std::alloc::AllocError;
+use thiserror::Error;
+
+/// Why no head was read.
+#[derive(Clone, Copy, Debug, PartialEq, Eq, Error)]
+pub enum HeadFault {
+    /// The input ended before the head was whole.
+    #[error("the input ended before the head of a request was whole")]
+    Ended,
+    /// A read failed.
+    #[error("the head of a request could not be read")]
+    ReadFault,
+    /// The head is not one of the grammar, or is too large, or asks for what is not served.
+    #[error("this is not the head of a request that is answered")]
+    BadHead,
+    /// No memory for the head.
+    #[error("no memory for the head of a request")]
+    OutOfMemory,
+}
+
+impl From<AllocError> for HeadFault {
+    ghost use Rattle.http_wire.specs.declared.faults.HeadFault.TheVariants.{OutOfMemory};
+
+    ghost from_gives = { λ _ e. e ≡ OutOfMemory };
+
+    fn from(_error: AllocError) -> HeadFault {
+        HeadFault::OutOfMemory
+    }
+}
+
+/// Why a head announces no body that is read.
+#[derive(Clone, Copy, Debug, PartialEq, Eq, Error)]
+pub enum LengthFault {
+    /// A transfer coding, no length, more than one, or one over the limit.
+    #[error("the head of a request announces no body that is read")]
+    BadHead,
+}
+
+/// Why no body was read.
+#[derive(Clone, Copy, Debug, PartialEq, Eq, Error)]
+pub enum BodyFault {
+    /// The input ended before the body was whole.
+    #[error("the input ended before the body of a request was whole")]
+    Ended,
+    /// A read failed.
+    #[error("the body of a request could not be read")]
+    ReadFault,
+    /// No memory for the body.
+    #[error("no memory for the body of a request")]
+    OutOfMemory,
+}
+
+impl From<AllocError> for BodyFault {
+    ghost use Rattle.http_wire.specs.declared.faults.BodyFault.TheVariants.{OutOfMemory};
+
+    ghost from_gives = { λ _ e. e ≡ OutOfMemory };
+
+    fn from(_error: AllocError) -> BodyFault {
+        BodyFault::OutOfMemory
+    }
+}
+
+/// A write failed: of the reply the first so many bytes went out.
+#[derive(Clone, Copy, Debug, PartialEq, Eq, Error)]
+#[error("a write failed after {0} bytes of the reply")]
+pub struct WriteFault(pub u64);

@@ -1,0 +1,59 @@
+//! The fields of a head.
+ghost use Rattle.std.specs.Prelude.{◌≡◌, All, map, length, IsTrue, ◌↔◌};
+ghost use Rattle.std.specs.Iterator.{YieldsFirstRef, item_count};
+ghost use Rattle.httparse.specs.Spans.{header_bytes, IsHeaderWithin};
+ghost use Rattle.http_wire.specs.Fields.{values_of};
+
+use httparse::spans::HeaderSpan;
+use std::marker::Model;
+
+/// The values of the fields of one name, in order. A contract sees the list of those that are left.
+#[derive(Drop)]
+pub struct Values<'h> {
+    text: &'h [u8],
+    fields: &'h [HeaderSpan],
+    name: &'h str,
+}
+
+impl<'h> Model for Values<'h> {
+    ghost use Rattle.std.specs.Prelude.{ℕ, List, map, All, length};
+    ghost use Rattle.httparse.specs.Spans.{header_bytes, IsHeaderWithin};
+    ghost use Rattle.http_wire.specs.Fields.{values_of};
+
+    ghost Value = { List (List ℕ) };
+
+    ghost view = { λ v. values_of v.name.now (map (header_bytes v.text.now) v.fields.now) };
+
+    ghost invariant = { λ v. All (IsHeaderWithin (length v.text.now)) v.fields.now };
+}
+
+impl<'h> Values<'h> {
+    pub(crate) fn new(text: &'h [u8], fields: &'h [HeaderSpan], name: &'h str) -> Values<'h>
+        requires { All (IsHeaderWithin (length text.now)) fields.now }
+        ensures { result ≡ values_of name.now (map (header_bytes text.now) fields.now) }
+    {
+        Values { text, fields, name }
+    }
+}
+
+impl<'h> Iterator for Values<'h> {
+    type Item = &'h [u8];
+
+    ghost next_gives = { YieldsFirstRef (λ v. v) };
+
+    ghost remaining = { item_count (λ v. v) };
+
+    fn next(&mut self) -> Option<&'h [u8]> {
+        while let Some((first, others)) = self.fields.split_first() {
+            self.fields = others;
+            if first
+                .name
+                .of(self.text)
+                .eq_ignore_ascii_case(self.name.as_bytes())
+            {
+                return Some(first.value.of(self.text));
+            }
+        }
+        None
+    }
+}

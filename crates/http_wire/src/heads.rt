@@ -1,0 +1,138 @@
+//! Heads of requests.
+ghost use Rattle.std.specs.Prelude.{◌≡◌, ◌⊎◌, ◌↔◌, IsTrue, length, slice_get, IfOk, IfErr, IfSome, IfNone, IsErrOf};
+ghost use Rattle.httparse.specs.Grammar.{RequestHead, print_request};
+ghost use Rattle.httparse.specs.Spans.{IsRequestAt, IsRequestWithin};
+ghost use Rattle.http_wire.specs.Fields.{values_of};
+ghost use Rattle.http_wire.specs.HeadText.{IsHeadText};
+ghost use Rattle.http_wire.specs.Requests.{IsServed, version_of, Says, SaysNothing};
+
+use crate::faults::HeadFault;
+use crate::fields::Values;
+use http::method::MethodError;
+use http::{Method, Version};
+use httparse::Status;
+use httparse::spans::{EMPTY_HEADER_SPAN, HeaderSpan, RequestSpans, parse_request};
+use std::alloc::Global;
+use std::marker::Model;
+use std::str;
+
+/// How many fields a head has at most.
+pub const FIELD_LIMIT: usize = 64;
+
+/// The head of a request. A contract sees its parts: method, target, minor version and fields.
+#[derive(Drop)]
+pub struct Head {
+    text: Vec<u8>,
+    method: Method,
+    target: String,
+    minor: u8,
+    fields: Vec<HeaderSpan>,
+}
+
+impl Model for Head {
+    ghost use Rattle.std.specs.Prelude.{map, All, vec_len, string_bytes};
+    ghost use Rattle.httparse.specs.Spans.{header_bytes, IsHeaderWithin};
+    ghost use Rattle.http_wire.specs.Requests.{RequestParts};
+
+    ghost Value = { RequestParts };
+
+    ghost view = { λ h. record {
+      method = h.method;
+      target = string_bytes h.target;
+      minor = h.minor;
+      fields = map (header_bytes h.text.items) h.fields.items;
+    } };
+
+    ghost invariant = { λ h. All (IsHeaderWithin (vec_len h.text)) h.fields.items };
+}
+
+// Whether a target begins with a slash.
+fn is_path(target: &[u8]) -> bool
+    ensures { IsTrue result ↔ (slice_get target.now 0 ≡ Some 47) }
+{
+    target.first().copied() == Some(b'/')
+}
+
+// Where the parts of the head lie, if it is one that is served.
+fn find_parts(text: &[u8], room: &mut [HeaderSpan]) -> Option<RequestSpans>
+    requires whole { IsHeadText text.now }
+    requires size { length room.old ≡ FIELD_LIMIT }
+    ensures found { IfSome result (λ spans. (head : RequestHead) × IsServed head × (text.now ≡ print_request head)
+        × IsRequestAt text.now room.new spans head) }
+    ensures within { IfSome result (IsRequestWithin text.now room.new) }
+    ensures none { IfNone result (SaysNothing text.now) }
+{
+    let Ok(Status::Complete(spans)) = parse_request(text, room) else {
+        return None;
+    };
+    if spans.version == 1 && is_path(spans.path.of(text)) {
+        Some(spans)
+    } else {
+        None
+    }
+}
+
+impl Head {
+    /// Reads the text of a head by the grammar of requests.
+    pub(crate) fn parse(alloc: Global, text: &[u8]) -> Result<Head, HeadFault>
+        requires { IsHeadText text.now }
+        ensures ok { IfOk result (Says text.now) }
+        ensures bad { IsErrOf result HeadFault.BadHead → SaysNothing text.now }
+        ensures only { IfErr result (λ e. (e ≡ HeadFault.BadHead) ⊎ (e ≡ HeadFault.OutOfMemory)) }
+    {
+        let mut room = [EMPTY_HEADER_SPAN; FIELD_LIMIT];
+        let Some(spans) = find_parts(text, &mut room) else {
+            return Err(HeadFault::BadHead);
+        };
+        let Ok(target) = str::from_utf8(spans.path.of(text)) else {
+            return Err(HeadFault::BadHead);
+        };
+        let method = match Method::from_bytes(alloc, spans.method.of(text)) {
+            Ok(method) => method,
+            Err(MethodError::Invalid) => return Err(HeadFault::BadHead),
+            Err(MethodError::OutOfMemory) => return Err(HeadFault::OutOfMemory),
+        };
+        let target = String::from_str(alloc, target)?;
+        let fields = room[..spans.headers].to_vec(alloc)?;
+        let text = text.to_vec(alloc)?;
+        Ok(Head {
+            text,
+            method,
+            target,
+            minor: spans.version,
+            fields,
+        })
+    }
+
+    /// The method.
+    pub fn method(&self) -> &Method
+        ensures { result.now ≡ self.now.method }
+    {
+        &self.method
+    }
+
+    /// The version of HTTP.
+    pub fn version(&self) -> Version
+        ensures { result ≡ version_of self.now.minor }
+    {
+        if self.minor == 0 {
+            Version::HTTP_10
+        } else {
+            Version::HTTP_11
+        }
+    }
+
+    /// The target, as it stands in the head.
+    pub fn target(&self) -> &str
+        ensures { result.now ≡ self.now.target }
+    {
+        self.target.as_str()
+    }
+
+    /// The values of the fields of that name, ASCII case ignored, in order.
+    pub fn values<'h>(&'h self, name: &'h str) -> Values<'h>
+        ensures { result ≡ values_of name.now self.now.fields }
+    {
+        Values::new(self.text.as_slice(), self.fields.as_slice(), name)
+    }
+}

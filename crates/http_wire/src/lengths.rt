@@ -1,0 +1,45 @@
+//! How long the body of a request is.
+ghost use Rattle.std.specs.Prelude.{ℕ, IfOk, OnErr, IfSome, IfNone};
+ghost use Rattle.http_wire.specs.Fields.{WritesLength, AnnouncesBody};
+
+use crate::faults::LengthFault;
+use crate::heads::Head;
+
+// The number that digits alone write, where it fits.
+fn read_length(text: &[u8]) -> Option<u64>
+    ensures some { IfSome result (WritesLength text.now) }
+    ensures none { IfNone result ((n : ℕ) → ¬ (WritesLength text.now n)) }
+{
+    if text.is_empty() {
+        return None;
+    }
+    let mut value: u64 = 0;
+    for byte in text {
+        if !byte.is_ascii_digit() {
+            return None;
+        }
+        value = value.checked_mul(10)?.checked_add(u64::from(*byte - b'0'))?;
+    }
+    Some(value)
+}
+
+/// The length of the body that a head announces, 0 where it names no length. Takes no memory.
+pub fn check_body(head: &Head, limit: u64) -> Result<u64, LengthFault>
+    ensures ok { IfOk result (AnnouncesBody head.now.fields limit) }
+    ensures bad { OnErr result ((n : ℕ) → ¬ (AnnouncesBody head.now.fields limit n)) }
+{
+    if head.values("transfer-encoding").next().is_some() {
+        return Err(LengthFault::BadHead);
+    }
+    let mut lengths = head.values("content-length");
+    let length = match (lengths.next(), lengths.next()) {
+        (None, _) => 0,
+        (Some(value), None) => read_length(value).ok_or(LengthFault::BadHead)?,
+        (Some(_), Some(_)) => return Err(LengthFault::BadHead),
+    };
+    if length <= limit {
+        Ok(length)
+    } else {
+        Err(LengthFault::BadHead)
+    }
+}

@@ -1,0 +1,206 @@
+//! Replies.
+ghost use Rattle.std.specs.Prelude.{◌≡◌, ◌≤◌, ◌<◌, length, codes, decimal, IfErr, OnOk, OnErr, [], ◌++◌, ◌+◌, None, false};
+ghost use Rattle.std.specs.Option.{option_map};
+ghost use Rattle.std.specs.List.{flat_map};
+ghost use Rattle.arrayvec.specs.ArrayVec.{array_vec_len};
+ghost use Rattle.http_wire.specs.Replies.{crlf, range_text, line_of, head_text, reply_text};
+ghost use Rattle.std.specs.Io.KnownBytes.{Appends};
+ghost use Rattle.http_wire.specs.Sending.{SentFront};
+
+use crate::faults::WriteFault;
+use crate::sends::write_pieces;
+use crate::sinks::Sink;
+use arrayvec::{ArrayString, ArrayVec};
+use http::StatusCode;
+
+/// Which bytes of a file a reply holds (RFC 9110, section 14.4).
+#[derive(Clone, Copy, Debug, PartialEq, Eq)]
+pub enum ContentRange {
+    /// From the first position to the last, of so many bytes.
+    Of { first: u64, last: u64, length: u64 },
+    /// None of so many bytes.
+    Unsatisfied { length: u64 },
+}
+
+/// The head of a reply. Its fields stand in this order, those that are there.
+#[derive(Clone, Copy, Debug)]
+pub struct ReplyHead<'a> {
+    /// The status code, which brings its phrase.
+    pub status: StatusCode,
+    pub content_type: Option<&'a str>,
+    pub content_length: Option<u64>,
+    /// The entity tag, without its quotes.
+    pub etag: Option<&'a str>,
+    /// Whether ranges of bytes are served.
+    pub accept_ranges: bool,
+    pub content_range: Option<ContentRange>,
+    /// The methods that the target has, parted by commas.
+    pub allow: Option<&'a str>,
+    /// Whether the connection ends behind the reply.
+    pub close: bool,
+}
+
+impl ReplyHead<'_> {
+    /// A head with a status and no field.
+    pub fn new(status: StatusCode) -> Self
+        ensures { result ≡ record {
+          status = status;
+          content_type = None;
+          content_length = None;
+          etag = None;
+          accept_ranges = false;
+          content_range = None;
+          allow = None;
+          close = false;
+        } }
+    {
+        ReplyHead {
+            status,
+            content_type: None,
+            content_length: None,
+            etag: None,
+            accept_ranges: false,
+            content_range: None,
+            allow: None,
+            close: false,
+        }
+    }
+}
+
+// The digits of a number.
+fn decimal_text(number: u64) -> ArrayString<20>
+    ensures digits { result.bytes ≡ decimal number }
+    ensures short { length result.bytes ≤ 20 }
+{
+    let mut digits = itoa::Buffer::new();
+    ArrayString::from(digits.format(number)).unwrap()
+}
+
+// The value of `Content-Range`.
+fn range_value(range: ContentRange) -> ArrayString<72>
+    ensures { result.bytes ≡ range_text range }
+{
+    let mut text = ArrayString::new();
+    match range {
+        ContentRange::Of {
+            first,
+            last,
+            length,
+        } => {
+            text.push_str("bytes ");
+            text.push_str(decimal_text(first).as_str());
+            text.push_str("-");
+            text.push_str(decimal_text(last).as_str());
+            text.push_str("/");
+            text.push_str(decimal_text(length).as_str());
+        }
+        ContentRange::Unsatisfied { length } => {
+            text.push_str("bytes */");
+            text.push_str(decimal_text(length).as_str());
+        }
+    }
+    text
+}
+
+// The pieces of a reply, in order.
+type Pieces<'a> = ArrayVec<&'a [u8], PIECE_ROOM>;
+
+// Five pieces of the status line, three of each of seven fields, the empty line and the body.
+const PIECE_ROOM: usize = 28;
+
+// A line of the head, where its value is there.
+fn push_line<'a>(pieces: &mut Pieces<'a>, before: &'a str, value: Option<&'a str>, behind: &'a str)
+    requires { array_vec_len pieces.old + 3 ≤ PIECE_ROOM }
+    ensures text { flat_map (λ p. p.now) pieces.new.items
+        ≡ flat_map (λ p. p.now) pieces.old.items ++ line_of before.now (option_map (λ v. v.now) value.entry) behind.now }
+    ensures len { array_vec_len pieces.new ≤ array_vec_len pieces.old + 3 }
+{
+    if let Some(value) = value {
+        pieces.push(before.as_bytes());
+        pieces.push(value.as_bytes());
+        pieces.push(behind.as_bytes());
+    }
+}
+
+// The pieces of a head, whose numbers are written out.
+fn push_head<'a>(
+    pieces: &mut Pieces<'a>,
+    head: &'a ReplyHead<'a>,
+    length: Option<&'a str>,
+    range: Option<&'a str>,
+)
+    requires first { pieces.old.items ≡ [] }
+    requires length_is { option_map (λ v. v.now) length ≡ option_map decimal head.now.content_length }
+    requires range_is { option_map (λ v. v.now) range ≡ option_map range_text head.now.content_range }
+    ensures text { flat_map (λ p. p.now) pieces.new.items ≡ head_text head.now }
+    ensures len { array_vec_len pieces.new < PIECE_ROOM }
+{
+    let code: &'a str = head.status.as_str();
+    let phrase: &'a str = head.status.canonical_reason().unwrap_or("");
+    let ranges: Option<&'a str> = head.accept_ranges.then_some("bytes");
+    let connection: Option<&'a str> = head.close.then_some("close");
+    push_status(pieces, code, phrase);
+    push_line(pieces, "Content-Type: ", head.content_type, "\r\n");
+    push_line(pieces, "Content-Length: ", length, "\r\n");
+    push_line(pieces, "ETag: \"", head.etag, "\"\r\n");
+    push_line(pieces, "Accept-Ranges: ", ranges, "\r\n");
+    push_line(pieces, "Content-Range: ", range, "\r\n");
+    push_line(pieces, "Allow: ", head.allow, "\r\n");
+    push_line(pieces, "Connection: ", connection, "\r\n");
+    pieces.push(b"\r\n");
+}
+
+// The pieces of the status line.
+fn push_status<'a>(pieces: &mut Pieces<'a>, code: &'a str, phrase: &'a str)
+    requires { pieces.old.items ≡ [] }
+    ensures text { flat_map (λ p. p.now) pieces.new.items
+        ≡ codes "HTTP/1.1 " ++ (code.now ++ (codes " " ++ (phrase.now ++ crlf))) }
+    ensures len { array_vec_len pieces.new ≡ 5 }
+{
+    pieces.push(b"HTTP/1.1 ");
+    pieces.push(code.as_bytes());
+    pieces.push(b" ");
+    pieces.push(phrase.as_bytes());
+    pieces.push(b"\r\n");
+}
+
+// Writes a reply whose numbers are written out.
+fn write_texts<'a, W: Sink>(
+    writer: &mut W,
+    head: &'a ReplyHead<'a>,
+    length: Option<&'a str>,
+    range: Option<&'a str>,
+    body: &'a [u8],
+) -> Result<(), WriteFault>
+    requires length_is { option_map (λ v. v.now) length ≡ option_map decimal head.now.content_length }
+    requires range_is { option_map (λ v. v.now) range ≡ option_map range_text head.now.content_range }
+    ensures ok { OnOk result (Appends (W.held writer.old) (W.held writer.new) (reply_text head.now body.now)) }
+    ensures fault { IfErr result (λ fault. SentFront (W.held writer.old) (W.held writer.new) (reply_text head.now body.now) fault.0) }
+    ensures cause { OnErr result W.may_fail }
+{
+    let mut pieces = ArrayVec::new();
+    push_head(&mut pieces, head, length, range);
+    pieces.push(body);
+    write_pieces(writer, pieces.as_slice())
+}
+
+/// Writes a reply: its head and then the body, which is empty where the request was HEAD.
+///
+/// It takes no memory. A write that takes no byte is a fault, and so is one that fails.
+pub fn write_reply<W: Sink>(
+    writer: &mut W,
+    head: &ReplyHead<'_>,
+    body: &[u8],
+) -> Result<(), WriteFault>
+    ensures ok { OnOk result (Appends (W.held writer.old) (W.held writer.new) (reply_text head.now body.now)) }
+
+    // Of a reply that is cut short the first so many bytes went out.
+    ensures fault { IfErr result (λ fault. SentFront (W.held writer.old) (W.held writer.new) (reply_text head.now body.now) fault.0) }
+    ensures cause { OnErr result W.may_fail }
+{
+    let length = head.content_length.map(decimal_text);
+    let range = head.content_range.map(range_value);
+    let length = length.as_ref().map(|text| text.as_str());
+    let range = range.as_ref().map(|text| text.as_str());
+    write_texts(writer, head, length, range, body)
+}

@@ -1,0 +1,59 @@
+//! Where a head ends.
+ghost use Rattle.std.specs.Prelude.{◌≡◌, ℕ, ◌≤◌, ◌⊎◌, List, ◌++◌, length, drop, true};
+ghost use Rattle.http_wire.specs.Scanning.{step_of, is_done, rest_from};
+
+/// What the bytes of a head read so far end in.
+#[derive(Clone, Copy, Debug, PartialEq, Eq)]
+pub enum State {
+    /// Empty lines alone.
+    Before,
+    /// Empty lines and a CR.
+    BeforeReturn,
+    /// A part of a line of text.
+    Text,
+    /// A line of text.
+    Between,
+    /// A line of text and a CR.
+    BetweenReturn,
+    /// The whole head.
+    Done,
+}
+
+impl State {
+    /// Whether the head is whole.
+    pub fn is_done(self) -> bool
+        ensures { result ≡ is_done self }
+    {
+        matches!(self, State::Done)
+    }
+
+    fn step(self, byte: u8) -> State
+        ensures { result ≡ step_of self byte }
+    {
+        match (self, byte) {
+            (State::Before | State::BeforeReturn, b'\n') => State::Before,
+            (State::Text, b'\n') => State::Between,
+            (State::Between | State::BetweenReturn, b'\n') => State::Done,
+            (State::Before, b'\r') => State::BeforeReturn,
+            (State::Between, b'\r') => State::BetweenReturn,
+            (State::Done, _) => State::Done,
+            _ => State::Text,
+        }
+    }
+}
+
+/// Goes on through `bytes` up to the head's end, and answers the state there and how many bytes that took.
+pub fn scan(state: State, bytes: &[u8]) -> (State, usize)
+    ensures within { result.1 ≤ length bytes.now }
+    ensures through { (is_done result.0 ≡ true) ⊎ (result.1 ≡ length bytes.now) }
+    ensures same { (more : List ℕ) → rest_from state (bytes.now ++ more) ≡ rest_from result.0 (drop result.1 bytes.now ++ more) }
+{
+    let mut state = state;
+    for (at, byte) in bytes.iter().enumerate() {
+        if state.is_done() {
+            return (state, at);
+        }
+        state = state.step(*byte);
+    }
+    (state, bytes.len())
+}

@@ -1,0 +1,45 @@
+//! Where the bytes of a connection go.
+ghost use Rattle.std.specs.Prelude.{ℕ, List, Option, ⊤, ◌<◌, ◌≤◌, length, IfOk, OnErr};
+ghost use Rattle.std.specs.Io.KnownBytes.{WriteAppends};
+
+use std::io::Write;
+use thiserror::Error;
+
+/// A write failed, or took no byte; nothing was written.
+#[derive(Clone, Copy, Debug, PartialEq, Eq, Error)]
+#[error("the write failed")]
+pub struct WriteFailed;
+
+/// A stream that takes bytes in pieces, as `Write`, with the cause of a failure in its contract.
+pub trait Sink {
+    // The bytes that the sink holds, where they are known.
+    ghost held: { Self → Option (List ℕ) };
+
+    // Whether writes to such a sink can fail at all.
+    ghost may_fail: { Type 0 };
+
+    /// Writes some of the bytes, from their front: at least one, where there is one.
+    fn write_some(&mut self, bytes: &[u8]) -> Result<usize, WriteFailed>
+        ensures bound { IfOk result (λ count. count ≤ length bytes.now) }
+        ensures some { IfOk result (λ count. 0 < length bytes.now → 0 < count) }
+        ensures bytes { WriteAppends (held self.old) (held self.new) result bytes.now }
+        ensures cause { OnErr result may_fail };
+}
+
+/// A writer as a sink, whose writes may fail.
+#[derive(Debug, Drop)]
+pub struct Writing<W>(pub W);
+
+impl<W: Write> Sink for Writing<W> {
+    ghost held = { λ s. W.contents s.0 };
+
+    ghost may_fail = { ⊤ };
+
+    fn write_some(&mut self, bytes: &[u8]) -> Result<usize, WriteFailed> {
+        match self.0.write(bytes) {
+            Ok(0) if !bytes.is_empty() => Err(WriteFailed),
+            Ok(count) => Ok(count),
+            Err(_) => Err(WriteFailed),
+        }
+    }
+}
