@@ -1,0 +1,245 @@
+-- What the marks of the entries tell.
+use Rattle.std.proofs.Common.{◌≡◌, ℕ, zero, suc, ◌+◌, ◌-◌, ◌<◌, ◌≤◌, ◌==◌, nat_le, nat_lt, Bool, true, false, not, cond, ◌&&◌, ◌||◌, List, [], ◌∷◌, ◌++◌, map, drop, get_or, set, length, slice_get, Option, Some, None, IsSome, refl, sym, ap, subst, ◌∙◌, arith, eq-eqb, inl, inr, if◌then◌else◌}
+use Rattle.std.specs.List.{list_any, list_all}
+use Rattle.std.proofs.Math.Seq.{drop-nil}
+use Rattle.std.proofs.lemmas.List.{length-map, drop_more, append-nil, length-append}
+use Rattle.std.proofs.lemmas.Bool.{cases_lt, le-leb, leb-true, eqb-true}
+use Rattle.std.specs.Str.{bytes_eq}
+use Rattle.site_change.specs.declared.commands.Command.{Command}
+use Rattle.host_names.specs.Blobs.{Contents}
+use Rattle.host_names.specs.declared.names.SiteName.{SiteName}
+use Rattle.site_state.specs.States.{State}
+use Rattle.site_change.specs.declared.commands.Refusal.{Refusal}
+use Rattle.site_change.specs.Changes.{refusal, applied, if_accepted, run_from}
+use Rattle.change_undo.specs.declared.entries.Entry.{Entry}
+use Rattle.change_undo.specs.declared.entries.Entry.TheVariants.{Change, Undo}
+use Rattle.change_undo.specs.declared.entries.UndoRefusal.{UndoRefusal}
+use Rattle.change_undo.specs.declared.entries.UndoRefusal.TheVariants.{HistoryFull, NoSuchChange, NotAChange, AlreadyUndone, NotNewest}
+use Rattle.change_undo.specs.declared.logged.Logged.{Logged}
+use Rattle.change_undo.specs.Histories.{undone, is_among, live_from, live_changes, site_of_command, site_of_entry, same_site, entry_at, is_newest, refusal_at, undo_refusal}
+use Rattle.change_undo.specs.Live.{without}
+use Rattle.change_undo.proofs.Live.{is_among-push, undone-append}
+use Rattle.change_undo.specs.Logged.{entries_of, AreMarked, marked_live, with_change, is_change, is_live, command_if, carried_out}
+
+-- the marked entries have the live changes
+pub marked_live-is : (gone : List ℕ) (n : ℕ) (logged : List Logged) → AreMarked gone n logged → marked_live n logged ≡ live_from gone n (entries_of logged)
+marked_live-is gone n [] marked = refl
+marked_live-is gone n (l ∷ logged) marked =
+    ap (with_change l.is_undone n l.entry) (marked_live-is gone (n + 1) logged marked.1) ∙ one l.entry
+  where
+    one : (entry : Entry) → with_change l.is_undone n entry (live_from gone (n + 1) (entries_of logged)) ≡ live_from gone n (entry ∷ entries_of logged)
+    one (Change command) = ap (λ t. cond t (live_from gone (n + 1) (entries_of logged)) ((n, command) ∷ live_from gone (n + 1) (entries_of logged))) marked.0
+    one (Undo site k) = refl
+
+-- ---- the entry at a place
+
+mark_at : (gone : List ℕ) (n i : ℕ) (logged : List Logged) (l : Logged) → AreMarked gone n logged → i < length logged → l ≡ get_or logged i l → l.is_undone ≡ is_among gone (n + i)
+mark_at gone n i [] l marked within at = absurd (omega arith)
+mark_at gone n zero (x ∷ logged) l marked within at = ap (λ (x : Logged). x.is_undone) at ∙ marked.0 ∙ ap (is_among gone) (omega arith)
+mark_at gone n (suc i) (x ∷ logged) l marked within at = mark_at gone (n + 1) i logged l marked.1 (omega arith) at ∙ ap (is_among gone) (omega arith)
+
+entry_at_place : (i : ℕ) (logged : List Logged) (l : Logged) → i < length logged → l ≡ get_or logged i l → slice_get (entries_of logged) i ≡ Some l.entry
+entry_at_place i [] l within at = absurd (omega arith)
+entry_at_place zero (x ∷ logged) l within at = ap (λ (x : Logged). Some x.entry) (sym at)
+entry_at_place (suc i) (x ∷ logged) l within at = entry_at_place i logged l (omega arith) at
+
+-- ---- the newest live change
+
+-- no number of the live changes is above k where no change after the one of number k is live
+newest_mark : (gone : List ℕ) (k n : ℕ) (logged : List Logged) → AreMarked gone n logged
+    → list_all (λ c. nat_le c.0 k) (live_from gone n (entries_of logged)) ≡ not (list_any is_live (drop (k + 1 - n) logged))
+newest_mark gone k n [] marked = rw (drop-nil {A = Logged} (k + 1 - n)) refl
+newest_mark gone k n (l ∷ logged) marked =
+    let rest = newest_mark gone k (n + 1) logged marked.1 in
+    elim (cases_lt k n) [
+      | inl above ↦
+          let here : k + 1 - n ≡ 0 = omega arith in
+          let next : k + 1 - (n + 1) ≡ 0 = omega arith in
+          rw here (after l.entry (not_le k n above) (rw next at rest))
+      | inr le ↦
+          let here : k + 1 - n ≡ suc (k + 1 - (n + 1)) = omega arith in
+          rw here (before l.entry (le-leb n k le) ∙ rest)
+    ]
+  where
+    not_le : (k n : ℕ) → k < n → nat_le n k ≡ false
+    not_le k n above = elim (nat_le n k) as (λ t. nat_le n k ≡ t → t ≡ false) [ true ↦ λ e. absurd (omega (arith, leb-true n k e)) | false ↦ λ e. refl ] refl
+
+    before : (entry : Entry) → nat_le n k ≡ true → list_all (λ c. nat_le c.0 k) (live_from gone n (entry ∷ entries_of logged)) ≡ list_all (λ c. nat_le c.0 k) (live_from gone (n + 1) (entries_of logged))
+    before (Undo site j) le = refl
+    before (Change command) le = elim (is_among gone n) as (λ t. list_all (λ c. nat_le c.0 k) (cond t (live_from gone (n + 1) (entries_of logged)) ((n, command) ∷ live_from gone (n + 1) (entries_of logged)))
+        ≡ list_all (λ c. nat_le c.0 k) (live_from gone (n + 1) (entries_of logged))) [ true ↦ refl | false ↦ rw le refl ]
+
+    after : (entry : Entry) → nat_le n k ≡ false → list_all (λ c. nat_le c.0 k) (live_from gone (n + 1) (entries_of logged)) ≡ not (list_any is_live logged)
+        → list_all (λ c. nat_le c.0 k) (live_from gone n (entry ∷ entries_of logged)) ≡ not ((is_change entry && not l.is_undone) || list_any is_live logged)
+    after (Undo site j) above rest = rest
+    after (Change command) above rest = rw marked.0 (elim (is_among gone n) as (λ t. list_all (λ c. nat_le c.0 k) (cond t (live_from gone (n + 1) (entries_of logged)) ((n, command) ∷ live_from gone (n + 1) (entries_of logged)))
+        ≡ not (not t || list_any is_live logged)) [ true ↦ rest | false ↦ rw above refl ])
+
+-- ---- the first reason to refuse the undo of a change
+
+nonzero : (k : ℕ) → 0 < k → (k == 0) ≡ false
+nonzero k h = elim (k == 0) as (λ t. (k == 0) ≡ t → t ≡ false) [ true ↦ λ e. absurd (omega (arith, eqb-true k 0 e)) | false ↦ λ e. refl ] refl
+
+room : (limit n : ℕ) → n < limit → nat_le limit n ≡ false
+room limit n h = elim (nat_le limit n) as (λ t. nat_le limit n ≡ t → t ≡ false) [ true ↦ λ e. absurd (omega (arith, leb-true limit n e)) | false ↦ λ e. refl ] refl
+
+-- where the number names a change of the site, the marks tell the rest
+pub refusal_by_marks : (limit : ℕ) (logged : List Logged) (site : SiteName) (k : ℕ) (l : Logged) (command : Command)
+    → AreMarked (undone (entries_of logged)) 1 logged → length logged < limit → 0 < k → k ≤ length logged
+    → l ≡ get_or logged (k - 1) l → l.entry ≡ Change command → same_site (site_of_command command) site ≡ true
+    → undo_refusal limit (entries_of logged) site k
+    ≡ (if l.is_undone then Some AlreadyUndone else if list_any is_live (drop k logged) then Some NotNewest else None)
+refusal_by_marks limit logged site k l command marked full some within at is_one same =
+    let es = entries_of logged in
+    let len : length es ≡ length logged = length-map logged (λ (l : Logged). l.entry) in
+    let mark : l.is_undone ≡ is_among (undone es) k = mark_at (undone es) 1 (k - 1) logged l marked (omega arith) at ∙ ap (is_among (undone es)) (omega arith) in
+    let found : entry_at es k ≡ Some (Change command) = ap (λ t. cond t None (slice_get es (k - 1))) (nonzero k some) ∙ entry_at_place (k - 1) logged l (omega arith) at ∙ ap Some is_one in
+    let newest : is_newest es k ≡ not (list_any is_live (drop k logged)) =
+    newest_mark (undone es) k 1 logged marked ∙ ap (λ (m : ℕ). not (list_any is_live (drop m logged))) (omega arith) in
+    ap (λ t. cond t (Some HistoryFull) (refusal_at es site k (entry_at es k))) (ap (nat_le limit) len ∙ room limit (length logged) full)
+    ∙ ap (refusal_at es site k) found
+    ∙ ap (λ t. cond (not t) (Some NoSuchChange) (cond (is_among (undone es) k) (Some AlreadyUndone) (cond (not (is_newest es k)) (Some NotNewest) None))) same
+    ∙ ap (λ t. cond t (Some AlreadyUndone) (cond (not (is_newest es k)) (Some NotNewest) None)) (sym mark)
+    ∙ ap (λ t. cond l.is_undone (Some AlreadyUndone) (cond (not t) (Some NotNewest) None)) newest
+    ∙ ap (λ t. cond l.is_undone (Some AlreadyUndone) (cond t (Some NotNewest) None)) (twice (list_any is_live (drop k logged)))
+  where
+    twice : (b : Bool) → not (not b) ≡ b
+    twice true = refl
+    twice false = refl
+
+-- the site that was compared is the change's
+pub named_site : (found : SiteName) (entry : Entry) (command : Command) (site : SiteName) → found ≡ site_of_entry entry → entry ≡ Change command
+    → false ≡ not (bytes_eq found.0 site.0) → same_site (site_of_command command) site ≡ true
+named_site found entry command site is is_one same =
+    let at : found ≡ site_of_command command = is ∙ ap site_of_entry is_one in
+    let P : SiteName → Type 0 = λ s. same_site s site ≡ true in
+    subst P at (elim (bytes_eq found.0 site.0) as (λ t. bytes_eq found.0 site.0 ≡ t → t ≡ true) [ true ↦ λ e. refl | false ↦ λ e. cc (same ∙ ap not e) ] refl)
+
+-- ---- carrying out the changes again
+
+-- an entry's change, before others
+abbrev pub before_others : ℕ → Option Command → List (ℕ × Command) → List (ℕ × Command)
+before_others n None changes = changes
+before_others n (Some command) changes = (n, command) ∷ changes
+
+carried_first : (k n : ℕ) (gone : Bool) (entry : Entry) (changes : List (ℕ × Command))
+    → without k (with_change gone n entry changes) ≡ before_others n (command_if (not gone && not (k == n)) entry) (without k changes)
+carried_first k n gone (Undo site j) changes = refl
+carried_first k n true (Change command) changes = refl
+carried_first k n false (Change command) changes = elim (k == n) as (λ t. cond (not t) ((n, command) ∷ without k changes) (without k changes)
+    ≡ before_others n (command_if (true && not t) (Change command)) (without k changes)) [ true ↦ refl | false ↦ refl ]
+
+-- the changes that are carried out from a place on
+pub carried_at : (k n i : ℕ) (logged : List Logged) (l : Logged) → i < length logged → l ≡ get_or logged i l
+    → without k (marked_live n (drop i logged)) ≡ before_others n (carried_out k n l) (without k (marked_live (n + 1) (drop (i + 1) logged)))
+carried_at k n i logged l within at =
+    ap (λ ls. without k (marked_live n ls)) (drop_more logged i l within)
+    ∙ ap (λ (x : Logged). without k (marked_live n (x ∷ drop (i + 1) logged))) (sym at)
+    ∙ carried_first k n l.is_undone l.entry (marked_live (n + 1) (drop (i + 1) logged))
+
+some_accepted : (reason : Option Refusal) (next : Option State) → IsSome (if_accepted reason next) → reason ≡ None
+some_accepted None next h = refl
+some_accepted (Some reason) next h = cc h
+
+-- the next of them is accepted
+pub carried_accepted : (uploads : Contents) (state : State) (n : ℕ) (command : Command) (o : Option Command) (changes : List (ℕ × Command)) → o ≡ Some command
+    → IsSome (run_from uploads state (before_others n o changes)) → refusal command n state uploads ≡ None
+carried_accepted uploads state n command o changes e h =
+    let P : Option Command → Type 0 = λ o. IsSome (run_from uploads state (before_others n o changes)) in
+    some_accepted (refusal command n state uploads) (run_from uploads (applied command n state uploads) changes) (subst P e h)
+
+-- once it is carried out, the others remain
+pub carried_rest : (uploads : Contents) (state : State) (n : ℕ) (command : Command) (o : Option Command) (changes : List (ℕ × Command)) → o ≡ Some command
+    → refusal command n state uploads ≡ None → run_from uploads state (before_others n o changes) ≡ run_from uploads (applied command n state uploads) changes
+carried_rest uploads state n command o changes e ok =
+    ap (λ o. run_from uploads state (before_others n o changes)) e ∙ ap (λ r. if_accepted r (run_from uploads (applied command n state uploads) changes)) ok
+
+pub carried_none : (uploads : Contents) (state : State) (n : ℕ) (o : Option Command) (changes : List (ℕ × Command)) → o ≡ None
+    → run_from uploads state (before_others n o changes) ≡ run_from uploads state changes
+carried_none uploads state n o changes e = ap (λ o. run_from uploads state (before_others n o changes)) e
+
+-- ---- an undo more
+
+-- marking an entry leaves the entries
+pub entries_of-mark : (logged : List Logged) (i : ℕ) (l : Logged) → i < length logged → l ≡ get_or logged i l
+    → entries_of (set logged i (record { entry = l.entry; is_undone = true })) ≡ entries_of logged
+entries_of-mark [] i l within at = absurd (omega arith)
+entries_of-mark (x ∷ logged) zero l within at = ap (λ (y : Logged). y.entry ∷ entries_of logged) at
+entries_of-mark (x ∷ logged) (suc i) l within at = ap (λ es. x.entry ∷ es) (entries_of-mark logged i l (omega arith) at)
+
+-- and tells that one number more is undone
+AreMarked-other : (gone : List ℕ) (k n : ℕ) (logged : List Logged) → k < n → AreMarked gone n logged → AreMarked (gone ++ k ∷ []) n logged
+AreMarked-other gone k n [] below marked = tt
+AreMarked-other gone k n (x ∷ logged) below marked =
+    (marked.0 ∙ sym (is_among-push gone k n ∙ ap (λ t. is_among gone n || t) (differs k n below) ∙ or_false (is_among gone n)), AreMarked-other gone k (n + 1) logged (omega arith) marked.1)
+  where
+    differs : (k n : ℕ) → k < n → (k == n) ≡ false
+    differs k n below = elim (k == n) as (λ t. (k == n) ≡ t → t ≡ false) [ true ↦ λ e. absurd (omega (arith, eqb-true k n e)) | false ↦ λ e. refl ] refl
+
+    or_false : (b : Bool) → (b || false) ≡ b
+    or_false true = refl
+    or_false false = refl
+
+pub AreMarked-mark : (gone : List ℕ) (n i m : ℕ) (logged : List Logged) (l : Logged) → i < length logged → m ≡ n + i → AreMarked gone n logged
+    → AreMarked (gone ++ m ∷ []) n (set logged i (record { entry = l.entry; is_undone = true }))
+AreMarked-mark gone n i m [] l within at marked = absurd (omega arith)
+AreMarked-mark gone n zero m (x ∷ logged) l within at marked =
+    let same : (m == n) ≡ true = eq-eqb m n (omega arith) in
+    (sym (is_among-push gone m n ∙ ap (λ t. is_among gone n || t) same ∙ or_true (is_among gone n)), AreMarked-other gone m (n + 1) logged (omega arith) marked.1)
+  where
+    or_true : (b : Bool) → (b || true) ≡ true
+    or_true true = refl
+    or_true false = refl
+AreMarked-mark gone n (suc i) m (x ∷ logged) l within at marked = (
+  marked.0 ∙ sym (is_among-push gone m n ∙ ap (λ t. is_among gone n || t) (differs m n (omega arith)) ∙ or_false (is_among gone n)),
+  AreMarked-mark gone (n + 1) i m logged l (omega arith) (omega arith) marked.1,
+)
+  where
+    differs : (k n : ℕ) → n < k → (k == n) ≡ false
+    differs k n above = elim (k == n) as (λ t. (k == n) ≡ t → t ≡ false) [ true ↦ λ e. absurd (omega (arith, eqb-true k n e)) | false ↦ λ e. refl ] refl
+
+    or_false : (b : Bool) → (b || false) ≡ b
+    or_false true = refl
+    or_false false = refl
+
+-- an unmarked entry at the end
+pub AreMarked-push : (gone : List ℕ) (n : ℕ) (logged : List Logged) (l : Logged) → AreMarked gone n logged → l.is_undone ≡ is_among gone (n + length logged)
+    → AreMarked gone n (logged ++ l ∷ [])
+AreMarked-push gone n [] l marked e = (e ∙ ap (is_among gone) (omega arith), tt)
+AreMarked-push gone n (x ∷ logged) l marked e = (marked.0, AreMarked-push gone (n + 1) logged l marked.1 (e ∙ ap (is_among gone) (omega arith)))
+
+pub entries_of-push : (logged : List Logged) (l : Logged) → entries_of (logged ++ l ∷ []) ≡ entries_of logged ++ l.entry ∷ []
+entries_of-push [] l = refl
+entries_of-push (x ∷ logged) l = ap (λ es. x.entry ∷ es) (entries_of-push logged l)
+
+-- the undo of a change, appended and marked
+pub after_undo : (logged : List Logged) (new : Logged) (site : SiteName) (k : ℕ) (l : Logged) → AreMarked (undone (entries_of logged)) 1 logged
+    → is_among (undone (entries_of logged)) (length logged + 1) ≡ false → 0 < k → k ≤ length logged → new.entry ≡ Undo site k → new.is_undone ≡ false
+    → l ≡ get_or (logged ++ new ∷ []) (k - 1) l
+    → (entries_of (set (logged ++ new ∷ []) (k - 1) (record { entry = l.entry; is_undone = true })) ≡ entries_of logged ++ Undo site k ∷ [])
+    × AreMarked (undone (entries_of (set (logged ++ new ∷ []) (k - 1) (record { entry = l.entry; is_undone = true })))) 1
+    (set (logged ++ new ∷ []) (k - 1) (record { entry = l.entry; is_undone = true }))
+after_undo logged new site k l marked next some within is_undo unmarked at =
+    let items : List Logged = logged ++ new ∷ [] in
+    let longer = length-append logged (new ∷ []) in
+    let same : entries_of (set items (k - 1) (record { entry = l.entry; is_undone = true })) ≡ entries_of logged ++ Undo site k ∷ [] =
+    entries_of-mark items (k - 1) l (omega (arith, longer)) at ∙ entries_of-push logged new ∙ ap (λ (e : Entry). entries_of logged ++ e ∷ []) is_undo in
+    let number : 1 + length logged ≡ length logged + 1 = omega arith in
+    let pushed = AreMarked-push (undone (entries_of logged)) 1 logged new marked (unmarked ∙ sym next ∙ ap (is_among (undone (entries_of logged))) (sym number)) in
+    let P : List ℕ → Type 0 = λ gone. AreMarked gone 1 (set items (k - 1) (record { entry = l.entry; is_undone = true })) in (
+      same,
+      subst P (sym (ap undone same ∙ undone-append (entries_of logged) (Undo site k ∷ [])))
+          (AreMarked-mark (undone (entries_of logged)) 1 (k - 1) k items l (omega (arith, longer)) (omega arith) pushed),
+    )
+
+-- a change, appended
+pub after_change : (logged : List Logged) (new : Logged) (command : Command) → AreMarked (undone (entries_of logged)) 1 logged
+    → is_among (undone (entries_of logged)) (length logged + 1) ≡ false → new.entry ≡ Change command → new.is_undone ≡ false
+    → (entries_of (logged ++ new ∷ []) ≡ entries_of logged ++ Change command ∷ []) × AreMarked (undone (entries_of (logged ++ new ∷ []))) 1 (logged ++ new ∷ [])
+after_change logged new command marked next is_change unmarked =
+    let same : entries_of (logged ++ new ∷ []) ≡ entries_of logged ++ Change command ∷ [] =
+    entries_of-push logged new ∙ ap (λ (e : Entry). entries_of logged ++ e ∷ []) is_change in
+    let number : 1 + length logged ≡ length logged + 1 = omega arith in
+    let pushed = AreMarked-push (undone (entries_of logged)) 1 logged new marked (unmarked ∙ sym next ∙ ap (is_among (undone (entries_of logged))) (sym number)) in
+    let P : List ℕ → Type 0 = λ gone. AreMarked gone 1 (logged ++ new ∷ []) in
+    (same, subst P (sym (ap undone same ∙ undone-append (entries_of logged) (Change command ∷ []) ∙ append-nil (undone (entries_of logged)))) pushed)

@@ -1,0 +1,5 @@
+pub mod Histories
+pub mod Clashes
+pub mod Live
+pub mod Logged
+pub mod Past

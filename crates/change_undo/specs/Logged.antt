@@ -1,0 +1,42 @@
+-- How a history is kept: its entries, each with a mark whether it was undone.
+use Rattle.std.specs.Prelude.{◌≡◌, ℕ, ◌+◌, List, [], ◌∷◌, map, Bool, true, false, not, ◌&&◌, ◌==◌, Option, Some, None, if◌then◌else◌}
+use Rattle.site_change.specs.declared.commands.Command.{Command}
+use Rattle.change_undo.specs.declared.entries.Entry.{Entry}
+use Rattle.change_undo.specs.declared.entries.Entry.TheVariants.{Change, Undo}
+use Rattle.change_undo.specs.declared.logged.Logged.{Logged}
+use Rattle.change_undo.specs.Histories.{undone, is_among}
+
+-- the entries alone
+abbrev pub entries_of : List Logged → List Entry
+entries_of logged = map (λ l. l.entry) logged
+
+-- each mark tells whether the number is among the undone ones; n is the number of the first
+abbrev pub AreMarked : List ℕ → ℕ → List Logged → Type 0
+AreMarked gone n [] = Unit {0}
+AreMarked gone n (l ∷ logged) = (l.is_undone ≡ is_among gone n) × AreMarked gone (n + 1) logged
+
+-- a change with its number before others, unless it is marked
+abbrev pub with_change : Bool → ℕ → Entry → List (ℕ × Command) → List (ℕ × Command)
+with_change gone n (Change command) changes = if gone then changes else (n, command) ∷ changes
+with_change gone n (Undo site k) changes = changes
+
+-- the changes that are not marked, each with its number
+abbrev pub marked_live : ℕ → List Logged → List (ℕ × Command)
+marked_live n [] = []
+marked_live n (l ∷ logged) = with_change l.is_undone n l.entry (marked_live (n + 1) logged)
+
+-- whether it is a change that was not undone
+abbrev pub is_change : Entry → Bool
+is_change (Change command) = true
+is_change (Undo site k) = false
+
+abbrev pub is_live : Logged → Bool
+is_live l = is_change l.entry && not l.is_undone
+
+abbrev pub command_if : Bool → Entry → Option Command
+command_if live (Change command) = if live then Some command else None
+command_if live (Undo site k) = None
+
+-- the command of an entry, unless it is marked or has this number
+abbrev pub carried_out : ℕ → ℕ → Logged → Option Command
+carried_out left_out n l = command_if (not l.is_undone && not (left_out == n)) l.entry

@@ -1,0 +1,75 @@
+//! One change more.
+ghost use Rattle.std.specs.Prelude.{◌≡◌, ◌↔◌, ◌+◌, [], ◌∷◌, ◌++◌, length, false, Some, None, Err, OnOk, OnErr};
+ghost use Rattle.site_change.specs.Changes.{IsWithin, applied, refusal};
+ghost use Rattle.site_change.specs.declared.commands.Refusal.{Refusal as Reason};
+ghost use Rattle.change_undo.specs.declared.entries.Entry.TheVariants as entry;
+
+use crate::entries::Entry;
+use crate::founds::keep_all;
+use crate::logged::Logged;
+use crate::steps::decided;
+use host_names::{MemoryUploads, Uploads};
+use site_change::{Command, DecideError};
+use site_state::State;
+use std::alloc::{AllocError, Global};
+
+/// Keeps what an accepted command finds among the uploads. Without memory it keeps some of it.
+fn keep_found<U: Uploads>(
+    found: &mut MemoryUploads,
+    state: &State,
+    uploads: &U,
+    command: &Command,
+) -> Result<(), AllocError>
+    requires within { IsWithin found.old (U.contents uploads.now) }
+    requires accepted { refusal command.now 0 state.now (U.contents uploads.now) ≡ None }
+    ensures kept { IsWithin found.old found.new }
+    ensures within { IsWithin found.new (U.contents uploads.now) }
+    ensures accepted { OnOk result (refusal command.now 0 state.now found.new ≡ None) }
+{
+    match command {
+        Command::Open { .. } => Ok(()),
+        Command::Publish { site, number } => match state.draft(site, *number) {
+            Some(draft) => keep_all(found, uploads, draft.files.entries()),
+            None => Ok(()),
+        },
+    }
+}
+
+/// Appends a command that is accepted, and carries it out. Where it is refused, or without memory, the entries and the
+/// state stay.
+pub(crate) fn append<U: Uploads>(
+    alloc: Global,
+    logged: &mut Vec<Logged>,
+    found: &mut MemoryUploads,
+    state: &mut State,
+    uploads: &U,
+    number: u64,
+    command: Command,
+) -> Result<(), DecideError>
+    requires within { IsWithin found.old (U.contents uploads.now) }
+    ensures refused { (reason : Reason) → (result ≡ Err (DecideError.Refused reason)) ↔ (refusal command number state.old (U.contents uploads.now) ≡ Some reason) }
+    ensures entries { OnOk result (logged.new.items ≡ logged.old.items ++ record { entry = entry.Change command; is_undone = false } ∷ []) }
+    ensures effect { OnOk result (state.new ≡ applied command number state.old (U.contents uploads.now)) }
+    ensures accepted { OnOk result (refusal command number state.old found.new ≡ None) }
+    ensures err { OnErr result ((logged.new.items ≡ logged.old.items) × (state.new ≡ state.old)) }
+    ensures kept { IsWithin found.old found.new }
+    ensures within { IsWithin found.new (U.contents uploads.now) }
+{
+    let writes = match decided(alloc, state, uploads, number, &command) {
+        Ok(writes) => writes,
+        Err(error) => return Err(error),
+    };
+    if keep_found(found, state, uploads, &command).is_err() || logged.reserve(1).is_err() {
+        return Err(DecideError::OutOfMemory);
+    }
+    match state.set_cells(alloc, writes) {
+        Ok(()) => {
+            logged.push_reserved(Logged {
+                entry: Entry::Change(command),
+                is_undone: false,
+            });
+            Ok(())
+        }
+        Err(_) => Err(DecideError::OutOfMemory),
+    }
+}

@@ -1,0 +1,112 @@
+//! Commands that are carried out, one by one.
+ghost use Rattle.std.specs.Prelude.{◌≡◌, ◌↔◌, map, All, Err, Some, None, IfOk, IsSome, IsTrue, OnOk, option_copied};
+ghost use Rattle.std.specs.FinMap as map;
+ghost use Rattle.std.specs.List.Sorted.{IsStrictlySortedBy};
+ghost use Rattle.std.specs.Map.{keys_of};
+ghost use Rattle.host_names.specs.Cells.{cell_cmp};
+ghost use Rattle.site_change.specs.Changes.{applied, refusal, run_from};
+ghost use Rattle.site_change.specs.declared.commands.Refusal.{Refusal as Reason};
+ghost use Rattle.site_state.specs.States.{may_stand, with_cells};
+ghost use Rattle.change_undo.specs.Live.{without};
+ghost use Rattle.change_undo.specs.Logged.{carried_out, marked_live};
+
+use crate::entries::Entry;
+use crate::logged::Logged;
+use host_names::{Cell, MemoryUploads, Uploads};
+use site_change::{Change, Command, DecideError, Plan, decide};
+use site_state::{State, Value};
+use std::alloc::{AllocError, Global};
+
+/// What stands in a cell from now on.
+pub(crate) type Write = (Cell, Option<Value>);
+
+/// What a plan leaves in the cells that it changes.
+fn writes_of(alloc: Global, plan: Plan) -> Result<Vec<Write>, AllocError>
+    ensures { IfOk result (λ writes. writes.items ≡ map (λ change. (change.cell, change.after)) plan.changes.items) }
+{
+    let mut writes = Vec::with_capacity(alloc, plan.changes.len())?;
+    for change in plan.changes {
+        let Change {
+            cell,
+            before,
+            after,
+        } = change;
+        drop(before);
+        writes.push((cell, after))?;
+    }
+    Ok(writes)
+}
+
+/// What a command leaves in the cells that it changes, by cell.
+pub(crate) fn decided<U: Uploads>(
+    alloc: Global,
+    state: &State,
+    uploads: &U,
+    number: u64,
+    command: &Command,
+) -> Result<Vec<Write>, DecideError>
+    ensures refused { (reason : Reason) → (result ≡ Err (DecideError.Refused reason)) ↔ (refusal command.now number state.now (U.contents uploads.now) ≡ Some reason) }
+    ensures accepted { OnOk result (refusal command.now number state.now (U.contents uploads.now) ≡ None) }
+    ensures rising { IfOk result (λ writes. IsStrictlySortedBy cell_cmp (keys_of writes.items)) }
+    ensures of_kind { IfOk result (λ writes. All (λ e. IsTrue (may_stand e.0 e.1)) writes.items) }
+    ensures effect { IfOk result (λ writes. with_cells state.now writes.items ≡ applied command.now number state.now (U.contents uploads.now)) }
+{
+    match decide(alloc, state, uploads, number, command) {
+        Ok(plan) => match writes_of(alloc, plan) {
+            Ok(writes) => Ok(writes),
+            Err(_) => Err(DecideError::OutOfMemory),
+        },
+        Err(error) => Err(error),
+    }
+}
+
+/// Carries out a command that is accepted. Without memory nothing changes.
+fn carry_out(
+    alloc: Global,
+    state: &mut State,
+    uploads: &MemoryUploads,
+    number: u64,
+    command: &Command,
+) -> Result<(), AllocError>
+    requires { refusal command.now number state.old uploads.now ≡ None }
+    ensures { OnOk result (state.new ≡ applied command.now number state.old uploads.now) }
+{
+    match decided(alloc, state, uploads, number, command) {
+        Ok(writes) => state.set_cells(alloc, writes),
+        Err(DecideError::OutOfMemory) => Err(AllocError),
+        Err(DecideError::Refused(_)) => unreachable!(),
+    }
+}
+
+/// The state that the changes give from nothing, without the one of this number and without those that are
+/// marked.
+pub(crate) fn rerun(
+    alloc: Global,
+    logged: &[Logged],
+    found: &MemoryUploads,
+    left_out: u64,
+) -> Result<State, AllocError>
+    requires { IsSome (run_from found.now map.empty (without left_out (marked_live 1 logged.now))) }
+    ensures { IfOk result (λ state. run_from found.now map.empty (without left_out (marked_live 1 logged.now)) ≡ Some state) }
+{
+    let mut state = State::new(alloc);
+    let mut number = 1u64;
+    'entries: for kept in logged {
+        if let Some(command) = command_of(kept, number, left_out) {
+            carry_out(alloc, &mut state, found, number, command)?;
+        }
+        number += 1;
+    }
+    Ok(state)
+}
+
+/// The command of the entry of this number, if it is to be carried out: a change that is neither marked nor left
+/// out.
+fn command_of(kept: &Logged, number: u64, left_out: u64) -> Option<&Command>
+    ensures { option_copied result ≡ carried_out left_out number kept.now }
+{
+    match &kept.entry {
+        Entry::Change(command) if !kept.is_undone && left_out != number => Some(command),
+        _ => None,
+    }
+}

@@ -1,0 +1,185 @@
+-- What the two commands change, put together from their parts.
+use Rattle.std.proofs.Common.{◌≡◌, ℕ, Bool, true, false, cond, ◌||◌, List, [], ◌∷◌, ◌++◌, map, filter, Option, Some, None, option_map, option_to_list, ◌⊎◌, inl, inr, refl, sym, ap, subst, ◌∙◌}
+use Rattle.std.specs.FinMap as finmap
+use Rattle.std.specs.FinMap.Entries.{find-where_key, is_sorted-where_key}
+use Rattle.std.specs.List.{AllByRecursion}
+use Rattle.std.specs.List.Sorted.{IsStrictlySortedBy}
+use Rattle.std.specs.Cmp.Lexicographic.{slice_cmp}
+use Rattle.std.specs.Ordering.{is_eq, nat_cmp, ordering_then}
+use Rattle.std.specs.declared.cmp.Ordering.TheVariants.{Less, Equal}
+use Rattle.std.proofs.lemmas.Cmp.{tied_itself, nat_list_cmp_total}
+use Rattle.host_names.specs.Cells.{cell_cmp, text_of}
+use Rattle.host_names.specs.CellOrder.{cell_cmp_total, cell_cmp-IsAntisymmetric}
+use Rattle.host_names.specs.declared.names.SiteName.{SiteName}
+use Rattle.host_names.specs.declared.cells.Cell.{Cell}
+use Rattle.host_names.specs.declared.cells.Cell.TheVariants as cell
+use Rattle.site_state.specs.Files.{Paths, IsByPath, at_path}
+use Rattle.site_state.specs.States.{State, is_live_of, live_entries}
+use Rattle.site_state.specs.declared.values.Value.{Value}
+use Rattle.site_state.specs.declared.values.Value.TheVariants as value
+use Rattle.site_state.proofs.Entries.{sorted_from_test}
+use Rattle.site_change.specs.declared.plans.Change.{Change}
+use Rattle.site_change.specs.Changes.{same_cell, with_published}
+use Rattle.site_change.specs.Differences.{Reading, AreChangesIn, AreLiveChanges, AreSides, in_list, live_cells, change_at}
+use Rattle.site_change.specs.Plans.{IsDifference}
+use Rattle.site_change.proofs.Composing.{reread, change_in_cell, joined, whole, is_cell}
+use Rattle.site_change.proofs.Effects.{one_cell, same_cell-itself, live_of, same_paths, get-published}
+
+-- ---- the two lists of a site's files
+
+-- the live entries of a state, and nothing else
+pub in_live_entries : (state : State) (site : SiteName) (c : Cell) → is_live_of site c ≡ true → in_list (live_entries state site) c ≡ finmap.get state c
+in_live_entries state site c live =
+    find-where_key cell_cmp (is_live_of site) c (λ x tie. ap (is_live_of site) (sym (cell_cmp-IsAntisymmetric c x tie))) (finmap.entries state)
+    ∙ ap (λ t. cond t (finmap.find cell_cmp c (finmap.entries state)) None) live ∙ sym (finmap.get-entries state c)
+
+passing : {X : Type 0} (test : X → Bool) (xs : List X) → AllByRecursion (λ x. test x ≡ true) (filter test xs)
+passing test [] = tt
+passing test (x ∷ xs) = elim (test x) as (λ t. test x ≡ t → AllByRecursion (λ y. test y ≡ true) (cond t (x ∷ filter test xs) (filter test xs))) [
+  | true ↦ λ e. (e, passing test xs)
+  | false ↦ λ e. passing test xs
+] refl
+
+-- the file of a tree at a live cell's path
+in_tree_at : (site : SiteName) (tree : Paths (List ℕ)) (p : List ℕ) → in_list (live_cells site tree) (cell.Live site p) ≡ option_map value.Live (at_path tree p)
+in_tree_at site [] p = refl
+in_tree_at site (f ∷ tree) p =
+    ap (λ t. cond t (Some (value.Live f.1)) (in_list (live_cells site tree) (cell.Live site p))) (same_paths site p f.0)
+    ∙ ap (cond (is_eq (slice_cmp nat_cmp p f.0)) (Some (value.Live f.1))) (in_tree_at site tree p)
+    ∙ (elim (is_eq (slice_cmp nat_cmp p f.0)) as (λ t. cond t (Some (value.Live f.1)) (option_map value.Live (at_path tree p)) ≡ option_map value.Live (cond t (Some f.1) (at_path tree p))) [
+      | true ↦ refl
+      | false ↦ refl
+    ])
+
+in_tree : (site : SiteName) (tree : Paths (List ℕ)) (c : Cell) → is_live_of site c ≡ true → in_list (live_cells site tree) c ≡ option_map value.Live (at_path tree (text_of c))
+in_tree site tree c live = ap (in_list (live_cells site tree)) (live_of site c live) ∙ in_tree_at site tree (text_of c)
+
+-- cells at paths of a site are in the order of the paths
+path_before : (site : SiteName) (p q : List ℕ) → slice_cmp nat_cmp p q ≡ Less → cell_cmp (cell.Live site p) (cell.Live site q) ≡ Less
+path_before site p q less = rw (tied_itself nat_list_cmp_total site.0) (ap (λ r. ordering_then r Equal) less)
+
+paths_before : (site : SiteName) (p : List ℕ) (tree : Paths (List ℕ)) → AllByRecursion (λ q. slice_cmp nat_cmp p q ≡ Less) (map (λ f. f.0) tree)
+    → AllByRecursion (λ d. cell_cmp (cell.Live site p) d ≡ Less) (map (λ e. e.0) (live_cells site tree))
+paths_before site p [] h = tt
+paths_before site p (f ∷ tree) h = (path_before site p f.0 h.0, paths_before site p tree h.1)
+
+live_cells_sorted : (site : SiteName) (tree : Paths (List ℕ)) → IsByPath tree → IsStrictlySortedBy cell_cmp (map (λ e. e.0) (live_cells site tree))
+unfolding IsStrictlySortedBy
+live_cells_sorted site [] h = tt
+live_cells_sorted site (f ∷ tree) h = (paths_before site f.0 tree h.0, live_cells_sorted site tree h.1)
+
+pub sides_of : (state : State) (site : SiteName) (tree : Paths (List ℕ)) → IsByPath tree → AreSides site (live_entries state site) tree
+sides_of state site tree by_path = record {
+  live_sorted = sorted_from_test cell_cmp (live_entries state site) (is_sorted-where_key cell_cmp (is_live_of site) (finmap.entries state) (finmap.entries_sorted state));
+  live_only = passing (λ e. is_live_of site e.0) (finmap.entries state);
+  tree_sorted = live_cells_sorted site tree by_path;
+}
+
+-- ---- a publish
+
+not_or : (a b : Bool) → (a || b) ≡ false → (a ≡ false) × (b ≡ false)
+not_or true b e = cc e
+not_or false b e = (refl, e)
+
+or_cases : (a b : Bool) → (a || b) ≡ true → (a ≡ true) ⊎ (b ≡ true)
+or_cases true b e = inl refl
+or_cases false b e = inr e
+
+module _ (site : SiteName) (m : ℕ) (tree : Paths (List ℕ)) (state : State) where
+  abbrev kept : Cell
+  kept = cell.Kept site m
+
+  abbrev draft : Cell
+  draft = cell.Draft site m
+
+  abbrev after : State
+  after = with_published site m tree state
+
+  live_after : (c : Cell) → is_live_of site c ≡ true → in_list (live_cells site tree) c ≡ finmap.get after c
+  live_after c live =
+      in_tree site tree c live
+      ∙ sym (get-published site m tree state c
+      ∙ ap (λ t. cond t (option_map value.Live (at_path tree (text_of c)))
+      (cond (same_cell c draft) None (cond (same_cell c kept) (Some (value.Kept tree)) (finmap.get state c)))) live)
+
+  kept_after : finmap.get after kept ≡ Some (value.Kept tree)
+  kept_after = get-published site m tree state kept ∙ rw (same_cell-itself kept) (rw (tied_itself nat_list_cmp_total site.0) refl)
+
+  draft_after : finmap.get after draft ≡ None
+  draft_after = get-published site m tree state draft ∙ rw (same_cell-itself draft) refl
+
+  live_before_kept : (c d : Cell) → is_live_of site c ≡ true → is_cell kept d ≡ true → cell_cmp c d ≡ Less
+  live_before_kept c d live at =
+      rw (live_of site c live) (rw (one_cell d kept at) (rw (tied_itself nat_list_cmp_total site.0) refl))
+
+  before_draft : (c d : Cell) → (is_live_of site c || is_cell kept c) ≡ true → is_cell draft d ≡ true → cell_cmp c d ≡ Less
+  before_draft c d earlier at = elim (or_cases (is_live_of site c) (is_cell kept c) earlier) [
+    | inl live ↦ rw (live_of site c live) (rw (one_cell d draft at) (rw (tied_itself nat_list_cmp_total site.0) refl))
+    | inr is_kept ↦ rw (one_cell c kept is_kept) (rw (one_cell d draft at) (rw (tied_itself nat_list_cmp_total site.0) refl))
+  ]
+
+  others_after : (c : Cell) → ((is_live_of site c || is_cell kept c) || is_cell draft c) ≡ false → finmap.get after c ≡ finmap.get state c
+  others_after c other =
+      let outer = not_or (is_live_of site c || is_cell kept c) (is_cell draft c) other in
+      let inner = not_or (is_live_of site c) (is_cell kept c) outer.0 in
+      get-published site m tree state c ∙ rw (inner.0, outer.1, inner.1) refl
+
+  pub published_changes : (changes : List Change) → AreLiveChanges site (live_entries state site) tree changes
+      → IsDifference state after ((changes ++ option_to_list (change_at kept (finmap.get state kept) (Some (value.Kept tree)))) ++ option_to_list (change_at draft (finmap.get state draft) None))
+  published_changes changes are =
+      let f : Reading = finmap.get state in
+      let g : Reading = finmap.get after in
+      let live : AreChangesIn (is_live_of site) f g changes =
+      reread (is_live_of site) _ _ f g (in_live_entries state site) live_after changes are in
+      let kept_part : AreChangesIn (is_cell kept) f g (option_to_list (change_at kept (f kept) (Some (value.Kept tree)))) =
+      rw kept_after at (change_in_cell kept f g) in
+      let draft_part : AreChangesIn (is_cell draft) f g (option_to_list (change_at draft (f draft) None)) =
+      rw draft_after at (change_in_cell draft f g) in
+      whole _ state after others_after _
+      (joined _ (is_cell draft) f g before_draft _ _ (joined (is_live_of site) (is_cell kept) f g live_before_kept changes _ live kept_part) draft_part)
+
+-- ---- an opening
+
+module _ (state : State) (at : Cell) (v : Value) where
+  there : finmap.get (finmap.insert state at v) at ≡ Some v
+  there = finmap.get-insert cell_cmp_total state at v at ∙ ap (λ t. cond t (Some v) (finmap.get state at)) (same_cell-itself at)
+
+  pub opened_changes : (change : Option Change) → change ≡ change_at at (finmap.get state at) (Some v) → IsDifference state (finmap.insert state at v) (option_to_list change)
+  opened_changes change is =
+      let f : Reading = finmap.get state in
+      let g : Reading = finmap.get (finmap.insert state at v) in
+      let one : AreChangesIn (is_cell at) f g (option_to_list (change_at at (f at) (Some v))) = rw there at (change_in_cell at f g) in
+      let P : Option Change → Type 0 = λ o. AreChangesIn (is_cell at) f g (option_to_list o) in
+      whole (is_cell at) state (finmap.insert state at v)
+      (λ c other. finmap.get-insert cell_cmp_total state at v c ∙ ap (λ t. cond t (Some v) (finmap.get state c)) other)
+      (option_to_list change) (subst P (sym is) one)
+
+-- ---- the same, as the code puts it together
+
+pub open_plan : (state : State) (at made_at : Cell) (v made : Value) (change : Option Change) (before changes : List Change) → made_at ≡ at → made ≡ v
+    → change ≡ change_at made_at (finmap.get state made_at) (Some made) → before ≡ [] → changes ≡ before ++ option_to_list change
+    → IsDifference state (finmap.insert state at v) changes
+open_plan state at made_at v made change before changes is_at is_made is_change is_before is_changes =
+    let made_change : change ≡ change_at at (finmap.get state at) (Some v) = is_change ∙ (λ i. change_at (is_at i) (finmap.get state (is_at i)) (Some (is_made i))) in
+    let all : changes ≡ option_to_list change = is_changes ∙ ap (λ (l : List Change). l ++ option_to_list change) is_before in
+    let P : List Change → Type 0 = IsDifference state (finmap.insert state at v) in
+    subst P (sym all) (opened_changes state at v change made_change)
+
+pub publish_plan : (site : SiteName) (m : ℕ) (tree made_tree : Paths (List ℕ)) (state : State) (live : List (Cell × Value)) (listed : Paths (List ℕ)) (kept_at draft_at : Cell)
+    (kept_change draft_change : Option Change) (first second third : List Change) → made_tree ≡ tree → live ≡ live_entries state site → listed ≡ made_tree
+    → AreLiveChanges site live listed first
+    → kept_at ≡ cell.Kept site m → kept_change ≡ change_at kept_at (finmap.get state kept_at) (Some (value.Kept made_tree)) → second ≡ first ++ option_to_list kept_change
+    → draft_at ≡ cell.Draft site m → draft_change ≡ change_at draft_at (finmap.get state draft_at) None → third ≡ second ++ option_to_list draft_change
+    → IsDifference state (with_published site m tree state) third
+publish_plan site m tree made_tree state live listed kept_at draft_at kept_change draft_change first second third is_tree is_live is_listed are is_kept_at is_kept is_second is_draft_at is_draft is_third =
+    let P : List (Cell × Value) → Type 0 = λ l. AreLiveChanges site l listed first in
+    let Q : Paths (List ℕ) → Type 0 = λ t. AreLiveChanges site (live_entries state site) t first in
+    let kept_is : kept_change ≡ change_at (cell.Kept site m) (finmap.get state (cell.Kept site m)) (Some (value.Kept tree)) =
+    is_kept ∙ (λ i. change_at (is_kept_at i) (finmap.get state (is_kept_at i)) (Some (value.Kept (is_tree i)))) in
+    let draft_is : draft_change ≡ change_at (cell.Draft site m) (finmap.get state (cell.Draft site m)) None =
+    is_draft ∙ (λ i. change_at (is_draft_at i) (finmap.get state (is_draft_at i)) None) in
+    let all : third ≡ (first ++ option_to_list (change_at (cell.Kept site m) (finmap.get state (cell.Kept site m)) (Some (value.Kept tree))))
+    ++ option_to_list (change_at (cell.Draft site m) (finmap.get state (cell.Draft site m)) None) =
+    is_third ∙ (λ i. (is_second ∙ ap (λ (o : Option Change). first ++ option_to_list o) kept_is) i ++ option_to_list (draft_is i)) in
+    let R : List Change → Type 0 = IsDifference state (with_published site m tree state) in
+    subst R (sym all) (published_changes site m tree state first (subst Q (is_listed ∙ is_tree) (subst P is_live are)))

@@ -1,0 +1,11 @@
+pub mod Effects
+pub mod Differences
+pub mod Merging
+pub mod Composing
+pub mod Deciding
+pub mod Listings
+pub mod OfKind
+pub mod PathLists
+pub mod Locality
+pub mod LeftOut
+pub mod Growing

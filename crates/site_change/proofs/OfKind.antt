@@ -1,0 +1,104 @@
+-- What a command writes is of its cell's kind.
+use Rattle.std.proofs.Common.{◌≡◌, ℕ, true, false, cond, ◌⊎◌, inl, inr, IsTrue, List, [], ◌∷◌, Option, Some, None, Result, Ok, Err, IfOk, option_map, refl, sym, ap, ◌∙◌}
+use Rattle.std.specs.FinMap as map
+use Rattle.std.specs.List.{AllByRecursion}
+use Rattle.std.proofs.lemmas.List.Elements.{All-from_recursion}
+use Rattle.host_names.specs.Blobs.{Contents}
+use Rattle.host_names.specs.Cells.{text_of}
+use Rattle.host_names.specs.CellOrder.{cell_cmp_total}
+use Rattle.host_names.specs.declared.names.SiteName.{SiteName}
+use Rattle.host_names.specs.declared.cells.Cell.{Cell}
+use Rattle.host_names.specs.declared.cells.Cell.TheVariants as cell
+use Rattle.site_state.specs.Files.{Paths, at_path}
+use Rattle.site_state.specs.States.{State, draft_at, is_live_of, may_stand}
+use Rattle.site_state.specs.declared.values.Draft.{Draft}
+use Rattle.site_state.specs.declared.values.Value.{Value}
+use Rattle.site_state.specs.declared.values.Value.TheVariants as value
+use Rattle.site_change.specs.declared.commands.Command.{Command}
+use Rattle.site_change.specs.declared.commands.Command.TheVariants.{Open, Publish}
+use Rattle.site_change.specs.declared.commands.Refusal.{Refusal}
+use Rattle.site_change.specs.declared.decisions.DecideError.{DecideError}
+use Rattle.site_change.specs.declared.plans.Change.{Change}
+use Rattle.site_change.specs.declared.plans.Plan.{Plan}
+use Rattle.site_change.specs.Decisions.{IsDecision}
+use Rattle.site_change.specs.Changes.{same_cell, tree_of, with_published, published, applied}
+use Rattle.site_change.specs.Plans.{IsChange, IsDifference, WritesOfKind}
+use Rattle.site_change.proofs.Effects.{one_cell, live_of, get-published, published_value}
+
+-- a cell is left as it is, or gets something of its kind
+abbrev IsLeftOrFits : State → State → Cell → Type 0
+IsLeftOrFits state after c = (map.get after c ≡ map.get state c) ⊎ (may_stand c (map.get after c) ≡ true)
+
+live_fits : (site : SiteName) (p : List ℕ) (o : Option (List ℕ)) → may_stand (cell.Live site p) (option_map value.Live o) ≡ true
+live_fits site p None = refl
+live_fits site p (Some file) = refl
+
+open_fits : (state : State) (site : SiteName) (n : ℕ) (draft : Draft) (c : Cell) → IsLeftOrFits state (map.insert state (cell.Draft site n) (value.Draft draft)) c
+open_fits state site n draft c =
+    let at : map.get (map.insert state (cell.Draft site n) (value.Draft draft)) c ≡ cond (same_cell c (cell.Draft site n)) (Some (value.Draft draft)) (map.get state c) =
+    map.get-insert cell_cmp_total state (cell.Draft site n) (value.Draft draft) c in
+    elim (same_cell c (cell.Draft site n)) as (λ t. same_cell c (cell.Draft site n) ≡ t → IsLeftOrFits state (map.insert state (cell.Draft site n) (value.Draft draft)) c) [
+      | true ↦ λ e. inr (ap (may_stand c) (at ∙ ap (λ t. cond t (Some (value.Draft draft)) (map.get state c)) e) ∙ ap (λ x. may_stand x (Some (value.Draft draft))) (one_cell c (cell.Draft site n) e))
+      | false ↦ λ e. inl (at ∙ ap (λ t. cond t (Some (value.Draft draft)) (map.get state c)) e)
+    ] refl
+
+module _ (site : SiteName) (m : ℕ) (tree : Paths (List ℕ)) (state : State) (c : Cell) where
+  abbrev after : Option Value
+  after = map.get (with_published site m tree state) c
+
+  is_published : (o : Option Value) → published_value site m tree state c ≡ o → after ≡ o
+  is_published o e = get-published site m tree state c ∙ e
+
+  live_case : is_live_of site c ≡ true → may_stand c after ≡ true
+  live_case live =
+      ap (may_stand c) (is_published (option_map value.Live (at_path tree (text_of c))) (rw live refl))
+      ∙ ap (λ x. may_stand x (option_map value.Live (at_path tree (text_of c)))) (live_of site c live) ∙ live_fits site (text_of c) (at_path tree (text_of c))
+
+  draft_case : is_live_of site c ≡ false → same_cell c (cell.Draft site m) ≡ true → may_stand c after ≡ true
+  draft_case other at = ap (may_stand c) (is_published None (rw (other, at) refl))
+
+  kept_case : is_live_of site c ≡ false → same_cell c (cell.Draft site m) ≡ false → same_cell c (cell.Kept site m) ≡ true → may_stand c after ≡ true
+  kept_case other not_draft at =
+      ap (may_stand c) (is_published (Some (value.Kept tree)) (rw (other, not_draft, at) refl)) ∙ ap (λ x. may_stand x (Some (value.Kept tree))) (one_cell c (cell.Kept site m) at)
+
+  left_case : is_live_of site c ≡ false → same_cell c (cell.Draft site m) ≡ false → same_cell c (cell.Kept site m) ≡ false → after ≡ map.get state c
+  left_case other not_draft not_kept = is_published (map.get state c) (rw (other, not_draft, not_kept) refl)
+
+  published_fits : IsLeftOrFits state (with_published site m tree state) c
+  published_fits =
+      elim (is_live_of site c) as (λ t. is_live_of site c ≡ t → IsLeftOrFits state (with_published site m tree state) c) [
+        | true ↦ λ live. inr (live_case live)
+        | false ↦ λ other. elim (same_cell c (cell.Draft site m)) as (λ t. same_cell c (cell.Draft site m) ≡ t → IsLeftOrFits state (with_published site m tree state) c) [
+          | true ↦ λ at. inr (draft_case other at)
+          | false ↦ λ not_draft. elim (same_cell c (cell.Kept site m)) as (λ t. same_cell c (cell.Kept site m) ≡ t → IsLeftOrFits state (with_published site m tree state) c) [
+            | true ↦ λ at. inr (kept_case other not_draft at)
+            | false ↦ λ not_kept. inl (left_case other not_draft not_kept)
+          ] refl
+        ] refl
+      ] refl
+
+publish_fits : (site : SiteName) (m : ℕ) (uploads : Contents) (state : State) (draft : Option Draft) (c : Cell) → IsLeftOrFits state (published site m uploads state draft) c
+publish_fits site m uploads state None c = inl refl
+publish_fits site m uploads state (Some draft) c = published_fits site m (tree_of uploads draft.files) state c
+
+command_fits : (command : Command) (n : ℕ) (state : State) (uploads : Contents) (c : Cell) → IsLeftOrFits state (applied command n state uploads) c
+command_fits (Open site files auto) n state uploads c = open_fits state site n (record { auto = auto; files = files }) c
+command_fits (Publish site m) n state uploads c = publish_fits site m uploads state (draft_at state site m) c
+
+change_fits : (state next : State) (change : Change) → IsLeftOrFits state next change.cell → IsChange state next change → IsTrue (may_stand change.cell change.after)
+change_fits state next change (inl left) is = absurd (is.2 (is.0 ∙ sym left ∙ sym is.1))
+change_fits state next change (inr of_kind) is = ap (may_stand change.cell) is.1 ∙ of_kind
+
+changes_fit : (state next : State) → ((c : Cell) → IsLeftOrFits state next c) → (changes : List Change) → AllByRecursion (IsChange state next) changes → AllByRecursion (λ change. IsTrue (may_stand change.cell change.after)) changes
+changes_fit state next each [] h = tt
+changes_fit state next each (d ∷ changes) h = (change_fits state next d (each d.cell) h.0, changes_fit state next each changes h.1)
+
+pub writes_of_kind : (command : Command) (n : ℕ) (state : State) (uploads : Contents) (changes : List Change) → IsDifference state (applied command n state uploads) changes → WritesOfKind changes
+writes_of_kind command n state uploads changes is =
+    All-from_recursion (λ (change : Change). IsTrue (may_stand change.cell change.after)) changes
+    (changes_fit state (applied command n state uploads) (command_fits command n state uploads) changes is.each)
+
+pub decided_of_kind : (command : Command) (n : ℕ) (state : State) (uploads : Contents) (reason : Option Refusal) (result : Result Plan DecideError)
+    → IsDecision reason state (applied command n state uploads) result → IfOk result (λ plan. WritesOfKind plan.changes.items)
+decided_of_kind command n state uploads reason (Ok plan) is = writes_of_kind command n state uploads plan.changes.items is.1
+decided_of_kind command n state uploads reason (Err e) is = tt

@@ -1,0 +1,60 @@
+-- What differs between two readings of cells.
+use Rattle.std.specs.Prelude.{◌≡◌, ◌≢◌, ℕ, ◌+◌, ◌<◌, List, ◌++◌, map, length, Bool, true, not, Option, Some, None, option_to_list, if◌then◌else◌}
+use Rattle.std.specs.FinMap.{find}
+use Rattle.std.specs.List.{AllByRecursion, list_all}
+use Rattle.std.specs.List.Sorted.{IsStrictlySortedBy}
+use Rattle.host_names.specs.Cells.{cell_cmp}
+use Rattle.host_names.specs.declared.names.SiteName.{SiteName}
+use Rattle.host_names.specs.declared.cells.Cell.{Cell}
+use Rattle.host_names.specs.declared.cells.Cell.TheVariants as cell
+use Rattle.site_state.specs.Files.{Paths}
+use Rattle.site_state.specs.States.{is_live_of}
+use Rattle.site_state.specs.Values.{same_value}
+use Rattle.site_state.specs.declared.values.Value.{Value}
+use Rattle.site_state.specs.declared.values.Value.TheVariants as value
+use Rattle.site_change.specs.declared.plans.Change.{Change}
+use Rattle.site_change.specs.Changes.{same_cell}
+
+-- what stands in each cell
+abbrev pub Reading : Type 0
+Reading = Cell → Option Value
+
+-- the cell passes the test, and one reading has one thing in it and the other another
+abbrev pub IsChangeIn : (Cell → Bool) → Reading → Reading → Change → Type 0
+IsChangeIn test before after change =
+    (test change.cell ≡ true) × (change.before ≡ before change.cell) × (change.after ≡ after change.cell) × (change.before ≢ change.after)
+
+-- Of the cells that pass the test, the changes are those of all in which the two readings differ, by cell.
+pub record AreChangesIn (test : Cell → Bool) (before after : Reading) (changes : List Change) : Type 0 where
+  pub ordered : IsStrictlySortedBy cell_cmp (map (λ change. change.cell) changes)
+  pub each : AllByRecursion (IsChangeIn test before after) changes
+  pub others : (c : Cell) → test c ≡ true → list_all (λ change. not (same_cell c change.cell)) changes ≡ true → after c ≡ before c
+
+-- what a list of cells with their values has in each cell
+abbrev pub in_list : List (Cell × Value) → Reading
+in_list entries c = find cell_cmp c entries
+
+-- the cells of a site that serves these files
+abbrev pub live_cells : SiteName → Paths (List ℕ) → List (Cell × Value)
+live_cells site files = map (λ f. (cell.Live site f.0, value.Live f.1)) files
+
+-- The changes of a site's live cells, from these files to those of a tree.
+abbrev pub AreLiveChanges : SiteName → List (Cell × Value) → Paths (List ℕ) → List Change → Type 0
+AreLiveChanges site live tree = AreChangesIn (is_live_of site) (in_list live) (in_list (live_cells site tree))
+
+-- Entries of a site's live cells and files of a tree, each in the order of the paths.
+pub record AreSides (site : SiteName) (live : List (Cell × Value)) (tree : Paths (List ℕ)) : Type 0 where
+  pub live_sorted : IsStrictlySortedBy cell_cmp (map (λ e. e.0) live)
+  pub live_only : AllByRecursion (λ e. is_live_of site e.0 ≡ true) live
+  pub tree_sorted : IsStrictlySortedBy cell_cmp (map (λ e. e.0) (live_cells site tree))
+
+-- A step along both: what it changes, and what is left of each.
+pub record IsStep (site : SiteName) (live : List (Cell × Value)) (tree : Paths (List ℕ)) (change : Option Change) (live_left : List (Cell × Value))
+    (tree_left : Paths (List ℕ)) : Type 0 where
+  pub shorter : length live_left + length tree_left < length live + length tree
+  pub sides : AreSides site live_left tree_left
+  pub changes : (rest : List Change) → AreLiveChanges site live_left tree_left rest → AreLiveChanges site live tree (option_to_list change ++ rest)
+
+-- what changes in a cell
+abbrev pub change_at : Cell → Option Value → Option Value → Option Change
+change_at c before after = if same_value before after then None else Some (record { cell = c; before = before; after = after })

@@ -1,0 +1,42 @@
+-- Laws of changes.
+use Rattle.std.specs.Prelude.{◌≡◌, ℕ, List, ◌∷◌, Bool, true, false, Some, if◌then◌else◌}
+use Rattle.std.specs.FinMap as map
+use Rattle.host_names.specs.Blobs.{Contents}
+use Rattle.host_names.specs.declared.cells.Cell.{Cell}
+use Rattle.site_state.specs.States.{State}
+use Rattle.site_change.specs.declared.commands.Command.{Command}
+use Rattle.site_change.specs.Changes.{refusal, applied, touches, changes, run_from, AvoidAll, IsWithin}
+
+-- two states have the same in each cell that passes the test
+abbrev pub AgreeOn : (Cell → Bool) → State → State → Type 0
+AgreeOn test state other = (c : Cell) → test c ≡ true → map.get other c ≡ map.get state c
+
+-- A command gets the same answer in two states, touches the same, and leaves the same in what it touches.
+pub record SameEffect (command : Command) (n : ℕ) (state other : State) (uploads : Contents) : Type 0 where
+  pub answer : refusal command n other uploads ≡ refusal command n state uploads
+  pub touched : (c : Cell) → touches command n other c ≡ touches command n state c
+  pub values : AgreeOn (touches command n state) (applied command n state uploads) (applied command n other uploads)
+
+-- All that a command reads or writes is what it touches.
+pub record IsLocal (command : Command) (n : ℕ) (state : State) (uploads : Contents) : Type 0 where
+  pub reads : (other : State) → AgreeOn (touches command n state) state other → SameEffect command n state other uploads
+  pub writes : (c : Cell) → touches command n state c ≡ false → map.get (applied command n state uploads) c ≡ map.get state c
+  pub changed : (c : Cell) → changes command n state uploads c ≡ true → touches command n state c ≡ true
+
+-- Without a change, whose changed cells no later one touches, the later ones are accepted as before. In those cells the state
+-- then has what stood there before the change; in all others it has what it has with the change.
+abbrev pub CanBeLeftOut : Contents → State → ℕ × Command → List (ℕ × Command) → State → Type 0
+CanBeLeftOut uploads state change later with_it =
+    (without : State) × (run_from uploads state later ≡ Some without)
+    × ((c : Cell) → map.get without c ≡ (if changes change.1 change.0 state uploads c then map.get state c else map.get with_it c))
+
+abbrev pub LeavesOut : Contents → State → ℕ × Command → List (ℕ × Command) → Type 0
+LeavesOut uploads state change later =
+    (with_it : State) → run_from uploads state (change ∷ later) ≡ Some with_it
+    → AvoidAll uploads (applied change.1 change.0 state uploads) later (changes change.1 change.0 state uploads)
+    → CanBeLeftOut uploads state change later with_it
+
+-- What was accepted in a row stays so, with the same state after it, when more is uploaded.
+abbrev pub KeepsRunning : Contents → Contents → State → List (ℕ × Command) → Type 0
+KeepsRunning uploads more state commands =
+    IsWithin uploads more → (after : State) → run_from uploads state commands ≡ Some after → run_from more state commands ≡ Some after

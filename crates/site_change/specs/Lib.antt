@@ -1,0 +1,5 @@
+pub mod Changes
+pub mod Decisions
+pub mod Differences
+pub mod Laws
+pub mod Plans

@@ -1,0 +1,164 @@
+//! The changes of the files that a site serves, from those that stand there to those of a tree.
+ghost use Rattle.std.specs.Prelude.{◌≡◌, IfOk, IsTrue, MatchOption, [], option_to_list, true};
+ghost use Rattle.std.specs.List.{AllByRecursion};
+ghost use Rattle.host_names.specs.Cells.{cell_cmp};
+ghost use Rattle.host_names.specs.declared.cells.Cell.TheVariants as cell;
+ghost use Rattle.site_state.specs.States.{is_live_of};
+ghost use Rattle.site_state.specs.Values.{value_eq};
+ghost use Rattle.site_state.specs.declared.values.Value.TheVariants as value;
+ghost use Rattle.site_change.specs.Differences.{AreLiveChanges, AreSides, IsStep};
+
+use crate::plans::{Change, push_some};
+use host_names::{Cell, FilePath, SiteName};
+use site_state::{File, Value};
+use std::alloc::{AllocError, Global};
+use std::cmp::Ordering;
+
+/// A cell with what stands in it.
+type Entry = (Cell, Value);
+
+/// A path with the file that a tree has there.
+type Listed = (FilePath, File);
+
+/// A step along both lists: what it changes, and what is left of each.
+#[derive(Drop)]
+struct Step<'a> {
+    change: Option<Change>,
+    live: &'a [Entry],
+    tree: &'a [Listed],
+}
+
+/// How the path of a live cell compares with that of a file in the tree.
+fn compare_paths(site: &SiteName, entry: &Entry, listed: &Listed) -> Ordering
+    requires { is_live_of site.now entry.now.0 ≡ true }
+    ensures { result ≡ cell_cmp entry.now.0 (cell.Live site.now listed.now.0) }
+{
+    match &entry.0 {
+        Cell::Live(_, path) => path.cmp(&listed.0),
+        Cell::Kept(..) | Cell::Alias(..) | Cell::Draft(..) => unreachable!(),
+    }
+}
+
+/// Whether what stands in a cell is this file.
+fn is_file(held: &Value, file: &File) -> bool
+    ensures { result ≡ value_eq held.now (value.Live file.now) }
+{
+    match held {
+        Value::Live(own) => own == file,
+        Value::Kept(_) | Value::Alias(_) | Value::Draft(_) => false,
+    }
+}
+
+/// The file is no longer there.
+fn removed(entry: &Entry) -> Result<Change, AllocError>
+    ensures { IfOk result (λ change. change ≡ record { cell = entry.now.0; before = Some entry.now.1; after = None }) }
+{
+    Ok(Change {
+        cell: entry.0.clone()?,
+        before: Some(entry.1.clone()?),
+        after: None,
+    })
+}
+
+/// The file wasn't there before.
+fn added(site: &SiteName, listed: &Listed) -> Result<Change, AllocError>
+    ensures { IfOk result
+        (λ change. change
+        ≡ record { cell = cell.Live site.now listed.now.0; before = None; after = Some (value.Live listed.now.1) }) }
+{
+    Ok(Change {
+        cell: Cell::Live(site.clone()?, listed.0.clone()?),
+        before: None,
+        after: Some(Value::Live(listed.1.clone()?)),
+    })
+}
+
+/// Another file is there.
+fn replaced(entry: &Entry, file: &File) -> Result<Change, AllocError>
+    ensures { IfOk result
+        (λ change. change
+        ≡ record { cell = entry.now.0; before = Some entry.now.1; after = Some (value.Live file.now) }) }
+{
+    Ok(Change {
+        cell: entry.0.clone()?,
+        before: Some(entry.1.clone()?),
+        after: Some(Value::Live(file.clone()?)),
+    })
+}
+
+impl<'a> Step<'a> {
+    /// The first step along two lists that are in the order of the paths; none where both are at their ends.
+    fn next(
+        site: &SiteName,
+        live: &'a [Entry],
+        tree: &'a [Listed],
+    ) -> Result<Option<Step<'a>>, AllocError>
+        requires { AreSides site.now live.now tree.now }
+        ensures { IfOk result (λ step. MatchOption step
+            ((live.now ≡ []) × (tree.now ≡ []))
+            (λ s. IsStep site.now live.now tree.now s.change s.live.now s.tree.now)) }
+    {
+        match (live.split_first(), tree.split_first()) {
+            (None, None) => Ok(None),
+            (Some((entry, left)), None) => Ok(Some(Step {
+                change: Some(removed(entry)?),
+                live: left,
+                tree,
+            })),
+            (None, Some((listed, left))) => Ok(Some(Step {
+                change: Some(added(site, listed)?),
+                live,
+                tree: left,
+            })),
+            (Some((entry, live_left)), Some((listed, tree_left))) => {
+                match compare_paths(site, entry, listed) {
+                    Ordering::Less => Ok(Some(Step {
+                        change: Some(removed(entry)?),
+                        live: live_left,
+                        tree,
+                    })),
+                    Ordering::Greater => Ok(Some(Step {
+                        change: Some(added(site, listed)?),
+                        live,
+                        tree: tree_left,
+                    })),
+                    Ordering::Equal => {
+                        let change = if is_file(&entry.1, &listed.1) {
+                            None
+                        } else {
+                            Some(replaced(entry, &listed.1)?)
+                        };
+                        Ok(Some(Step {
+                            change,
+                            live: live_left,
+                            tree: tree_left,
+                        }))
+                    }
+                }
+            }
+        }
+    }
+}
+
+/// The changes of a site's live cells, from the files that stand there to those of a tree, both in the order of
+/// the paths. Each list is gone through once.
+pub fn live_changes<'a>(
+    alloc: Global,
+    site: &SiteName,
+    live: &'a [Entry],
+    tree: &'a [Listed],
+) -> Result<Vec<Change>, AllocError>
+    requires { AreSides site.now live.now tree.now }
+    ensures { IfOk result (λ changes. AreLiveChanges site.now live.now tree.now changes.items) }
+{
+    let mut changes = Vec::new(alloc);
+    let mut live_left = live;
+    let mut tree_left = tree;
+    while let Some(step) = Step::next(site, live_left, tree_left)? {
+        let Step { change, live, tree } = step;
+        push_some(&mut changes, change)?;
+        live_left = live;
+        tree_left = tree;
+    }
+    Ok(changes)
+}

@@ -1,0 +1,77 @@
+//! What a command changes, cell by cell.
+ghost use Rattle.std.specs.Prelude.{◌≡◌, ◌++◌, IfOk, OnOk, option_copied, option_to_list};
+ghost use Rattle.std.specs.FinMap as map;
+ghost use Rattle.site_state.specs.Values.{same_value};
+ghost use Rattle.site_change.specs.Differences.{change_at};
+
+use host_names::Cell;
+use site_state::{State, Value};
+use std::alloc::AllocError;
+
+/// What changes in one cell; that nothing stands there counts as a value.
+#[derive(Drop)]
+pub struct Change {
+    /// The cell.
+    pub cell: Cell,
+    /// What stands there before.
+    pub before: Option<Value>,
+    /// What stands there afterwards.
+    pub after: Option<Value>,
+}
+
+/// What a command changes.
+#[derive(Drop)]
+pub struct Plan {
+    /// The cells that it changes, in their order, each with two different values.
+    pub changes: Vec<Change>,
+}
+
+/// Adds a change, if there is one, behind the others.
+pub fn push_some(changes: &mut Vec<Change>, change: Option<Change>) -> Result<(), AllocError>
+    ensures { OnOk result (changes.new.items ≡ changes.old.items ++ option_to_list change) }
+{
+    match change {
+        Some(change) => Ok(changes.push(change)?),
+        None => Ok(()),
+    }
+}
+
+/// Whether what stands in a cell is what will stand there.
+fn is_same(before: Option<&Value>, after: &Option<Value>) -> bool
+    ensures { result ≡ same_value (option_copied before.entry) after.now }
+{
+    match (before, after) {
+        (None, None) => true,
+        (Some(before), Some(after)) => before == after,
+        (None, Some(_)) | (Some(_), None) => false,
+    }
+}
+
+fn copy_of(held: Option<&Value>) -> Result<Option<Value>, AllocError>
+    ensures { IfOk result (λ copy. copy ≡ option_copied held.entry) }
+{
+    match held {
+        Some(held) => Ok(Some(held.clone()?)),
+        None => Ok(None),
+    }
+}
+
+/// What changes where this comes to stand in a cell.
+pub fn change_in(
+    state: &State,
+    cell: Cell,
+    after: Option<Value>,
+) -> Result<Option<Change>, AllocError>
+    ensures { IfOk result (λ change. change ≡ change_at cell (map.get state.now cell) after) }
+{
+    let before = state.value(&cell);
+    if is_same(before, &after) {
+        return Ok(None);
+    }
+    let before = copy_of(before)?;
+    Ok(Some(Change {
+        cell,
+        before,
+        after,
+    }))
+}

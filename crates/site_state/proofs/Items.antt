@@ -1,0 +1,102 @@
+-- The items of a state, and the map that they stand for.
+use Rattle.std.proofs.Common.{◌≡◌, ℕ, cond, List, [], ◌∷◌, get_or, Option, Some, None, Result, Ok, Err, OnOk, OnErr, IsTrue, All, refl, sym, ap, subst, ◌∙◌}
+use Rattle.std.specs.FinMap as finmap
+use Rattle.std.specs.List.{AllByRecursion}
+use Rattle.std.specs.Ordering.{eq_by_cmp}
+use Rattle.std.proofs.lemmas.List.Elements.{All-from_recursion, recursion_from_All}
+use Rattle.host_names.specs.declared.cells.Cell.{Cell}
+use Rattle.host_names.specs.Cells.{cell_cmp}
+use Rattle.host_names.specs.CellOrder.{cell_cmp_total, cell_cmp-IsAntisymmetric}
+use Rattle.site_state.specs.declared.values.Value.{Value}
+use Rattle.site_state.specs.States.{State, is_of_kind, may_stand, with_cell, with_cells}
+use Rattle.site_state.specs.Edits.{listed, edited, edited_by}
+use Rattle.site_state.specs.Items.{AreItems}
+use Rattle.site_state.specs.Places.{IsPlace, IsGap}
+use Rattle.site_state.proofs.Edits.{Rises-edited, find-edited, AllByRecursion-edited}
+use Rattle.site_state.proofs.Entries.{is_sorted-from, find_at, find_in_gap}
+
+abbrev pub Items : Type 0
+Items = List (Cell × Value)
+
+-- the map that items stand for
+abbrev pub state_of : Items → State
+state_of items = finmap.from_sorted items
+
+pub get-state_of : (items : Items) (cell : Cell) → AreItems items → finmap.get (state_of items) cell ≡ finmap.find cell_cmp cell items
+get-state_of items cell are = finmap.get-from_sorted cell_cmp items cell (is_sorted-from cell_cmp items are.sorted)
+
+-- the item at the place of a cell is what stands in the cell
+pub found_at : (items : Items) (state : State) (cell : Cell) (i : ℕ) (e : Cell × Value) → AreItems items → state_of items ≡ state
+    → IsPlace cell_cmp cell items i → e ≡ get_or items i e → (Some e.1 ≡ finmap.get state cell) × IsTrue (is_of_kind cell e.1)
+found_at items state cell i e are is place at =
+    let key : e.0 ≡ cell = cell_cmp-IsAntisymmetric e.0 cell (ap (λ (p : Cell × Value). cell_cmp p.0 cell) at ∙ place.has_key e) in
+    let kind : IsTrue (is_of_kind e.0 e.1) = subst (λ (p : Cell × Value). IsTrue (is_of_kind p.0 p.1)) (sym at) (All-from_recursion (λ (p : Cell × Value). IsTrue (is_of_kind p.0 p.1)) items are.of_kind i e place.in_range) in (
+      sym (ap (λ s. finmap.get s cell) (sym is) ∙ get-state_of items cell are ∙ find_at cell_cmp cell_cmp_total cell items i e are.sorted place.in_range (place.has_key e) ∙ ap (λ (p : Cell × Value). Some p.1) (sym at)),
+      ap (λ c. is_of_kind c e.1) (sym key) ∙ kind,
+    )
+
+-- a cell that has a gap has nothing in it
+pub nothing_at : (items : Items) (state : State) (cell : Cell) (i : ℕ) → AreItems items → state_of items ≡ state → IsGap cell_cmp cell items i → None ≡ finmap.get state cell
+nothing_at items state cell i are is gap =
+    sym (ap (λ s. finmap.get s cell) (sym is) ∙ get-state_of items cell are ∙ find_in_gap cell_cmp cell_cmp_total cell items i gap)
+
+-- ---- writes
+
+-- what is got after a write
+pub get-with_cell : (state : State) (cell : Cell) (value : Option Value) (q : Cell) → finmap.get (with_cell state cell value) q ≡ cond (eq_by_cmp cell_cmp q cell) value (finmap.get state q)
+get-with_cell state cell (Some v) q = finmap.get-insert cell_cmp_total state cell v q
+get-with_cell state cell None q = finmap.get-remove cell_cmp_total state cell q
+
+-- the items after a write are items, and stand for the map after it
+pub AreItems-edited : (items : Items) (cell : Cell) (value : Option Value) → AreItems items → IsTrue (may_stand cell value) → AreItems (edited cell_cmp items cell value)
+AreItems-edited items cell value are kind = record {
+  sorted = Rises-edited cell_cmp_total cell_cmp-IsAntisymmetric items cell value are.sorted;
+  of_kind = AllByRecursion-edited cell_cmp_total cell_cmp-IsAntisymmetric (λ (e : Cell × Value). IsTrue (is_of_kind e.0 e.1)) items cell value (new cell value kind) are.of_kind;
+}
+  where
+    new : (cell : Cell) (value : Option Value) → IsTrue (may_stand cell value) → AllByRecursion (λ (e : Cell × Value). IsTrue (is_of_kind e.0 e.1)) (listed cell value)
+    new cell (Some v) kind = (kind, tt)
+    new cell None kind = tt
+
+pub state_of-edited : (items : Items) (cell : Cell) (value : Option Value) → AreItems items → IsTrue (may_stand cell value) → state_of (edited cell_cmp items cell value) ≡ with_cell (state_of items) cell value
+state_of-edited items cell value are kind = finmap.same_map cell_cmp_total cell_cmp-IsAntisymmetric _ _ (λ q.
+    get-state_of (edited cell_cmp items cell value) q (AreItems-edited items cell value are kind)
+    ∙ find-edited cell_cmp_total cell_cmp-IsAntisymmetric q items cell value are.sorted
+    ∙ ap (cond (eq_by_cmp cell_cmp q cell) value) (sym (get-state_of items q are))
+    ∙ sym (get-with_cell (state_of items) cell value q))
+
+pub wrote : (old new : Items) (state : State) (cell : Cell) (value : Option Value) → AreItems old → state_of old ≡ state → IsTrue (may_stand cell value) → new ≡ edited cell_cmp old cell value
+    → record { items : AreItems new; map : state_of new ≡ with_cell state cell value }
+wrote old new state cell value are is kind e = record {
+  items = subst AreItems (sym e) (AreItems-edited old cell value are kind);
+  map = ap state_of e ∙ state_of-edited old cell value are kind ∙ ap (λ s. with_cell s cell value) is;
+}
+
+-- the same of cells in turn
+pub AreItems-edited_by : (items : Items) (cells : List (Cell × Option Value)) → AreItems items → AllByRecursion (λ (e : Cell × Option Value). IsTrue (may_stand e.0 e.1)) cells → AreItems (edited_by cell_cmp items cells)
+AreItems-edited_by items [] are kinds = are
+AreItems-edited_by items (c ∷ cells) are kinds = AreItems-edited_by (edited cell_cmp items c.0 c.1) cells (AreItems-edited items c.0 c.1 are kinds.0) kinds.1
+
+pub state_of-edited_by : (items : Items) (cells : List (Cell × Option Value)) → AreItems items → AllByRecursion (λ (e : Cell × Option Value). IsTrue (may_stand e.0 e.1)) cells → state_of (edited_by cell_cmp items cells) ≡ with_cells (state_of items) cells
+state_of-edited_by items [] are kinds = refl
+state_of-edited_by items (c ∷ cells) are kinds =
+    state_of-edited_by (edited cell_cmp items c.0 c.1) cells (AreItems-edited items c.0 c.1 are kinds.0) kinds.1
+    ∙ ap (λ s. with_cells s cells) (state_of-edited items c.0 c.1 are kinds.0)
+
+pub wrote_all : (old new : Items) (state : State) (cells : List (Cell × Option Value)) → AreItems old → state_of old ≡ state → All (λ (e : Cell × Option Value). IsTrue (may_stand e.0 e.1)) cells → new ≡ edited_by cell_cmp old cells
+    → record { items : AreItems new; map : state_of new ≡ with_cells state cells }
+wrote_all old new state cells are is kinds e =
+    let each = recursion_from_All (λ (e : Cell × Option Value). IsTrue (may_stand e.0 e.1)) cells kinds in
+    record {
+      items = subst AreItems (sym e) (AreItems-edited_by old cells are each);
+      map = ap state_of e ∙ state_of-edited_by old cells are each ∙ ap (λ s. with_cells s cells) is;
+    }
+
+-- a write that may fail, and then changes nothing
+pub wrote_or_kept : {A E : Type 0} (r : Result A E) (old new : Items) (state : State) (cell : Cell) (value : Option Value) → AreItems old → state_of old ≡ state → IsTrue (may_stand cell value)
+    → OnOk r (new ≡ edited cell_cmp old cell value) → OnErr r (new ≡ old)
+    → record { items : AreItems new; ok : OnOk r (state_of new ≡ with_cell state cell value); err : OnErr r (state_of new ≡ state) }
+wrote_or_kept (Ok x) old new state cell value are is kind ok err =
+    let done = wrote old new state cell value are is kind ok in
+    record { items = done.items; ok = done.map; err = tt }
+wrote_or_kept (Err x) old new state cell value are is kind ok err = record { items = subst AreItems (sym err) are; ok = tt; err = ap state_of err ∙ is }

@@ -1,0 +1,194 @@
+-- The digests that are missing, in order, and the least of them.
+use Rattle.std.proofs.Common.{◌≡◌, ◌⊎◌, inl, inr, ⊎_elim, ℕ, zero, suc, ◌+◌, ◌<◌, Bool, true, false, cond, List, [], ◌∷◌, length, get_or, drop, filter, Option, Some, None, Contains, IsPermutation, Ordering, Less, Equal, Greater, is_gt, refl, sym, ap, subst, ◌∙◌, arith}
+use Rattle.std.specs.List.{dedup, slice_get}
+use Rattle.std.specs.List.Sorted.{IsSorted}
+use Rattle.std.specs.Ordering.{ordering_reverse}
+use Rattle.std.specs.Cmp.Lexicographic.{texts_ties}
+use Rattle.std.proofs.lemmas.Bool.{false≢true}
+use Rattle.std.proofs.lemmas.Cmp.{upto, tied_itself}
+use Rattle.std.proofs.lemmas.List.{at_drop_more}
+use Rattle.std.proofs.lemmas.List.Elements.{All-from_recursion, All-contains}
+use Rattle.std.proofs.lemmas.Map.Keys.{sorted_head}
+use Rattle.std.proofs.lemmas.List.Kept.{IsStrictlySortedBy-dedup, Contains-dedup, Contains-from_dedup}
+use Rattle.std.proofs.lemmas.List.Sorted.{Contains-permutation, IsPermutation-sym}
+use Rattle.host_names.specs.Blobs.{Contents}
+use Rattle.host_names.specs.Digests.{digest_cmp, digest_cmp_total}
+use Rattle.host_names.specs.declared.digests.Digest.{Digest}
+use Rattle.site_state.specs.Files.{Paths}
+use Rattle.site_state.specs.Missing.{AreMissing, digests_of, is_lacking, lesser, if_lacking, least_missing_of}
+use Rattle.site_state.specs.SameValues.{digest_eq-decides, digest_eq-equiv}
+use Rattle.site_state.specs.Values.{digest_eq}
+
+module _ {X : Type 0} where
+  contains_cases : (x y : X) (xs : List X) → Contains (x ∷ xs) y → (x ≡ y) ⊎ Contains xs y
+  contains_cases x y xs (zero, lt, at) = inl at
+  contains_cases x y xs (suc k, lt, at) = inr (k, omega (arith, lt), at)
+
+  contains_later : (x y : X) (xs : List X) → Contains xs y → Contains (x ∷ xs) y
+  contains_later x y xs (k, lt, at) = (suc k, omega (arith, lt), at)
+
+  contains_here : (x y : X) (xs : List X) → x ≡ y → Contains (x ∷ xs) y
+  contains_here x y xs e = (zero, omega arith, e)
+
+  -- what a filter keeps is in the list, and passes
+  Contains-from_filter : (p : X → Bool) (xs : List X) (y : X) → Contains (filter p xs) y → Contains xs y × (p y ≡ true)
+  Contains-from_filter p [] y h = absurd (omega (arith, h.1))
+  Contains-from_filter p (x ∷ xs) y h = elim (p x) as (λ b. p x ≡ b → Contains (cond b (x ∷ filter p xs) (filter p xs)) y → Contains (x ∷ xs) y × (p y ≡ true)) [
+    | true ↦ λ e h. ⊎_elim
+        (λ same. (contains_here x y xs same, ap p (sym same) ∙ e))
+        (λ rest. let kept = Contains-from_filter p xs y rest in (contains_later x y xs kept.0, kept.1))
+        (contains_cases x y (filter p xs) h)
+    | false ↦ λ e h. let kept = Contains-from_filter p xs y h in (contains_later x y xs kept.0, kept.1)
+  ] refl h
+
+  -- and what is in the list and passes is kept
+  Contains-filter : (p : X → Bool) (xs : List X) (y : X) → Contains xs y → p y ≡ true → Contains (filter p xs) y
+  Contains-filter p [] y h pass = absurd (omega (arith, h.1))
+  Contains-filter p (x ∷ xs) y h pass = ⊎_elim
+      (λ same. let test : p x ≡ true = ap p same ∙ pass in subst (λ b. Contains (cond b (x ∷ filter p xs) (filter p xs)) y) (sym test) (contains_here x y (filter p xs) same))
+      (λ rest.
+      let kept = Contains-filter p xs y rest pass in
+      elim (p x) as (λ b. Contains (cond b (x ∷ filter p xs) (filter p xs)) y) [ true ↦ contains_later x y (filter p xs) kept | false ↦ kept ])
+      (contains_cases x y xs h)
+
+-- what is left of the lacking digests after a sort and a `dedup`
+pub AreMissing-from_sort : (contents : Contents) (files : Paths Digest) (listed sorted digests : List Digest) → listed ≡ filter (is_lacking contents) (digests_of files) → IsPermutation listed sorted → IsSorted digest_cmp sorted
+    → digests ≡ dedup digest_eq sorted → AreMissing contents files digests
+AreMissing-from_sort contents files listed sorted digests is_listed moved in_order is = record {
+  rising = rw is (IsStrictlySortedBy-dedup digest_cmp_total (λ x y. texts_ties x.0 y.0) sorted in_order);
+  exactly = λ digest. (
+    (λ h.
+        let in_sorted = Contains-from_dedup digest_eq sorted digest (rw is at h) in
+        let in_listed = Contains-permutation sorted listed digest (IsPermutation-sym listed sorted moved) in_sorted in
+        Contains-from_filter (is_lacking contents) (digests_of files) digest (rw is_listed at in_listed)),
+    (λ h.
+        let in_listed = Contains-filter (is_lacking contents) (digests_of files) digest h.0 h.1 in
+        let in_sorted = Contains-permutation listed sorted digest moved (rw is_listed in_listed) in
+        rw is (Contains-dedup digest_eq-equiv (λ x y. (digest_eq-decides x y).0) sorted digest in_sorted)),
+  );
+}
+
+greater_than : (x y : Digest) → is_gt (digest_cmp x y) ≡ true → digest_cmp y x ≡ Less
+greater_than x y e = digest_cmp_total.antisymm y x ∙ ap ordering_reverse (greater (digest_cmp x y) e)
+  where
+    greater : (o : Ordering) → is_gt o ≡ true → o ≡ Greater
+    greater Less e = cc
+    greater Equal e = cc
+    greater Greater e = refl
+
+-- above one that is above a third
+gt_trans : (a b c : Digest) → is_gt (digest_cmp a b) ≡ true → is_gt (digest_cmp b c) ≡ true → is_gt (digest_cmp a c) ≡ true
+gt_trans a b c over_b over_c =
+    ap is_gt (digest_cmp_total.antisymm a c ∙ ap ordering_reverse (digest_cmp_total.trans c b a (greater_than b c over_c) (greater_than a b over_b)))
+
+pub lesser-none : (a : Option Digest) → lesser a None ≡ a
+lesser-none None = refl
+lesser-none (Some a) = refl
+
+pub lesser_assoc : (a b c : Option Digest) → lesser (lesser a b) c ≡ lesser a (lesser b c)
+lesser_assoc None b c = refl
+lesser_assoc (Some a) None c = refl
+lesser_assoc (Some a) (Some b) None = lesser-none (lesser (Some a) (Some b))
+lesser_assoc (Some a) (Some b) (Some c) =
+    elim (is_gt (digest_cmp a b)) as (λ t. is_gt (digest_cmp a b) ≡ t → lesser (cond t (Some b) (Some a)) (Some c) ≡ lesser (Some a) (lesser (Some b) (Some c))) [
+      | true ↦ λ over. elim (is_gt (digest_cmp b c)) as (λ t. is_gt (digest_cmp b c) ≡ t → cond t (Some c) (Some b) ≡ lesser (Some a) (cond t (Some c) (Some b))) [
+        | true ↦ λ over_c. sym (ap (λ t. cond t (Some c) (Some a)) (gt_trans a b c over over_c))
+        | false ↦ λ _. sym (ap (λ t. cond t (Some b) (Some a)) over)
+      ] refl
+      | false ↦ λ not_over. elim (is_gt (digest_cmp b c)) as (λ t. is_gt (digest_cmp b c) ≡ t → lesser (Some a) (Some c) ≡ lesser (Some a) (cond t (Some c) (Some b))) [
+        | true ↦ λ _. refl
+        | false ↦ λ not_over_c. ap (λ t. cond t (Some c) (Some a)) (upto digest_cmp_total a b c not_over not_over_c) ∙ sym (ap (λ t. cond t (Some b) (Some a)) not_over)
+      ] refl
+    ] refl
+
+-- a step of a loop that keeps the least digest so far
+pub least_step : (contents : Contents) (items files : Paths Digest) (i : ℕ) (item : List ℕ × Digest) (least next : Option Digest) → items ≡ files → i < length items → item ≡ get_or items i item
+    → next ≡ lesser least (if_lacking contents item.1) → lesser next (least_missing_of contents (drop (i + 1) files)) ≡ lesser least (least_missing_of contents (drop i files))
+least_step contents items files i item least next same lt at is =
+    let rest = least_missing_of contents (drop (i + 1) files) in
+    let within : i < length files = subst (λ l. i < length l) same lt in
+    let here : item ≡ get_or files i item = at ∙ ap (λ l. get_or l i item) same in
+    ap (λ o. lesser o rest) is ∙ lesser_assoc least (if_lacking contents item.1) rest
+    ∙ sym (ap (lesser least) (at_drop_more (least_missing_of contents) files i item within ∙ ap (λ (e : List ℕ × Digest). lesser (if_lacking contents e.1) rest) (sym here)))
+
+-- what the least missing digest is: one that is listed and lacking, and not above any such
+abbrev IsLeast : Contents → Paths Digest → Option Digest → Type 0
+IsLeast contents files None = (d : Digest) → Contains (digests_of files) d → is_lacking contents d ≡ true → ⊥
+IsLeast contents files (Some m) =
+    Contains (digests_of files) m × (is_lacking contents m ≡ true) × ((d : Digest) → Contains (digests_of files) d → is_lacking contents d ≡ true → is_gt (digest_cmp m d) ≡ false)
+
+not_gt_itself : (d : Digest) → is_gt (digest_cmp d d) ≡ false
+not_gt_itself d = ap is_gt (tied_itself digest_cmp_total d)
+
+-- a digest that is not above another's lesser is above neither
+below_lesser : (contents : Contents) (e : List ℕ × Digest) (files : Paths Digest) (rest : Option Digest) → IsLeast contents files rest → IsLeast contents (e ∷ files) (lesser (if_lacking contents e.1) rest)
+below_lesser contents e files rest least = elim (is_lacking contents e.1) as (λ t. is_lacking contents e.1 ≡ t → IsLeast contents (e ∷ files) (lesser (cond t (Some e.1) None) rest)) [
+  | false ↦ λ known. skip contents e files rest known least
+  | true ↦ λ lacking. take_in contents e files rest lacking least
+] refl
+  where
+    skip : (contents : Contents) (e : List ℕ × Digest) (files : Paths Digest) (rest : Option Digest) → is_lacking contents e.1 ≡ false → IsLeast contents files rest → IsLeast contents (e ∷ files) rest
+    skip contents e files None known least = λ d h lacking. ⊎_elim
+        (λ same. false≢true (sym known ∙ ap (is_lacking contents) same ∙ lacking))
+        (λ later. least d later lacking)
+        (contains_cases e.1 d (digests_of files) h)
+    skip contents e files (Some m) known least = (
+      contains_later e.1 m (digests_of files) least.0,
+      least.1,
+      λ d h lacking. ⊎_elim
+          (λ same. absurd (false≢true (sym known ∙ ap (is_lacking contents) same ∙ lacking)))
+          (λ later. least.2 d later lacking)
+          (contains_cases e.1 d (digests_of files) h),
+    )
+
+    take_in : (contents : Contents) (e : List ℕ × Digest) (files : Paths Digest) (rest : Option Digest) → is_lacking contents e.1 ≡ true → IsLeast contents files rest → IsLeast contents (e ∷ files) (lesser (Some e.1) rest)
+    take_in contents e files None lacking least = (
+      contains_here e.1 e.1 (digests_of files) refl,
+      lacking,
+      λ d h missing. ⊎_elim
+          (λ same. subst (λ x. is_gt (digest_cmp e.1 x) ≡ false) same (not_gt_itself e.1))
+          (λ later. absurd (least d later missing))
+          (contains_cases e.1 d (digests_of files) h),
+    )
+    take_in contents e files (Some m) lacking least = elim (is_gt (digest_cmp e.1 m)) as (λ t. is_gt (digest_cmp e.1 m) ≡ t → IsLeast contents (e ∷ files) (cond t (Some m) (Some e.1))) [
+      | true ↦ λ above. (
+        contains_later e.1 m (digests_of files) least.0,
+        least.1,
+        λ d h missing. ⊎_elim
+            (λ same. subst (λ x. is_gt (digest_cmp m x) ≡ false) same (ap is_gt (greater_than e.1 m above)))
+            (λ later. least.2 d later missing)
+            (contains_cases e.1 d (digests_of files) h),
+      )
+      | false ↦ λ below. (
+        contains_here e.1 e.1 (digests_of files) refl,
+        lacking,
+        λ d h missing. ⊎_elim
+            (λ same. subst (λ x. is_gt (digest_cmp e.1 x) ≡ false) same (not_gt_itself e.1))
+            (λ later. upto digest_cmp_total e.1 m d below (least.2 d later missing))
+            (contains_cases e.1 d (digests_of files) h),
+      )
+    ] refl
+
+IsLeast-least_missing_of : (contents : Contents) (files : Paths Digest) → IsLeast contents files (least_missing_of contents files)
+IsLeast-least_missing_of contents [] = λ d h _. omega (arith, h.1)
+IsLeast-least_missing_of contents (e ∷ files) = below_lesser contents e files (least_missing_of contents files) (IsLeast-least_missing_of contents files)
+
+-- the first of the missing digests is the least of them
+first_is_least : (contents : Contents) (files : Paths Digest) (digests : List Digest) (least : Option Digest) → IsLeast contents files least → AreMissing contents files digests → slice_get digests 0 ≡ least
+first_is_least contents files [] None least are = refl
+first_is_least contents files [] (Some m) least are = let h = (are.exactly m).1 (least.0, least.1) in absurd (omega (arith, h.1))
+first_is_least contents files (x ∷ xs) None least are =
+    let h = (are.exactly x).0 (contains_here x x xs refl) in
+    absurd (least x h.0 h.1)
+first_is_least contents files (x ∷ xs) (Some m) least are =
+    let here = (are.exactly x).0 (contains_here x x xs refl) in
+    ⊎_elim
+    (λ same. ap Some same)
+    (λ later.
+    let less = All-contains (λ y. digest_cmp x y ≡ Less) xs m (All-from_recursion (λ y. digest_cmp x y ≡ Less) xs (sorted_head digest_cmp x xs are.rising)) later in
+    let above : is_gt (digest_cmp m x) ≡ true = ap is_gt (digest_cmp_total.antisymm m x ∙ ap ordering_reverse less) in
+    absurd (false≢true (sym (least.2 x here.0 here.1) ∙ above)))
+    (contains_cases x m xs ((are.exactly m).1 (least.0, least.1)))
+
+pub slice_get-missing : (contents : Contents) (files : Paths Digest) (digests : List Digest) → AreMissing contents files digests → slice_get digests 0 ≡ least_missing_of contents files
+slice_get-missing contents files digests are = first_is_least contents files digests (least_missing_of contents files) (IsLeast-least_missing_of contents files) are

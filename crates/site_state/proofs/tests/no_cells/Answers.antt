@@ -1,0 +1,6 @@
+use Rattle.std.specs.List.Sorted.{IsStrictlySortedBy}
+use Rattle.site_state.proofs.tests.no_cells.Goals as goal
+
+pub set_cells-requires-clause-rising : goal.set_cells-requires-clause-rising
+unfolding IsStrictlySortedBy
+set_cells-requires-clause-rising c = rw c.new.ensures.items tt

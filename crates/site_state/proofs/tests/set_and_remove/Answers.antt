@@ -1,0 +1,16 @@
+use Rattle.std.proofs.Common.{IsTrue, Option, refl}
+use Rattle.std.proofs.lemmas.List.Elements.{All-same}
+use Rattle.host_names.specs.declared.cells.Cell.{Cell}
+use Rattle.site_state.specs.declared.values.Value.{Value}
+use Rattle.site_state.specs.States.{may_stand}
+use Rattle.site_state.proofs.Two.{sorted_two, all_two}
+use Rattle.site_state.proofs.tests.set_and_remove.Goals as goal
+
+pub set_cells-requires-clause-rising : goal.set_cells-requires-clause-rising
+set_cells-requires-clause-rising c =
+    rw c.in_ok-cells.ensures.items (sorted_two _ _ _ (cc (c.cmp.ensures, c.is_lt.ensures, c.if-is_lt.true)))
+
+pub set_cells-requires-clause-of_kind : goal.set_cells-requires-clause-of_kind
+set_cells-requires-clause-of_kind c =
+    let P : Cell × Option Value → Type 0 = λ e. IsTrue (may_stand e.0 e.1) in
+    All-same P _ _ c.in_ok-cells.ensures.items (all_two P _ _ refl refl)

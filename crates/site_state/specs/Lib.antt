@@ -1,0 +1,11 @@
+pub mod Files
+pub mod States
+pub mod Items
+pub mod Keys
+pub mod Places
+pub mod LiveRange
+pub mod Values
+pub mod SameValues
+pub mod Edits
+pub mod Merge
+pub mod Missing

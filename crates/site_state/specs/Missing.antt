@@ -1,0 +1,37 @@
+-- Which files of a deploy have not been uploaded.
+use Rattle.std.specs.Prelude.{◌≡◌, ◌↔◌, List, [], ◌∷◌, map, Bool, true, not, Option, Some, None, Contains, if◌then◌else◌}
+use Rattle.std.specs.FinMap.{contains_key}
+use Rattle.std.specs.List.Sorted.{IsStrictlySortedBy}
+use Rattle.std.specs.Ordering.{is_gt}
+use Rattle.host_names.specs.Blobs.{Contents}
+use Rattle.host_names.specs.Digests.{digest_cmp}
+use Rattle.host_names.specs.declared.digests.Digest.{Digest}
+use Rattle.site_state.specs.Files.{Paths}
+
+-- the digests that are listed
+abbrev pub digests_of : Paths Digest → List Digest
+digests_of files = map (λ e. e.1) files
+
+-- whether no file of the digest was uploaded
+abbrev pub is_lacking : Contents → Digest → Bool
+is_lacking contents digest = not (contains_key contents digest)
+
+-- the digests that are listed and lacking, in their order, each once
+pub record AreMissing (contents : Contents) (files : Paths Digest) (digests : List Digest) : Type 0 where
+  pub rising : IsStrictlySortedBy digest_cmp digests
+  pub exactly : (digest : Digest) → Contains digests digest ↔ (Contains (digests_of files) digest × (is_lacking contents digest ≡ true))
+
+-- the lesser of two digests, where there are two
+abbrev pub lesser : Option Digest → Option Digest → Option Digest
+lesser None b = b
+lesser (Some a) None = Some a
+lesser (Some a) (Some b) = if is_gt (digest_cmp a b) then Some b else Some a
+
+-- the digest, if it is lacking
+abbrev pub if_lacking : Contents → Digest → Option Digest
+if_lacking contents digest = if is_lacking contents digest then Some digest else None
+
+-- the least digest that is listed and lacking
+abbrev pub least_missing_of : Contents → Paths Digest → Option Digest
+least_missing_of contents [] = None
+least_missing_of contents (e ∷ files) = lesser (if_lacking contents e.1) (least_missing_of contents files)

@@ -1,0 +1,33 @@
+-- Whether two values are the same.
+use Rattle.std.specs.Prelude.{Bool, true, false, ◌&&◌, ◌==◌, Option, Some, None}
+use Rattle.std.specs.Cmp.Lexicographic.{pointwise}
+use Rattle.std.specs.Str.{bytes_eq}
+use mathlib.Core.Bool.{beq}
+use Rattle.host_names.specs.declared.digests.Digest.{Digest}
+use Rattle.site_state.specs.declared.values.Draft.{Draft}
+use Rattle.site_state.specs.declared.values.Value.{Value}
+use Rattle.site_state.specs.declared.values.Value.TheVariants as value
+use Rattle.site_state.specs.Files.{Paths}
+
+-- the same paths, with the same at each
+abbrev pub paths_eq : {X : Type 0} → (X → X → Bool) → Paths X → Paths X → Bool
+paths_eq eq = pointwise (λ a b. bytes_eq a.0 b.0 && eq a.1 b.1)
+
+abbrev pub digest_eq : Digest → Digest → Bool
+digest_eq a b = bytes_eq a.0 b.0
+
+abbrev pub draft_eq : Draft → Draft → Bool
+draft_eq a b = beq a.auto b.auto && paths_eq digest_eq a.files b.files
+
+abbrev pub value_eq : Value → Value → Bool
+value_eq (value.Live a) (value.Live b) = bytes_eq a b
+value_eq (value.Kept a) (value.Kept b) = paths_eq bytes_eq a b
+value_eq (value.Alias m) (value.Alias n) = m == n
+value_eq (value.Draft a) (value.Draft b) = draft_eq a b
+value_eq a b = false
+
+-- of cells' contents: both nothing, or the same value
+abbrev pub same_value : Option Value → Option Value → Bool
+same_value None None = true
+same_value (Some a) (Some b) = value_eq a b
+same_value a b = false

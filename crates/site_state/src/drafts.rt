@@ -1,0 +1,79 @@
+//! Which files of a deploy have not been uploaded.
+ghost use Rattle.std.specs.Prelude.{◌≡◌, IfOk, filter, slice_get};
+ghost use Rattle.site_state.specs.Missing;
+ghost use Rattle.site_state.specs.Missing.{AreMissing, digests_of, least_missing_of};
+
+use crate::values::Draft;
+use host_names::{Digest, FilePath, Uploads};
+use std::alloc::{AllocError, Global};
+
+fn is_lacking<U: Uploads>(uploads: &U, digest: &Digest) -> bool
+    ensures { result ≡ Missing.is_lacking (U.contents uploads.now) digest.now }
+{
+    uploads.find(digest).is_none()
+}
+
+/// The digests that are listed and lacking, as they are listed.
+fn lacking<U: Uploads>(
+    alloc: Global,
+    files: &[(FilePath, Digest)],
+    uploads: &U,
+) -> Result<Vec<Digest>, AllocError>
+    ensures { IfOk result (λ digests. digests.items ≡ filter (Missing.is_lacking (U.contents uploads.now)) (digests_of files.now)) }
+{
+    let mut digests = Vec::new(alloc);
+    for (_, digest) in files {
+        if is_lacking(uploads, digest) {
+            digests.push(*digest)?;
+        }
+    }
+    Ok(digests)
+}
+
+/// The digests of the files that a deploy lists and that were not uploaded, in their order, each once.
+pub fn missing<U: Uploads>(
+    alloc: Global,
+    draft: &Draft,
+    uploads: &U,
+) -> Result<Vec<Digest>, AllocError>
+    ensures exactly { IfOk result (λ digests. AreMissing (U.contents uploads.now) draft.now.files digests.items) }
+    ensures least_first { IfOk result (λ digests. slice_get digests.items 0 ≡ least_missing_of (U.contents uploads.now) draft.now.files) }
+{
+    let mut digests = lacking(alloc, draft.files.entries(), uploads)?;
+    digests.sort_unstable();
+    digests.dedup();
+    Ok(digests)
+}
+
+/// A digest, if it is lacking.
+fn if_lacking<U: Uploads>(uploads: &U, digest: &Digest) -> Option<Digest>
+    ensures { result ≡ Missing.if_lacking (U.contents uploads.now) digest.now }
+{
+    if is_lacking(uploads, digest) {
+        Some(*digest)
+    } else {
+        None
+    }
+}
+
+/// The lesser of two digests, where there are two.
+fn lesser(a: Option<Digest>, b: Option<Digest>) -> Option<Digest>
+    ensures { result ≡ Missing.lesser a b }
+{
+    match (a, b) {
+        (Some(a), Some(b)) if a.cmp(&b).is_gt() => Some(b),
+        (Some(a), _) => Some(a),
+        (None, b) => b,
+    }
+}
+
+/// The least digest of the files that a deploy lists and that were not uploaded. Takes no memory.
+pub fn least_missing<U: Uploads>(draft: &Draft, uploads: &U) -> Option<Digest>
+    ensures { result ≡ least_missing_of (U.contents uploads.now) draft.now.files }
+{
+    let mut least = None;
+    for (_, digest) in draft.files.entries() {
+        least = lesser(least, if_lacking(uploads, digest));
+    }
+    least
+}

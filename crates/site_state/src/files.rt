@@ -1,0 +1,78 @@
+//! A file as the state keeps it.
+ghost use Rattle.std.specs.Prelude.{◌≡◌, nat_eq};
+ghost use Rattle.std.specs.Cmp.{partial_equiv_from_equiv};
+ghost use Rattle.std.specs.Cmp.Lexicographic.{pointwise, nat_list_eq_equiv};
+
+use host_names::{BlobInfo, Digest};
+use std::alloc::AllocError;
+use std::marker::Model;
+use std::sync::Arc;
+
+/// An uploaded file, which the state shares with what else holds it. Contracts see its bytes.
+#[derive(Drop)]
+pub struct File {
+    info: Arc<BlobInfo>,
+}
+
+impl Model for File {
+    ghost use Rattle.std.specs.Prelude.{List, ℕ};
+
+    ghost Value = { List ℕ };
+
+    ghost view = { λ f. f.info.value };
+}
+
+impl File {
+    ghost use Rattle.host_names.specs.Blobs.{digest_of};
+
+    pub fn new(info: Arc<BlobInfo>) -> File
+        ensures { result ≡ info.value }
+    {
+        File { info }
+    }
+
+    /// What was uploaded.
+    pub fn info(&self) -> &Arc<BlobInfo>
+        ensures { result.now.value ≡ self.now }
+    {
+        &self.info
+    }
+
+    /// Its bytes.
+    pub fn bytes(&self) -> &[u8]
+        ensures { result.now ≡ self.now }
+    {
+        self.info.bytes()
+    }
+
+    /// The digest of its bytes.
+    pub fn digest(&self) -> Digest
+        ensures { result ≡ digest_of self.now }
+    {
+        self.info.digest()
+    }
+}
+
+impl Clone for File {
+    ghost is_clone = { λ file copy. copy ≡ file };
+
+    fn clone(&self) -> Result<File, AllocError> {
+        let info = Arc::try_clone(&self.info)?;
+        Ok(File { info })
+    }
+}
+
+/// By their bytes. Files of different digests are told apart without a look at them.
+impl PartialEq for File {
+    ghost eq = { pointwise nat_eq };
+
+    ghost laws = { partial_equiv_from_equiv nat_list_eq_equiv };
+
+    fn eq(&self, other: &File) -> bool {
+        self.digest() == other.digest() && self.bytes() == other.bytes()
+    }
+}
+
+impl Eq for File {
+    ghost laws = { nat_list_eq_equiv };
+}

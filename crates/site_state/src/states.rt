@@ -1,0 +1,230 @@
+//! The state: a finite map from cells to values.
+ghost use Rattle.std.specs.Prelude.{◌≡◌, option_copied, All, Ok, IfOk, IfSome, IfErr, IsTrue, OnOk, OnErr};
+ghost use Rattle.std.specs.FinMap as map;
+ghost use Rattle.std.specs.List.Sorted.{IsStrictlySortedBy};
+ghost use Rattle.std.specs.Map.{keys_of};
+ghost use Rattle.host_names.specs.Cells.{cell_cmp};
+ghost use Rattle.site_state.specs.Edits.{edited};
+ghost use Rattle.site_state.specs.Keys.{cell_of};
+ghost use Rattle.site_state.specs.LiveRange;
+ghost use Rattle.site_state.specs.Places.{IsPlace, IsGap};
+ghost use Rattle.site_state.specs.States;
+
+use crate::files::File;
+use crate::keys::Key;
+use crate::merge::merge;
+use crate::values::{Draft, Tree, Value};
+use host_names::{AliasName, Cell, FilePath, SiteName};
+use std::alloc::{AllocError, Global};
+use std::marker::Model;
+use std::mem;
+
+/// What stands in each cell. Contracts see a finite map. Each value is of its cell's kind.
+#[derive(Drop)]
+pub struct State {
+    /// By cell; each cell stands once.
+    items: Vec<(Cell, Value)>,
+}
+
+impl Model for State {
+    ghost use Rattle.std.specs.FinMap as map;
+    ghost use Rattle.site_state.specs.States.{State as Cells};
+    ghost use Rattle.site_state.specs.Items.{AreItems};
+    ghost use Rattle.host_names.specs.contracts.cells.Cell as cell;
+    ghost use Rattle.site_state.specs.contracts.values.Value as value;
+
+    ghost Value = { Cells };
+
+    ghost coded = { map.code cell.the_row.coded value.the_row.coded };
+
+    ghost view = { λ s. map.from_sorted s.items.items };
+
+    ghost invariant = { λ s. AreItems s.items.items };
+}
+
+/// Where the cell of these parts is among the items, or where it would go.
+fn search(items: &[(Cell, Value)], key: Key<'_>) -> Result<usize, usize>
+    requires { IsStrictlySortedBy cell_cmp (keys_of items.now) }
+    ensures found { IfOk result (λ place. IsPlace cell_cmp (cell_of key.entry) items.now place) }
+    ensures absent { IfErr result (λ place. IsGap cell_cmp (cell_of key.entry) items.now place) }
+{
+    items.binary_search_by(|item| Key::of(&item.0).compare(key))
+}
+
+/// Puts a value into a cell.
+fn put(items: &mut Vec<(Cell, Value)>, cell: Cell, value: Value) -> Result<(), AllocError>
+    requires { IsStrictlySortedBy cell_cmp (keys_of items.old.items) }
+    ensures ok { OnOk result (items.new.items ≡ edited cell_cmp items.old.items cell (Some value)) }
+    ensures err { OnErr result (items.new.items ≡ items.old.items) }
+{
+    match search(items.as_slice(), Key::of(&cell)) {
+        Ok(place) => {
+            items[place] = (cell, value);
+            Ok(())
+        }
+        Err(place) => Ok(items.insert(place, (cell, value))?),
+    }
+}
+
+/// Leaves a cell with nothing in it.
+fn take(items: &mut Vec<(Cell, Value)>, cell: &Cell)
+    requires { IsStrictlySortedBy cell_cmp (keys_of items.old.items) }
+    ensures { items.new.items ≡ edited cell_cmp items.old.items cell.now None }
+{
+    match search(items.as_slice(), Key::of(cell)) {
+        Ok(place) => {
+            let _ = items.remove(place);
+        }
+        Err(_) => {}
+    }
+}
+
+/// Writes a value into a cell, or nothing.
+fn write(items: &mut Vec<(Cell, Value)>, cell: Cell, value: Option<Value>) -> Result<(), AllocError>
+    requires { IsStrictlySortedBy cell_cmp (keys_of items.old.items) }
+    ensures ok { OnOk result (items.new.items ≡ edited cell_cmp items.old.items cell value) }
+    ensures err { OnErr result (items.new.items ≡ items.old.items) }
+{
+    match value {
+        Some(value) => put(items, cell, value),
+        None => {
+            take(items, &cell);
+            Ok(())
+        }
+    }
+}
+
+fn is_of_site_before(cell: &Cell, site: &SiteName) -> bool
+    ensures { result ≡ LiveRange.is_of_site_before cell.now site.now }
+{
+    cell.site().cmp(site).is_lt()
+}
+
+fn is_live_of(cell: &Cell, site: &SiteName) -> bool
+    ensures { result ≡ States.is_live_of site.now cell.now }
+{
+    match cell {
+        Cell::Live(own, _) => site == own,
+        Cell::Kept(..) | Cell::Alias(..) | Cell::Draft(..) => false,
+    }
+}
+
+impl State {
+    ghost use Rattle.site_state.specs.States.{live_at, kept_at, alias_at, draft_at, live_entries, is_of_kind, may_stand, with_cell, with_cells};
+
+    /// A state with nothing in it.
+    pub fn new(alloc: Global) -> State
+        ensures { result ≡ map.empty }
+    {
+        State {
+            items: Vec::new(alloc),
+        }
+    }
+
+    /// What stands in the cell of these parts.
+    fn find(&self, key: Key<'_>) -> Option<&Value>
+        ensures found { option_copied result ≡ map.get self.now (cell_of key.entry) }
+        ensures of_kind { IfSome result (λ value. IsTrue (is_of_kind (cell_of key.entry) value.now)) }
+    {
+        match search(self.items.as_slice(), key) {
+            Ok(place) => Some(&self.items[place].1),
+            Err(_) => None,
+        }
+    }
+
+    /// What stands in a cell.
+    pub fn value(&self, cell: &Cell) -> Option<&Value>
+        ensures found { option_copied result ≡ map.get self.now cell.now }
+        ensures of_kind { IfSome result (λ value. IsTrue (is_of_kind cell.now value.now)) }
+    {
+        self.find(Key::of(cell))
+    }
+
+    /// The file that is served at a path.
+    pub fn file(&self, site: &SiteName, path: &FilePath) -> Option<&File>
+        ensures { option_copied result ≡ live_at self.now site.now path.now }
+    {
+        match self.find(Key::Live(site, path)) {
+            Some(Value::Live(file)) => Some(file),
+            _ => None,
+        }
+    }
+
+    /// The files that a site serves, each in its cell, by path.
+    pub fn live(&self, site: &SiteName) -> &[(Cell, Value)]
+        ensures { result.now ≡ live_entries self.now site.now }
+    {
+        let items = self.items.as_slice();
+        let start = items.partition_point(|item| is_of_site_before(&item.0, site));
+        let rest = &items[start..];
+        let count = rest.partition_point(|item| is_live_of(&item.0, site));
+        &rest[..count]
+    }
+
+    /// The files of the deploy that is kept under a number.
+    pub fn kept(&self, site: &SiteName, number: u64) -> Option<&Tree>
+        ensures { option_copied result ≡ kept_at self.now site.now number }
+    {
+        match self.find(Key::Kept(site, number)) {
+            Some(Value::Kept(tree)) => Some(tree),
+            _ => None,
+        }
+    }
+
+    /// The number of the deploy that an alias stands for.
+    pub fn alias(&self, site: &SiteName, name: &AliasName) -> Option<u64>
+        ensures { result ≡ alias_at self.now site.now name.now }
+    {
+        match self.find(Key::Alias(site, name)) {
+            Some(Value::Alias(number)) => Some(*number),
+            _ => None,
+        }
+    }
+
+    /// The deploy that is open under a number.
+    pub fn draft(&self, site: &SiteName, number: u64) -> Option<&Draft>
+        ensures { option_copied result ≡ draft_at self.now site.now number }
+    {
+        match self.find(Key::Draft(site, number)) {
+            Some(Value::Draft(draft)) => Some(draft),
+            _ => None,
+        }
+    }
+
+    /// Writes into one cell a value of its kind, or nothing. Without memory nothing changes.
+    pub fn set_cell(&mut self, cell: Cell, value: Option<Value>) -> Result<(), AllocError>
+        requires { IsTrue (may_stand cell value) }
+        ensures ok { OnOk result (self.new ≡ with_cell self.old cell value) }
+        ensures err { OnErr result (self.new ≡ self.old) }
+    {
+        write(&mut self.items, cell, value)
+    }
+
+    /// Writes into each of these cells, which strictly rise, a value of its kind, or nothing. All are written,
+    /// or, without memory, none. The work is linear in the state and the cells.
+    pub fn set_cells(
+        &mut self,
+        alloc: Global,
+        cells: Vec<(Cell, Option<Value>)>,
+    ) -> Result<(), AllocError>
+        requires rising { IsStrictlySortedBy cell_cmp (keys_of cells.items) }
+        requires of_kind { All (λ e. IsTrue (may_stand e.0 e.1)) cells.items }
+        ensures ok { OnOk result (self.new ≡ with_cells self.old cells.items) }
+        ensures err { OnErr result (self.new ≡ self.old) }
+    {
+        let mut merged = Vec::with_capacity(alloc, self.items.len() + cells.len())?;
+        let items = mem::replace(&mut self.items, Vec::new(alloc));
+        merge(items, cells, &mut merged);
+        self.items = merged;
+        Ok(())
+    }
+
+    /// A copy, which shares the files, the trees and the lists.
+    pub fn copy(&self, alloc: Global) -> Result<State, AllocError>
+        ensures { IfOk result (λ copy. copy ≡ self.now) }
+    {
+        Ok(State {
+            items: self.items.as_slice().to_vec(alloc)?,
+        })
+    }
+}
