@@ -5,3 +5,4 @@ pub mod Fields
 pub mod Wires
 pub mod Sending
 pub mod Replies
+pub mod Connections

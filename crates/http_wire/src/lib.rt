@@ -3,6 +3,7 @@
 
 mod bodies;
 mod buffers;
+mod connections;
 mod faults;
 mod fields;
 mod heads;

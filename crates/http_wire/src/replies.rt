@@ -3,7 +3,7 @@ ghost use Rattle.std.specs.Prelude.{◌≡◌, ◌≤◌, ◌<◌, length, codes
 ghost use Rattle.std.specs.Option.{option_map};
 ghost use Rattle.std.specs.List.{flat_map};
 ghost use Rattle.arrayvec.specs.ArrayVec.{array_vec_len};
-ghost use Rattle.http_wire.specs.Replies.{crlf, range_text, line_of, head_text, reply_text};
+ghost use Rattle.http_wire.specs.Replies.{crlf, range_text, line_of, fields_of, head_text, reply_text};
 ghost use Rattle.std.specs.Io.KnownBytes.{Appends};
 ghost use Rattle.http_wire.specs.Sending.{SentFront};
 
@@ -132,7 +132,7 @@ fn push_head<'a>(
     requires first { pieces.old.items ≡ [] }
     requires length_is { option_map (λ v. v.now) length ≡ option_map decimal head.now.content_length }
     requires range_is { option_map (λ v. v.now) range ≡ option_map range_text head.now.content_range }
-    ensures text { flat_map (λ p. p.now) pieces.new.items ≡ head_text head.now }
+    ensures text { flat_map (λ p. p.now) pieces.new.items ≡ head_text (fields_of head.now) }
     ensures len { array_vec_len pieces.new < PIECE_ROOM }
 {
     let code: &'a str = head.status.as_str();
@@ -174,8 +174,8 @@ fn write_texts<'a, W: Sink>(
 ) -> Result<(), WriteFault>
     requires length_is { option_map (λ v. v.now) length ≡ option_map decimal head.now.content_length }
     requires range_is { option_map (λ v. v.now) range ≡ option_map range_text head.now.content_range }
-    ensures ok { OnOk result (Appends (W.held writer.old) (W.held writer.new) (reply_text head.now body.now)) }
-    ensures fault { IfErr result (λ fault. SentFront (W.held writer.old) (W.held writer.new) (reply_text head.now body.now) fault.0) }
+    ensures ok { OnOk result (Appends (W.held writer.old) (W.held writer.new) (reply_text (fields_of head.now) body.now)) }
+    ensures fault { IfErr result (λ fault. SentFront (W.held writer.old) (W.held writer.new) (reply_text (fields_of head.now) body.now) fault.0) }
     ensures cause { OnErr result W.may_fail }
 {
     let mut pieces = ArrayVec::new();
@@ -192,10 +192,10 @@ pub fn write_reply<W: Sink>(
     head: &ReplyHead<'_>,
     body: &[u8],
 ) -> Result<(), WriteFault>
-    ensures ok { OnOk result (Appends (W.held writer.old) (W.held writer.new) (reply_text head.now body.now)) }
+    ensures ok { OnOk result (Appends (W.held writer.old) (W.held writer.new) (reply_text (fields_of head.now) body.now)) }
 
     // Of a reply that is cut short the first so many bytes went out.
-    ensures fault { IfErr result (λ fault. SentFront (W.held writer.old) (W.held writer.new) (reply_text head.now body.now) fault.0) }
+    ensures fault { IfErr result (λ fault. SentFront (W.held writer.old) (W.held writer.new) (reply_text (fields_of head.now) body.now) fault.0) }
     ensures cause { OnErr result W.may_fail }
 {
     let length = head.content_length.map(decimal_text);

@@ -290,6 +290,31 @@ fn lengths_of_bodies(rt: HostRuntime) -> Result<(), Fail> {
     Ok(())
 }
 
+#[test]
+fn requests_that_close(rt: HostRuntime) -> Result<(), Fail> {
+    let alloc = rt.alloc();
+    for (fields, want) in [
+        ("", false),
+        ("Connection: close\n", true),
+        ("CONNECTION:CLOSE\n", true),
+        ("Connection: keep-alive, Close\n", true),
+        ("Connection: ,keep-alive ,\t close \t,upgrade\n", true),
+        ("Connection: keep-alive\nConnection: close\n", true),
+        ("Connection: keep-alive\n", false),
+        ("Connection: closed\n", false),
+        ("Connection: close x\n", false),
+        ("Connection: c lose\n", false),
+        ("Connection: ,\n", false),
+        ("Connection:\n", false),
+        ("Proxy-Connection: close\n", false),
+    ] {
+        let text = format!(in alloc; "GET / HTTP/1.1\n{fields}\n")?;
+        let head = first_head(alloc, text.as_bytes())?;
+        assert_eq!(rt; head.asks_close(), want, "{fields}");
+    }
+    Ok(())
+}
+
 const ALL_FIELDS: &[u8] =
     b"HTTP/1.1 206 Partial Content\r\nContent-Type: text/plain; charset=utf-8\r\nContent-Length: 5\r\nETag: \"2aae6c35c94fcfb415dbe95f408b9ce91ee846ed\"\r\nAccept-Ranges: bytes\r\nContent-Range: bytes 6-10/11\r\nAllow: GET, HEAD\r\nConnection: close\r\n\r\nworld";
 

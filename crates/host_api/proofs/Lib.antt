@@ -1,0 +1,8 @@
+pub mod DigestLists
+pub mod LastPlaces
+mod NumberTexts
+pub mod Cuts
+pub mod PathTexts
+mod ObjectBodies
+mod ListedFiles
+pub mod RoutesTaken

@@ -1,0 +1,124 @@
+-- What a body asks for (RFC 8259, as `serde_json` reads it).
+use Rattle.std.specs.Prelude.{ℕ, Bool, false, List, Option, Some, None, Result, Ok, Err, option_map, option_and_then, ok_or, not, nat_le, if◌then◌else◌, codes}
+use Rattle.std.specs.FinMap as map
+use Rattle.std.specs.Cmp.Lexicographic.{slice_cmp}
+use Rattle.std.specs.Ordering.{nat_cmp}
+use Rattle.std.specs.Result.{result_ok}
+use Rattle.std.specs.Str.{is_utf8}
+use Rattle.hex.specs.Hex.{decode_sized}
+use Rattle.serde_json.specs.Data.{Num, unsigned, negative, float, Data, null, boolean, number, string, array, object, Members, no_members, member}
+use Rattle.serde_json.specs.Find.{get_member, as_object, as_bool}
+use Rattle.serde_json.specs.Read.{read}
+use Rattle.host_names.specs.Path.{is_path, with_slash}
+use Rattle.host_names.specs.declared.digests.Digest.{Digest}
+use Rattle.host_names.specs.declared.names.SiteName.{SiteName}
+use Rattle.site_change.specs.declared.commands.Command.TheVariants.{Open}
+use Rattle.host_api.specs.Numbers.{greatest_number, number_of}
+use Rattle.host_api.specs.declared.routes.Route.{Route}
+use Rattle.host_api.specs.declared.routes.Route.TheVariants as route
+use Rattle.host_api.specs.declared.bodies.Ask.{Ask}
+use Rattle.host_api.specs.declared.bodies.Ask.TheVariants as ask
+use Rattle.host_api.specs.declared.refusals.Refusal.{Refusal}
+use Rattle.host_api.specs.declared.refusals.Refusal.TheVariants.{BadPath, BadDigest, BadBody}
+
+-- the members of the object that the body is
+abbrev pub object_of : List ℕ → Option Members
+object_of body = if is_utf8 body then option_and_then as_object (read body) else None
+
+-- the second step with what the first gave
+abbrev pub then_with : {A B : Type 0} → Result A Refusal → (A → Result B Refusal) → Result B Refusal
+then_with (Ok a) f = f a
+then_with (Err e) f = Err e
+
+-- ---- opening a deploy
+
+-- a flag, which is off where it is absent
+abbrev pub flag_of : Option Data → Option Bool
+flag_of None = Some false
+flag_of (Some value) = as_bool value
+
+-- what a body of the right form has: the files, and whether the deploy is to stay open
+pub record Form : Type 0 where
+  pub files : Members
+  pub draft : Bool
+
+abbrev pub form_with : Option Members → Option Bool → Option Bool → Option Form
+form_with (Some files) (Some draft) (Some patch) = if patch then None else Some (record { files = files; draft = draft })
+form_with files draft patch = None
+
+abbrev pub form_of : Members → Option Form
+form_of ms =
+    form_with (option_and_then as_object (get_member (codes "files") ms))
+    (flag_of (get_member (codes "draft") ms)) (flag_of (get_member (codes "patch") ms))
+
+-- the digest that 40 hexadecimal digits of either case spell
+abbrev pub digest_from : List ℕ → Option Digest
+digest_from text = option_map (λ (bytes : List ℕ). record { 0 = bytes }) (result_ok (decode_sized text 20))
+
+abbrev pub digest_in : Data → Result Digest Refusal
+digest_in null = Err BadBody
+digest_in (boolean b) = Err BadBody
+digest_in (number n) = Err BadBody
+digest_in (string text) = ok_or (digest_from text) BadDigest
+digest_in (array items) = Err BadBody
+digest_in (object ms) = Err BadBody
+
+-- files of a deploy, by path
+abbrev pub Files : Type 0
+Files = map.FinMap (slice_cmp nat_cmp) Digest
+
+-- the files of a list in which each path stands once
+abbrev pub files_in : List (List ℕ × Digest) → Files
+files_in files = map.from_entries files
+
+-- the files with one more: its path is judged first, then whether the path is listed already, then its digest
+abbrev pub with_one : Files → List ℕ → Data → Result Files Refusal
+with_one files path value =
+    if not (is_path path) then Err BadPath
+    else if map.contains_key files path then Err BadBody
+    else then_with (digest_in value) (λ digest. Ok (map.insert files path digest))
+
+-- the files with those that the members list, in the order of the keys' bytes, or the first reason against one
+abbrev pub with_all : Files → Members → Result Files Refusal
+with_all files no_members = Ok files
+with_all files (member key value ms) = then_with (with_one files (with_slash key) value) (λ more. with_all more ms)
+
+abbrev pub open_with : SiteName → Option Form → Result Ask Refusal
+open_with name None = Err BadBody
+open_with name (Some form) =
+    then_with (with_all map.empty form.files) (λ files. Ok (ask.Command (Open name (map.entries files) (not form.draft))))
+
+abbrev pub open_ask : SiteName → List ℕ → Result Ask Refusal
+open_ask name body = open_with name (option_and_then form_of (object_of body))
+
+-- ---- undoing a change
+
+abbrev pub change_number : Num → ℕ
+change_number (unsigned n) = if nat_le n greatest_number then n else 0
+change_number (negative z) = 0
+change_number (float x) = 0
+
+abbrev pub change_in : Data → Option ℕ
+change_in null = None
+change_in (boolean b) = None
+change_in (number n) = Some (change_number n)
+change_in (string text) = Some (number_of text)
+change_in (array items) = None
+change_in (object ms) = None
+
+abbrev pub undo_with : SiteName → Option ℕ → Result Ask Refusal
+undo_with name None = Err BadBody
+undo_with name (Some change) = Ok (ask.Undo name change)
+
+abbrev pub undo_ask : SiteName → List ℕ → Result Ask Refusal
+undo_ask name body =
+    undo_with name (option_and_then change_in (option_and_then (get_member (codes "change")) (object_of body)))
+
+-- ---- any route
+
+-- what the body asks for on this route, or the first reason why it asks for nothing
+abbrev pub asked : Route → List ℕ → Result Ask Refusal
+asked (route.Read name path) body = Ok (ask.Read name path)
+asked (route.Open name) body = open_ask name body
+asked (route.Undo name) body = undo_ask name body
+asked (route.Upload n path) body = Ok (ask.Upload n path)

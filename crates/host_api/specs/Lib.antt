@@ -1,0 +1,10 @@
+pub mod Numbers
+pub mod Targets
+pub mod Patterns
+pub mod Routes
+pub mod Bodies
+pub mod Refusals
+pub mod Texts
+pub mod Types
+pub mod Methods
+pub mod Limits

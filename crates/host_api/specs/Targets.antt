@@ -1,0 +1,81 @@
+-- The target of a request, in its parts.
+use Rattle.std.specs.Prelude.{ℕ, Bool, true, false, List, [], ◌∷◌, ◌++◌, Option, Some, None, option_map, drop, not, ◌==◌, ◌&&◌, if◌then◌else◌, codes}
+use Rattle.std.specs.List.{list_any, take_while}
+use Rattle.std.specs.Str.{byte, bytes_eq, is_utf8}
+use Rattle.percent_encoding.specs.Percent.{percent_decode}
+use Rattle.host_names.specs.Path.{is_path, with_slash}
+
+-- the text before the first such byte
+abbrev pub before : ℕ → List ℕ → List ℕ
+before b text = take_while (λ c. not (c == b)) text
+
+-- the text from the first such byte on
+abbrev pub from_first : ℕ → List ℕ → List ℕ
+from_first b [] = []
+from_first b (c ∷ text) = if c == b then c ∷ text else from_first b text
+
+-- the target without its query
+abbrev pub path_of : List ℕ → List ℕ
+path_of target = before (byte "?") target
+
+abbrev pub has_hash : List ℕ → Bool
+has_hash text = list_any (λ b. b == byte "#") text
+
+-- ---- patterns
+
+-- what stands between two slashes: a word, or the name of a site, or a number
+pub data Part : Type 0 where
+  word : List ℕ → Part
+  site : Part
+  number : Part
+
+-- what a target has in the places that its pattern leaves open; the rest begins with a slash
+pub record Bindings : Type 0 where
+  pub site_text : List ℕ
+  pub number_text : List ℕ
+  pub rest : List ℕ
+
+abbrev pub no_bindings : Bindings
+no_bindings = record { site_text = []; number_text = []; rest = [] }
+
+-- what the parts after it found, if the segment is of the part
+abbrev pub bound : Part → List ℕ → Option Bindings → Option Bindings
+bound (word w) segment found = if bytes_eq segment w then found else None
+bound site segment found = option_map (λ b. record { site_text = segment; number_text = b.number_text; rest = b.rest }) found
+bound number segment found = option_map (λ b. record { site_text = b.site_text; number_text = segment; rest = b.rest }) found
+
+-- the text is segments of these parts, each behind a slash, and behind them nothing, or a rest that begins with a slash
+abbrev pub fit : List Part → Bool → List ℕ → Option Bindings
+fit [] false [] = Some no_bindings
+fit [] false (b ∷ text) = None
+fit [] true [] = None
+fit [] true (b ∷ text) =
+    if b == byte "/" then Some (record { site_text = []; number_text = []; rest = b ∷ text }) else None
+fit (part ∷ parts) has_rest [] = None
+fit (part ∷ parts) has_rest (b ∷ text) =
+    if b == byte "/"
+    then bound part (before (byte "/") text) (fit parts has_rest (from_first (byte "/") text))
+    else None
+
+-- ---- paths
+
+-- the text, if it is UTF-8 and a path
+abbrev pub if_path : List ℕ → Option (List ℕ)
+if_path text = if is_utf8 text && is_path text then Some text else None
+
+abbrev pub ends_with_slash : List ℕ → Bool
+ends_with_slash [] = false
+ends_with_slash (b ∷ []) = b == byte "/"
+ends_with_slash (b ∷ c ∷ text) = ends_with_slash (c ∷ text)
+
+-- a path that ends in a slash stands for the page of that name in it
+abbrev pub with_index : List ℕ → List ℕ
+with_index text = if ends_with_slash text then text ++ codes "index.html" else text
+
+-- the path of a file that is read: the rest, its escapes decoded once
+abbrev pub read_path : List ℕ → Option (List ℕ)
+read_path rest = if_path (with_index (percent_decode rest))
+
+-- the path of a file that is uploaded: what follows the slash of the rest, its escapes decoded once
+abbrev pub upload_path : List ℕ → Option (List ℕ)
+upload_path rest = if_path (with_slash (percent_decode (drop 1 rest)))

@@ -1,0 +1,44 @@
+-- The JSON texts of replies: compact, members in the order of their bytes.
+use Rattle.std.specs.Prelude.{ℕ, List, ◌++◌, map, Option, Some, None, codes, decimal}
+use Rattle.std.specs.List.{join_with_byte}
+use Rattle.std.specs.Str.{byte}
+use Rattle.hex.specs.Hex.{encode_lower}
+use Rattle.host_names.specs.declared.digests.Digest.{Digest}
+use Rattle.host_api.specs.Refusals.{name_of}
+use Rattle.host_api.specs.declared.refusals.Refusal.{Refusal}
+use Rattle.host_api.specs.declared.refusals.Refusal.TheVariants.{NotComplete}
+use Rattle.host_api.specs.declared.texts.Told.{Told}
+use Rattle.host_api.specs.declared.texts.Told.TheVariants.{Opened, Uploaded, Entered, Refused}
+
+abbrev pub quoted : List ℕ → List ℕ
+quoted text = codes "\"" ++ text ++ codes "\""
+
+-- a number, or nothing
+abbrev pub number_or_null : Option ℕ → List ℕ
+number_or_null None = codes "null"
+number_or_null (Some n) = decimal n
+
+abbrev pub digest_list : List Digest → List ℕ
+digest_list digests = join_with_byte (byte ",") (map (λ d. quoted (encode_lower d.0)) digests)
+
+-- what stands before the name of a refusal
+abbrev pub detail_of : Refusal → List ℕ
+detail_of (NotComplete digest) = codes "\"digest\":" ++ quoted (encode_lower digest.0) ++ codes ","
+detail_of refusal = codes ""
+
+abbrev pub opened_text : ℕ → Option ℕ → List Digest → List ℕ
+opened_text id published required =
+    codes "{\"id\":\"" ++ decimal id ++ codes "\",\"published\":" ++ number_or_null published
+    ++ codes ",\"required\":[" ++ digest_list required ++ codes "]}"
+
+abbrev pub uploaded_text : Option ℕ → Digest → List ℕ
+uploaded_text published digest = codes "{\"published\":" ++ number_or_null published ++ codes ",\"sha\":\"" ++ encode_lower digest.0 ++ codes "\"}"
+
+abbrev pub refused_text : Refusal → List ℕ
+refused_text refusal = codes "{" ++ detail_of refusal ++ codes "\"error\":\"" ++ name_of refusal ++ codes "\"}"
+
+abbrev pub told_text : Told → List ℕ
+told_text (Opened id published required) = opened_text id published required
+told_text (Uploaded published digest) = uploaded_text published digest
+told_text (Entered number) = codes "{\"entry\":" ++ decimal number ++ codes "}"
+told_text (Refused refusal) = refused_text refusal

@@ -1,0 +1,282 @@
+//! What bodies ask for, and why others are refused.
+use crate::{Ask, Refusal, Route, ask_of};
+use host_names::{FilePath, SiteName};
+use site_change::Command;
+use std::alloc::{AllocError, Global};
+use std::test::Fail;
+
+/// The SHA-1 of `hello`.
+const HELLO: &str = "aaf4c61ddcc5e8a2dabede0f3b482cd9aea9434d";
+
+/// What a request asks for, in words: of an opening whether it publishes itself, and its files.
+fn words(alloc: Global, ask: Ask) -> Result<String, AllocError> {
+    match ask {
+        Ask::Command(Command::Open { files, auto, .. }) => {
+            let mut text = format!(in alloc; "auto {auto}")?;
+            for entry in files.entries() {
+                text.push(' ')?;
+                text.push_str(entry.0.as_str())?;
+                text.push('=')?;
+                text.push_str(entry.1.to_hex().as_str())?;
+            }
+            Ok(text)
+        }
+        Ask::Undo { change, .. } => format!(in alloc; "undo {change}"),
+        Ask::Read { path, .. } => format!(in alloc; "read {path}"),
+        Ask::Upload { deploy, path } => format!(in alloc; "upload {deploy} {path}"),
+        Ask::Command(_) => String::from_str(alloc, "something else"),
+    }
+}
+
+/// What is asked for in words, or the name of the refusal.
+fn answer(alloc: Global, route: Route, body: &[u8]) -> Result<String, AllocError> {
+    match ask_of(alloc, route, body) {
+        Ok(ask) => words(alloc, ask),
+        Err(refusal) => String::from_str(alloc, refusal.name()),
+    }
+}
+
+fn opened(alloc: Global, body: &str) -> Result<String, Fail> {
+    let site = SiteName::new("one")?;
+    Ok(answer(alloc, Route::Open { site }, body.as_bytes())?)
+}
+
+fn undone(alloc: Global, body: &str) -> Result<String, Fail> {
+    let site = SiteName::new("one")?;
+    Ok(answer(alloc, Route::Undo { site }, body.as_bytes())?)
+}
+
+/// Bodies of openings, each behind what it asks for.
+const OPENINGS: &str = r#"
+auto true: {"files":{}}
+auto true:  { "files" : { } }
+auto false: {"files":{},"draft":true}
+auto true: {"files":{},"draft":false}
+auto true: {"files":{},"patch":false}
+auto true: {"files":{},"sites":[null,1.5],"Draft":true}
+auto true: {"files":[],"files":{}}
+auto false: {"draft":1,"files":{},"draft":true}
+BadBody: files
+BadBody: {
+BadBody: []
+BadBody: null
+BadBody: "files"
+BadBody: {"files":{}} x
+BadBody: {"files":{},}
+BadBody: {'files':{}}
+BadBody: {}
+BadBody: {"files":[]}
+BadBody: {"files":null}
+BadBody: {"files":""}
+BadBody: {"files":{},"files":[]}
+BadBody: {"files":{},"draft":null}
+BadBody: {"files":{},"draft":1}
+BadBody: {"files":{},"draft":"true"}
+BadBody: {"files":{},"patch":true}
+BadBody: {"files":{},"patch":null}
+BadBody: {"files":{},"patch":0}
+BadBody: {"files":{},"x":1e400}
+BadBody: {"files":{},"x":-1e400}
+BadBody: {"files":{},"x":01}
+BadBody: {"files":{},"x":"\ud800"}
+BadBody: {"files":{"a//b":""},"draft":1}
+BadBody: {"files":{"a//b":""},"patch":true}
+BadBody: {"files":{"a":"x"},"patch":1}
+"#;
+
+#[test]
+fn reads_openings(rt: HostRuntime) -> Result<(), Fail> {
+    for line in OPENINGS.lines() {
+        if let Some((want, body)) = line.split_once(": ") {
+            assert_eq!(rt; opened(rt.alloc(), body)?.as_str(), want, "{body}");
+        }
+    }
+    assert_eq!(rt; opened(rt.alloc(), "")?.as_str(), "BadBody");
+    let site = SiteName::new("one")?;
+    let bytes = b"{\"files\":{},\"x\":\"\xff\"}";
+    assert_eq!(rt;
+        answer(rt.alloc(), Route::Open { site }, bytes)?.as_str(),
+        "BadBody"
+    );
+    Ok(())
+}
+
+/// The members of `files`, each row behind what it asks for. `H` stands for a digest.
+const LISTINGS: &str = r#"
+auto true /a=H: "a":H
+auto true /a=H: "/a":H
+auto true /a=H: "\u0061":H
+auto true /a=H: "a":"x","a":H
+auto true /a=H: "a":"AAF4C61DDCC5E8A2DABEDE0F3B482CD9AEA9434D"
+auto true /a=H /b=H: "a":H,"b":H
+auto true /a=H /b=H: "b":H,"a":H
+auto true /a=H /b=H: "/b":H,"a":H
+auto true /a=H /b=H: "b":H,"/a":H
+BadPath: "a//b":H
+BadPath: "":H
+BadPath: "/":H
+BadPath: "//a":H
+BadPath: "a?b":H
+BadPath: "a\u0000":H
+BadPath: "..":H
+BadDigest: "a":""
+BadDigest: "a":"aaf4c61ddcc5e8a2dabede0f3b482cd9aea9434"
+BadDigest: "a":"aaf4c61ddcc5e8a2dabede0f3b482cd9aea9434d0"
+BadDigest: "a":"aaf4c61ddcc5e8a2dabede0f3b482cd9aea9434g"
+BadBody: "a":null
+BadBody: "a":7
+BadBody: "a":[H]
+BadBody: "a":true
+BadBody: "a":{}
+BadBody: "a":H,"/a":H
+BadBody: "a":"x","/a":H
+BadDigest: "a":H,"/a":"x"
+BadDigest: "a":"x","b//c":H
+BadDigest: "b//c":H,"a":"x"
+BadPath: "a//b":H,"b":"x"
+BadPath: "b":"x","a//b":H
+BadPath: "a//b":null
+BadBody: "a":null,"b//c":H
+BadBody: "a":H,"b":null,"/a":H
+BadBody: "a":H,"b":"x","/b":H
+"#;
+
+/// A row's parts, where each `H` is replaced by a digest between such marks.
+fn filled(alloc: Global, row: &str, mark: &str) -> Result<String, AllocError> {
+    let mut text = String::new(alloc);
+    for (place, part) in row.split('H').enumerate() {
+        if place > 0 {
+            text.push_str(mark)?;
+            text.push_str(HELLO)?;
+            text.push_str(mark)?;
+        }
+        text.push_str(part)?;
+    }
+    Ok(text)
+}
+
+#[test]
+fn reads_listings(rt: HostRuntime) -> Result<(), Fail> {
+    for line in LISTINGS.lines() {
+        if let Some((want, row)) = line.split_once(": ") {
+            let want = filled(rt.alloc(), want, "")?;
+            let members = filled(rt.alloc(), row, "\"")?;
+            let body = format!(in rt.alloc(); "{{\"files\":{{{members}}}}}")?;
+            assert_eq!(rt; opened(rt.alloc(), body.as_str())?, want, "{row}");
+        }
+    }
+    Ok(())
+}
+
+/// Bodies of undos, each behind what it asks for.
+const UNDOS: &str = r#"
+undo 1: {"change":1}
+undo 1: {"change":"1"}
+undo 1000000: {"change":1000000}
+undo 1000000: {"change":"1000000"}
+undo 3: {"change":null,"change":3,"other":[]}
+undo 0: {"change":1000001}
+undo 0: {"change":"1000001"}
+undo 0: {"change":18446744073709551616}
+undo 0: {"change":"18446744073709551617"}
+undo 0: {"change":0}
+undo 0: {"change":-0}
+undo 0: {"change":-1}
+undo 0: {"change":2.0}
+undo 0: {"change":2e0}
+undo 0: {"change":"007"}
+undo 0: {"change":"0"}
+undo 0: {"change":"+1"}
+undo 0: {"change":"-1"}
+undo 0: {"change":" 1"}
+undo 0: {"change":"1 "}
+undo 0: {"change":"2.0"}
+undo 0: {"change":"one"}
+undo 0: {"change":""}
+BadBody: {"change":null}
+BadBody: {"change":true}
+BadBody: {"change":[]}
+BadBody: {"change":[1]}
+BadBody: {"change":{}}
+BadBody: {"change":1,"change":null}
+BadBody: {"change":1e400}
+BadBody: {"change":007}
+BadBody: {"Change":1}
+BadBody: {}
+BadBody: []
+BadBody: 1
+BadBody: "1"
+BadBody: change
+"#;
+
+#[test]
+fn reads_undos(rt: HostRuntime) -> Result<(), Fail> {
+    for line in UNDOS.lines() {
+        if let Some((want, body)) = line.split_once(": ") {
+            assert_eq!(rt; undone(rt.alloc(), body)?.as_str(), want, "{body}");
+        }
+    }
+    assert_eq!(rt; undone(rt.alloc(), "")?.as_str(), "BadBody");
+    Ok(())
+}
+
+#[test]
+fn leaves_other_bodies_alone(rt: HostRuntime) -> Result<(), Fail> {
+    let alloc = rt.alloc();
+    let site = SiteName::new("one")?;
+    let path = FilePath::read(alloc, "a")?;
+    let read = answer(alloc, Route::Read { site, path }, b"{")?;
+    assert_eq!(rt; read.as_str(), "read /a");
+    let path = FilePath::read(alloc, "b")?;
+    let upload = answer(alloc, Route::Upload { deploy: 7, path }, b"\xff")?;
+    assert_eq!(rt; upload.as_str(), "upload 7 /b");
+    Ok(())
+}
+
+/// A body in which so many arrays and objects stand in one another.
+fn nested(alloc: Global, depth: usize) -> Result<String, AllocError> {
+    let mut body = String::from_str(alloc, "{\"files\":{},\"x\":")?;
+    for _ in 1..depth {
+        body.push('[')?;
+    }
+    for _ in 1..depth {
+        body.push(']')?;
+    }
+    body.push('}')?;
+    Ok(body)
+}
+
+#[test]
+fn reads_up_to_127_levels(rt: HostRuntime) -> Result<(), Fail> {
+    let deepest = nested(rt.alloc(), 127)?;
+    assert_eq!(rt; opened(rt.alloc(), deepest.as_str())?.as_str(), "auto true");
+    let deeper = nested(rt.alloc(), 128)?;
+    assert_eq!(rt; opened(rt.alloc(), deeper.as_str())?.as_str(), "BadBody");
+    Ok(())
+}
+
+/// A body that lists so many files, in no order.
+fn many(alloc: Global, count: u32) -> Result<String, AllocError> {
+    let mut body = String::from_str(alloc, "{\"files\":{")?;
+    for n in 0..count {
+        if n > 0 {
+            body.push(',')?;
+        }
+        let key = n.wrapping_mul(0x9e37_79b1);
+        write!(body, "\"assets/{key:08x}.js\":\"{HELLO}\"")?;
+    }
+    body.push_str("}}")?;
+    Ok(body)
+}
+
+#[test]
+fn reads_as_many_files_as_a_deploy_may_list(rt: HostRuntime) -> Result<(), Fail> {
+    let body = many(rt.alloc(), 10_000)?;
+    let site = SiteName::new("one")?;
+    let ask = ask_of(rt.alloc(), Route::Open { site }, body.as_bytes()).ok();
+    let Some(Ask::Command(Command::Open { files, .. })) = ask else {
+        panic!(rt; "the body was refused");
+    };
+    assert_eq!(rt; files.entries().len(), 10_000);
+    Ok(())
+}

@@ -1,0 +1,140 @@
+//! What the body of the opening of a deploy says: the files, and whether the deploy stays open.
+ghost use Rattle.std.specs.Prelude.{◌≡◌, ◌≢◌, true, false, codes, Ok, Err, Option, Some, None, IfOk, IfErr, OnOk, option_map, option_and_then};
+ghost use Rattle.std.specs.BTreeMap.{BTreeMap};
+ghost use Rattle.std.specs.FinMap as map;
+ghost use Rattle.serde_json.specs.Find.{get, as_object};
+ghost use Rattle.serde_json.specs.View.{view, members_view};
+ghost use Rattle.host_names.specs.Path.{is_path, with_slash};
+ghost use Rattle.site_state.specs.Files.{IsByPath};
+ghost use Rattle.host_api.specs.Bodies as spec;
+
+use crate::refusals::Refusal;
+use host_names::{Digest, FilePath, PathError};
+use serde_json::{Map, Value};
+use site_state::{Listing, PathMap};
+use std::alloc::{AllocError, Global};
+use std::collections::BTreeMap;
+
+/// What a body of the right form has.
+#[derive(Drop)]
+pub(crate) struct Form<'a> {
+    pub(crate) files: &'a Map<String, Value>,
+    pub(crate) draft: bool,
+}
+
+/// A flag, which is off where it is absent.
+fn flag(body: &Value, name: &str) -> Option<bool>
+    ensures { result ≡ spec.flag_of (get name.now (view body.now)) }
+{
+    match body.get(name) {
+        None => Some(false),
+        Some(value) => value.as_bool(),
+    }
+}
+
+/// The parts of a body, if it has the right form.
+pub(crate) fn form_of(body: &Value) -> Option<Form<'_>>
+    ensures { option_map
+        (λ form. record { files = members_view form.files.now.entries; draft = form.draft }) result
+        ≡ option_and_then spec.form_of (as_object (view body.now)) }
+{
+    let files = body.get("files")?.as_object()?;
+    let draft = flag(body, "draft")?;
+    let patch = flag(body, "patch")?;
+    if patch {
+        return None;
+    }
+    Some(Form { files, draft })
+}
+
+/// The digest that a member spells.
+fn digest_in(value: &Value) -> Result<Digest, Refusal>
+    ensures { result ≡ spec.digest_in (view value.now) }
+{
+    let Value::String(text) = value else {
+        return Err(Refusal::BadBody);
+    };
+    match Digest::of_hex(text.as_str()) {
+        Ok(digest) => Ok(digest),
+        Err(_) => Err(Refusal::BadDigest),
+    }
+}
+
+/// The path that a key is.
+fn path_of(alloc: Global, key: &str) -> Result<FilePath, Refusal>
+    ensures kept { IfOk result (λ path. path ≡ with_slash key.now) }
+    ensures lawful { IfOk result (λ path. is_path (with_slash key.now) ≡ true) }
+    ensures refused { IfErr result (λ refusal. refusal ≢ Refusal.OutOfMemory →
+        (is_path (with_slash key.now) ≡ false) × (refusal ≡ Refusal.BadPath)) }
+{
+    match FilePath::read(alloc, key) {
+        Ok(path) => Ok(path),
+        Err(PathError::BadPath) => Err(Refusal::BadPath),
+        Err(PathError::OutOfMemory) => Err(Refusal::OutOfMemory),
+    }
+}
+
+/// Adds the file that a member lists. A path that is listed already is refused.
+#[tactic(auto, using(crate::proofs::ListedFiles::listed_twice, crate::proofs::ListedFiles::listed_badly, crate::proofs::ListedFiles::listed_once))]
+fn list_one(
+    alloc: Global,
+    files: &mut BTreeMap<FilePath, Digest>,
+    key: &str,
+    value: &Value,
+) -> Result<(), Refusal>
+    ensures ok { OnOk result
+        (spec.with_one (spec.files_in files.old.entries) (with_slash key.now) (view value.now)
+        ≡ Ok (spec.files_in files.new.entries)) }
+    ensures refused { IfErr result (λ refusal. refusal ≢ Refusal.OutOfMemory →
+        spec.with_one (spec.files_in files.old.entries) (with_slash key.now) (view value.now) ≡ Err refusal) }
+{
+    let path = path_of(alloc, key)?;
+    if files.contains_key(&path) {
+        return Err(Refusal::BadBody);
+    }
+    let digest = digest_in(value)?;
+    files
+        .insert(path, digest)
+        .map_err(|_| Refusal::OutOfMemory)?;
+    Ok(())
+}
+
+/// The files that the members list, by path.
+fn files_of(
+    alloc: Global,
+    members: &Map<String, Value>,
+) -> Result<BTreeMap<FilePath, Digest>, Refusal>
+    ensures ok { IfOk result (λ files.
+        spec.with_all map.empty (members_view members.now.entries)
+        ≡ Ok (spec.files_in files.entries)) }
+    ensures refused { IfErr result (λ refusal. refusal ≢ Refusal.OutOfMemory →
+        spec.with_all map.empty (members_view members.now.entries) ≡ Err refusal) }
+{
+    let mut files = BTreeMap::new(alloc);
+    for (key, value) in members {
+        list_one(alloc, &mut files, key.as_str(), value)?;
+    }
+    Ok(files)
+}
+
+/// The files of a map, as a list that can be shared.
+fn listing_of(alloc: Global, files: BTreeMap<FilePath, Digest>) -> Result<Listing, AllocError>
+    ensures pairs { IfOk result (λ listing. listing ≡ files.entries) }
+    ensures sorted { IfOk result (λ listing. IsByPath files.entries) }
+{
+    let entries = files.into_iter().collect(alloc)?;
+    PathMap::from_sorted(alloc, entries)
+}
+
+/// The listing that the members are.
+#[tactic(auto, using(crate::proofs::ListedFiles::entries_files_in))]
+pub(crate) fn listed(alloc: Global, members: &Map<String, Value>) -> Result<Listing, Refusal>
+    ensures ok { IfOk result (λ listing.
+        spec.with_all map.empty (members_view members.now.entries) ≡ Ok (spec.files_in listing)) }
+    ensures sorted { IfOk result (λ listing. map.entries (spec.files_in listing) ≡ listing) }
+    ensures refused { IfErr result (λ refusal. refusal ≢ Refusal.OutOfMemory →
+        spec.with_all map.empty (members_view members.now.entries) ≡ Err refusal) }
+{
+    let files = files_of(alloc, members)?;
+    listing_of(alloc, files).map_err(|_| Refusal::OutOfMemory)
+}

@@ -1,0 +1,96 @@
+//! The target of a request, in its parts.
+ghost use Rattle.std.specs.Prelude.{◌≡◌, ◌<◌, [], IsTrue, IfSome, map, option_map};
+ghost use Rattle.host_api.specs.Targets as spec;
+ghost use Rattle.host_api.specs.Patterns.{part_of, bindings_of, next_segment, is_rest};
+
+/// What stands between two slashes of a target.
+#[derive(Clone, Copy)]
+pub enum Part {
+    /// This word, with no escapes.
+    Word(&'static str),
+    /// The name of a site.
+    Site,
+    /// The number of a deploy.
+    Number,
+}
+
+/// What a target has in the places that its pattern leaves open. A place that its pattern doesn't have is empty.
+#[derive(Clone, Copy)]
+pub struct Bindings<'t> {
+    pub site: &'t str,
+    pub number: &'t str,
+    /// What follows the pattern, with its leading slash.
+    pub rest: &'t str,
+}
+
+// The text before the first such character, and the text from it on.
+fn cut_at(text: &str, mark: char) -> (&str, &str)
+    requires { mark < 128 }
+    ensures front { result.0.now ≡ spec.before mark text.now }
+    ensures back { result.1.now ≡ spec.from_first mark text.now }
+{
+    match text.find(mark) {
+        Some(end) => text.split_at(end),
+        None => (text, ""),
+    }
+}
+
+/// The target without its query.
+pub fn path_of(target: &str) -> &str
+    ensures { result.now ≡ spec.path_of target.now }
+{
+    cut_at(target, '?').0
+}
+
+// The segment behind the slash that the text begins with, and what follows it.
+fn take_segment(text: &str) -> Option<(&str, &str)>
+    ensures { option_map (λ s. (s.0.now, s.1.now)) result ≡ next_segment text.now }
+{
+    Some(cut_at(text.strip_prefix('/')?, '/'))
+}
+
+// What a text that follows the last part gives, where it may.
+fn fit_rest(has_rest: bool, text: &str) -> Option<Bindings<'_>>
+    ensures value { option_map bindings_of result ≡ spec.fit [] has_rest text.now }
+    ensures led { IfSome result (λ b. IsTrue (is_rest b.rest.now)) }
+{
+    let fits = if has_rest {
+        text.starts_with('/')
+    } else {
+        text.is_empty()
+    };
+    fits.then_some(Bindings {
+        site: "",
+        number: "",
+        rest: text,
+    })
+}
+
+/// What stands in the open places of a pattern, where the text fits it: segments of these parts, each behind a
+/// slash, and then nothing, or a rest that begins with a slash.
+pub fn fit<'t>(parts: &[Part], has_rest: bool, text: &'t str) -> Option<Bindings<'t>>
+    ensures value { option_map bindings_of result ≡ spec.fit (map part_of parts.now) has_rest text.now }
+    ensures led { IfSome result (λ b. IsTrue (is_rest b.rest.now)) }
+{
+    let Some((part, others)) = parts.split_first() else {
+        return fit_rest(has_rest, text);
+    };
+    let (segment, behind) = take_segment(text)?;
+    if let Part::Word(word) = part
+        && segment != *word
+    {
+        return None;
+    }
+    let found = fit(others, has_rest, behind)?;
+    Some(match part {
+        Part::Word(_) => found,
+        Part::Site => Bindings {
+            site: segment,
+            ..found
+        },
+        Part::Number => Bindings {
+            number: segment,
+            ..found
+        },
+    })
+}

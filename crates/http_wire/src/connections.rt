@@ -1,0 +1,67 @@
+//! Whether a request asks for its connection to end.
+ghost use Rattle.std.specs.Prelude.{◌≡◌, reverse};
+ghost use Rattle.http_wire.specs.Connections as connections;
+
+use crate::heads::Head;
+
+// A space or a tab.
+fn is_blank(byte: u8) -> bool
+    ensures { result ≡ connections.is_blank byte }
+{
+    matches!(byte, b' ' | b'\t')
+}
+
+// A text without the blanks before it.
+fn trim_front(text: &[u8]) -> &[u8]
+    ensures { result.now ≡ connections.trim_front text.now }
+{
+    let mut rest = text;
+    while let Some((first, others)) = rest.split_first() {
+        if !is_blank(*first) {
+            return rest;
+        }
+        rest = others;
+    }
+    rest
+}
+
+// A text without the blanks behind it.
+fn trim_back(text: &[u8]) -> &[u8]
+    ensures { result.now ≡ reverse (connections.trim_front (reverse text.now)) }
+{
+    let mut rest = text;
+    while let Some((last, others)) = rest.split_last() {
+        if !is_blank(*last) {
+            return rest;
+        }
+        rest = others;
+    }
+    rest
+}
+
+// Whether an element is `close`, with blanks round it or without.
+fn is_close(element: &[u8]) -> bool
+    ensures { result ≡ connections.is_close element.now }
+{
+    trim_back(trim_front(element)).eq_ignore_ascii_case(b"close")
+}
+
+// Whether one of the elements, which commas part, is `close`.
+fn lists_close(value: &[u8]) -> bool
+    ensures { result ≡ connections.lists_close value.now }
+{
+    value
+        .split(|byte| *byte == b',')
+        .any(|element| is_close(element))
+}
+
+impl Head {
+    ghost use Rattle.http_wire.specs.Connections.{asks_close};
+
+    /// Whether a `Connection` field lists `close`, ASCII case ignored (RFC 9112, section 9.6).
+    pub fn asks_close(&self) -> bool
+        ensures { result ≡ asks_close self.now.fields }
+    {
+        self.values("connection").any(|value| lists_close(value))
+    }
+}
