@@ -1,0 +1,26 @@
+-- The commands of the program, and the words that ask for each.
+use Rattle.std.specs.Prelude.{◌≡◌, ◌⊎◌, List, [], ◌∷◌, codes, true}
+use Rattle.clap.specs.Words.{App, Text, new_app, with_subcommand}
+
+-- what a parse reads of the program above its commands: it wants one of them, and answers no word at
+-- all with help
+abbrev pub wanting : App
+wanting =
+    let plain = new_app (codes "filehost") in
+    record plain {
+      top = record plain.top {
+        no_binary_name = true;
+        has_version = true;
+        subcommand_required = true;
+        arg_required_else_help = true;
+      };
+    }
+
+-- what a parse reads of the program and its commands
+abbrev pub filehost : App
+filehost = with_subcommand wanting (new_app (codes "solo")).top
+
+-- the words that ask for the command `solo`: its name, and perhaps the mark behind which no option
+-- stands
+abbrev pub AskForSolo : List Text → Type 0
+AskForSolo words = (words ≡ codes "solo" ∷ []) ⊎ (words ≡ codes "solo" ∷ codes "--" ∷ [])

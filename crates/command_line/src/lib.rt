@@ -1,0 +1,99 @@
+//! The words of the program's command line.
+#![tactic(auto)]
+
+ghost use Rattle.std.specs.Prelude.{◌≡◌, IfErr, IfOk, map};
+ghost use Rattle.clap.specs.Words.{app_of, kind_of};
+ghost use Rattle.command_line.specs.CommandLine.{AskForSolo, filehost};
+ghost use Rattle.command_line.specs.declared.Refusal.TheVariants.{OutOfMemory};
+
+use clap::error::ErrorKind;
+use clap::{Command, Error};
+use std::alloc::{AllocError, Global};
+use std::convert::AsStr;
+
+#[cfg(test)]
+mod tests;
+
+const ABOUT: &str = "An immutable file host: sites of files that are named by their SHA-1.
+
+A deploy lists its paths with the digests of their contents, takes the contents that are missing,
+and goes live whole or not at all. Each change has a number, and can be undone by it.";
+
+const EXAMPLE: &str = "Example:\n  filehost solo < examples/first-run.http";
+
+const ABOUT_SOLO: &str =
+    "Serves one connection: HTTP/1.1 requests on standard input, replies on standard output";
+
+const MORE_ON_SOLO: &str = "The host is empty at first, and what it holds ends with the connection.
+
+Exit status: 0 where the input has ended or a reply has closed the connection, 1 for arguments
+that are not taken, 2 where input, output or memory failed.";
+
+/// What the command line asks for.
+#[derive(Clone, Copy, Debug, PartialEq, Eq)]
+pub enum Wanted {
+    /// Serve one connection on standard input and standard output.
+    Solo,
+}
+
+/// Why the command line asks for nothing that the program does.
+#[derive(Debug, Drop, thiserror::Error)]
+pub enum Refusal {
+    /// A mistake in the words, or a wish for help or the version: the text to show.
+    #[error("{0}")]
+    Shown(String),
+    /// Memory ran out.
+    #[error("memory ran out")]
+    OutOfMemory,
+}
+
+impl From<AllocError> for Refusal {
+    ghost from_gives = { λ _ e. e ≡ OutOfMemory };
+
+    fn from(_error: AllocError) -> Refusal {
+        Refusal::OutOfMemory
+    }
+}
+
+/// Reads the words behind the program's name.
+pub fn read<S: AsStr>(alloc: Global, words: &[S]) -> Result<Wanted, Refusal>
+    ensures taken { AskForSolo (map S.text words.now) → IfErr result (λ e. e ≡ Refusal.OutOfMemory) }
+    ensures refused { IfOk result (λ wanted. (wanted ≡ Wanted.Solo) × AskForSolo (map S.text words.now)) }
+{
+    let command = commands(alloc)?;
+    match command.try_get_matches_from(words) {
+        Ok(_) => Ok(Wanted::Solo),
+        Err(error) => Err(make_refusal(alloc, &error)),
+    }
+}
+
+/// What is shown of an error of the parse.
+fn make_refusal(alloc: Global, error: &Error) -> Refusal
+    ensures memory { kind_of error.now ≡ ErrorKind.OutOfMemory → result ≡ Refusal.OutOfMemory }
+{
+    if error.kind() == ErrorKind::OutOfMemory {
+        return Refusal::OutOfMemory;
+    }
+    match error.to_string(alloc) {
+        Ok(text) => Refusal::Shown(text),
+        Err(_) => Refusal::OutOfMemory,
+    }
+}
+
+/// The program with its commands.
+fn commands<'a>(alloc: Global) -> Result<Command<'a>, AllocError>
+    ensures { IfOk result (λ command. app_of command ≡ filehost) }
+{
+    let solo = Command::new(alloc, "solo")
+        .about(ABOUT_SOLO)
+        .after_help(MORE_ON_SOLO);
+    Command::new(alloc, "filehost")
+        .bin_name("filehost")?
+        .no_binary_name(true)
+        .version("0.1.0")
+        .about(ABOUT)
+        .after_help(EXAMPLE)
+        .subcommand_required(true)
+        .arg_required_else_help(true)
+        .subcommand(solo)
+}
