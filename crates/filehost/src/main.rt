@@ -1,0 +1,55 @@
+//! The program `filehost`: its words, its standard streams and its exit status. All else is `host_server`.
+#![tactic(auto)]
+
+ghost use Rattle.std.specs.Prelude.{◌≡◌, ◌⊎◌};
+
+use host_server::run_solo;
+use http_wire::{Reading, Writing};
+use std::env;
+use std::io;
+use std::io::ErrorKind;
+use std::process::ExitCode;
+
+/// The exit status where a word is no text.
+const NOT_TAKEN: u8 = 1;
+
+/// The exit status where there was no memory for the words.
+const FAILED: u8 = 2;
+
+fn main(rt: HostRuntime) -> ExitCode {
+    let status = match words(&rt) {
+        Ok(words) => run(&rt, words.as_slice()),
+        Err(error) => fail(&rt, &error),
+    };
+    ExitCode::from(status)
+}
+
+/// The words behind the program's name.
+fn words(rt: &HostRuntime) -> io::Result<Vec<String>> {
+    Ok(env::args(rt)?.skip(1).collect(rt.alloc())?)
+}
+
+/// Runs the program on its standard streams, and answers its exit status.
+fn run(rt: &HostRuntime, words: &[String]) -> u8 {
+    let mut sink = Writing(rt.stdout());
+    let mut errors = rt.stderr();
+    run_solo(
+        rt.alloc(),
+        words,
+        Reading(rt.stdin()),
+        &mut sink,
+        &mut errors,
+    )
+}
+
+/// Says why the words can't be read, as far as anyone listens, and answers the exit status.
+fn fail(rt: &HostRuntime, error: &io::Error) -> u8
+    ensures { (result ≡ 1) ⊎ (result ≡ 2) }
+{
+    if error.kind() == ErrorKind::OutOfMemory {
+        let _ = rt.eprint("filehost: out of memory\n");
+        return FAILED;
+    }
+    let _ = rt.eprint("filehost: an argument is no text\n");
+    NOT_TAKEN
+}

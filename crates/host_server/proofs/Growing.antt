@@ -1,0 +1,86 @@
+-- What a host had stays.
+use Rattle.std.proofs.Common.{◌≡◌, ℕ, List, [], ◌∷◌, ◌++◌, ◌+◌, length, Some, unwrap_or, Result, Ok, Err, OnOk, OnErr, IsTrue, refl, sym, ap, subst, ◌∙◌}
+use Rattle.std.specs.FinMap as map
+use Rattle.std.proofs.lemmas.List.{append-nil, append_assoc}
+use Rattle.host_names.specs.Blobs.{Contents, with_file}
+use Rattle.host_names.specs.declared.names.SiteName.{SiteName}
+use Rattle.site_change.specs.declared.commands.Command.{Command}
+use Rattle.change_undo.specs.declared.entries.Entry.{Entry}
+use Rattle.change_undo.specs.declared.entries.Entry.TheVariants.{Change, Undo}
+use Rattle.change_undo.specs.Histories.{Past, run, IsLegal, IsLegalAfter, is_allowed}
+use Rattle.change_undo.proofs.Runs.{history-grows, is_accepted, run-undone_at_once}
+use Rattle.change_undo.proofs.Found.{IsWithin-itself, IsWithin-trans, kept-with_file}
+use Rattle.host_server.specs.Answers.{Grows}
+use Rattle.host_server.specs.Hosts.{Host, host_of, state_of, with_entries, with_entry, with_upload}
+
+itself : (host : Host) → Grows host host
+itself host = record { same_limit = refl; more = []; longer = sym (append-nil host.entries); uploads = IsWithin-itself host.uploads }
+
+pub grows_same : (old new : Host) → new ≡ old → Grows old new
+grows_same old new is = subst (Grows old) (sym is) (itself old)
+
+pub grows_entry : (old new : Host) (entry : Entry) → new ≡ with_entry old entry → Grows old new
+grows_entry old new entry is =
+    subst (Grows old) (sym is) (record { same_limit = refl; more = entry ∷ []; longer = refl; uploads = IsWithin-itself old.uploads })
+
+pub grows_upload : (old new : Host) (bytes : List ℕ) → new ≡ with_upload old bytes → Grows old new
+grows_upload old new bytes is =
+    subst (Grows old) (sym is) (record { same_limit = refl; more = []; longer = sym (append-nil old.entries); uploads = kept-with_file old.uploads bytes })
+
+pub grows_then : (a b c : Host) → Grows a b → Grows b c → Grows a c
+grows_then a b c ab bc = record {
+  same_limit = bc.same_limit ∙ ab.same_limit;
+  more = ab.more ++ bc.more;
+  longer = bc.longer ∙ ap (λ es. es ++ bc.more) ab.longer ∙ append_assoc a.entries ab.more bc.more;
+  uploads = IsWithin-trans a.uploads b.uploads c.uploads ab.uploads bc.uploads;
+}
+
+-- a history with one entry more, or with none
+pub grows_past : {A E : Type 0} (r : Result A E) (old new : Past) (uploads : Contents) (entry : Entry) → new.limit ≡ old.limit
+    → OnOk r (new.entries ≡ old.entries ++ entry ∷ []) → OnErr r (new.entries ≡ old.entries) → Grows (host_of old uploads) (host_of new uploads)
+grows_past (Ok x) old new uploads entry limit ok err = record { same_limit = limit; more = entry ∷ []; longer = ok; uploads = IsWithin-itself uploads }
+grows_past (Err e) old new uploads entry limit ok err =
+    record { same_limit = limit; more = []; longer = err ∙ sym (append-nil old.entries); uploads = IsWithin-itself uploads }
+
+pub same_entries : {A E : Type 0} (r : Result A E) (old new : Past) → OnErr r (new ≡ old) → OnErr r (new.entries ≡ old.entries)
+same_entries (Ok x) old new err = tt
+same_entries (Err e) old new err = ap (λ (p : Past). p.entries) err
+
+pub first_of_both : {A E : Type 0} (P Q : Type 0) (r : Result A E) → OnErr r (P × Q) → OnErr r P
+first_of_both P Q (Ok x) err = tt
+first_of_both P Q (Err e) err = err.0
+
+-- one upload more, or none
+pub grows_uploads : {A E : Type 0} (r : Result A E) (past : Past) (old new : Contents) (bytes : List ℕ) → OnOk r (new ≡ with_file old bytes) → OnErr r (new ≡ old)
+    → Grows (host_of past old) (host_of past new)
+grows_uploads (Ok x) past old new bytes ok err = grows_upload (host_of past old) (host_of past new) bytes (ap (host_of past) ok)
+grows_uploads (Err e) past old new bytes ok err = grows_same (host_of past old) (host_of past new) (ap (host_of past) err)
+
+-- ---- a change that is undone at once
+
+-- the entries before the last are legal, and it was allowed after them
+ends : (uploads : Contents) (seen before : List Entry) (entry : Entry) → IsLegalAfter uploads seen (before ++ entry ∷ [])
+    → IsLegalAfter uploads seen before × IsTrue (is_allowed uploads (seen ++ before) entry)
+ends uploads seen [] entry legal =
+    let P : List Entry → Type 0 = λ es. IsTrue (is_allowed uploads es entry) in
+    (tt, subst P (sym (append-nil seen)) legal.0)
+ends uploads seen (e ∷ before) entry legal =
+    let P : List Entry → Type 0 = λ es. IsTrue (is_allowed uploads es entry) in
+    let rest = ends uploads (seen ++ e ∷ []) before entry legal.1 in
+    ((legal.0, rest.0), subst P (append_assoc seen (e ∷ []) before) rest.1)
+
+-- its state is the one before the change, whatever was uploaded meanwhile
+pub undone_at_once : (old new : Host) (before : List Entry) (command : Command) (site : SiteName) → IsLegal old.uploads old.entries → Grows old new
+    → old.entries ≡ before ++ Change command ∷ [] → new.entries ≡ old.entries ++ Undo site (length before + 1) ∷ []
+    → state_of new ≡ state_of (with_entries old before)
+undone_at_once old new before command site legal grown is undone =
+    let there : IsLegal old.uploads (before ++ Change command ∷ []) = subst (IsLegal old.uploads) is legal in
+    let first = ends old.uploads [] before (Change command) there in
+    let grows = history-grows old.uploads new.uploads (before ++ Change command ∷ []) grown.uploads there in
+    let same = (history-grows old.uploads new.uploads before grown.uploads first.0).1 in
+    let ran = is_accepted old.uploads (run old.uploads before) (length before + 1) command first.1 in
+    ap (λ o. unwrap_or o map.empty) (
+    ap (run new.uploads) (undone ∙ ap (λ es. es ++ Undo site (length before + 1) ∷ []) is)
+    ∙ run-undone_at_once new.uploads before command site (length before + 1) grows.0 refl
+    ∙ same ran.0 ran.1 ∙ sym (ran.1)
+    )

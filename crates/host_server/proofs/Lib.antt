@@ -1,0 +1,6 @@
+pub mod Kept
+pub mod Refusing
+pub mod Opening
+pub mod Growing
+pub mod Turns
+pub mod Served

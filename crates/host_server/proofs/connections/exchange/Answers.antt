@@ -1,0 +1,40 @@
+use Rattle.std.proofs.Common.{rules, ◌≡◌, Result, Err, subst, sym, ◌∙◌}
+use Rattle.host_server.specs.Bodies.{answer_of}
+use Rattle.host_server.specs.Replies.{closes, sent_text}
+use Rattle.host_server.specs.Serving.{Exchanges}
+use Rattle.host_server.specs.declared.connections.ConnectionFault.{ConnectionFault}
+use Rattle.host_server.specs.declared.connections.ConnectionFault.TheVariants as fault
+use Rattle.host_server.specs.declared.connections.Next.{Next}
+use Rattle.host_server.proofs.Turns.{is_sent, cut_exchange}
+use Rattle.host_server.proofs.connections.exchange.Goals as goal
+
+pub returns-in_err-send : goal.returns-in_err-send
+returns-in_err-send g c =
+    let request = c.args.request in
+    let close = closes request.head request.is_last in
+    let sent = is_sent close c.is_head_only-head_only.result c.args.house.now c.answer-reply.new.house request.head request.body.items (answer_of c.answer-reply.result)
+    c.is_head_only-head_only.ensures c.answer-reply.ensures.replied in
+    let P : Result Next ConnectionFault → Type 0 = λ r. Exchanges g.W.Sink.may_fail r close c.args.house.now request.head request.body.items
+    (g.W.Sink.held c.args.sink.now) (g.W.Sink.held c.send.new.sink) c.answer-reply.new.house in
+    let is : c.from_residual.result ≡ Err fault.OutputFault = search (rules, c.in_err-send.ensures.only) in
+    record {
+      exchanged = subst P (sym is) (cut_exchange g.W.Sink.may_fail close c.args.house.now c.answer-reply.new.house request.head request.body.items
+          (sent_text c.is_head_only-head_only.result (answer_of c.answer-reply.result)) (g.W.Sink.held c.args.sink.now) (g.W.Sink.held c.send.new.sink)
+          sent c.in_err-send.ensures.fault c.in_err-send.ensures.cause);
+    }
+
+pub returns-then-close : goal.returns-then-close
+returns-then-close g c =
+    let request = c.args.request in
+    let close = closes request.head request.is_last in
+    let sent = is_sent close c.is_head_only-head_only.result c.args.house.now c.answer-reply.new.house request.head request.body.items (answer_of c.answer-reply.result)
+    c.is_head_only-head_only.ensures c.answer-reply.ensures.replied in
+    record { exchanged = (sym c.closes-close.ensures ∙ c.if-close.true, (sent_text c.is_head_only-head_only.result (answer_of c.answer-reply.result), sent, c.in_ok-send.ensures.ok)) }
+
+pub returns : goal.returns
+returns g c =
+    let request = c.args.request in
+    let close = closes request.head request.is_last in
+    let sent = is_sent close c.is_head_only-head_only.result c.args.house.now c.answer-reply.new.house request.head request.body.items (answer_of c.answer-reply.result)
+    c.is_head_only-head_only.ensures c.answer-reply.ensures.replied in
+    record { exchanged = (sym c.closes-close.ensures ∙ c.if-close.false, (sent_text c.is_head_only-head_only.result (answer_of c.answer-reply.result), sent, c.in_ok-send.ensures.ok)) }

@@ -1,0 +1,16 @@
+use Rattle.host_server.proofs.Kept.{kept_by_upload}
+use Rattle.std.proofs.Common.{subst}
+use Rattle.host_server.specs.Answers.{Grows}
+use Rattle.host_server.specs.Hosts.{Host, host_of}
+use Rattle.host_server.proofs.Growing.{grows_uploads}
+use Rattle.host_server.proofs.houses.SoloHouse.keep.Goals as goal
+
+pub invariant_of-self : goal.invariant_of-self
+invariant_of-self c =
+    kept_by_upload c.add.result c.self.inside.history c.self.inside.uploads c.add.new.self c.args.bytes.items c.self.invariant
+    c.add.ensures.ok c.add.ensures.err
+
+pub returns-clause-grows : goal.returns-clause-grows
+returns-clause-grows c =
+    let P : Host → Type 0 = λ h. Grows h (host_of c.self.inside.history c.add.new.self) in
+    subst P c.self.view_is (grows_uploads c.add.result c.self.inside.history c.self.inside.uploads c.add.new.self c.args.bytes.items c.add.ensures.ok c.add.ensures.err)

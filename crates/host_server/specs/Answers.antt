@@ -1,0 +1,45 @@
+-- What the functions that answer a request do.
+use Rattle.std.specs.Prelude.{◌≡◌, ◌⊎◌, ℕ, List, ◌++◌, Bool, Result, Ok, Err}
+use Rattle.host_names.specs.declared.names.SiteName.{SiteName}
+use Rattle.http_wire.specs.Requests.{RequestParts}
+use Rattle.range_spec.specs.declared.grammar.Asked.{Asked}
+use Rattle.site_state.specs.States.{live_at}
+use Rattle.site_change.specs.Changes.{IsWithin}
+use Rattle.change_undo.specs.declared.entries.Entry.{Entry}
+use Rattle.host_api.specs.declared.refusals.Refusal.{Refusal}
+use Rattle.host_api.specs.declared.refusals.Refusal.TheVariants.{OutOfMemory}
+use Rattle.host_api.specs.declared.texts.Told.{Told}
+use Rattle.host_server.specs.declared.replies.Reply.{Reply}
+use Rattle.host_server.specs.Bodies.{answer_of}
+use Rattle.host_server.specs.Hosts.{Host, state_of}
+use Rattle.host_server.specs.Replies.{Answer, refused_answer, told_answer, read_answer, AsksRange, IsReply}
+
+-- the answer where a call gives this reply, or this reason to refuse
+abbrev pub answer_by : Bool → Result Reply Refusal → Answer
+answer_by close (Ok reply) = answer_of reply
+answer_by close (Err refusal) = refused_answer close refusal
+
+-- the call gives this answer, unless there was no memory
+abbrev pub Gives : Bool → Result Reply Refusal → Answer → Type 0
+Gives close result answer = (result ≡ Err OutOfMemory) ⊎ (answer_by close result ≡ answer)
+
+abbrev pub Reads : Bool → Host → RequestParts → SiteName → List ℕ → Result Reply Refusal → Type 0
+Reads close host parts site path result =
+    (result ≡ Err OutOfMemory)
+    ⊎ ((range : Asked) × AsksRange parts range × (answer_by close result ≡ read_answer close path range (live_at (state_of host) site path)))
+
+-- the call gives a reply to the request, unless there was no memory
+abbrev pub RepliesBy : Bool → Host → RequestParts → List ℕ → Result Reply Refusal → Host → Type 0
+RepliesBy close host parts body result next =
+    (result ≡ Err OutOfMemory) ⊎ IsReply close host parts body (answer_by close result) next
+
+-- the answer is a reply to the request, or says that there was no memory
+abbrev pub Answers : Bool → Host → RequestParts → List ℕ → Answer → Host → Type 0
+Answers close host parts body answer next = (answer ≡ refused_answer close OutOfMemory) ⊎ IsReply close host parts body answer next
+
+-- what was there stays: more entries may follow, and more may be uploaded
+pub record Grows (old new : Host) : Type 0 where
+  pub same_limit : new.limit ≡ old.limit
+  pub more : List Entry
+  pub longer : new.entries ≡ old.entries ++ more
+  pub uploads : IsWithin old.uploads new.uploads

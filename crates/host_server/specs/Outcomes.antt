@@ -1,0 +1,149 @@
+-- What a host tells of a change, an undo or an upload, and what it has then.
+use Rattle.std.specs.Prelude.{◌≡◌, ◌⊎◌, ℕ, List, [], ◌∷◌, Bool, false, ◌&&◌, Option, Some, None, Result, Ok, Err, is_none, option_map, if◌then◌else◌}
+use Rattle.host_names.specs.Blobs.{Contents, digest_of}
+use Rattle.host_names.specs.declared.digests.Digest.{Digest}
+use Rattle.host_names.specs.declared.names.SiteName.{SiteName}
+use Rattle.site_state.specs.Files.{Paths, at_path}
+use Rattle.site_state.specs.Missing.{AreMissing, least_missing_of}
+use Rattle.site_state.specs.States.{draft_at, kept_at}
+use Rattle.site_state.specs.Values.{digest_eq}
+use Rattle.site_state.specs.declared.values.Draft.{Draft}
+use Rattle.site_change.specs.declared.commands.Command.{Command}
+use Rattle.site_change.specs.declared.commands.Command.TheVariants.{Open, Publish}
+use Rattle.change_undo.specs.declared.entries.Entry.{Entry}
+use Rattle.change_undo.specs.declared.entries.Entry.TheVariants.{Change, Undo}
+use Rattle.change_undo.specs.Histories.{entry_at}
+use Rattle.host_api.specs.declared.refusals.Refusal.{Refusal}
+use Rattle.host_api.specs.declared.refusals.Refusal.TheVariants.{NoSuchDeploy, NotListed, WrongDigest, OutOfMemory}
+use Rattle.host_api.specs.declared.texts.Told.{Told}
+use Rattle.host_api.specs.declared.texts.Told.TheVariants.{Opened, Uploaded, Entered, Refused}
+use Rattle.host_server.specs.Hosts.{Host, state_of, next_number, with_entry, with_upload}
+use Rattle.host_server.specs.Reasons.{commit_refusal, undo_refusal}
+
+-- what the host tells, and what it has then
+pub record Outcome : Type 0 where
+  pub told : Told
+  pub host : Host
+
+abbrev pub refused : Host → Refusal → Outcome
+refused host reason = record { told = Refused reason; host = host }
+
+-- ---- deploys that publish themselves
+
+-- such a deploy is open, and nothing that it lists is missing
+abbrev pub is_ready_draft : Contents → Option Draft → Bool
+is_ready_draft uploads None = false
+is_ready_draft uploads (Some draft) = draft.auto && is_none (least_missing_of uploads draft.files)
+
+abbrev pub is_ready : Host → SiteName → ℕ → Bool
+is_ready host site n = is_ready_draft host.uploads (draft_at (state_of host) site n)
+
+-- the entry that publishes a deploy, where it is ready; the reason why it is refused, if it is; and what the host has then
+pub record Publishing : Type 0 where
+  pub entry : Result (Option ℕ) Refusal
+  pub host : Host
+
+abbrev pub publishing : Host → Command → Option Refusal → Publishing
+publishing host command (Some reason) = record { entry = Err reason; host = host }
+publishing host command None = record { entry = Ok (Some (next_number host)); host = with_entry host (Change command) }
+
+abbrev pub published_if_ready : Host → SiteName → ℕ → Publishing
+published_if_ready host site n =
+    if is_ready host site n
+    then publishing host (Publish site n) (commit_refusal host (Publish site n))
+    else record { entry = Ok None; host = host }
+
+abbrev pub told_of : Result (Option ℕ) Refusal → (Option ℕ → Told) → Told
+told_of (Ok published) tell = tell published
+told_of (Err reason) tell = Refused reason
+
+-- the entry and what the host has are those, unless there was no memory
+abbrev pub Publishes : Result (Option ℕ) Refusal → Host → Publishing → Type 0
+Publishes entry host p = (entry ≡ Err OutOfMemory) ⊎ ((entry ≡ p.entry) × (host ≡ p.host))
+
+-- what is told of what was done, or of the refusal to publish it, which leaves it done
+abbrev pub then_published : Publishing → (Option ℕ → Told) → Outcome
+then_published p tell = record { told = told_of p.entry tell; host = p.host }
+
+-- ---- commands
+
+-- what an opened deploy lists and is not uploaded; of other commands nothing is asked
+abbrev pub AreRequired : Contents → Command → List Digest → Type 0
+AreRequired uploads (Open site files auto) required = AreMissing uploads files required
+AreRequired uploads (Publish site m) required = required ≡ []
+
+abbrev pub committed : Host → Command → List Digest → Outcome
+committed host (Open site files auto) required =
+    then_published (published_if_ready (with_entry host (Change (Open site files auto))) site (next_number host))
+    (λ published. Opened (next_number host) published required)
+committed host (Publish site m) required =
+    record { told = Entered (next_number host); host = with_entry host (Change (Publish site m)) }
+
+abbrev pub commit_outcome : Host → Command → List Digest → Option Refusal → Outcome
+commit_outcome host command required (Some reason) = refused host reason
+commit_outcome host command required None = committed host command required
+
+-- ---- undos
+
+abbrev pub undone : Host → SiteName → ℕ → Option Refusal → Outcome
+undone host site k (Some reason) = refused host reason
+undone host site k None = record { told = Entered (next_number host); host = with_entry host (Undo site k) }
+
+-- ---- uploads
+
+-- the site of a deploy is that of the entry which opened it
+abbrev pub site_of_deploy : Option Entry → Option SiteName
+site_of_deploy (Some (Change (Open site files auto))) = Some site
+site_of_deploy (Some (Change (Publish site m))) = None
+site_of_deploy (Some (Undo site k)) = None
+site_of_deploy None = None
+
+-- the digest at the path, where the deploy is open or kept and lists the path
+abbrev pub listed_at : Option Draft → Option (Paths (List ℕ)) → List ℕ → Option (Option Digest)
+listed_at (Some draft) tree path = Some (at_path draft.files path)
+listed_at None (Some tree) path = Some (option_map digest_of (at_path tree path))
+listed_at None None path = None
+
+-- the digest that is listed, where it is that of the bytes, or the first reason against them
+abbrev pub judge_listed : Option (Option Digest) → List ℕ → Result Digest Refusal
+judge_listed None bytes = Err NoSuchDeploy
+judge_listed (Some None) bytes = Err NotListed
+judge_listed (Some (Some digest)) bytes = if digest_eq digest (digest_of bytes) then Ok digest else Err WrongDigest
+
+abbrev pub with_site : SiteName → Result Digest Refusal → Result (SiteName × Digest) Refusal
+with_site site (Ok digest) = Ok (site, digest)
+with_site site (Err reason) = Err reason
+
+abbrev pub judge_upload : Host → Option SiteName → ℕ → List ℕ → List ℕ → Result (SiteName × Digest) Refusal
+judge_upload host None n path bytes = Err NoSuchDeploy
+judge_upload host (Some site) n path bytes =
+    with_site site (judge_listed (listed_at (draft_at (state_of host) site n) (kept_at (state_of host) site n) path) bytes)
+
+-- the bytes are kept, and a deploy that they leave ready is published
+abbrev pub uploaded : Host → ℕ → List ℕ → Result (SiteName × Digest) Refusal → Outcome
+uploaded host n bytes (Ok at) =
+    then_published (published_if_ready (with_upload host bytes) at.0 n) (λ published. Uploaded published at.1)
+uploaded host n bytes (Err reason) = refused host reason
+
+abbrev pub upload_outcome : Host → ℕ → List ℕ → List ℕ → Outcome
+upload_outcome host n path bytes =
+    uploaded host n bytes (judge_upload host (site_of_deploy (entry_at host.entries n)) n path bytes)
+
+-- ---- answers of calls
+
+-- what is told where a call answers so
+abbrev pub told_by : Result Told Refusal → Told
+told_by (Ok told) = told
+told_by (Err reason) = Refused reason
+
+-- the call did that, unless there was no memory
+abbrev pub Does : Result Told Refusal → Host → Outcome → Type 0
+Does result host out = (result ≡ Err OutOfMemory) ⊎ ((told_by result ≡ out.told) × (host ≡ out.host))
+
+-- the same of a command
+abbrev pub DoesCommit : Result Told Refusal → Host → Host → Command → Type 0
+DoesCommit result next host command =
+    (result ≡ Err OutOfMemory)
+    ⊎ ((required : List Digest) × AreRequired host.uploads command required
+    × (told_by result ≡ (commit_outcome host command required (commit_refusal host command)).told)
+    × (next ≡ (commit_outcome host command required (commit_refusal host command)).host))

@@ -1,0 +1,49 @@
+-- The reasons of the layers below, as replies name them.
+use Rattle.std.specs.Prelude.{ℕ, length, nat_le, Option, Some, None, option_map, if◌then◌else◌}
+use Rattle.host_names.specs.declared.names.SiteName.{SiteName}
+use Rattle.site_change.specs.declared.commands.Command.{Command}
+use Rattle.site_change.specs.declared.commands.Refusal.{Refusal as ChangeRefusal}
+use Rattle.site_change.specs.declared.commands.Refusal.TheVariants as change
+use Rattle.site_change.specs.Changes.{refusal}
+use Rattle.change_undo.specs.declared.entries.UndoRefusal.{UndoRefusal}
+use Rattle.change_undo.specs.declared.entries.UndoRefusal.TheVariants as undo
+use Rattle.change_undo.specs.declared.entries.CommitError.{CommitError}
+use Rattle.change_undo.specs.declared.entries.CommitError.TheVariants as commit_error
+use Rattle.change_undo.specs.declared.entries.UndoError.{UndoError}
+use Rattle.change_undo.specs.declared.entries.UndoError.TheVariants as undo_error
+use Rattle.change_undo.specs.Histories as histories
+use Rattle.host_api.specs.declared.refusals.Refusal.{Refusal}
+use Rattle.host_api.specs.declared.refusals.Refusal.TheVariants as reason
+use Rattle.host_server.specs.Hosts.{Host, state_of, next_number}
+
+abbrev pub of_change : ChangeRefusal → Refusal
+of_change change.NoSuchDraft = reason.NoSuchDraft
+of_change (change.NotComplete digest) = reason.NotComplete digest
+of_change change.TooManyFiles = reason.TooManyFiles
+
+abbrev pub of_undo : UndoRefusal → Refusal
+of_undo undo.HistoryFull = reason.HistoryFull
+of_undo undo.NoSuchChange = reason.NoSuchChange
+of_undo undo.NotAChange = reason.NotAChange
+of_undo undo.AlreadyUndone = reason.AlreadyUndone
+of_undo undo.NotNewest = reason.NotNewest
+
+-- the first reason why the host does not take the command as its next entry
+abbrev pub commit_refusal : Host → Command → Option Refusal
+commit_refusal host command =
+    if nat_le host.limit (length host.entries) then Some reason.HistoryFull
+    else option_map of_change (refusal command (next_number host) (state_of host) host.uploads)
+
+-- the first reason why it does not take the undo of the change
+abbrev pub undo_refusal : Host → SiteName → ℕ → Option Refusal
+undo_refusal host site k = option_map of_undo (histories.undo_refusal host.limit host.entries site k)
+
+-- why it was not committed, or not undone
+abbrev pub reason_of_commit : CommitError → Refusal
+reason_of_commit commit_error.HistoryFull = reason.HistoryFull
+reason_of_commit (commit_error.Refused r) = of_change r
+reason_of_commit commit_error.OutOfMemory = reason.OutOfMemory
+
+abbrev pub reason_of_undo : UndoError → Refusal
+reason_of_undo (undo_error.Refused r) = of_undo r
+reason_of_undo undo_error.OutOfMemory = reason.OutOfMemory

@@ -1,0 +1,179 @@
+-- One connection: requests in, and a reply to each.
+use Rattle.std.specs.Prelude.{◌≡◌, ◌⊎◌, ℕ, ◌+◌, ◌<◌, ◌≤◌, ◌==◌, List, [], ◌∷◌, ◌++◌, length, Bool, true, false, Option, Result, Ok, Err, IfSome}
+use Rattle.std.specs.Io.KnownBytes.{Consumes, Appends}
+use Rattle.std.specs.List.{concat}
+use Rattle.http_wire.specs.Fields.{AnnouncesBody}
+use Rattle.http_wire.specs.HeadText.{IsHeadText, CutShort, head_limit}
+use Rattle.http_wire.specs.Requests.{RequestParts, Says}
+use Rattle.http_wire.specs.Wires.{TakesHead, RefusesHead}
+use Rattle.host_api.specs.Limits.{body_limit}
+use Rattle.host_api.specs.declared.refusals.Refusal.TheVariants.{BadHead, OutOfMemory}
+use Rattle.host_server.specs.declared.connections.ConnectionFault.{ConnectionFault}
+use Rattle.host_server.specs.declared.connections.ConnectionFault.TheVariants as fault
+use Rattle.host_server.specs.declared.connections.Next.{Next}
+use Rattle.host_server.specs.declared.connections.Next.TheVariants as next_is
+use Rattle.host_server.specs.Hosts.{Host}
+use Rattle.host_server.specs.Replies.{Answer, IsReply, closes, refused_answer, sent_for, sent_text}
+
+-- the bytes of a stream that are left, where they are known
+abbrev pub Stream : Type 0
+Stream = Option (List ℕ)
+
+abbrev pub limit_of : RequestParts → ℕ
+limit_of parts = body_limit parts.method parts.target
+
+-- ---- one exchange
+
+-- a request is taken from the stream: a head that says these parts, and the body that it announces
+pub record TakesRequest (old new : Stream) (parts : RequestParts) (body : List ℕ) : Type 0 where
+  pub text : List ℕ
+  pub head : IsHeadText text
+  pub short : length text ≤ head_limit
+  pub says : Says text parts
+  pub announced : AnnouncesBody parts.fields (limit_of parts) (length body)
+  pub taken : Consumes old new (text ++ body)
+
+-- a request is taken, and its reply sent; the connection ends behind it or not
+pub record IsAnswered (host : Host) (is_last close : Bool) (old : Stream) (sent : List ℕ) (next : Host) (new : Stream) : Type 0 where
+  pub parts : RequestParts
+  pub body : List ℕ
+  pub request : TakesRequest old new parts body
+  pub closing : closes parts is_last ≡ close
+  pub answer : Answer
+  pub reply : IsReply close host parts body answer next
+  pub sent_is : sent ≡ sent_for parts.method answer
+
+-- the head is not one that is served, and the reply has its body, since the method is not known
+abbrev pub IsHeadRefused : Stream → List ℕ → Type 0
+IsHeadRefused old sent = (new : Stream) × RefusesHead old new × (sent ≡ sent_text false (refused_answer true BadHead))
+
+-- the head announces no body that is read
+pub record IsBodyRefused (old : Stream) (sent : List ℕ) : Type 0 where
+  pub parts : RequestParts
+  pub text : List ℕ
+  pub new : Stream
+  pub head : TakesHead old new text
+  pub says : Says text parts
+  pub none : (n : ℕ) → ¬ (AnnouncesBody parts.fields (limit_of parts) n)
+  pub sent_is : sent ≡ sent_for parts.method (refused_answer true BadHead)
+
+-- the exchange behind which the connection ends
+abbrev pub IsLast : Host → Bool → Stream → List ℕ → Host → Type 0
+IsLast host is_last old sent next =
+    ((new : Stream) × IsAnswered host is_last true old sent next new)
+    ⊎ (IsHeadRefused old sent × (next ≡ host))
+    ⊎ (IsBodyRefused old sent × (next ≡ host))
+
+-- any other exchange
+abbrev pub IsExchange : Host → Bool → Stream → List ℕ → Host → Stream → Type 0
+IsExchange host is_last old sent next new = IsAnswered host is_last false old sent next new
+
+-- ---- where the stream ends before the next whole request
+
+pub record IsBodyCut (old : Stream) : Type 0 where
+  pub parts : RequestParts
+  pub text : List ℕ
+  pub new : Stream
+  pub head : TakesHead old new text
+  pub says : Says text parts
+  pub size : ℕ
+  pub announced : AnnouncesBody parts.fields (limit_of parts) size
+  pub short : IfSome new (λ left. length left < size)
+
+abbrev pub IsCut : Stream → Type 0
+IsCut old = IfSome old CutShort ⊎ IsBodyCut old
+
+-- ---- where there was no memory
+
+-- the reply that says so, with its body or without it, and whatever follows it
+pub record IsNoMemory (sent : List ℕ) : Type 0 where
+  pub close : Bool
+  pub head_only : Bool
+  pub more : List ℕ
+  pub sent_is : sent ≡ sent_text head_only (refused_answer close OutOfMemory) ++ more
+
+-- ---- where a write failed
+
+-- a front of the reply was sent, whose command stands
+pub record IsFrontSent (host : Host) (is_last : Bool) (old : Stream) (sent : List ℕ) (next : Host) : Type 0 where
+  pub rest : List ℕ
+  pub whole : ((new : Stream) × IsExchange host is_last old (sent ++ rest) next new) ⊎ IsLast host is_last old (sent ++ rest) next
+
+-- a front of the reply that says that there was no memory
+pub record IsFrontOfNoMemory (sent : List ℕ) : Type 0 where
+  pub rest : List ℕ
+  pub whole : IsNoMemory (sent ++ rest)
+
+-- ---- a whole connection
+
+-- the exchange of this number is the last that is answered
+abbrev pub is_last_at : ℕ → Bool
+is_last_at n = n == 100
+
+-- these replies were sent, the first of them to the request of number n
+abbrev pub AreServed : ℕ → Host → Stream → List (List ℕ) → Host → Stream → Type 0
+AreServed n host old [] next new = (next ≡ host) × (new ≡ old)
+AreServed n host old (sent ∷ more) next new =
+    (mid : Host) × (left : Stream) × IsExchange host (is_last_at n) old sent mid left × AreServed (n + 1) mid left more next new
+
+-- how a connection ended that had come to the request of number n: what was sent since, and what the host has
+abbrev pub Ends : (read_fails write_fails : Type 0) → Result (Unit {0}) ConnectionFault → ℕ → Host → Stream → List ℕ → Host → Type 0
+Ends read_fails write_fails (Ok done) n host old sent next =
+    ((sent ≡ []) × IsCut old × (next ≡ host)) ⊎ IsLast host (is_last_at n) old sent next ⊎ IsNoMemory sent
+Ends read_fails write_fails (Err fault.InputFault) n host old sent next =
+    read_fails × (((sent ≡ []) × (next ≡ host)) ⊎ IsNoMemory sent)
+Ends read_fails write_fails (Err fault.OutputFault) n host old sent next =
+    write_fails × (IsFrontSent host (is_last_at n) old sent next ⊎ IsNoMemory sent ⊎ IsFrontOfNoMemory sent)
+Ends read_fails write_fails (Err fault.OutOfMemory) n host old sent next = (n ≡ 1) × (sent ≡ []) × (next ≡ host)
+
+-- What a connection does: it sends the replies to the requests of its stream, each over what the host has by then,
+-- up to the first behind which it ends. It ends earlier only where the stream does, where a read or a write fails, or
+-- where there is no memory; from the first reply on that says so, nothing is said of what follows, nor of the host.
+pub record Serves (read_fails write_fails : Type 0) (result : Result (Unit {0}) ConnectionFault)
+    (host next : Host) (stream held new_held : Stream) : Type 0 where
+  pub replies : List (List ℕ)
+  pub mid : Host
+  pub left : Stream
+  pub served : AreServed 1 host stream replies mid left
+  pub sent : List ℕ
+  pub ends : Ends read_fails write_fails result (length replies + 1) mid left sent next
+  pub written : Appends held new_held (concat replies ++ sent)
+
+-- ---- the parts of an exchange
+
+-- a head or its body is refused, and this is sent
+abbrev pub IsRefused : Stream → List ℕ → Type 0
+IsRefused old sent = IsHeadRefused old sent ⊎ IsBodyRefused old sent
+
+-- the reply to a request is this
+pub record IsSentFor (close : Bool) (host : Host) (parts : RequestParts) (body sent : List ℕ) (next : Host) : Type 0 where
+  pub answer : Answer
+  pub reply : IsReply close host parts body answer next
+  pub sent_is : sent ≡ sent_for parts.method answer
+
+-- it is sent, or a reply that says that there was no memory
+abbrev pub IsSent : Bool → Host → RequestParts → List ℕ → List ℕ → Host → Type 0
+IsSent close host parts body sent next = IsSentFor close host parts body sent next ⊎ IsNoMemory sent
+
+-- what the answering of a request does
+abbrev pub Exchanges : (write_fails : Type 0) → Result Next ConnectionFault → Bool → Host → RequestParts → List ℕ → Stream → Stream → Host → Type 0
+Exchanges write_fails (Ok next_is.Exchange) close host parts body held new_held next =
+    (close ≡ false) × ((sent : List ℕ) × IsSent close host parts body sent next × Appends held new_held sent)
+Exchanges write_fails (Ok next_is.End) close host parts body held new_held next =
+    (close ≡ true) × ((sent : List ℕ) × IsSent close host parts body sent next × Appends held new_held sent)
+Exchanges write_fails (Err fault.InputFault) close host parts body held new_held next = ⊥
+Exchanges write_fails (Err fault.OutputFault) close host parts body held new_held next =
+    write_fails × ((sent : List ℕ) × (rest : List ℕ) × IsSent close host parts body (sent ++ rest) next × Appends held new_held sent)
+Exchanges write_fails (Err fault.OutOfMemory) close host parts body held new_held next = ⊥
+
+-- what the turn of a connection does
+abbrev pub Turns : (read_fails write_fails : Type 0) → Result Next ConnectionFault → Bool → Host → Stream → Stream → Stream → Stream → Host → Type 0
+Turns read_fails write_fails (Ok next_is.Exchange) is_last host old new held new_held next =
+    (sent : List ℕ) × (IsExchange host is_last old sent next new ⊎ IsNoMemory sent) × Appends held new_held sent
+Turns read_fails write_fails (Ok next_is.End) is_last host old new held new_held next =
+    (sent : List ℕ) × (((sent ≡ []) × IsCut old × (next ≡ host)) ⊎ IsLast host is_last old sent next ⊎ IsNoMemory sent) × Appends held new_held sent
+Turns read_fails write_fails (Err fault.InputFault) is_last host old new held new_held next =
+    read_fails × (next ≡ host) × Appends held new_held []
+Turns read_fails write_fails (Err fault.OutputFault) is_last host old new held new_held next =
+    write_fails × ((sent : List ℕ) × (IsFrontSent host is_last old sent next ⊎ IsNoMemory sent ⊎ IsFrontOfNoMemory sent) × Appends held new_held sent)
+Turns read_fails write_fails (Err fault.OutOfMemory) is_last host old new held new_held next = ⊥

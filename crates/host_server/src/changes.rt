@@ -1,0 +1,104 @@
+//! What a host tells of changes, undos and uploads.
+ghost use Rattle.std.specs.Prelude.{◌≡◌, ◌⊎◌, OnErr, Err};
+ghost use Rattle.site_change.specs.declared.commands.Command.TheVariants as command;
+ghost use Rattle.change_undo.specs.declared.entries.Entry.TheVariants as entry;
+ghost use Rattle.host_server.specs.Answers.{Grows};
+ghost use Rattle.host_server.specs.Hosts.{with_entry, with_upload};
+ghost use Rattle.host_server.specs.Outcomes;
+ghost use Rattle.host_server.specs.Outcomes.{published_if_ready, undone, Publishes, Does, DoesCommit};
+ghost use Rattle.host_server.specs.Reasons;
+
+use crate::houses::SoloHouse;
+use host_api::{Digests, Refusal, Told};
+use host_names::SiteName;
+use site_change::Command;
+use site_state::{Draft, Listing, least_missing, missing};
+use std::alloc::Global;
+
+impl SoloHouse {
+    /// Whether the deploy of a number publishes itself now.
+    fn is_ready(&self, site: &SiteName, number: u64) -> bool
+        ensures { result ≡ Outcomes.is_ready self.now site.now number }
+    {
+        match self.state().draft(site, number) {
+            Some(draft) => draft.auto && least_missing(draft, self.uploads()).is_none(),
+            None => false,
+        }
+    }
+
+    /// Publishes a deploy if it is ready, and answers the entry that did. On an error it stays open.
+    pub(crate) fn publish_if_ready(
+        &mut self,
+        alloc: Global,
+        site: &SiteName,
+        number: u64,
+    ) -> Result<Option<u64>, Refusal>
+        ensures done { Publishes result self.new (published_if_ready self.old site.now number) }
+        ensures err { OnErr result (self.new ≡ self.old) }
+        ensures grows { Grows self.old self.new }
+    {
+        if !self.is_ready(site, number) {
+            return Ok(None);
+        }
+        let site = site.clone()?;
+        let entry = self.commit(alloc, Command::Publish { site, number })?;
+        Ok(Some(entry))
+    }
+
+    /// Opens a deploy, and publishes it if it is ready.
+    fn open(
+        &mut self,
+        alloc: Global,
+        site: SiteName,
+        files: Listing,
+        auto: bool,
+    ) -> Result<Told, Refusal>
+        ensures done { DoesCommit result self.new self.old (command.Open site files auto) }
+        ensures stands { OnErr result ((self.new ≡ self.old)
+            ⊎ (self.new ≡ with_entry self.old (entry.Change (command.Open site files auto)))) }
+        ensures grows { Grows self.old self.new }
+    {
+        let draft = Draft { auto, files };
+        let required = missing(alloc, &draft, self.uploads())?;
+        let owner = site.clone()?;
+        let Draft { auto, files } = draft;
+        let id = self.commit(alloc, Command::Open { site, files, auto })?;
+        let published = self.publish_if_ready(alloc, &owner, id)?;
+        Ok(Told::Opened {
+            id,
+            published,
+            required: Digests::from(required),
+        })
+    }
+
+    /// Commits a command, and publishes a deploy that it leaves ready. Where that fails for want of memory, the
+    /// command may stand.
+    pub fn change(&mut self, alloc: Global, command: Command) -> Result<Told, Refusal>
+        ensures done { DoesCommit result self.new self.old command }
+        ensures stands { OnErr result ((self.new ≡ self.old) ⊎ (self.new ≡ with_entry self.old (entry.Change command))) }
+        ensures grows { Grows self.old self.new }
+    {
+        match command {
+            Command::Open { site, files, auto } => self.open(alloc, site, files, auto),
+            Command::Publish { site, number } => {
+                let number = self.commit(alloc, Command::Publish { site, number })?;
+                Ok(Told::Entered { number })
+            }
+        }
+    }
+
+    /// Undoes a change of a site. On an error nothing changes.
+    pub fn take_back(
+        &mut self,
+        alloc: Global,
+        site: &SiteName,
+        change: u64,
+    ) -> Result<Told, Refusal>
+        ensures done { Does result self.new (undone self.old site.now change (Reasons.undo_refusal self.old site.now change)) }
+        ensures err { OnErr result (self.new ≡ self.old) }
+        ensures grows { Grows self.old self.new }
+    {
+        let number = self.undo(alloc, site, change)?;
+        Ok(Told::Entered { number })
+    }
+}

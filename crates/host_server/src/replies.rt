@@ -1,0 +1,300 @@
+//! Replies, before they are written.
+ghost use Rattle.std.specs.Prelude.{◌≡◌, ◌≢◌, ◌≤◌, ◌⊎◌, All, length, true, Some, None, IfOk, IfErr, OnOk, OnErr, slice_range, option_map};
+ghost use Rattle.std.specs.Io.KnownBytes.{Appends};
+ghost use Rattle.http_wire.specs.Replies.{fields_of};
+ghost use Rattle.http_wire.specs.Sending.{SentFront};
+ghost use Rattle.range_spec.specs.declared.selection.Choice.TheVariants.{One};
+ghost use Rattle.host_api.specs.Texts.{told_text};
+ghost use Rattle.host_api.specs.declared.refusals.Refusal.TheVariants.{BadHead, OutOfMemory};
+ghost use Rattle.host_server.specs.Bodies.{answer_of, bytes_of};
+ghost use Rattle.host_server.specs.Replies as spec;
+ghost use Rattle.host_server.specs.Replies.{told_answer, refused_answer, file_answer, part_answer, sent_text};
+ghost use Rattle.range_spec.specs.Chosen.{LiesWithin, intervals_in};
+
+use host_api::{Refusal, Told, content_type, text};
+use host_names::{Digest, FilePath};
+use http::StatusCode;
+use http_wire::{ContentRange, ReplyHead, Sink, WriteFault, write_reply};
+use range_spec::Choice;
+use site_state::File;
+use std::alloc::{AllocError, Global};
+use std::marker::Model;
+
+/// Some bytes of a file that others may hold too. Contracts see these bytes.
+#[derive(Drop)]
+pub struct FilePart {
+    file: File,
+    first: usize,
+    end: usize,
+}
+
+impl Model for FilePart {
+    ghost use Rattle.std.specs.Prelude.{ℕ, List, ◌≤◌, length, slice_range};
+
+    ghost Value = { List ℕ };
+
+    ghost view = { λ p. slice_range p.file p.first p.end };
+
+    ghost invariant = { λ p. (p.first ≤ p.end) × (p.end ≤ length p.file) };
+}
+
+impl FilePart {
+    /// The bytes from the first place on that stand before the end.
+    fn new(file: &File, first: usize, end: usize) -> Result<FilePart, AllocError>
+        requires rising { first ≤ end }
+        requires within { end ≤ length file.now }
+        ensures { IfOk result (λ part. part ≡ slice_range file.now first end) }
+    {
+        Ok(FilePart {
+            file: file.clone()?,
+            first,
+            end,
+        })
+    }
+
+    /// Its bytes, which are lent.
+    fn bytes(&self) -> &[u8]
+        ensures { result.now ≡ self.now }
+    {
+        &self.file.bytes()[self.first..self.end]
+    }
+}
+
+/// The body of a reply.
+#[derive(Drop)]
+pub enum Body {
+    /// A text that was made for the reply.
+    Text(String),
+    /// A text that takes no memory.
+    Fixed(&'static str),
+    /// A part of a file.
+    Part(FilePart),
+}
+
+impl Body {
+    fn bytes(&self) -> &[u8]
+        ensures { result.now ≡ bytes_of self.now }
+    {
+        match self {
+            Body::Text(text) => text.as_bytes(),
+            Body::Fixed(text) => text.as_bytes(),
+            Body::Part(part) => part.bytes(),
+        }
+    }
+}
+
+/// A reply, before it is written. Its length, and whether ranges are served, follow from the rest.
+#[derive(Drop)]
+pub struct Reply {
+    status: StatusCode,
+    content_type: &'static str,
+    /// The digest of the file, where the reply has a file or a part of one.
+    etag: Option<Digest>,
+    content_range: Option<ContentRange>,
+    allow: Option<&'static str>,
+    close: bool,
+    body: Body,
+}
+
+/// The status code of a reply that tells something.
+fn status_told(told: &Told) -> StatusCode
+    ensures { result ≡ spec.status_told told.now }
+{
+    match told {
+        Told::Refused(refusal) => refusal.status(),
+        _ => StatusCode::OK,
+    }
+}
+
+/// Which bytes of the file there are, where none of the range are.
+fn range_told(told: &Told) -> Option<ContentRange>
+    ensures { result ≡ spec.range_told told.now }
+{
+    match told {
+        Told::Refused(Refusal::NotSatisfiable(length)) => {
+            Some(ContentRange::Unsatisfied { length: *length })
+        }
+        _ => None,
+    }
+}
+
+/// The methods that the route has, where it hasn't that of the request.
+fn allow_told(told: &Told) -> Option<&'static str>
+    ensures { option_map (λ t. t.now) result ≡ spec.allow_told told.now }
+{
+    match told {
+        Told::Refused(Refusal::BadMethod(kind)) => Some(kind.methods_text()),
+        _ => None,
+    }
+}
+
+impl Reply {
+    /// A reply with JSON.
+    fn with_json(told: &Told, body: Body, close: bool) -> Reply
+        requires { bytes_of body ≡ told_text told.now }
+        ensures { answer_of result ≡ told_answer close told.now }
+    {
+        Reply {
+            status: status_told(told),
+            content_type: "application/json",
+            etag: None,
+            content_range: range_told(told),
+            allow: allow_told(told),
+            close,
+            body,
+        }
+    }
+
+    /// The reply that tells something.
+    pub(crate) fn of_told(alloc: Global, told: &Told, close: bool) -> Result<Reply, AllocError>
+        ensures { IfOk result (λ reply. answer_of reply ≡ told_answer close told.now) }
+    {
+        let body = Body::Text(text(alloc, told)?);
+        Ok(Reply::with_json(told, body, close))
+    }
+
+    /// The reply where there was no memory. It takes none.
+    pub(crate) fn out_of_memory(close: bool) -> Reply
+        ensures { answer_of result ≡ refused_answer close OutOfMemory }
+    {
+        let body = Body::Fixed("{\"error\":\"OutOfMemory\"}");
+        Reply::with_json(&Told::Refused(Refusal::OutOfMemory), body, close)
+    }
+
+    /// The reply to a head that is not answered, behind which the connection ends. It takes no memory.
+    pub(crate) fn bad_head() -> Reply
+        ensures { answer_of result ≡ refused_answer true BadHead }
+    {
+        let body = Body::Fixed("{\"error\":\"BadHead\"}");
+        Reply::with_json(&Told::Refused(Refusal::BadHead), body, true)
+    }
+
+    /// The reply that refuses a request, or the one where there was no memory.
+    pub(crate) fn refused(alloc: Global, refusal: Refusal, close: bool) -> Reply
+        ensures { (answer_of result ≡ refused_answer close refusal) ⊎ (answer_of result ≡ refused_answer close OutOfMemory) }
+    {
+        match Reply::of_told(alloc, &Told::Refused(refusal), close) {
+            Ok(reply) => reply,
+            Err(_) => Reply::out_of_memory(close),
+        }
+    }
+
+    /// The reply with a part of the file at a path, or with the whole of it.
+    fn of_part(
+        status: StatusCode,
+        path: &FilePath,
+        file: &File,
+        range: Option<ContentRange>,
+        part: FilePart,
+        close: bool,
+    ) -> Reply
+        ensures { answer_of result ≡ part_answer close status path.now file.now range part }
+    {
+        Reply {
+            status,
+            content_type: content_type(path),
+            etag: Some(file.digest()),
+            content_range: range,
+            allow: None,
+            close,
+            body: Body::Part(part),
+        }
+    }
+
+    /// The reply with the whole file at a path.
+    fn of_whole(path: &FilePath, file: &File, close: bool) -> Result<Reply, AllocError>
+        ensures { IfOk result (λ reply. answer_of reply ≡ part_answer close 200 path.now file.now None file.now) }
+    {
+        let part = FilePart::new(file, 0, file.bytes().len())?;
+        Ok(Reply::of_part(StatusCode::OK, path, file, None, part, close))
+    }
+
+    /// The reply with the bytes of the file at a path from the first to the last.
+    fn of_range(
+        path: &FilePath,
+        file: &File,
+        first: u64,
+        last: u64,
+        close: bool,
+    ) -> Result<Reply, AllocError>
+        requires { LiesWithin (length file.now) (first, last) }
+        ensures { IfOk result (λ reply. answer_of reply ≡ file_answer close path.now file.now (One first last)) }
+    {
+        let length = file.bytes().len() as u64;
+        let part = FilePart::new(file, first as usize, last as usize + 1)?;
+        let range = ContentRange::Of {
+            first,
+            last,
+            length,
+        };
+        Ok(Reply::of_part(
+            StatusCode::PARTIAL_CONTENT,
+            path,
+            file,
+            Some(range),
+            part,
+            close,
+        ))
+    }
+
+    /// The reply with what was chosen of the file at a path.
+    pub(crate) fn of_file(
+        path: &FilePath,
+        file: &File,
+        choice: &Choice,
+        close: bool,
+    ) -> Result<Reply, Refusal>
+        requires { All (LiesWithin (length file.now)) (intervals_in choice.now) }
+        ensures ok { IfOk result (λ reply. answer_of reply ≡ file_answer close path.now file.now choice.now) }
+        ensures refused { IfErr result (λ refusal. refusal ≢ OutOfMemory
+            → refused_answer close refusal ≡ file_answer close path.now file.now choice.now) }
+    {
+        match choice {
+            Choice::Whole | Choice::Many(_) => Ok(Reply::of_whole(path, file, close)?),
+            Choice::One(first, last) => Ok(Reply::of_range(path, file, *first, *last, close)?),
+            Choice::None416 => Err(Refusal::NotSatisfiable(file.bytes().len() as u64)),
+        }
+    }
+
+    /// Whether the connection ends behind it.
+    pub(crate) fn closes(&self) -> bool
+        ensures { result ≡ self.now.close }
+    {
+        self.close
+    }
+
+    /// Its head, with the text of its entity tag.
+    fn head<'a>(&'a self, etag: Option<&'a str>) -> ReplyHead<'a>
+        requires { option_map (λ t. t.now) etag ≡ (answer_of self.now).fields.etag }
+        ensures { fields_of result ≡ (answer_of self.now).fields }
+    {
+        ReplyHead {
+            status: self.status,
+            content_type: Some(self.content_type),
+            content_length: Some(self.body.bytes().len() as u64),
+            etag,
+            accept_ranges: self.etag.is_some(),
+            content_range: self.content_range,
+            allow: self.allow,
+            close: self.close,
+        }
+    }
+
+    /// Its body, or nothing where only the head is wanted.
+    fn sent_body(&self, head_only: bool) -> &[u8]
+        ensures { result.now ≡ spec.sent_body head_only (answer_of self.now) }
+    {
+        if head_only { &[] } else { self.body.bytes() }
+    }
+
+    /// Writes it, without its body where only the head is wanted.
+    pub(crate) fn send<W: Sink>(&self, sink: &mut W, head_only: bool) -> Result<(), WriteFault>
+        ensures ok { OnOk result (Appends (W.held sink.old) (W.held sink.new) (sent_text head_only (answer_of self.now))) }
+        ensures fault { IfErr result (λ fault. SentFront (W.held sink.old) (W.held sink.new) (sent_text head_only (answer_of self.now)) fault.0) }
+        ensures cause { OnErr result W.may_fail }
+    {
+        let etag = self.etag.map(|digest| digest.to_hex());
+        let head = self.head(etag.as_ref().map(|hex| hex.as_str()));
+        write_reply(sink, &head, self.sent_body(head_only))
+    }
+}

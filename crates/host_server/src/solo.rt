@@ -1,0 +1,78 @@
+//! The program's run: its words are read, and one connection is served.
+
+ghost use Rattle.std.specs.Prelude.{◌≡◌, ◌⊎◌, IfErr, IfOk, map};
+ghost use Rattle.command_line.specs.CommandLine.{AskForSolo};
+ghost use Rattle.host_server.specs.Solo.{Runs, status_of};
+
+use crate::connections::{ConnectionFault, serve_connection};
+use crate::houses::SoloHouse;
+use change_undo::GREATEST_LIMIT;
+use command_line::{Refusal, Wanted, read};
+use http_wire::{Sink, Source};
+use std::alloc::Global;
+use std::convert::AsStr;
+use std::io::Write;
+
+/// The exit status where the connection has ended.
+const DONE: u8 = 0;
+
+/// The exit status where the words ask for nothing that the program does.
+const NOT_TAKEN: u8 = 1;
+
+/// The exit status where input, output or memory failed.
+const FAILED: u8 = 2;
+
+const OUT_OF_MEMORY: &str = "filehost: out of memory\n";
+
+/// Says why a run fails, as far as it can be said, and gives the exit status.
+fn fail<E: Write>(errors: &mut E, status: u8, why: &str) -> u8
+    ensures { result ≡ status }
+{
+    let _ = errors.write_all(why.as_bytes());
+    status
+}
+
+/// What the words ask for, or else the exit status; the reason is said.
+fn wanted<S: AsStr, E: Write>(alloc: Global, words: &[S], errors: &mut E) -> Result<Wanted, u8>
+    ensures asked { IfOk result (λ wanted. AskForSolo (map S.text words.now)) }
+    ensures refused { IfErr result (λ status. ((¬ (AskForSolo (map S.text words.now))) × (status ≡ 1)) ⊎ (status ≡ 2)) }
+{
+    match read(alloc, words) {
+        Ok(wanted) => Ok(wanted),
+        Err(Refusal::Shown(text)) => Err(fail(errors, NOT_TAKEN, text.as_str())),
+        Err(Refusal::OutOfMemory) => Err(fail(errors, FAILED, OUT_OF_MEMORY)),
+    }
+}
+
+/// The exit status where the connection ended so; a fault is said.
+fn status_after<E: Write>(errors: &mut E, ended: Result<(), ConnectionFault>) -> u8
+    ensures { result ≡ status_of ended }
+{
+    match ended {
+        Ok(()) => DONE,
+        Err(ConnectionFault::InputFault) => fail(errors, FAILED, "filehost: input fault\n"),
+        Err(ConnectionFault::OutputFault) => fail(errors, FAILED, "filehost: output fault\n"),
+        Err(ConnectionFault::OutOfMemory) => fail(errors, FAILED, OUT_OF_MEMORY),
+    }
+}
+
+/// Runs the program for the words behind its name, and answers its exit status: `solo` serves one connection, over
+/// an empty host. Where the status isn't 0, `errors` is told why.
+pub fn run_solo<S: AsStr, R: Source + Drop, W: Sink, E: Write>(
+    alloc: Global,
+    words: &[S],
+    source: R,
+    sink: &mut W,
+    errors: &mut E,
+) -> u8
+    ensures { Runs R.may_fail W.may_fail (map S.text words.now) result (R.left source) (W.held sink.old) (W.held sink.new) }
+{
+    match wanted(alloc, words, errors) {
+        Ok(Wanted::Solo) => {
+            let mut house = SoloHouse::new(alloc, GREATEST_LIMIT);
+            let ended = serve_connection(alloc, source, sink, &mut house);
+            status_after(errors, ended)
+        }
+        Err(status) => status,
+    }
+}
