@@ -15,7 +15,7 @@ sys.exit(int(os.environ["RUN_STATUS"]))
 
 FAKE_APT_GET = """#!/usr/bin/env bash
 printf 'apt-get %s\\n' "$1" >>"$CALLS"
-[[ $1 != install ]] || cp "$PYTHON" "${0%/*}/python3"
+[[ $1 != install ]] || cp "$STORE/${!#}" "${0%/*}/${!#}"
 """
 
 
@@ -79,22 +79,29 @@ class Gate(unittest.TestCase):
     def test_says_that_the_toolchain_is_missing(self):
         self.assert_ends(self.gate(has_toolchain=False), 1, "0 passed, 1 failed")
 
-    def test_installs_python_where_it_is_missing(self):
+    def test_installs_what_the_tests_need_where_it_is_missing(self):
         tools = self.sandbox.tools
-        (tools / "python3").unlink()
-        python = self.sandbox.write("python", f'#!/usr/bin/env bash\nexec {sys.executable} "$@"\n', 0o755)
+        self.sandbox.write("store/python3", f'#!/usr/bin/env bash\nexec {sys.executable} "$@"\n', 0o755)
+        self.sandbox.write("store/curl", "#!/usr/bin/env bash\n", 0o755)
         (tools / "cp").symlink_to(shutil.which("cp"))
         for name, text in (("apt-get", FAKE_APT_GET), ("sudo", '#!/usr/bin/env bash\nexec "$@"\n')):
             (tools / name).write_text(text)
             (tools / name).chmod(0o755)
-        self.assert_ends(self.gate(PYTHON=str(python)), 0, "5 passed, 0 failed")
-        self.assertEqual(self.sandbox.calls(), ["apt-get update", "apt-get install", "repository: ci"])
-        self.assert_ends(self.gate(), 0, "5 passed, 0 failed")
-        self.assertEqual(self.sandbox.calls(), ["repository: ci"])
+        for missing in (["python3"], ["curl"], ["python3", "curl"]):
+            with self.subTest(missing):
+                for command in missing:
+                    (tools / command).unlink()
+                self.assert_ends(self.gate(STORE=str(self.sandbox.top / "store")), 0, "5 passed, 0 failed")
+                installing = ["apt-get update", "apt-get install"] * len(missing)
+                self.assertEqual(self.sandbox.calls(), [*installing, "repository: ci"])
+                self.assert_ends(self.gate(), 0, "5 passed, 0 failed")
+                self.assertEqual(self.sandbox.calls(), ["repository: ci"])
 
-    def test_fails_where_python_cannot_be_installed(self):
-        (self.sandbox.tools / "python3").unlink()
-        self.assert_ends(self.gate(), 1, "0 passed, 1 failed")
+    def test_fails_where_what_the_tests_need_cannot_be_installed(self):
+        for command in ("curl", "python3"):
+            with self.subTest(command):
+                (self.sandbox.tools / command).unlink()
+                self.assert_ends(self.gate(), 1, "0 passed, 1 failed")
 
     def test_works_from_any_folder_and_as_the_merge_gate(self):
         for command in ("test", ".ci/run"):

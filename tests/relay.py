@@ -1,0 +1,24 @@
+#!/usr/bin/env python3
+"""Lets a program that serves one connection on its standard input and output be reached over TCP:
+
+    tests/relay.py COMMAND..
+
+Prints the port that it listens on, on 127.0.0.1, and takes one connection. That is the command's input and output;
+the command's exit status is its own.
+"""
+
+import socket
+import subprocess
+import sys
+
+
+def main(command):
+    with socket.create_server(("127.0.0.1", 0)) as listener:
+        print(listener.getsockname()[1], flush=True)
+        connection, _ = listener.accept()
+    with connection:
+        return subprocess.run(command, stdin=connection, stdout=connection).returncode
+
+
+if __name__ == "__main__":
+    sys.exit(main(sys.argv[1:]))
