@@ -5,10 +5,9 @@ ghost use Rattle.std.specs.Prelude.{◌≡◌, ◌⊎◌};
 
 use host_server::run_solo;
 use http_wire::{Reading, Writing};
-use std::env;
-use std::io;
 use std::io::ErrorKind;
 use std::process::ExitCode;
+use std::{env, io};
 
 /// The exit status where a word is no text.
 const NOT_TAKEN: u8 = 1;
