@@ -2,7 +2,7 @@
 ghost use Rattle.std.specs.Prelude.{◌≡◌, ◌≢◌, ◌≤◌, ◌<◌, List, ℕ, length, take, vec_len, IfOk, IfErr, IfSome, IsErrOf, OnErr};
 ghost use Rattle.std.specs.Io.KnownBytes.{Consumes, Keeps, IsAtEnd, prepend_known};
 ghost use Rattle.http_wire.specs.HeadText.{IsHeadText, CutShort, Overlong};
-ghost use Rattle.http_wire.specs.Wires.{ServesHead, RefusesHead};
+ghost use Rattle.http_wire.specs.Wires.{HasWholeHead, ServesHead, RefusesHead};
 
 use crate::bodies::read_into;
 use crate::buffers::{Buffer, HEAD_LIMIT};
@@ -52,6 +52,7 @@ impl<S: Source> Wire<S> {
         ensures bad { IsErrOf result HeadFault.BadHead → RefusesHead self.old self.new }
         ensures ended { IsErrOf result HeadFault.Ended → IfSome self.old CutShort }
         ensures failed { IsErrOf result HeadFault.ReadFault → S.may_fail }
+        ensures memory { IsErrOf result HeadFault.OutOfMemory → HasWholeHead self.old }
         ensures kept { IfErr result (λ e. e ≢ HeadFault.BadHead → Keeps self.old self.new) }
     {
         take_head(alloc, &mut self.buffer, &mut self.source)
@@ -88,6 +89,8 @@ fn take_head<S: Source>(
     ensures ended { let old = prepend_known buffer.old (S.left source.old) in
         IsErrOf result HeadFault.Ended → IfSome old CutShort }
     ensures failed { IsErrOf result HeadFault.ReadFault → S.may_fail }
+    ensures memory { let old = prepend_known buffer.old (S.left source.old) in
+        IsErrOf result HeadFault.OutOfMemory → HasWholeHead old }
     ensures kept { let old = prepend_known buffer.old (S.left source.old) in
         let new = prepend_known buffer.new (S.left source.new) in
         IfErr result (λ e. e ≢ HeadFault.BadHead → Keeps old new) }
