@@ -13,7 +13,7 @@ use Rattle.change_undo.proofs.Found.{IsWithin-itself, IsWithin-trans, kept-with_
 use Rattle.host_server.specs.Answers.{Grows}
 use Rattle.host_server.specs.Hosts.{Host, host_of, state_of, with_entries, with_entry, with_upload}
 
-itself : (host : Host) → Grows host host
+pub itself : (host : Host) → Grows host host
 itself host = record { same_limit = refl; more = []; longer = sym (append-nil host.entries); uploads = IsWithin-itself host.uploads }
 
 pub grows_same : (old new : Host) → new ≡ old → Grows old new

@@ -1,3 +1,4 @@
+pub mod Leaving
 pub mod Kept
 pub mod Refusing
 pub mod Opening

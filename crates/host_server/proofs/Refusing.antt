@@ -1,5 +1,5 @@
 -- The reasons of the layers below, and those that a host answers.
-use Rattle.std.proofs.Common.{◌≡◌, ◌≢◌, ◌↔◌, ℕ, ◌+◌, ◌<◌, ◌≤◌, Bool, true, false, cond, length, nat_le, Option, Some, None, option_map, unwrap_or, Result, Ok, Err, OnOk, IfErr, MatchResult, IsErrAnd, refl, sym, ap, subst, ◌∙◌, arith, leb-true, le-leb}
+use Rattle.std.proofs.Common.{◌≡◌, ◌↔◌, ◌⊎◌, inl, inr, ℕ, ◌+◌, ◌<◌, ◌≤◌, Bool, true, false, cond, length, nat_le, Option, Some, None, option_map, unwrap_or, Result, Ok, Err, OnOk, IfErr, MatchResult, IsErrAnd, refl, sym, ap, subst, ◌∙◌, arith, leb-true, le-leb}
 use Rattle.host_names.specs.Blobs.{Contents}
 use Rattle.site_change.specs.Changes.{refusal}
 use Rattle.site_change.specs.declared.commands.Command.{Command}
@@ -14,7 +14,7 @@ use Rattle.host_api.specs.declared.refusals.Refusal.{Refusal}
 use Rattle.host_api.specs.declared.refusals.Refusal.TheVariants as reason
 use Rattle.std.specs.FinMap as map
 use Rattle.host_server.specs.Hosts.{IsKept, host_of}
-use Rattle.host_server.specs.Reasons.{commit_refusal, of_change, of_undo, reason_of_commit, reason_of_undo}
+use Rattle.host_server.specs.Reasons.{IsReason, commit_refusal, of_change, of_undo, reason_of_commit, reason_of_undo}
 
 not_le : (limit len : ℕ) → (limit ≤ len → ⊥) → nat_le limit len ≡ false
 not_le limit len h =
@@ -43,15 +43,22 @@ commit_accepted n r limit len refusal is full refused =
 pub commit_told : (e : CommitError) (r : Result ℕ CommitError) (limit len : ℕ) (refusal : Option ChangeRefusal) → r ≡ Err e
     → (r ≡ Err commit.HistoryFull) ↔ (limit ≤ len)
     → ((x : ChangeRefusal) → (r ≡ Err (commit.Refused x)) ↔ ((len < limit) × (refusal ≡ Some x)))
-    → reason_of_commit e ≢ reason.OutOfMemory → answered limit len refusal ≡ Some (reason_of_commit e)
-commit_told commit.HistoryFull r limit len refusal is full refused named =
+    → IsReason (answered limit len refusal) (reason_of_commit e)
+commit_told commit.HistoryFull r limit len refusal is full refused =
     let over : nat_le limit len ≡ true = le-leb limit len (full.0 is) in
-    ap (λ t. cond t (Some reason.HistoryFull) (option_map of_change refusal)) over
-commit_told (commit.Refused x) r limit len refusal is full refused named =
+    inl (ap (λ t. cond t (Some reason.HistoryFull) (option_map of_change refusal)) over)
+commit_told (commit.Refused x) r limit len refusal is full refused =
     let both = (refused x).0 is in
     let room : nat_le limit len ≡ false = not_le limit len (λ h. omega (arith, h, both.0)) in
-    ap (λ t. cond t (Some reason.HistoryFull) (option_map of_change refusal)) room ∙ ap (option_map of_change) both.1
-commit_told commit.OutOfMemory r limit len refusal is full refused named = absurd (named refl)
+    inl (ap (λ t. cond t (Some reason.HistoryFull) (option_map of_change refusal)) room ∙ ap (option_map of_change) both.1)
+commit_told commit.OutOfMemory r limit len refusal is full refused =
+    let full_is : limit ≤ len → ⊥ = λ h. cc (sym is ∙ full.1 h) in
+    let none : refusal ≡ None =
+    elim refusal as (λ o. refusal ≡ o → o ≡ None) [
+      | None ↦ λ e. refl
+      | Some x ↦ λ e. cc (sym is ∙ (refused x).1 (omega (arith, full_is), e))
+    ] refl in
+    inr (rw (not_le limit len full_is, none) refl, refl)
 
 pub undo_accepted : (n : ℕ) (r : Result ℕ UndoError) (refusal : Option UndoRefusal) → r ≡ Ok n
     → ((x : UndoRefusal) → (r ≡ Err (undo.Refused x)) ↔ (refusal ≡ Some x)) → refusal ≡ None
@@ -63,9 +70,15 @@ undo_accepted n r refusal is refused =
 
 pub undo_told : (e : UndoError) (r : Result ℕ UndoError) (refusal : Option UndoRefusal) → r ≡ Err e
     → ((x : UndoRefusal) → (r ≡ Err (undo.Refused x)) ↔ (refusal ≡ Some x))
-    → reason_of_undo e ≢ reason.OutOfMemory → option_map of_undo refusal ≡ Some (reason_of_undo e)
-undo_told (undo.Refused x) r refusal is refused named = ap (option_map of_undo) ((refused x).0 is)
-undo_told undo.OutOfMemory r refusal is refused named = absurd (named refl)
+    → IsReason (option_map of_undo refusal) (reason_of_undo e)
+undo_told (undo.Refused x) r refusal is refused = inl (ap (option_map of_undo) ((refused x).0 is))
+undo_told undo.OutOfMemory r refusal is refused =
+    let none : refusal ≡ None =
+    elim refusal as (λ o. refusal ≡ o → o ≡ None) [
+      | None ↦ λ e. refl
+      | Some x ↦ λ e. cc (sym is ∙ (refused x).1 e)
+    ] refl in
+    inr (ap (option_map of_undo) none, refl)
 
 -- ---- the answers of the history, as the host gives them
 
@@ -90,7 +103,7 @@ mapped_undo (Ok n) s h = h
 mapped_undo (Err e) s h = err_of s (reason_of_undo e) h
 
 abbrev pub IsAnswered : Result ℕ Refusal → Option Refusal → Type 0
-IsAnswered s asked = OnOk s (asked ≡ None) × IfErr s (λ r. r ≢ reason.OutOfMemory → asked ≡ Some r)
+IsAnswered s asked = OnOk s (asked ≡ None) × IfErr s (IsReason asked)
 
 commit_answer : (r : Result ℕ CommitError) (limit len : ℕ) (refusal : Option ChangeRefusal)
     → (r ≡ Err commit.HistoryFull) ↔ (limit ≤ len)

@@ -4,23 +4,19 @@ use Rattle.std.specs.Io.KnownBytes.{Appends}
 use Rattle.std.specs.Str.{bytes_eq}
 use Rattle.std.proofs.lemmas.List.{append-nil}
 use Rattle.http_wire.specs.Requests.{RequestParts}
-use Rattle.host_api.specs.declared.refusals.Refusal.TheVariants.{BadHead, OutOfMemory}
-use Rattle.host_server.specs.Answers.{Answers}
 use Rattle.host_server.specs.Hosts.{Host}
-use Rattle.host_server.specs.Replies.{Answer, IsReply, closes, refused_answer, sent_text, sent_for}
-use Rattle.host_server.specs.Serving.{Stream, TakesRequest, IsAnswered, IsHeadRefused, IsBodyRefused, IsRefused, IsLast, IsExchange, IsCut, IsNoMemory, IsFrontSent, IsFrontOfNoMemory, IsSentFor, IsSent, Exchanges, Turns}
+use Rattle.host_server.specs.Replies.{Answer, IsAnswer, closes, sent_text}
+use Rattle.host_server.specs.Serving.{Stream, TakesRequest, IsAnswered, IsNotRead, IsCut, IsFrontSent, IsSent, Exchanges, Turns}
 use Rattle.host_server.specs.declared.connections.ConnectionFault.{ConnectionFault}
 use Rattle.host_server.specs.declared.connections.ConnectionFault.TheVariants as fault
 use Rattle.host_server.specs.declared.connections.Next.{Next}
 use Rattle.host_server.specs.declared.connections.Next.TheVariants as next_is
 
--- the reply of an answer is sent, or the one that says that there was no memory
+-- the text of an answer is sent
 pub is_sent : (close head_only : Bool) (host next : Host) (parts : RequestParts) (body : List ℕ) (answer : Answer)
-    → head_only ≡ bytes_eq parts.method (codes "HEAD") → Answers close host parts body answer next → IsSent close host parts body (sent_text head_only answer) next
-is_sent close head_only host next parts body answer named (inl none) =
-    inr (record { close = close; head_only = head_only; more = []; sent_is = ap (sent_text head_only) none ∙ sym (append-nil (sent_text head_only (refused_answer close OutOfMemory))) })
-is_sent close head_only host next parts body answer named (inr reply) =
-    inl (record { answer = answer; reply = reply; sent_is = ap (λ h. sent_text h answer) named })
+    → head_only ≡ bytes_eq parts.method (codes "HEAD") → IsAnswer close host parts body answer next → IsSent close host parts body (sent_text head_only answer) next
+is_sent close head_only host next parts body answer named right =
+    record { answer = answer; is_answer = right; sent_is = ap (λ h. sent_text h answer) named }
 
 -- a front of what was to be sent
 abbrev pub IsFront : List ℕ → Stream → Stream → Type 0
@@ -36,20 +32,20 @@ cut_exchange write_fails close host next parts body text held new_held sent fron
 
 answered : (close is_last request_last : Bool) (host next : Host) (old new : Stream) (parts : RequestParts) (body sent : List ℕ)
     → TakesRequest old new parts body → request_last ≡ is_last → closes parts request_last ≡ close
-    → IsSentFor (closes parts request_last) host parts body sent next → IsAnswered host is_last close old sent next new
+    → IsSent (closes parts request_last) host parts body sent next → IsAnswered host is_last close old sent next new
 answered close is_last request_last host next old new parts body sent request same closing s = record {
   parts = parts;
   body = body;
   request = request;
   closing = ap (closes parts) (sym same) ∙ closing;
   answer = s.answer;
-  reply = subst (λ c. IsReply c host parts body s.answer next) closing s.reply;
+  is_answer = subst (λ c. IsAnswer c host parts body s.answer next) closing s.is_answer;
   sent_is = s.sent_is;
 }
 
 cut : (close is_last request_last : Bool) (host next : Host) (old new : Stream) (parts : RequestParts) (body sent rest : List ℕ)
     → TakesRequest old new parts body → request_last ≡ is_last → closes parts request_last ≡ close
-    → IsSentFor (closes parts request_last) host parts body (sent ++ rest) next → IsFrontSent host is_last old sent next
+    → IsSent (closes parts request_last) host parts body (sent ++ rest) next → IsFrontSent host is_last old sent next
 cut false is_last request_last host next old new parts body sent rest request same closing s =
     record { rest = rest; whole = inl (new, answered false is_last request_last host next old new parts body (sent ++ rest) request same closing s) }
 cut true is_last request_last host next old new parts body sent rest request same closing s =
@@ -59,21 +55,12 @@ pub turned : (read_fails write_fails : Type 0) (result : Result Next ConnectionF
     (parts : RequestParts) (body : List ℕ) → TakesRequest old new parts body → request_last ≡ is_last
     → Exchanges write_fails result (closes parts request_last) host parts body held new_held next → Turns read_fails write_fails result is_last host old new held new_held next
 turned read_fails write_fails (Ok next_is.Exchange) is_last request_last host next old new held new_held parts body request same e =
-    elim e.1.1 as (λ _. (sent : List ℕ) × (IsExchange host is_last old sent next new ⊎ IsNoMemory sent) × Appends held new_held sent) [
-      | inl s ↦ (e.1.0, inl (answered false is_last request_last host next old new parts body e.1.0 request same e.0 s), e.1.2)
-      | inr none ↦ (e.1.0, inr none, e.1.2)
-    ]
+    (e.1.0, answered false is_last request_last host next old new parts body e.1.0 request same e.0 e.1.1, e.1.2)
 turned read_fails write_fails (Ok next_is.End) is_last request_last host next old new held new_held parts body request same e =
-    elim e.1.1 as (λ _. (sent : List ℕ) × (((sent ≡ []) × IsCut old × (next ≡ host)) ⊎ IsLast host is_last old sent next ⊎ IsNoMemory sent) × Appends held new_held sent) [
-      | inl s ↦ (e.1.0, inr (inl (inl (new, answered true is_last request_last host next old new parts body e.1.0 request same e.0 s))), e.1.2)
-      | inr none ↦ (e.1.0, inr (inr none), e.1.2)
-    ]
+    (e.1.0, inr (inl (new, answered true is_last request_last host next old new parts body e.1.0 request same e.0 e.1.1)), e.1.2)
 turned read_fails write_fails (Err fault.InputFault) is_last request_last host next old new held new_held parts body request same e = absurd e
 turned read_fails write_fails (Err fault.OutputFault) is_last request_last host next old new held new_held parts body request same e =
-    elim e.1.2 as (λ _. write_fails × ((sent : List ℕ) × (IsFrontSent host is_last old sent next ⊎ IsNoMemory sent ⊎ IsFrontOfNoMemory sent) × Appends held new_held sent)) [
-      | inl s ↦ (e.0, (e.1.0, inl (cut (closes parts request_last) is_last request_last host next old new parts body e.1.0 e.1.1 request same refl s), e.1.3))
-      | inr none ↦ (e.0, (e.1.0, inr (inr (record { rest = e.1.1; whole = none })), e.1.3))
-    ]
+    (e.0, (e.1.0, cut (closes parts request_last) is_last request_last host next old new parts body e.1.0 e.1.1 request same refl e.1.2, e.1.3))
 turned read_fails write_fails (Err fault.OutOfMemory) is_last request_last host next old new held new_held parts body request same e = absurd e
 
 -- ---- without a request
@@ -86,30 +73,11 @@ pub ended : (read_fails write_fails : Type 0) (is_last : Bool) (host : Host) (ol
     → Turns read_fails write_fails (Ok next_is.End) is_last host old new held held host
 ended read_fails write_fails is_last host old new held is_cut = ([], inl (refl, is_cut, refl), appends_nothing held)
 
-last_refused : (is_last : Bool) (host : Host) (old : Stream) (sent : List ℕ) → IsRefused old sent → IsLast host is_last old sent host
-last_refused is_last host old sent (inl head) = inr (inl (head, refl))
-last_refused is_last host old sent (inr body) = inr (inr (body, refl))
-
-pub refused : (read_fails write_fails : Type 0) (is_last : Bool) (host : Host) (old new held new_held : Stream) (sent : List ℕ) → IsRefused old sent → Appends held new_held sent
+pub not_read : (read_fails write_fails : Type 0) (is_last : Bool) (host : Host) (old new held new_held : Stream) (sent : List ℕ) → IsNotRead old sent → Appends held new_held sent
     → Turns read_fails write_fails (Ok next_is.End) is_last host old new held new_held host
-refused read_fails write_fails is_last host old new held new_held sent why appended = (sent, inr (inl (last_refused is_last host old sent why)), appended)
+not_read read_fails write_fails is_last host old new held new_held sent why appended = (sent, inr (inr (why, refl)), appended)
 
-pub refused_cut : (read_fails write_fails : Type 0) (is_last : Bool) (host : Host) (old new held new_held : Stream) (text : List ℕ) → IsRefused old text → IsFront text held new_held
+pub not_read_cut : (read_fails write_fails : Type 0) (is_last : Bool) (host : Host) (old new held new_held : Stream) (text : List ℕ) → IsNotRead old text → IsFront text held new_held
     → write_fails → Turns read_fails write_fails (Err fault.OutputFault) is_last host old new held new_held host
-refused_cut read_fails write_fails is_last host old new held new_held text why front fails =
-    let whole = last_refused is_last host old (front.0 ++ front.1) (subst (IsRefused old) front.2 why) in
-    (fails, (front.0, inl (record { rest = front.1; whole = inr whole }), front.3))
-
-no_memory : (head_only : Bool) → IsNoMemory (sent_text head_only (refused_answer true OutOfMemory))
-no_memory head_only = record { close = true; head_only = head_only; more = []; sent_is = sym (append-nil (sent_text head_only (refused_answer true OutOfMemory))) }
-
-pub no_memory_sent : (read_fails write_fails : Type 0) (is_last head_only : Bool) (host : Host) (old new held new_held : Stream)
-    → Appends held new_held (sent_text head_only (refused_answer true OutOfMemory)) → Turns read_fails write_fails (Ok next_is.End) is_last host old new held new_held host
-no_memory_sent read_fails write_fails is_last head_only host old new held new_held appended =
-    (sent_text head_only (refused_answer true OutOfMemory), inr (inr (no_memory head_only)), appended)
-
-pub no_memory_cut : (read_fails write_fails : Type 0) (is_last head_only : Bool) (host : Host) (old new held new_held : Stream)
-    → IsFront (sent_text head_only (refused_answer true OutOfMemory)) held new_held → write_fails
-    → Turns read_fails write_fails (Err fault.OutputFault) is_last host old new held new_held host
-no_memory_cut read_fails write_fails is_last head_only host old new held new_held front fails =
-    (fails, (front.0, inr (inr (record { rest = front.1; whole = subst IsNoMemory front.2 (no_memory head_only) })), front.3))
+not_read_cut read_fails write_fails is_last host old new held new_held text why front fails =
+    (fails, (front.0, record { rest = front.1; whole = inr (inr (subst (IsNotRead old) front.2 why, refl)) }, front.3))

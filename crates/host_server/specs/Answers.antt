@@ -12,7 +12,7 @@ use Rattle.host_api.specs.declared.texts.Told.{Told}
 use Rattle.host_server.specs.declared.replies.Reply.{Reply}
 use Rattle.host_server.specs.Bodies.{answer_of}
 use Rattle.host_server.specs.Hosts.{Host, state_of}
-use Rattle.host_server.specs.Replies.{Answer, refused_answer, told_answer, read_answer, AsksRange, IsReply}
+use Rattle.host_server.specs.Replies.{Answer, refused_answer, told_answer, read_answer, AsksRange, IsReply, MayLeave}
 
 -- the answer where a call gives this reply, or this reason to refuse
 abbrev pub answer_by : Bool → Result Reply Refusal → Answer
@@ -31,11 +31,7 @@ Reads close host parts site path result =
 -- the call gives a reply to the request, unless there was no memory
 abbrev pub RepliesBy : Bool → Host → RequestParts → List ℕ → Result Reply Refusal → Host → Type 0
 RepliesBy close host parts body result next =
-    (result ≡ Err OutOfMemory) ⊎ IsReply close host parts body (answer_by close result) next
-
--- the answer is a reply to the request, or says that there was no memory
-abbrev pub Answers : Bool → Host → RequestParts → List ℕ → Answer → Host → Type 0
-Answers close host parts body answer next = (answer ≡ refused_answer close OutOfMemory) ⊎ IsReply close host parts body answer next
+    IsReply close host parts body (answer_by close result) next ⊎ ((result ≡ Err OutOfMemory) × MayLeave host parts body next)
 
 -- what was there stays: more entries may follow, and more may be uploaded
 pub record Grows (old new : Host) : Type 0 where

@@ -114,10 +114,14 @@ abbrev pub with_site : SiteName → Result Digest Refusal → Result (SiteName �
 with_site site (Ok digest) = Ok (site, digest)
 with_site site (Err reason) = Err reason
 
-abbrev pub judge_upload : Host → Option SiteName → ℕ → List ℕ → List ℕ → Result (SiteName × Digest) Refusal
-judge_upload host None n path bytes = Err NoSuchDeploy
-judge_upload host (Some site) n path bytes =
+abbrev pub judge_at : Host → Option SiteName → ℕ → List ℕ → List ℕ → Result (SiteName × Digest) Refusal
+judge_at host None n path bytes = Err NoSuchDeploy
+judge_at host (Some site) n path bytes =
     with_site site (judge_listed (listed_at (draft_at (state_of host) site n) (kept_at (state_of host) site n) path) bytes)
+
+-- the site of the deploy and the digest that is listed, or the first reason against the bytes
+abbrev pub judge_upload : Host → ℕ → List ℕ → List ℕ → Result (SiteName × Digest) Refusal
+judge_upload host n path bytes = judge_at host (site_of_deploy (entry_at host.entries n)) n path bytes
 
 -- the bytes are kept, and a deploy that they leave ready is published
 abbrev pub uploaded : Host → ℕ → List ℕ → Result (SiteName × Digest) Refusal → Outcome
@@ -126,8 +130,36 @@ uploaded host n bytes (Ok at) =
 uploaded host n bytes (Err reason) = refused host reason
 
 abbrev pub upload_outcome : Host → ℕ → List ℕ → List ℕ → Outcome
-upload_outcome host n path bytes =
-    uploaded host n bytes (judge_upload host (site_of_deploy (entry_at host.entries n)) n path bytes)
+upload_outcome host n path bytes = uploaded host n bytes (judge_upload host n path bytes)
+
+-- ---- where memory gives out
+
+-- the entry of the command alone, without that which publishes what it opened
+abbrev pub entered : Host → Command → Option Refusal → Host
+entered host command (Some reason) = host
+entered host command None = with_entry host (Change command)
+
+-- the bytes alone, without that entry
+abbrev pub kept : Host → List ℕ → Result (SiteName × Digest) Refusal → Host
+kept host bytes (Ok at) = with_upload host bytes
+kept host bytes (Err reason) = host
+
+-- A command may leave what was there, or its entry alone, or all that it does.
+abbrev pub CommandMayLeave : Host → Command → Host → Type 0
+CommandMayLeave host command next =
+    (next ≡ host)
+    ⊎ (next ≡ entered host command (commit_refusal host command))
+    ⊎ (next ≡ (commit_outcome host command [] (commit_refusal host command)).host)
+
+abbrev pub UndoMayLeave : Host → SiteName → ℕ → Host → Type 0
+UndoMayLeave host site k next = (next ≡ host) ⊎ (next ≡ (undone host site k (undo_refusal host site k)).host)
+
+-- An upload may leave what was there, or its bytes alone, or all that it does.
+abbrev pub UploadMayLeave : Host → ℕ → List ℕ → List ℕ → Host → Type 0
+UploadMayLeave host n path bytes next =
+    (next ≡ host)
+    ⊎ (next ≡ kept host bytes (judge_upload host n path bytes))
+    ⊎ (next ≡ (upload_outcome host n path bytes).host)
 
 -- ---- answers of calls
 

@@ -1,5 +1,5 @@
 -- The reasons of the layers below, as replies name them.
-use Rattle.std.specs.Prelude.{ℕ, length, nat_le, Option, Some, None, option_map, if◌then◌else◌}
+use Rattle.std.specs.Prelude.{◌≡◌, ◌⊎◌, ℕ, length, nat_le, Option, Some, None, option_map, if◌then◌else◌}
 use Rattle.host_names.specs.declared.names.SiteName.{SiteName}
 use Rattle.site_change.specs.declared.commands.Command.{Command}
 use Rattle.site_change.specs.declared.commands.Refusal.{Refusal as ChangeRefusal}
@@ -47,3 +47,7 @@ reason_of_commit commit_error.OutOfMemory = reason.OutOfMemory
 abbrev pub reason_of_undo : UndoError → Refusal
 reason_of_undo (undo_error.Refused r) = of_undo r
 reason_of_undo undo_error.OutOfMemory = reason.OutOfMemory
+
+-- the reason that a call answers: the first against it, or, where there is none, that there is no memory
+abbrev pub IsReason : Option Refusal → Refusal → Type 0
+IsReason first answered = (first ≡ Some answered) ⊎ ((first ≡ None) × (answered ≡ reason.OutOfMemory))

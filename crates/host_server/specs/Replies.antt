@@ -1,5 +1,5 @@
 -- What a request is answered, and what the host has then.
-use Rattle.std.specs.Prelude.{◌≡◌, ℕ, ◌+◌, ◌-◌, List, [], ◌∷◌, Bool, true, false, ◌||◌, Option, Some, None, Result, Ok, Err, length, slice_range, if◌then◌else◌, codes}
+use Rattle.std.specs.Prelude.{◌≡◌, ◌⊎◌, ℕ, ◌+◌, ◌-◌, List, [], ◌∷◌, Bool, true, false, ◌||◌, Option, Some, None, Result, Ok, Err, length, slice_range, if◌then◌else◌, codes}
 use Rattle.std.specs.Str.{bytes_eq}
 use Rattle.hex.specs.Hex.{encode_lower}
 use Rattle.host_names.specs.Blobs.{digest_of}
@@ -32,7 +32,7 @@ use Rattle.host_api.specs.declared.routes.Route.{Route}
 use Rattle.host_api.specs.declared.texts.Told.{Told}
 use Rattle.host_api.specs.declared.texts.Told.TheVariants.{Opened, Uploaded, Entered, Refused}
 use Rattle.host_server.specs.Hosts.{Host, state_of}
-use Rattle.host_server.specs.Outcomes.{Outcome, AreRequired, commit_outcome, undone, upload_outcome}
+use Rattle.host_server.specs.Outcomes.{Outcome, AreRequired, CommandMayLeave, UndoMayLeave, UploadMayLeave, commit_outcome, undone, upload_outcome}
 use Rattle.host_server.specs.Reasons.{commit_refusal, undo_refusal}
 
 -- the fields of a reply, and its body as GET has it
@@ -162,6 +162,33 @@ IsReplyOnRoute close host parts body (Ok route) answer next = IsReplyToAsk close
 -- the reply to a request of these parts and this body, which closes the connection or not, and what the host has then
 abbrev pub IsReply : Bool → Host → RequestParts → List ℕ → Answer → Host → Type 0
 IsReply close host parts body answer next = IsReplyOnRoute close host parts body (routed parts.method parts.target) answer next
+
+-- ---- where memory gives out
+
+abbrev pub AskMayLeave : Host → List ℕ → Result Ask Refusal → Host → Type 0
+AskMayLeave host body (Err refusal) next = next ≡ host
+AskMayLeave host body (Ok (ask.Read site path)) next = next ≡ host
+AskMayLeave host body (Ok (ask.Command command)) next = CommandMayLeave host command next
+AskMayLeave host body (Ok (ask.Undo site change)) next = UndoMayLeave host site change next
+AskMayLeave host body (Ok (ask.Upload deploy path)) next = UploadMayLeave host deploy path body next
+
+abbrev pub RouteMayLeave : Host → List ℕ → Result Route Refusal → Host → Type 0
+RouteMayLeave host body (Err refusal) next = next ≡ host
+RouteMayLeave host body (Ok route) next = AskMayLeave host body (asked route body) next
+
+-- what a request may leave: what was there; or what it does first, an Open or an upload; or all that it does
+abbrev pub MayLeave : Host → RequestParts → List ℕ → Host → Type 0
+MayLeave host parts body next = RouteMayLeave host body (routed parts.method parts.target) next
+
+abbrev pub IsWithoutMemory : Bool → Host → RequestParts → List ℕ → Answer → Host → Type 0
+IsWithoutMemory close host parts body answer next = (answer ≡ refused_answer close OutOfMemory) × MayLeave host parts body next
+
+-- the answer to a request: the reply to it, or that there is no memory
+abbrev pub IsAnswer : Bool → Host → RequestParts → List ℕ → Answer → Host → Type 0
+IsAnswer close host parts body answer next =
+    IsReply close host parts body answer next ⊎ IsWithoutMemory close host parts body answer next
+
+-- ---- what is sent
 
 -- whether the connection is closed behind the reply: where the request asks for it, and at the last that is answered
 abbrev pub closes : RequestParts → Bool → Bool

@@ -5,7 +5,7 @@ use Rattle.std.specs.List.{concat}
 use Rattle.http_wire.specs.Fields.{AnnouncesBody}
 use Rattle.http_wire.specs.HeadText.{IsHeadText, CutShort, head_limit}
 use Rattle.http_wire.specs.Requests.{RequestParts, Says}
-use Rattle.http_wire.specs.Wires.{TakesHead, RefusesHead}
+use Rattle.http_wire.specs.Wires.{HasWholeHead, TakesHead, RefusesHead}
 use Rattle.host_api.specs.Limits.{body_limit}
 use Rattle.host_api.specs.declared.refusals.Refusal.TheVariants.{BadHead, OutOfMemory}
 use Rattle.host_server.specs.declared.connections.ConnectionFault.{ConnectionFault}
@@ -13,7 +13,7 @@ use Rattle.host_server.specs.declared.connections.ConnectionFault.TheVariants as
 use Rattle.host_server.specs.declared.connections.Next.{Next}
 use Rattle.host_server.specs.declared.connections.Next.TheVariants as next_is
 use Rattle.host_server.specs.Hosts.{Host}
-use Rattle.host_server.specs.Replies.{Answer, IsReply, closes, refused_answer, sent_for, sent_text}
+use Rattle.host_server.specs.Replies.{Answer, IsAnswer, closes, refused_answer, sent_for, sent_text}
 
 -- the bytes of a stream that are left, where they are known
 abbrev pub Stream : Type 0
@@ -40,7 +40,7 @@ pub record IsAnswered (host : Host) (is_last close : Bool) (old : Stream) (sent 
   pub request : TakesRequest old new parts body
   pub closing : closes parts is_last ≡ close
   pub answer : Answer
-  pub reply : IsReply close host parts body answer next
+  pub is_answer : IsAnswer close host parts body answer next
   pub sent_is : sent ≡ sent_for parts.method answer
 
 -- the head is not one that is served, and the reply has its body, since the method is not known
@@ -57,12 +57,29 @@ pub record IsBodyRefused (old : Stream) (sent : List ℕ) : Type 0 where
   pub none : (n : ℕ) → ¬ (AnnouncesBody parts.fields (limit_of parts) n)
   pub sent_is : sent ≡ sent_for parts.method (refused_answer true BadHead)
 
+-- there is no memory for the head that stands there, and the reply has its body, since the method is not known
+abbrev pub IsHeadWithoutMemory : Stream → List ℕ → Type 0
+IsHeadWithoutMemory old sent = HasWholeHead old × (sent ≡ sent_text false (refused_answer true OutOfMemory))
+
+-- there is no memory for the body that the head announces
+pub record IsBodyWithoutMemory (old : Stream) (sent : List ℕ) : Type 0 where
+  pub parts : RequestParts
+  pub text : List ℕ
+  pub new : Stream
+  pub head : TakesHead old new text
+  pub says : Says text parts
+  pub size : ℕ
+  pub announced : AnnouncesBody parts.fields (limit_of parts) size
+  pub sent_is : sent ≡ sent_for parts.method (refused_answer true OutOfMemory)
+
+-- the request is not read whole, and this is sent
+abbrev pub IsNotRead : Stream → List ℕ → Type 0
+IsNotRead old sent = IsHeadRefused old sent ⊎ IsBodyRefused old sent ⊎ IsHeadWithoutMemory old sent ⊎ IsBodyWithoutMemory old sent
+
 -- the exchange behind which the connection ends
 abbrev pub IsLast : Host → Bool → Stream → List ℕ → Host → Type 0
 IsLast host is_last old sent next =
-    ((new : Stream) × IsAnswered host is_last true old sent next new)
-    ⊎ (IsHeadRefused old sent × (next ≡ host))
-    ⊎ (IsBodyRefused old sent × (next ≡ host))
+    ((new : Stream) × IsAnswered host is_last true old sent next new) ⊎ (IsNotRead old sent × (next ≡ host))
 
 -- any other exchange
 abbrev pub IsExchange : Host → Bool → Stream → List ℕ → Host → Stream → Type 0
@@ -83,26 +100,12 @@ pub record IsBodyCut (old : Stream) : Type 0 where
 abbrev pub IsCut : Stream → Type 0
 IsCut old = IfSome old CutShort ⊎ IsBodyCut old
 
--- ---- where there was no memory
-
--- the reply that says so, with its body or without it, and whatever follows it
-pub record IsNoMemory (sent : List ℕ) : Type 0 where
-  pub close : Bool
-  pub head_only : Bool
-  pub more : List ℕ
-  pub sent_is : sent ≡ sent_text head_only (refused_answer close OutOfMemory) ++ more
-
 -- ---- where a write failed
 
 -- a front of the reply was sent, whose command stands
 pub record IsFrontSent (host : Host) (is_last : Bool) (old : Stream) (sent : List ℕ) (next : Host) : Type 0 where
   pub rest : List ℕ
   pub whole : ((new : Stream) × IsExchange host is_last old (sent ++ rest) next new) ⊎ IsLast host is_last old (sent ++ rest) next
-
--- a front of the reply that says that there was no memory
-pub record IsFrontOfNoMemory (sent : List ℕ) : Type 0 where
-  pub rest : List ℕ
-  pub whole : IsNoMemory (sent ++ rest)
 
 -- ---- a whole connection
 
@@ -119,16 +122,15 @@ AreServed n host old (sent ∷ more) next new =
 -- how a connection ended that had come to the request of number n: what was sent since, and what the host has
 abbrev pub Ends : (read_fails write_fails : Type 0) → Result (Unit {0}) ConnectionFault → ℕ → Host → Stream → List ℕ → Host → Type 0
 Ends read_fails write_fails (Ok done) n host old sent next =
-    ((sent ≡ []) × IsCut old × (next ≡ host)) ⊎ IsLast host (is_last_at n) old sent next ⊎ IsNoMemory sent
-Ends read_fails write_fails (Err fault.InputFault) n host old sent next =
-    read_fails × (((sent ≡ []) × (next ≡ host)) ⊎ IsNoMemory sent)
+    ((sent ≡ []) × IsCut old × (next ≡ host)) ⊎ IsLast host (is_last_at n) old sent next
+Ends read_fails write_fails (Err fault.InputFault) n host old sent next = read_fails × (sent ≡ []) × (next ≡ host)
 Ends read_fails write_fails (Err fault.OutputFault) n host old sent next =
-    write_fails × (IsFrontSent host (is_last_at n) old sent next ⊎ IsNoMemory sent ⊎ IsFrontOfNoMemory sent)
+    write_fails × IsFrontSent host (is_last_at n) old sent next
 Ends read_fails write_fails (Err fault.OutOfMemory) n host old sent next = (n ≡ 1) × (sent ≡ []) × (next ≡ host)
 
 -- What a connection does: it sends the replies to the requests of its stream, each over what the host has by then,
 -- up to the first behind which it ends. It ends earlier only where the stream does, where a read or a write fails, or
--- where there is no memory; from the first reply on that says so, nothing is said of what follows, nor of the host.
+-- where there is no memory to begin.
 pub record Serves (read_fails write_fails : Type 0) (result : Result (Unit {0}) ConnectionFault)
     (host next : Host) (stream held new_held : Stream) : Type 0 where
   pub replies : List (List ℕ)
@@ -141,19 +143,11 @@ pub record Serves (read_fails write_fails : Type 0) (result : Result (Unit {0}) 
 
 -- ---- the parts of an exchange
 
--- a head or its body is refused, and this is sent
-abbrev pub IsRefused : Stream → List ℕ → Type 0
-IsRefused old sent = IsHeadRefused old sent ⊎ IsBodyRefused old sent
-
 -- the reply to a request is this
-pub record IsSentFor (close : Bool) (host : Host) (parts : RequestParts) (body sent : List ℕ) (next : Host) : Type 0 where
+pub record IsSent (close : Bool) (host : Host) (parts : RequestParts) (body sent : List ℕ) (next : Host) : Type 0 where
   pub answer : Answer
-  pub reply : IsReply close host parts body answer next
+  pub is_answer : IsAnswer close host parts body answer next
   pub sent_is : sent ≡ sent_for parts.method answer
-
--- it is sent, or a reply that says that there was no memory
-abbrev pub IsSent : Bool → Host → RequestParts → List ℕ → List ℕ → Host → Type 0
-IsSent close host parts body sent next = IsSentFor close host parts body sent next ⊎ IsNoMemory sent
 
 -- what the answering of a request does
 abbrev pub Exchanges : (write_fails : Type 0) → Result Next ConnectionFault → Bool → Host → RequestParts → List ℕ → Stream → Stream → Host → Type 0
@@ -169,11 +163,11 @@ Exchanges write_fails (Err fault.OutOfMemory) close host parts body held new_hel
 -- what the turn of a connection does
 abbrev pub Turns : (read_fails write_fails : Type 0) → Result Next ConnectionFault → Bool → Host → Stream → Stream → Stream → Stream → Host → Type 0
 Turns read_fails write_fails (Ok next_is.Exchange) is_last host old new held new_held next =
-    (sent : List ℕ) × (IsExchange host is_last old sent next new ⊎ IsNoMemory sent) × Appends held new_held sent
+    (sent : List ℕ) × IsExchange host is_last old sent next new × Appends held new_held sent
 Turns read_fails write_fails (Ok next_is.End) is_last host old new held new_held next =
-    (sent : List ℕ) × (((sent ≡ []) × IsCut old × (next ≡ host)) ⊎ IsLast host is_last old sent next ⊎ IsNoMemory sent) × Appends held new_held sent
+    (sent : List ℕ) × (((sent ≡ []) × IsCut old × (next ≡ host)) ⊎ IsLast host is_last old sent next) × Appends held new_held sent
 Turns read_fails write_fails (Err fault.InputFault) is_last host old new held new_held next =
     read_fails × (next ≡ host) × Appends held new_held []
 Turns read_fails write_fails (Err fault.OutputFault) is_last host old new held new_held next =
-    write_fails × ((sent : List ℕ) × (IsFrontSent host is_last old sent next ⊎ IsNoMemory sent ⊎ IsFrontOfNoMemory sent) × Appends held new_held sent)
+    write_fails × ((sent : List ℕ) × IsFrontSent host is_last old sent next × Appends held new_held sent)
 Turns read_fails write_fails (Err fault.OutOfMemory) is_last host old new held new_held next = ⊥

@@ -7,9 +7,9 @@ ghost use Rattle.site_change.specs.declared.commands.Command.{Command as Change}
 ghost use Rattle.host_server.specs.Bodies.{answer_of};
 ghost use Rattle.host_server.specs.Hosts.{state_of, with_entries};
 ghost use Rattle.range_spec.specs.Chosen.{LiesWithin, intervals_in};
-ghost use Rattle.host_server.specs.Answers.{Answers, Grows, Gives, Reads, RepliesBy};
+ghost use Rattle.host_server.specs.Answers.{Grows, Gives, Reads, RepliesBy};
 ghost use Rattle.host_server.specs.Replies as spec;
-ghost use Rattle.host_server.specs.Replies.{AsksRange, told_answer};
+ghost use Rattle.host_server.specs.Replies.{AsksRange, IsAnswer, told_answer};
 
 use crate::houses::SoloHouse;
 use crate::replies::Reply;
@@ -111,10 +111,10 @@ fn respond(
     }
 }
 
-/// The reply to a request, and what it does to the host. Where there was no memory the reply says so, and what was
-/// there stays.
+/// The reply to a request, and what it does to the host. Where there is no memory the reply says so; then the request
+/// may have done nothing, or what it does first (an Open without its publish, an upload), or all that it does.
 pub fn answer(alloc: Global, request: Request, house: &mut SoloHouse) -> Reply
-    ensures replied { Answers (spec.closes request.head request.is_last) house.old request.head request.body.items (answer_of result) house.new }
+    ensures replied { IsAnswer (spec.closes request.head request.is_last) house.old request.head request.body.items (answer_of result) house.new }
     ensures grows { Grows house.old house.new }
     // Where an accepted change is undone next, the state is the one before it.
     ensures undone { (before : List Line) (command : Change) (site : Site)

@@ -1,12 +1,13 @@
 //! What a host tells of changes, undos and uploads.
-ghost use Rattle.std.specs.Prelude.{◌≡◌, ◌⊎◌, OnErr, Err};
+ghost use Rattle.std.specs.Prelude.{◌≡◌, ◌⊎◌, None, OnErr, Err, IsErrOf};
 ghost use Rattle.site_change.specs.declared.commands.Command.TheVariants as command;
 ghost use Rattle.change_undo.specs.declared.entries.Entry.TheVariants as entry;
 ghost use Rattle.host_server.specs.Answers.{Grows};
 ghost use Rattle.host_server.specs.Hosts.{with_entry, with_upload};
 ghost use Rattle.host_server.specs.Outcomes;
-ghost use Rattle.host_server.specs.Outcomes.{published_if_ready, undone, Publishes, Does, DoesCommit};
+ghost use Rattle.host_server.specs.Outcomes.{entered, published_if_ready, undone, Publishes, Does, DoesCommit};
 ghost use Rattle.host_server.specs.Reasons;
+ghost use Rattle.host_server.specs.Reasons.{commit_refusal};
 
 use crate::houses::SoloHouse;
 use host_api::{Digests, Refusal, Told};
@@ -54,8 +55,8 @@ impl SoloHouse {
         auto: bool,
     ) -> Result<Told, Refusal>
         ensures done { DoesCommit result self.new self.old (command.Open site files auto) }
-        ensures stands { OnErr result ((self.new ≡ self.old)
-            ⊎ (self.new ≡ with_entry self.old (entry.Change (command.Open site files auto)))) }
+        ensures stands { let opening = command.Open site files auto in
+            OnErr result ((self.new ≡ self.old) ⊎ (self.new ≡ entered self.old opening (commit_refusal self.old opening))) }
         ensures grows { Grows self.old self.new }
     {
         let draft = Draft { auto, files };
@@ -75,7 +76,7 @@ impl SoloHouse {
     /// command may stand.
     pub fn change(&mut self, alloc: Global, command: Command) -> Result<Told, Refusal>
         ensures done { DoesCommit result self.new self.old command }
-        ensures stands { OnErr result ((self.new ≡ self.old) ⊎ (self.new ≡ with_entry self.old (entry.Change command))) }
+        ensures stands { OnErr result ((self.new ≡ self.old) ⊎ (self.new ≡ entered self.old command (commit_refusal self.old command))) }
         ensures grows { Grows self.old self.new }
     {
         match command {
@@ -95,6 +96,7 @@ impl SoloHouse {
         change: u64,
     ) -> Result<Told, Refusal>
         ensures done { Does result self.new (undone self.old site.now change (Reasons.undo_refusal self.old site.now change)) }
+        ensures memory { IsErrOf result Refusal.OutOfMemory → Reasons.undo_refusal self.old site.now change ≡ None }
         ensures err { OnErr result (self.new ≡ self.old) }
         ensures grows { Grows self.old self.new }
     {

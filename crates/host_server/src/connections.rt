@@ -5,10 +5,11 @@ ghost use Rattle.std.specs.Str.{bytes_eq};
 ghost use Rattle.http_wire.specs.Fields.{AnnouncesBody};
 ghost use Rattle.http_wire.specs.HeadText.{CutShort};
 ghost use Rattle.http_wire.specs.Wires.{ServesHead};
-ghost use Rattle.host_api.specs.declared.refusals.Refusal.TheVariants.{BadHead};
+ghost use Rattle.host_api.specs.declared.refusals.Refusal.TheVariants.{BadHead, OutOfMemory};
+ghost use Rattle.host_server.specs.Answers.{Grows};
 ghost use Rattle.host_server.specs.Bodies.{answer_of};
 ghost use Rattle.host_server.specs.Replies.{closes, refused_answer, sent_text};
-ghost use Rattle.host_server.specs.Serving.{limit_of, TakesRequest, IsCut, IsHeadRefused, IsRefused, Exchanges, Turns, Serves};
+ghost use Rattle.host_server.specs.Serving.{limit_of, TakesRequest, IsCut, IsHeadRefused, IsHeadWithoutMemory, IsNotRead, Exchanges, Turns, Serves};
 
 use crate::answers::{Request, answer};
 use crate::houses::SoloHouse;
@@ -62,6 +63,8 @@ fn read_head<S: Source>(alloc: Global, wire: &mut Wire<S>) -> Result<Head, Stop>
     ensures failed { IsErrOf result Stop.ReadFault → S.may_fail }
     ensures bad { (head_only : Bool) → IsErrOf result (Stop.BadHead head_only)
         → IsHeadRefused wire.old (sent_text head_only (refused_answer true BadHead)) }
+    ensures memory { (head_only : Bool) → IsErrOf result (Stop.OutOfMemory head_only)
+        → IsHeadWithoutMemory wire.old (sent_text head_only (refused_answer true OutOfMemory)) }
 {
     match wire.read_head(alloc) {
         Ok(head) => Ok(head),
@@ -89,6 +92,9 @@ fn read_body<S: Source>(alloc: Global, wire: &mut Wire<S>, head: &Head) -> Resul
     ensures bad { (head_only : Bool) → IsErrOf result (Stop.BadHead head_only)
         → (head_only ≡ bytes_eq head.now.method (codes "HEAD"))
         × ((n : ℕ) → ¬ (AnnouncesBody head.now.fields (limit_of head.now) n)) }
+    ensures memory { (head_only : Bool) → IsErrOf result (Stop.OutOfMemory head_only)
+        → (head_only ≡ bytes_eq head.now.method (codes "HEAD"))
+        × ((size : ℕ) × AnnouncesBody head.now.fields (limit_of head.now) size) }
 {
     let limit = body_limit(head.method().as_str(), head.target());
     let Ok(size) = check_body(head, limit) else {
@@ -117,7 +123,9 @@ fn read_request<S: Source>(
     ensures ended { IsErrOf result Stop.Ended → IsCut wire.old }
     ensures failed { IsErrOf result Stop.ReadFault → S.may_fail }
     ensures bad { (head_only : Bool) → IsErrOf result (Stop.BadHead head_only)
-        → IsRefused wire.old (sent_text head_only (refused_answer true BadHead)) }
+        → IsNotRead wire.old (sent_text head_only (refused_answer true BadHead)) }
+    ensures memory { (head_only : Bool) → IsErrOf result (Stop.OutOfMemory head_only)
+        → IsNotRead wire.old (sent_text head_only (refused_answer true OutOfMemory)) }
 {
     let head = read_head(alloc, wire)?;
     let body = read_body(alloc, wire, &head)?;
@@ -151,6 +159,7 @@ fn exchange<W: Sink>(
 ) -> Result<Next, ConnectionFault>
     ensures exchanged { Exchanges W.may_fail result (closes request.head request.is_last) house.old request.head
         request.body.items (W.held sink.old) (W.held sink.new) house.new }
+    ensures grows { Grows house.old house.new }
 {
     let head_only = is_head_only(&request.head);
     let close = request.closes();
@@ -173,6 +182,7 @@ fn serve_next<S: Source, W: Sink>(
 ) -> Result<Next, ConnectionFault>
     ensures turned { Turns S.may_fail W.may_fail result is_last house.old wire.old wire.new (W.held sink.old)
         (W.held sink.new) house.new }
+    ensures grows { Grows house.old house.new }
 {
     match read_request(alloc, wire, is_last) {
         Ok(request) => exchange(alloc, sink, house, request),
@@ -198,6 +208,7 @@ pub fn serve_connection<S: Source + Drop, W: Sink>(
     house: &mut SoloHouse,
 ) -> Result<(), ConnectionFault>
     ensures served { Serves S.may_fail W.may_fail result house.old house.new (S.left source) (W.held sink.old) (W.held sink.new) }
+    ensures grows { Grows house.old house.new }
 {
     let Ok(mut wire) = Wire::new(alloc, source) else {
         return Err(ConnectionFault::OutOfMemory);

@@ -200,31 +200,23 @@ POST /api/v1/sites/one/undo {"change":1}
 }
 
 #[test]
-fn refuses_uploads(rt: HostRuntime) -> Result<(), Fail> {
+fn refuses_an_undo_behind_a_change_of_another_site(rt: HostRuntime) -> Result<(), Fail> {
     assert_script(
         &rt,
         rt.alloc(),
         r#"
-PUT /api/v1/deploys/1/files/a.txt hello
-404 Not Found {"error":"NoSuchDeploy"}
-POST /api/v1/sites/one/deploys {"files":{"a.txt":"H"}}
-200 OK {"id":"1","published":null,"required":["H"]}
-PUT /api/v1/deploys/2/files/a.txt hello
-404 Not Found {"error":"NoSuchDeploy"}
-PUT /api/v1/deploys/0/files/a.txt hello
-404 Not Found {"error":"NoSuchDeploy"}
-PUT /api/v1/deploys/01/files/a.txt hello
-404 Not Found {"error":"NoSuchDeploy"}
-PUT /api/v1/deploys/1/files/b.txt hello
-404 Not Found {"error":"NotListed"}
-PUT /api/v1/deploys/1/files/a.txt
-422 Unprocessable Entity {"error":"WrongDigest"}
-PUT /api/v1/deploys/1/files/a.txt hello
-200 OK {"published":2,"sha":"H"}
-PUT /api/v1/deploys/2/files/a.txt hello
-404 Not Found {"error":"NoSuchDeploy"}
-PUT /api/v1/deploys/1/files/b.txt hello
-404 Not Found {"error":"NotListed"}
+POST /api/v1/sites/one/deploys {"files":{}}
+200 OK {"id":"1","published":2,"required":[]}
+POST /api/v1/sites/two/deploys {"files":{},"draft":true}
+200 OK {"id":"3","published":null,"required":[]}
+POST /api/v1/sites/one/undo {"change":2}
+409 Conflict {"error":"NotNewest"}
+POST /api/v1/sites/one/undo {"change":3}
+404 Not Found {"error":"NoSuchChange"}
+POST /api/v1/sites/two/undo {"change":3}
+200 OK {"entry":4}
+POST /api/v1/sites/one/undo {"change":2}
+200 OK {"entry":5}
 "#,
     )
 }

@@ -1,16 +1,16 @@
 //! Uploads to deploys.
-ghost use Rattle.std.specs.Prelude.{◌≡◌, ◌⊎◌, OnErr, Err, option_copied};
+ghost use Rattle.std.specs.Prelude.{◌≡◌, ◌⊎◌, Ok, Err, OnErr, IfOk, IfErr, IsOk, IsErrOf, option_copied};
 ghost use Rattle.change_undo.specs.Histories.{entry_at};
 ghost use Rattle.host_server.specs.Answers.{Grows};
 ghost use Rattle.host_server.specs.Hosts.{state_of, with_upload};
-ghost use Rattle.host_server.specs.Outcomes.{Does, upload_outcome};
+ghost use Rattle.host_server.specs.Outcomes.{Does, kept, upload_outcome};
 ghost use Rattle.host_server.specs.Outcomes;
 ghost use Rattle.site_state.specs.States.{draft_at, kept_at};
 
 use crate::houses::SoloHouse;
 use change_undo::Entry;
 use host_api::{Refusal, Told};
-use host_names::{Digest, FilePath, SiteName};
+use host_names::{BlobInfo, Digest, FilePath, SiteName};
 use site_change::Command;
 use std::alloc::Global;
 
@@ -38,16 +38,18 @@ impl SoloHouse {
         Some(tree.get(path).map(|file| file.digest()))
     }
 
-    /// Whether the bytes may be uploaded as the file of a path of a deploy: the site of the deploy, and the digest that
-    /// it lists.
+    /// Whether the bytes may be uploaded as the file of a path of a deploy: the site of the deploy, the digest that it
+    /// lists, and the file.
     fn judge_upload(
         &self,
         number: u64,
         path: &FilePath,
-        bytes: &[u8],
-    ) -> Result<(SiteName, Digest), Refusal>
-        ensures { (result ≡ Err Refusal.OutOfMemory)
-            ⊎ (result ≡ Outcomes.judge_upload self.now (Outcomes.site_of_deploy (entry_at self.now.entries number)) number path.now bytes.now) }
+        bytes: Vec<u8>,
+    ) -> Result<(SiteName, Digest, BlobInfo), Refusal>
+        ensures ok { IfOk result (λ (site, digest, file). (Outcomes.judge_upload self.now number path.now bytes.items ≡ Ok (site, digest))
+            × (file ≡ bytes.items)) }
+        ensures refused { IfErr result (λ reason. (Outcomes.judge_upload self.now number path.now bytes.items ≡ Err reason)
+            ⊎ (IsOk (Outcomes.judge_upload self.now number path.now bytes.items) × (reason ≡ Refusal.OutOfMemory))) }
     {
         let Some(site) = self.site_of_deploy(number) else {
             return Err(Refusal::NoSuchDeploy);
@@ -56,10 +58,11 @@ impl SoloHouse {
             return Err(Refusal::NoSuchDeploy);
         };
         let digest = listed.ok_or(Refusal::NotListed)?;
-        if digest != Digest::of_bytes(bytes) {
+        let file = BlobInfo::from(bytes);
+        if digest != file.digest() {
             return Err(Refusal::WrongDigest);
         }
-        Ok((site.clone()?, digest))
+        Ok((site.clone()?, digest, file))
     }
 
     /// Takes the bytes as the file of a path of a deploy, and publishes the deploy if it is ready. Where that fails, the
@@ -72,11 +75,13 @@ impl SoloHouse {
         bytes: Vec<u8>,
     ) -> Result<Told, Refusal>
         ensures done { Does result self.new (upload_outcome self.old number path.now bytes.items) }
-        ensures stands { OnErr result ((self.new ≡ self.old) ⊎ (self.new ≡ with_upload self.old bytes.items)) }
+        ensures memory { IsErrOf result Refusal.OutOfMemory → IsOk (Outcomes.judge_upload self.old number path.now bytes.items) }
+        ensures stands { OnErr result ((self.new ≡ self.old)
+            ⊎ (self.new ≡ kept self.old bytes.items (Outcomes.judge_upload self.old number path.now bytes.items))) }
         ensures grows { Grows self.old self.new }
     {
-        let (site, digest) = self.judge_upload(number, path, bytes.as_slice())?;
-        self.keep(alloc, bytes)?;
+        let (site, digest, file) = self.judge_upload(number, path, bytes)?;
+        self.keep(alloc, file)?;
         let published = self.publish_if_ready(alloc, &site, number)?;
         Ok(Told::Uploaded { published, digest })
     }

@@ -6,16 +6,17 @@ ghost use Rattle.change_undo.specs.declared.entries.Entry.TheVariants as entry;
 ghost use Rattle.host_server.specs.Answers.{Grows};
 ghost use Rattle.host_server.specs.Hosts.{Host, state_of, next_number, with_entry, with_upload, IsLawful};
 ghost use Rattle.host_server.specs.Reasons;
-ghost use Rattle.host_server.specs.Reasons.{commit_refusal};
+ghost use Rattle.host_server.specs.Reasons.{commit_refusal, IsReason};
 
 use crate::reasons::{commit_reason, undo_error_reason};
 use change_undo::{Entry, GREATEST_LIMIT, History};
 use host_api::Refusal;
-use host_names::{MemoryUploads, SiteName};
+use host_names::{BlobInfo, MemoryUploads, SiteName};
 use site_change::Command;
 use site_state::State;
 use std::alloc::Global;
 use std::marker::Model;
+use std::sync::Arc;
 
 /// A host on one thread. Contracts see its entries, their limit, and its uploads; the state is what these give.
 #[derive(Drop)]
@@ -88,7 +89,7 @@ impl SoloHouse {
         ensures number { IfOk result (λ number. number ≡ next_number self.old) }
         ensures accepted { OnOk result (commit_refusal self.old command ≡ None) }
         ensures entries { OnOk result (self.new ≡ with_entry self.old (entry.Change command)) }
-        ensures refused { IfErr result (λ reason. reason ≢ Refusal.OutOfMemory → commit_refusal self.old command ≡ Some reason) }
+        ensures refused { IfErr result (λ reason. IsReason (commit_refusal self.old command) reason) }
         ensures err { OnErr result (self.new ≡ self.old) }
         ensures grows { Grows self.old self.new }
     {
@@ -107,8 +108,7 @@ impl SoloHouse {
         ensures number { IfOk result (λ number. number ≡ next_number self.old) }
         ensures accepted { OnOk result (Reasons.undo_refusal self.old site.now change ≡ None) }
         ensures entries { OnOk result (self.new ≡ with_entry self.old (entry.Undo site.now change)) }
-        ensures refused { IfErr result (λ reason. reason ≢ Refusal.OutOfMemory
-            → Reasons.undo_refusal self.old site.now change ≡ Some reason) }
+        ensures refused { IfErr result (λ reason. IsReason (Reasons.undo_refusal self.old site.now change) reason) }
         ensures err { OnErr result (self.new ≡ self.old) }
         ensures grows { Grows self.old self.new }
     {
@@ -117,16 +117,17 @@ impl SoloHouse {
             .map_err(undo_error_reason)
     }
 
-    /// Adds a file of these bytes to the uploads. Without memory nothing changes.
-    pub(crate) fn keep(&mut self, alloc: Global, bytes: Vec<u8>) -> Result<(), Refusal>
-        ensures ok { OnOk result (self.new ≡ with_upload self.old bytes.items) }
+    /// Adds a file to the uploads. Without memory nothing changes.
+    pub(crate) fn keep(&mut self, alloc: Global, file: BlobInfo) -> Result<(), Refusal>
+        ensures ok { OnOk result (self.new ≡ with_upload self.old file) }
         ensures err { OnErr result (self.new ≡ self.old) }
         ensures memory { IfErr result (λ reason. reason ≡ Refusal.OutOfMemory) }
         ensures grows { Grows self.old self.new }
     {
-        match self.uploads.add(alloc, bytes) {
-            Ok(_) => Ok(()),
-            Err(_) => Err(Refusal::OutOfMemory),
-        }
+        let Ok(file) = Arc::new(alloc, file) else {
+            return Err(Refusal::OutOfMemory);
+        };
+        self.uploads.keep(file)?;
+        Ok(())
     }
 }

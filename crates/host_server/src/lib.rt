@@ -27,6 +27,8 @@ mod solo;
 mod solo_tests;
 #[cfg(test)]
 mod talks;
+#[cfg(test)]
+mod upload_tests;
 
 pub use answers::{Request, answer};
 pub use connections::{ConnectionFault, serve_connection};

@@ -95,6 +95,9 @@ GET /s/one/a.txt
 GET /s/one/a.txt
 200 OK ="H" hello
 + Range: bytes=0-0
+GET /s/one/b.txt
+404 Not Found {"error":"NoSuchFile"}
++ Range: bytes=0-0
 GET /s/one/e.txt
 200 OK ="E" 
 "#,
@@ -121,6 +124,8 @@ HEAD /s/one/b.txt
 404 Not Found {"error":"NoSuchFile"}
 HEAD /s/two/a.txt
 404 Not Found {"error":"NoSuchFile"}
+HEAD /s/one//a.txt
+400 Bad Request {"error":"BadPath"}
 GET /s/one/a.txt
 200 OK ="H" hello
 "#,

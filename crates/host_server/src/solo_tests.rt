@@ -39,6 +39,21 @@ fn ends_well_with_the_stream(rt: HostRuntime) -> Result<(), Fail> {
 }
 
 #[test]
+fn serves_where_options_have_ended_too(rt: HostRuntime) -> Result<(), Fail> {
+    let alloc = rt.alloc();
+    let asked = joined(alloc, &REQUESTS)?;
+    let replies = joined(alloc, &REPLIES)?;
+    let mut out = Vec::new(alloc);
+    let mut errors = Vec::new(alloc);
+    let words = ["solo", "--"].as_slice();
+    let source = asked.as_bytes();
+    let status = run_solo(alloc, words, source, &mut Writing(&mut out), &mut errors);
+    assert_eq!(rt; str::from_utf8(out.as_slice())?, replies.as_str());
+    assert_eq!(rt; (status, errors.is_empty()), (0, true));
+    Ok(())
+}
+
+#[test]
 fn says_which_stream_failed(rt: HostRuntime) -> Result<(), Fail> {
     let alloc = rt.alloc();
     let asked = joined(alloc, &REQUESTS)?;

@@ -21,6 +21,7 @@ returns-in_err-send g c =
       exchanged = subst P (sym is) (cut_exchange g.W.Sink.may_fail close c.args.house.now c.answer-reply.new.house request.head request.body.items
           (sent_text c.is_head_only-head_only.result (answer_of c.answer-reply.result)) (g.W.Sink.held c.args.sink.now) (g.W.Sink.held c.send.new.sink)
           sent c.in_err-send.ensures.fault c.in_err-send.ensures.cause);
+      grows = c.answer-reply.ensures.grows;
     }
 
 pub returns-then-close : goal.returns-then-close
@@ -29,7 +30,7 @@ returns-then-close g c =
     let close = closes request.head request.is_last in
     let sent = is_sent close c.is_head_only-head_only.result c.args.house.now c.answer-reply.new.house request.head request.body.items (answer_of c.answer-reply.result)
     c.is_head_only-head_only.ensures c.answer-reply.ensures.replied in
-    record { exchanged = (sym c.closes-close.ensures ∙ c.if-close.true, (sent_text c.is_head_only-head_only.result (answer_of c.answer-reply.result), sent, c.in_ok-send.ensures.ok)) }
+    record { exchanged = (sym c.closes-close.ensures ∙ c.if-close.true, (sent_text c.is_head_only-head_only.result (answer_of c.answer-reply.result), sent, c.in_ok-send.ensures.ok)); grows = c.answer-reply.ensures.grows }
 
 pub returns : goal.returns
 returns g c =
@@ -37,4 +38,4 @@ returns g c =
     let close = closes request.head request.is_last in
     let sent = is_sent close c.is_head_only-head_only.result c.args.house.now c.answer-reply.new.house request.head request.body.items (answer_of c.answer-reply.result)
     c.is_head_only-head_only.ensures c.answer-reply.ensures.replied in
-    record { exchanged = (sym c.closes-close.ensures ∙ c.if-close.false, (sent_text c.is_head_only-head_only.result (answer_of c.answer-reply.result), sent, c.in_ok-send.ensures.ok)) }
+    record { exchanged = (sym c.closes-close.ensures ∙ c.if-close.false, (sent_text c.is_head_only-head_only.result (answer_of c.answer-reply.result), sent, c.in_ok-send.ensures.ok)); grows = c.answer-reply.ensures.grows }
