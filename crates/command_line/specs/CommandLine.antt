@@ -1,6 +1,9 @@
 -- The commands of the program, and the words that ask for each.
-use Rattle.std.specs.Prelude.{◌≡◌, ◌⊎◌, List, [], ◌∷◌, codes, true}
+use Rattle.std.specs.Prelude.{◌≡◌, ◌≢◌, ◌⊎◌, List, [], ◌∷◌, codes, true}
+use Rattle.std.specs.String.{string_bytes}
 use Rattle.clap.specs.Words.{App, Text, new_app, with_subcommand}
+use Rattle.command_line.specs.declared.Refusal.{Refusal}
+use Rattle.command_line.specs.declared.Refusal.TheVariants.{Shown, OutOfMemory}
 
 -- what a parse reads of the program above its commands: it wants one of them, and answers no word at
 -- all with help
@@ -24,3 +27,8 @@ filehost = with_subcommand wanting (new_app (codes "solo")).top
 -- stands
 abbrev pub AskForSolo : List Text → Type 0
 AskForSolo words = (words ≡ codes "solo" ∷ []) ⊎ (words ≡ codes "solo" ∷ codes "--" ∷ [])
+
+-- where a refusal has a text to show, the text is not empty
+abbrev pub HasText : Refusal → Type 0
+HasText (Shown text) = string_bytes text ≢ []
+HasText OutOfMemory = Unit {0}

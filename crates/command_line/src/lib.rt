@@ -3,7 +3,7 @@
 
 ghost use Rattle.std.specs.Prelude.{◌≡◌, IfErr, IfOk, map};
 ghost use Rattle.clap.specs.Words.{app_of, kind_of};
-ghost use Rattle.command_line.specs.CommandLine.{AskForSolo, filehost};
+ghost use Rattle.command_line.specs.CommandLine.{AskForSolo, HasText, filehost};
 ghost use Rattle.command_line.specs.declared.Refusal.TheVariants.{OutOfMemory};
 
 use clap::error::ErrorKind;
@@ -59,6 +59,7 @@ impl From<AllocError> for Refusal {
 pub fn read<S: AsStr>(alloc: Global, words: &[S]) -> Result<Wanted, Refusal>
     ensures taken { AskForSolo (map S.text words.now) → IfErr result (λ e. e ≡ Refusal.OutOfMemory) }
     ensures refused { IfOk result (λ wanted. (wanted ≡ Wanted.Solo) × AskForSolo (map S.text words.now)) }
+    ensures told { IfErr result HasText }
 {
     let command = commands(alloc)?;
     match command.try_get_matches_from(words) {
@@ -70,13 +71,15 @@ pub fn read<S: AsStr>(alloc: Global, words: &[S]) -> Result<Wanted, Refusal>
 /// What is shown of an error of the parse.
 fn make_refusal(alloc: Global, error: &Error) -> Refusal
     ensures memory { kind_of error.now ≡ ErrorKind.OutOfMemory → result ≡ Refusal.OutOfMemory }
+    ensures told { HasText result }
 {
     if error.kind() == ErrorKind::OutOfMemory {
         return Refusal::OutOfMemory;
     }
+    // `clap` doesn't promise that its text says anything. An empty one counts as one that could not be made.
     match error.to_string(alloc) {
-        Ok(text) => Refusal::Shown(text),
-        Err(_) => Refusal::OutOfMemory,
+        Ok(text) if !text.is_empty() => Refusal::Shown(text),
+        _ => Refusal::OutOfMemory,
     }
 }
 

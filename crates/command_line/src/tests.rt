@@ -1,6 +1,7 @@
 //! The texts that no clause tells of, and that the command line is read while there is memory.
 use crate::{Refusal, Wanted, read};
 use std::process::Abort;
+use std::test::Fail;
 
 /// The text that is shown for these words.
 fn shown<R: AllocGlobal + Abort>(rt: &R, words: &[&str]) -> String {
@@ -81,4 +82,14 @@ fn shows_what_is_wrong(rt: HostRuntime) {
         ["--port"].as_slice(),
         ["error:", "'--port'", usage].as_slice(),
     );
+}
+
+#[test]
+fn displays_refusals(rt: HostRuntime) -> Result<(), Fail> {
+    let alloc = rt.alloc();
+    let shown = Refusal::Shown(String::from_str(alloc, "error: 'a'\n")?);
+    assert_eq!(rt; format!(in alloc; "{shown}")?.as_str(), "error: 'a'\n");
+    let full = Refusal::OutOfMemory;
+    assert_eq!(rt; format!(in alloc; "{full}")?.as_str(), "memory ran out");
+    Ok(())
 }
