@@ -1,5 +1,5 @@
 -- The objects that bodies are.
-use Rattle.std.proofs.Common.{◌≡◌, ℕ, List, Option, None, refl}
+use Rattle.std.proofs.Common.{◌≡◌, ℕ, true, List, Option, None, refl}
 use Rattle.std.specs.Prelude.{option_and_then}
 use Rattle.std.specs.Str.{IsUtf8, is_utf8}
 use Rattle.std.proofs.lemmas.Bool.{false_from_ne_true}
@@ -12,6 +12,10 @@ use Rattle.host_api.specs.Bodies.{object_of}
 -- a text has the members of the value that is read
 pub object_of_text : (body text : List ℕ) (found : Option Data) → text ≡ body → IsUtf8 body → read text ≡ found → object_of body ≡ option_and_then as_object found
 object_of_text body text found same utf8 is = rw (is_utf8-from_IsUtf8 body utf8, ← same, is) refl
+
+-- what was read as text is UTF-8
+pub text_is_utf8 : (body : List ℕ) → IsUtf8 body → is_utf8 body ≡ true
+text_is_utf8 body utf8 = is_utf8-from_IsUtf8 body utf8
 
 -- what is no text has none
 pub object_of_bytes : (body : List ℕ) → (IsUtf8 body → ⊥) → object_of body ≡ None

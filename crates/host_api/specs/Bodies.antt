@@ -122,3 +122,10 @@ asked (route.Read name path) body = Ok (ask.Read name path)
 asked (route.Open name) body = open_ask name body
 asked (route.Undo name) body = undo_ask name body
 asked (route.Upload n path) body = Ok (ask.Upload n path)
+
+-- whether the body is parsed, which takes memory: it is text, and that of an opening or an undo
+abbrev pub is_parsed : Route → List ℕ → Bool
+is_parsed (route.Read name path) body = false
+is_parsed (route.Open name) body = is_utf8 body
+is_parsed (route.Undo name) body = is_utf8 body
+is_parsed (route.Upload n path) body = false

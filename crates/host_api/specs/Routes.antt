@@ -101,9 +101,9 @@ routed_by method path (Some (k, bindings)) =
 abbrev pub routed : List ℕ → List ℕ → Result Route Refusal
 routed method target = routed_by method (path_of target) (found_in rows (path_of target))
 
--- whether a file's path was to be read: what comes before takes no memory
-abbrev pub takes_path : Result Route Refusal → Bool
-takes_path (Ok (route.Read name path)) = true
-takes_path (Ok (route.Upload deploy path)) = true
-takes_path (Err BadPath) = true
-takes_path other = false
+-- whether the path of a file was to be read: what comes before that, as the test for `#`, takes no memory
+abbrev pub takes_path : List ℕ → Result Route Refusal → Bool
+takes_path path (Ok (route.Read name file)) = true
+takes_path path (Ok (route.Upload deploy file)) = true
+takes_path path (Err BadPath) = not (has_hash path)
+takes_path path other = false

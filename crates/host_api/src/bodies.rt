@@ -1,6 +1,7 @@
 //! What the body of a request asks for.
-ghost use Rattle.std.specs.Prelude.{◌≡◌, ◌≢◌, Ok, Err, IfOk, IfErr};
-ghost use Rattle.host_api.specs.Bodies.{asked, open_ask, undo_ask};
+ghost use Rattle.std.specs.Prelude.{◌≡◌, ◌≢◌, Ok, Err, IsTrue, IfOk, IfErr, IsErrOf};
+ghost use Rattle.std.specs.Str.{is_utf8};
+ghost use Rattle.host_api.specs.Bodies.{asked, open_ask, undo_ask, is_parsed};
 
 use crate::changes::change_of;
 use crate::documents::document;
@@ -29,6 +30,7 @@ fn open(alloc: Global, site: SiteName, body: &[u8]) -> Result<Ask, Refusal>
     ensures ok { IfOk result (λ ask. open_ask site body.now ≡ Ok ask) }
     ensures refused { IfErr result (λ refusal. refusal ≢ Refusal.OutOfMemory →
         open_ask site body.now ≡ Err refusal) }
+    ensures memory { IsErrOf result Refusal.OutOfMemory → IsTrue (is_utf8 body.now) }
 {
     let body = document(alloc, body)?;
     let Some(form) = form_of(&body) else {
@@ -44,6 +46,7 @@ fn undo(alloc: Global, site: SiteName, body: &[u8]) -> Result<Ask, Refusal>
     ensures ok { IfOk result (λ ask. undo_ask site body.now ≡ Ok ask) }
     ensures refused { IfErr result (λ refusal. refusal ≢ Refusal.OutOfMemory →
         undo_ask site body.now ≡ Err refusal) }
+    ensures memory { IsErrOf result Refusal.OutOfMemory → IsTrue (is_utf8 body.now) }
 {
     let body = document(alloc, body)?;
     match change_of(&body) {
@@ -56,6 +59,7 @@ fn undo(alloc: Global, site: SiteName, body: &[u8]) -> Result<Ask, Refusal>
 pub fn ask_of(alloc: Global, route: Route, body: &[u8]) -> Result<Ask, Refusal>
     ensures ok { IfOk result (λ ask. asked route body.now ≡ Ok ask) }
     ensures refused { IfErr result (λ refusal. refusal ≢ Refusal.OutOfMemory → asked route body.now ≡ Err refusal) }
+    ensures memory { IsErrOf result Refusal.OutOfMemory → IsTrue (is_parsed route body.now) }
 {
     match route {
         Route::Read { site, path } => Ok(Ask::Read { site, path }),

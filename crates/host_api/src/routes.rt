@@ -88,7 +88,7 @@ fn upload(alloc: Global, path: &str, bindings: Bindings<'_>) -> Result<Route, Re
     ensures refused { IfErr result (λ refusal. refusal ≢ Refusal.OutOfMemory
         → spec.routed_at path.now Kind.Upload (bindings_of bindings.entry) ≡ Err refusal) }
     ensures memory { IsErrOf result Refusal.OutOfMemory
-        → IsTrue (spec.takes_path (spec.routed_at path.now Kind.Upload (bindings_of bindings.entry))) }
+        → IsTrue (takes_path path.now (spec.routed_at path.now Kind.Upload (bindings_of bindings.entry))) }
 {
     if has_hash(path) {
         return Err(Refusal::BadPath);
@@ -106,7 +106,7 @@ fn route_at(alloc: Global, kind: Kind, path: &str, bindings: Bindings<'_>) -> Re
     ensures refused { IfErr result (λ refusal. refusal ≢ Refusal.OutOfMemory
         → spec.routed_at path.now kind (bindings_of bindings.entry) ≡ Err refusal) }
     ensures memory { IsErrOf result Refusal.OutOfMemory
-        → IsTrue (spec.takes_path (spec.routed_at path.now kind (bindings_of bindings.entry))) }
+        → IsTrue (takes_path path.now (spec.routed_at path.now kind (bindings_of bindings.entry))) }
 {
     match kind {
         Kind::Read => {
@@ -128,7 +128,8 @@ fn route_at(alloc: Global, kind: Kind, path: &str, bindings: Bindings<'_>) -> Re
 pub fn route_of(alloc: Global, method: &str, target: &str) -> Result<Route, Refusal>
     ensures ok { IfOk result (λ route. routed method.now target.now ≡ Ok route) }
     ensures refused { IfErr result (λ refusal. refusal ≢ Refusal.OutOfMemory → routed method.now target.now ≡ Err refusal) }
-    ensures memory { IsErrOf result Refusal.OutOfMemory → IsTrue (takes_path (routed method.now target.now)) }
+    ensures memory { IsErrOf result Refusal.OutOfMemory
+        → IsTrue (takes_path (targets.path_of target.now) (routed method.now target.now)) }
 {
     let path = path_of(target);
     let Some((kind, bindings)) = find(path) else {
