@@ -8,11 +8,11 @@ use std::test::Fail;
 /// The SHA-1 of `hello`.
 const HELLO: &str = "aaf4c61ddcc5e8a2dabede0f3b482cd9aea9434d";
 
-/// What a request asks for, in words: of an opening whether it publishes itself, and its files.
+/// What a request asks for, in words: the site, and of an opening whether it publishes itself, and its files.
 fn words(alloc: Global, ask: Ask) -> Result<String, AllocError> {
     match ask {
-        Ask::Command(Command::Open { files, auto, .. }) => {
-            let mut text = format!(in alloc; "auto {auto}")?;
+        Ask::Command(Command::Open { site, files, auto }) => {
+            let mut text = format!(in alloc; "open {site} auto {auto}")?;
             for entry in files.entries() {
                 text.push(' ')?;
                 text.push_str(entry.0.as_str())?;
@@ -21,8 +21,8 @@ fn words(alloc: Global, ask: Ask) -> Result<String, AllocError> {
             }
             Ok(text)
         }
-        Ask::Undo { change, .. } => format!(in alloc; "undo {change}"),
-        Ask::Read { path, .. } => format!(in alloc; "read {path}"),
+        Ask::Undo { site, change } => format!(in alloc; "undo {site} {change}"),
+        Ask::Read { site, path } => format!(in alloc; "read {site} {path}"),
         Ask::Upload { deploy, path } => format!(in alloc; "upload {deploy} {path}"),
         Ask::Command(_) => String::from_str(alloc, "something else"),
     }
@@ -48,14 +48,14 @@ fn undone(alloc: Global, body: &str) -> Result<String, Fail> {
 
 /// Bodies of openings, each behind what it asks for.
 const OPENINGS: &str = r#"
-auto true: {"files":{}}
-auto true:  { "files" : { } }
-auto false: {"files":{},"draft":true}
-auto true: {"files":{},"draft":false}
-auto true: {"files":{},"patch":false}
-auto true: {"files":{},"sites":[null,1.5],"Draft":true}
-auto true: {"files":[],"files":{}}
-auto false: {"draft":1,"files":{},"draft":true}
+open one auto true: {"files":{}}
+open one auto true:  { "files" : { } }
+open one auto false: {"files":{},"draft":true}
+open one auto true: {"files":{},"draft":false}
+open one auto true: {"files":{},"patch":false}
+open one auto true: {"files":{},"sites":[null,1.5],"Draft":true}
+open one auto true: {"files":[],"files":{}}
+open one auto false: {"draft":1,"files":{},"draft":true}
 BadBody: files
 BadBody: {
 BadBody: []
@@ -103,15 +103,15 @@ fn reads_openings(rt: HostRuntime) -> Result<(), Fail> {
 
 /// The members of `files`, each row behind what it asks for. `H` stands for a digest.
 const LISTINGS: &str = r#"
-auto true /a=H: "a":H
-auto true /a=H: "/a":H
-auto true /a=H: "\u0061":H
-auto true /a=H: "a":"x","a":H
-auto true /a=H: "a":"AAF4C61DDCC5E8A2DABEDE0F3B482CD9AEA9434D"
-auto true /a=H /b=H: "a":H,"b":H
-auto true /a=H /b=H: "b":H,"a":H
-auto true /a=H /b=H: "/b":H,"a":H
-auto true /a=H /b=H: "b":H,"/a":H
+open one auto true /a=H: "a":H
+open one auto true /a=H: "/a":H
+open one auto true /a=H: "\u0061":H
+open one auto true /a=H: "a":"x","a":H
+open one auto true /a=H: "a":"AAF4C61DDCC5E8A2DABEDE0F3B482CD9AEA9434D"
+open one auto true /a=H /b=H: "a":H,"b":H
+open one auto true /a=H /b=H: "b":H,"a":H
+open one auto true /a=H /b=H: "/b":H,"a":H
+open one auto true /a=H /b=H: "b":H,"/a":H
 BadPath: "a//b":H
 BadPath: "":H
 BadPath: "/":H
@@ -170,29 +170,29 @@ fn reads_listings(rt: HostRuntime) -> Result<(), Fail> {
 
 /// Bodies of undos, each behind what it asks for.
 const UNDOS: &str = r#"
-undo 1: {"change":1}
-undo 1: {"change":"1"}
-undo 1000000: {"change":1000000}
-undo 1000000: {"change":"1000000"}
-undo 3: {"change":null,"change":3,"other":[]}
-undo 0: {"change":1000001}
-undo 0: {"change":"1000001"}
-undo 0: {"change":18446744073709551616}
-undo 0: {"change":"18446744073709551617"}
-undo 0: {"change":0}
-undo 0: {"change":-0}
-undo 0: {"change":-1}
-undo 0: {"change":2.0}
-undo 0: {"change":2e0}
-undo 0: {"change":"007"}
-undo 0: {"change":"0"}
-undo 0: {"change":"+1"}
-undo 0: {"change":"-1"}
-undo 0: {"change":" 1"}
-undo 0: {"change":"1 "}
-undo 0: {"change":"2.0"}
-undo 0: {"change":"one"}
-undo 0: {"change":""}
+undo one 1: {"change":1}
+undo one 1: {"change":"1"}
+undo one 1000000: {"change":1000000}
+undo one 1000000: {"change":"1000000"}
+undo one 3: {"change":null,"change":3,"other":[]}
+undo one 0: {"change":1000001}
+undo one 0: {"change":"1000001"}
+undo one 0: {"change":18446744073709551616}
+undo one 0: {"change":"18446744073709551617"}
+undo one 0: {"change":0}
+undo one 0: {"change":-0}
+undo one 0: {"change":-1}
+undo one 0: {"change":2.0}
+undo one 0: {"change":2e0}
+undo one 0: {"change":"007"}
+undo one 0: {"change":"0"}
+undo one 0: {"change":"+1"}
+undo one 0: {"change":"-1"}
+undo one 0: {"change":" 1"}
+undo one 0: {"change":"1 "}
+undo one 0: {"change":"2.0"}
+undo one 0: {"change":"one"}
+undo one 0: {"change":""}
 BadBody: {"change":null}
 BadBody: {"change":true}
 BadBody: {"change":[]}
@@ -226,7 +226,7 @@ fn leaves_other_bodies_alone(rt: HostRuntime) -> Result<(), Fail> {
     let site = SiteName::new("one")?;
     let path = FilePath::read(alloc, "a")?;
     let read = answer(alloc, Route::Read { site, path }, b"{")?;
-    assert_eq!(rt; read.as_str(), "read /a");
+    assert_eq!(rt; read.as_str(), "read one /a");
     let path = FilePath::read(alloc, "b")?;
     let upload = answer(alloc, Route::Upload { deploy: 7, path }, b"\xff")?;
     assert_eq!(rt; upload.as_str(), "upload 7 /b");
@@ -249,7 +249,10 @@ fn nested(alloc: Global, depth: usize) -> Result<String, AllocError> {
 #[test]
 fn reads_up_to_127_levels(rt: HostRuntime) -> Result<(), Fail> {
     let deepest = nested(rt.alloc(), 127)?;
-    assert_eq!(rt; opened(rt.alloc(), deepest.as_str())?.as_str(), "auto true");
+    assert_eq!(rt;
+        opened(rt.alloc(), deepest.as_str())?.as_str(),
+        "open one auto true"
+    );
     let deeper = nested(rt.alloc(), 128)?;
     assert_eq!(rt; opened(rt.alloc(), deeper.as_str())?.as_str(), "BadBody");
     Ok(())

@@ -227,3 +227,45 @@ fn files_may_be_longer_than_documents(rt: HostRuntime) {
         assert!(rt; body_limit(method, target) == limit, "{method} {target}");
     }
 }
+
+/// The length of the path that a target asks for, if it asks for one: these letters stand between its front and its end.
+fn path_length(
+    alloc: Global,
+    method: &str,
+    front: &str,
+    letters: usize,
+    end: &str,
+) -> Result<Option<usize>, AllocError> {
+    let mut target = String::from_str(alloc, front)?;
+    for _ in 0..letters {
+        target.push('a')?;
+    }
+    target.push_str(end)?;
+    Ok(match route_of(alloc, method, target.as_str()) {
+        Ok(Route::Read { path, .. }) => Some(path.as_str().len()),
+        Ok(Route::Upload { path, .. }) => Some(path.as_str().len()),
+        _ => None,
+    })
+}
+
+#[test]
+fn reads_paths_of_up_to_1024_bytes(rt: HostRuntime) -> Result<(), Fail> {
+    let read = "/s/one/";
+    let upload = "/api/v1/deploys/7/files/";
+    for (method, front, letters, end, want) in [
+        ("GET", read, 1_023, "", Some(1_024)),
+        ("GET", read, 1_024, "", None),
+        ("GET", read, 1_012, "/", Some(1_024)),
+        ("GET", read, 1_013, "/", None),
+        ("GET", read, 1_021, "%41%2e", Some(1_024)),
+        ("GET", read, 1_022, "%41%2e", None),
+        ("GET", read, 1_023, "?query", Some(1_024)),
+        ("PUT", upload, 1_023, "", Some(1_024)),
+        ("PUT", upload, 1_024, "", None),
+        ("PUT", "/api/v1/deploys/7/files//", 1_023, "", Some(1_024)),
+    ] {
+        let length = path_length(rt.alloc(), method, front, letters, end)?;
+        assert!(rt; length == want, "{method} {front} {letters} {end}");
+    }
+    Ok(())
+}
