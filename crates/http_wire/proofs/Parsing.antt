@@ -1,5 +1,5 @@
 -- What the parser of `httparse` says of a head that is served, and the other way round.
-use Rattle.std.proofs.Common.{◌≡◌, ℕ, ◌≤◌, List, [], ◌++◌, length, drop, Some, Ok, sym, ap, ◌∙◌, append-nil, arith, take}
+use Rattle.std.proofs.Common.{◌≡◌, ℕ, ◌≤◌, List, [], ◌++◌, length, drop, Some, Result, Ok, Err, OnErr, refl, sym, ap, ◌∙◌, append-nil, arith, take}
 use Rattle.std.specs.Prelude.{slice_get, IsTrue}
 use Rattle.std.proofs.lemmas.List.{length-take, length-map}
 use Rattle.std.proofs.lemmas.List.Elements.{All-weaker}
@@ -11,7 +11,7 @@ use Rattle.httparse.specs.Grammar.{RequestHead, print_request, ReadsRequest}
 use Rattle.httparse.specs.Spans.{IsRequestAt, FindsRequest, span_bytes, header_bytes, name_and_value}
 use Rattle.http_header.specs.Token as token
 use Rattle.http_wire.specs.HeadText.{IsHeadText}
-use Rattle.http_wire.specs.Requests.{IsServed}
+use Rattle.http_wire.specs.Requests.{IsServed, SaysSomething, parts_of}
 use Rattle.http_wire.specs.Scanning.{rest_from}
 use Rattle.http_wire.specs.declared.scans.State.TheVariants.{Before}
 use Rattle.http_wire.proofs.HeadEnds.{head_runs}
@@ -64,3 +64,12 @@ served_from text headers spans head whole found version path room =
       room = count;
     } in
     (head, served, text_is_head text headers spans head whole found, found)
+
+-- a text that such a head prints says something
+pub something_said : (text : List ℕ) (head : RequestHead) → IsServed head → text ≡ print_request head → SaysSomething text
+something_said text head served e = (parts_of head, record { head = head; served = served; text_is = e; parts_are = refl })
+
+-- what holds in any case holds at `Err`
+pub on_err : {A E : Type 0} {P : Type 0} (r : Result A E) → P → OnErr r P
+on_err (Ok x) p = tt
+on_err (Err e) p = p

@@ -29,6 +29,10 @@ writes_further start held new bytes at count h before more =
 pub sent_none : (held : Option (List ℕ)) → Sent held held [] 0 []
 sent_none held = record { gone = []; text_is = refl; count_is = refl; appended = Appends-nil held }
 
+-- with more behind it, still some is left
+pub some_left : (rest more : List ℕ) → 0 < length rest → 0 < length (rest ++ more)
+some_left rest more h = omega (arith, h, length-append rest more)
+
 -- one more piece is put
 pub sent_more : (start held : Option (List ℕ)) (text : List ℕ) (count : ℕ) (rest more : List ℕ) → Sent start held text count rest
     → Sent start held (text ++ more) count (rest ++ more)
@@ -80,4 +84,4 @@ pub piece_front : (start held : Option (List ℕ)) (pieces : List (Bor (List ℕ
     → SentFront start held (flat_map (λ (p : Bor (List ℕ)). p.now) pieces) count
 piece_front start held pieces i d count h front =
     let behind = flat_map (λ (p : Bor (List ℕ)). p.now) (drop (i + 1) pieces) in
-    (front.0 ++ behind, rw (pieces_split pieces i d h) (sent_more start held _ count front.0 behind front.1))
+    (front.0 ++ behind, some_left front.0 behind front.1, rw (pieces_split pieces i d h) (sent_more start held _ count front.0 behind front.2))

@@ -37,6 +37,10 @@ pub record Says (text : List ℕ) (parts : RequestParts) : Type 0 where
   pub text_is : text ≡ print_request head
   pub parts_are : parts ≡ parts_of head
 
+-- some head that is served prints the text
+abbrev pub SaysSomething : List ℕ → Type 0
+SaysSomething text = (parts : RequestParts) × Says text parts
+
 -- no such head prints the text
 abbrev pub SaysNothing : List ℕ → Type 0
 SaysNothing text = (head : RequestHead) → IsServed head → text ≢ print_request head

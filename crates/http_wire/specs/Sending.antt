@@ -1,5 +1,5 @@
 -- How much of a text went out.
-use Rattle.std.specs.Prelude.{◌≡◌, ℕ, ◌-◌, ◌^◌, min, List, ◌++◌, Option, length}
+use Rattle.std.specs.Prelude.{◌≡◌, ℕ, ◌-◌, ◌^◌, ◌<◌, min, List, ◌++◌, Option, length}
 use Rattle.std.specs.Io.KnownBytes.{Appends}
 
 -- since the sink held start, the front of the text was appended, rest is what was not, and count is the front's
@@ -10,6 +10,6 @@ pub record Sent (start held : Option (List ℕ)) (text : List ℕ) (count : ℕ)
   pub count_is : count ≡ min (length gone) (2 ^ 64 - 1)
   pub appended : Appends start held gone
 
--- the same, whatever the rest is
+-- the same, and some of the text is left
 abbrev pub SentFront : Option (List ℕ) → Option (List ℕ) → List ℕ → ℕ → Type 0
-SentFront start held text count = (rest : List ℕ) × Sent start held text count rest
+SentFront start held text count = (rest : List ℕ) × (0 < length rest) × Sent start held text count rest

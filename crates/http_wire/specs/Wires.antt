@@ -10,13 +10,13 @@ pub record TakesHead (old new : Option (List ℕ)) (text : List ℕ) : Type 0 wh
   pub head : IsHeadText text
   pub short : length text ≤ head_limit
 
--- a whole head stands at the front of what is left
-abbrev pub HasWholeHead : Option (List ℕ) → Type 0
-HasWholeHead left = (new : Option (List ℕ)) × (text : List ℕ) × TakesHead left new text
-
 -- the head at the front of what was left says these parts, and is gone
 abbrev pub ServesHead : Option (List ℕ) → Option (List ℕ) → RequestParts → Type 0
 ServesHead old new parts = (text : List ℕ) × TakesHead old new text × Says text parts
+
+-- a whole head, which is served, stands at the front of what is left
+abbrev pub HasWholeHead : Option (List ℕ) → Type 0
+HasWholeHead left = (new : Option (List ℕ)) × (parts : RequestParts) × ServesHead left new parts
 
 -- the head at the front of what was left is not served, and is gone; or it is too long, and nothing is gone
 abbrev pub RefusesHead : Option (List ℕ) → Option (List ℕ) → Type 0

@@ -34,7 +34,7 @@ impl From<AllocError> for HeadFault {
 /// Why a head announces no body that is read.
 #[derive(Clone, Copy, Debug, PartialEq, Eq, Error)]
 pub enum LengthFault {
-    /// A transfer coding, no length, more than one, or one over the limit.
+    /// A transfer coding, or a length that is no number or over the limit, or more than one length.
     #[error("the head of a request announces no body that is read")]
     BadHead,
 }

@@ -1,18 +1,17 @@
 //! Heads of requests.
-ghost use Rattle.std.specs.Prelude.{◌≡◌, ◌⊎◌, ◌↔◌, IsTrue, length, slice_get, IfOk, IfErr, IfSome, IfNone, IsErrOf};
+ghost use Rattle.std.specs.Prelude.{◌≡◌, ◌↔◌, IsTrue, length, slice_get, IfOk, OnErr, IfSome, IfNone};
 ghost use Rattle.httparse.specs.Grammar.{RequestHead, print_request};
 ghost use Rattle.httparse.specs.Spans.{IsRequestAt, IsRequestWithin};
 ghost use Rattle.http_wire.specs.Fields.{values_of};
 ghost use Rattle.http_wire.specs.HeadText.{IsHeadText};
-ghost use Rattle.http_wire.specs.Requests.{IsServed, version_of, Says, SaysNothing};
+ghost use Rattle.http_wire.specs.Requests.{IsServed, version_of, Says, SaysSomething, SaysNothing};
 
-use crate::faults::HeadFault;
 use crate::fields::Values;
 use http::method::MethodError;
 use http::{Method, Version};
 use httparse::Status;
 use httparse::spans::{EMPTY_HEADER_SPAN, HeaderSpan, RequestSpans, parse_request};
-use std::alloc::Global;
+use std::alloc::{AllocError, Global};
 use std::marker::Model;
 use std::str;
 
@@ -73,35 +72,35 @@ fn find_parts(text: &[u8], room: &mut [HeaderSpan]) -> Option<RequestSpans>
 }
 
 impl Head {
-    /// Reads the text of a head by the grammar of requests.
-    pub(crate) fn parse(alloc: Global, text: &[u8]) -> Result<Head, HeadFault>
+    /// Reads the text of a head by the grammar of requests: none where it is not one that is served.
+    pub(crate) fn parse(alloc: Global, text: &[u8]) -> Result<Option<Head>, AllocError>
         requires { IsHeadText text.now }
-        ensures ok { IfOk result (Says text.now) }
-        ensures bad { IsErrOf result HeadFault.BadHead → SaysNothing text.now }
-        ensures only { IfErr result (λ e. (e ≡ HeadFault.BadHead) ⊎ (e ≡ HeadFault.OutOfMemory)) }
+        ensures ok { IfOk result (λ head. IfSome head (Says text.now)) }
+        ensures bad { IfOk result (λ head. IfNone head (SaysNothing text.now)) }
+        ensures memory { OnErr result (SaysSomething text.now) }
     {
         let mut room = [EMPTY_HEADER_SPAN; FIELD_LIMIT];
         let Some(spans) = find_parts(text, &mut room) else {
-            return Err(HeadFault::BadHead);
+            return Ok(None);
         };
         let Ok(target) = str::from_utf8(spans.path.of(text)) else {
-            return Err(HeadFault::BadHead);
+            return Ok(None);
         };
         let method = match Method::from_bytes(alloc, spans.method.of(text)) {
             Ok(method) => method,
-            Err(MethodError::Invalid) => return Err(HeadFault::BadHead),
-            Err(MethodError::OutOfMemory) => return Err(HeadFault::OutOfMemory),
+            Err(MethodError::Invalid) => return Ok(None),
+            Err(MethodError::OutOfMemory) => return Err(AllocError),
         };
         let target = String::from_str(alloc, target)?;
         let fields = room[..spans.headers].to_vec(alloc)?;
         let text = text.to_vec(alloc)?;
-        Ok(Head {
+        Ok(Some(Head {
             text,
             method,
             target,
             minor: spans.version,
             fields,
-        })
+        }))
     }
 
     /// The method.

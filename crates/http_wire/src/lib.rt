@@ -2,19 +2,25 @@
 #![tactic(auto)]
 
 mod bodies;
+#[cfg(test)]
+mod body_tests;
 mod buffers;
 mod connections;
+#[cfg(test)]
+mod fakes;
 mod faults;
 mod fields;
+#[cfg(test)]
+mod head_tests;
 mod heads;
 mod lengths;
 mod replies;
+#[cfg(test)]
+mod reply_tests;
 mod scans;
 mod sends;
 mod sinks;
 mod sources;
-#[cfg(test)]
-mod tests;
 mod wires;
 
 pub use buffers::HEAD_LIMIT;

@@ -194,7 +194,7 @@ pub fn write_reply<W: Sink>(
 ) -> Result<(), WriteFault>
     ensures ok { OnOk result (Appends (W.held writer.old) (W.held writer.new) (reply_text (fields_of head.now) body.now)) }
 
-    // Of a reply that is cut short the first so many bytes went out.
+    // Of a reply that is cut short the first so many bytes went out, and not all.
     ensures fault { IfErr result (λ fault. SentFront (W.held writer.old) (W.held writer.new) (reply_text (fields_of head.now) body.now) fault.0) }
     ensures cause { OnErr result W.may_fail }
 {

@@ -1,5 +1,5 @@
 //! Texts on their way to a sink.
-ghost use Rattle.std.specs.Prelude.{◌≡◌, ℕ, ◌≤◌, ◌-◌, ◌^◌, min, List, Option, [], ◌++◌, length, take, IfErr, OnOk, OnErr, MatchBool};
+ghost use Rattle.std.specs.Prelude.{◌≡◌, ℕ, ◌≤◌, ◌<◌, ◌-◌, ◌^◌, min, List, Option, [], ◌++◌, length, take, IfErr, OnOk, OnErr, MatchBool};
 ghost use Rattle.std.specs.List.{flat_map};
 ghost use Rattle.std.specs.Io.KnownBytes.{Appends, Keeps};
 ghost use Rattle.http_wire.specs.Sending.{Sent, SentFront};
@@ -21,7 +21,7 @@ pub struct Outgoing {
 // Writes all the bytes, or answers how many went out.
 fn send<W: Sink>(writer: &mut W, bytes: &[u8]) -> Result<(), usize>
     ensures ok { OnOk result (Appends (W.held writer.old) (W.held writer.new) bytes.now) }
-    ensures err { IfErr result (λ count. (count ≤ length bytes.now)
+    ensures err { IfErr result (λ count. (count < length bytes.now)
         × Appends (W.held writer.old) (W.held writer.new) (take count bytes.now)) }
     ensures cause { OnErr result W.may_fail }
 {

@@ -1,5 +1,5 @@
 //! Requests on a stream: heads and bodies, one after another.
-ghost use Rattle.std.specs.Prelude.{◌≡◌, ◌≢◌, ◌≤◌, ◌<◌, List, ℕ, length, take, vec_len, IfOk, IfErr, IfSome, IsErrOf, OnErr};
+ghost use Rattle.std.specs.Prelude.{◌≡◌, ◌≢◌, ◌≤◌, ◌<◌, List, ℕ, length, take, vec_len, IfOk, IfErr, IfSome, IsErrOf};
 ghost use Rattle.std.specs.Io.KnownBytes.{Consumes, Keeps, IsAtEnd, prepend_known};
 ghost use Rattle.http_wire.specs.HeadText.{IsHeadText, CutShort, Overlong};
 ghost use Rattle.http_wire.specs.Wires.{HasWholeHead, ServesHead, RefusesHead};
@@ -62,8 +62,9 @@ impl<S: Source> Wire<S> {
     pub fn read_body(&mut self, alloc: Global, count: u64) -> Result<Vec<u8>, BodyFault>
         ensures ok { IfOk result (λ body. (vec_len body ≡ count) × Consumes self.old self.new body.items) }
 
-        // An error takes no more than the stream had of the body, and without memory nothing.
-        ensures part { OnErr result ((bytes : List ℕ) × Consumes self.old self.new bytes × (length bytes ≤ count)) }
+        // A fault takes a part of the body, and never the whole; without memory nothing is taken.
+        ensures part { IfErr result (λ e. e ≢ BodyFault.OutOfMemory
+            → (bytes : List ℕ) × Consumes self.old self.new bytes × (length bytes < count)) }
         ensures ended { IsErrOf result BodyFault.Ended → IsAtEnd self.new × IfSome self.old (λ left. length left < count) }
         ensures failed { IsErrOf result BodyFault.ReadFault → S.may_fail }
         ensures memory { IsErrOf result BodyFault.OutOfMemory → Keeps self.old self.new }
@@ -96,16 +97,11 @@ fn take_head<S: Source>(
         IfErr result (λ e. e ≢ HeadFault.BadHead → Keeps old new) }
 {
     let count = find_head(buffer, source)?;
-    match Head::parse(alloc, &buffer.as_slice()[..count]) {
-        Ok(head) => {
-            buffer.consume(count);
-            Ok(head)
-        }
-        Err(HeadFault::BadHead) => {
-            buffer.consume(count);
-            Err(HeadFault::BadHead)
-        }
-        Err(_) => Err(HeadFault::OutOfMemory),
+    let parsed = Head::parse(alloc, &buffer.as_slice()[..count])?;
+    buffer.consume(count);
+    match parsed {
+        Some(head) => Ok(head),
+        None => Err(HeadFault::BadHead),
     }
 }
 

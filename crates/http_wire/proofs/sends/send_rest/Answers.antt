@@ -1,4 +1,5 @@
-use Rattle.std.proofs.Common.{drop}
+use Rattle.std.proofs.Common.{drop, arith}
+use Rattle.std.proofs.lemmas.List.{length-drop}
 use Rattle.http_wire.proofs.SentParts.{sent_all, sent_some}
 use Rattle.http_wire.proofs.sends.send_rest.Goals as goal
 
@@ -8,7 +9,10 @@ returns-in-Ok-clause-ok g c start text s =
 
 pub returns-in-Err-clause-err : goal.returns-in-Err-clause-err
 returns-in-Err-clause-err g c start text s =
-    let part = c.in-Err.ensures.err in (
-      drop c.in-Err.count c.args.rest.now,
-      rw c.saturating_add-in-Err.ensures (sent_some start _ _ text c.args.sent.now c.args.rest.now c.in-Err.count s part.0 part.1),
+    let part = c.in-Err.ensures.err in
+    let rest = c.args.rest.now in
+    let count = c.in-Err.count in (
+      drop count rest,
+      omega (arith, part.0, length-drop count rest),
+      rw c.saturating_add-in-Err.ensures (sent_some start _ _ text c.args.sent.now rest count s (omega (arith, part.0)) part.1),
     )
