@@ -1,5 +1,5 @@
 -- What the entries of a map from digests to files stand for.
-use Rattle.std.proofs.Common.{◌≡◌, ℕ, Bool, true, false, cond, Result, Ok, Err, OnOk, IfOk, List, [], ◌∷◌, map, Option, Some, None, is_some, option_map, refl, sym, ap, subst, ◌∙◌}
+use Rattle.std.proofs.Common.{◌≡◌, ℕ, Bool, true, false, cond, Result, Ok, Err, OnOk, OnErr, IfOk, List, [], ◌∷◌, map, Option, Some, None, is_some, option_map, refl, sym, ap, subst, ◌∙◌}
 use Rattle.std.specs.BTreeMap.{is_at}
 use Rattle.std.specs.FinMap.{get, find, insert, get-from_entries, get-insert, get-empty, same_map}
 use Rattle.std.specs.Map.{lookup}
@@ -111,6 +111,11 @@ with_file-found kept text none =
 pub on_ok : {A E : Type 0} {P : Type 0} (r : Result A E) → P → OnOk r P
 on_ok (Ok x) p = p
 on_ok (Err e) p = tt
+
+-- and at `Err`
+pub on_err : {A E : Type 0} {P : Type 0} (r : Result A E) → P → OnErr r P
+on_err (Ok x) p = tt
+on_err (Err e) p = p
 
 -- what is found where the first of two equal values is
 pub if_ok_same : {A B E : Type 0} (f : A → B) (r : Result A E) (x : B) (found : Option B) → IfOk r (λ y. f y ≡ x) → found ≡ Some x → IfOk r (λ y. found ≡ Some (f y))

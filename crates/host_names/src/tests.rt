@@ -106,6 +106,7 @@ fn prints_and_orders_cells(rt: HostRuntime) -> Result<(), Fail> {
         Cell::Live(SiteName::new("one")?, path),
         Cell::Kept(SiteName::new("one")?, 2),
         Cell::Kept(SiteName::new("one")?, 10),
+        Cell::Kept(SiteName::new("one")?, u64::MAX),
         Cell::Alias(SiteName::new("one")?, AliasName::new("next")?),
         Cell::Draft(SiteName::new("one")?, 1),
         Cell::Kept(SiteName::new("two")?, 1),
@@ -115,6 +116,7 @@ fn prints_and_orders_cells(rt: HostRuntime) -> Result<(), Fail> {
         "live /b.txt",
         "kept 2",
         "kept 10",
+        "kept 18446744073709551615",
         "alias next",
         "draft 1",
         "kept 1",
@@ -126,7 +128,7 @@ fn prints_and_orders_cells(rt: HostRuntime) -> Result<(), Fail> {
             assert_eq!(rt; cell.cmp(other), i.cmp(&j));
         }
     }
-    assert_eq!(rt; cells[6].site().as_str(), "two");
+    assert_eq!(rt; cells[7].site().as_str(), "two");
     Ok(())
 }
 
@@ -151,10 +153,33 @@ fn keeps_uploads(rt: HostRuntime) -> Result<(), Fail> {
     assert_eq!(rt; found, Some(b"hello".as_slice()));
     assert!(rt; uploads.find(&Digest::of_bytes(b"")).is_some());
     assert!(rt; uploads.find(&Digest::of_bytes(b"abc")).is_none());
+    Ok(())
+}
+
+#[test]
+fn stores_one_copy_of_a_file(rt: HostRuntime) -> Result<(), Fail> {
+    let mut uploads = MemoryUploads::new(rt.alloc());
+    let first = uploads.add(rt.alloc(), Vec::from_slice(rt.alloc(), b"hello")?)?;
+    assert_eq!(rt; Arc::strong_count(&first), 2);
+    let again = uploads.add(rt.alloc(), Vec::from_slice(rt.alloc(), b"hello")?)?;
+    assert_eq!(rt; Arc::strong_count(&first), 3);
+    uploads.keep(again)?;
+    assert_eq!(rt; Arc::strong_count(&first), 2);
+    let mut others = MemoryUploads::new(rt.alloc());
+    others.keep(Arc::try_clone(&first)?)?;
+    assert_eq!(rt; Arc::strong_count(&first), 3);
+    let lent = others.find(&first.digest()).ok_or("not kept")?;
+    assert_eq!(rt; Arc::strong_count(lent), 3);
+    Ok(())
+}
+
+#[test]
+fn makes_files(rt: HostRuntime) -> Result<(), Fail> {
     let info = BlobInfo::of(rt.alloc(), b"abc")?;
     assert_eq!(rt; info.bytes(), b"abc".as_slice());
     assert_eq!(rt; info.digest(), Digest::of_hex(ABC)?);
-    let owner: Arc<BlobInfo> = Arc::new(rt.alloc(), info)?;
-    assert_eq!(rt; owner.bytes().len(), 3);
+    let empty = BlobInfo::from(Vec::new(rt.alloc()));
+    assert_eq!(rt; empty.bytes(), b"".as_slice());
+    assert_eq!(rt; empty.digest(), Digest::of_hex(EMPTY)?);
     Ok(())
 }

@@ -1,5 +1,5 @@
 //! Uploads that are kept in memory.
-ghost use Rattle.std.specs.Prelude.{◌≡◌, Some, IfOk, OnOk, OnErr};
+ghost use Rattle.std.specs.Prelude.{◌≡◌, Some, None, IfOk, OnOk, OnErr};
 ghost use Rattle.std.specs.FinMap as map;
 ghost use Rattle.host_names.specs.Blobs.{AreDigested, digest_of, with_file};
 
@@ -60,11 +60,12 @@ impl MemoryUploads {
         }
     }
 
-    /// Adds a file that was uploaded elsewhere, which is then shared. A digest that is known keeps its file.
-    /// Without memory nothing changes.
+    /// Adds a file that was uploaded elsewhere, which is then shared. A digest that is known keeps its file, and
+    /// takes no memory. Without memory nothing changes.
     pub fn keep(&mut self, file: Arc<BlobInfo>) -> Result<(), AllocError>
         ensures ok { OnOk result (self.new ≡ with_file self.old file.value) }
         ensures err { OnErr result (self.new ≡ self.old) }
+        ensures memory { OnErr result (map.get self.old (digest_of file.value) ≡ None) }
     {
         let digest = file.digest();
         match self.files.get(&digest) {
