@@ -34,8 +34,9 @@ class Sandbox:
         for tool in TOOLS:
             (self.tools / tool).symlink_to(shutil.which(tool))
         (self.tools / "python3").symlink_to(sys.executable)
-        # That it is there is all that the scripts ask of it.
-        (self.tools / "curl").symlink_to(shutil.which("true"))
+        # That they are there is all that the scripts ask of them.
+        for tool in ("curl", "gcc"):
+            (self.tools / tool).symlink_to(shutil.which("true"))
         (self.folder / "toolchain").mkdir()
         shutil.copy(FAKE_RT, self.folder / "toolchain" / "rt")
 

@@ -1,0 +1,97 @@
+"""The first run again and again, each time with one of its allocations refused: never a wrong answer.
+
+The program is the real one. A small library in C stands before its allocator (refuse_allocation.c).
+"""
+
+import os
+import pathlib
+import subprocess
+import tempfile
+import unittest
+
+import test_program
+from test_program import EXAMPLES, PROGRAM, SECONDS, content_length, cut_after, told
+
+HERE = pathlib.Path(__file__).resolve().parent
+SOURCE = HERE / "refuse_allocation.c"
+NO_MEMORY = b"filehost: out of memory\n"
+
+
+def pieces(stream):
+    """Its messages, one by one."""
+    ends = [0, *cut_after(stream, content_length)]
+    return [stream[start:end] for start, end in zip(ends, ends[1:])]
+
+
+GIVEN = (EXAMPLES / "first-run.http").read_bytes()
+OPENED, UPLOADED, PART, UNDONE, GONE = pieces((EXAMPLES / "first-run.replies").read_bytes())
+NO_FILE = told("404 Not Found", {"error": "NoSuchFile"})
+NO_DEPLOY = told("404 Not Found", {"error": "NoSuchDeploy"})
+NO_CHANGE = told("404 Not Found", {"error": "NoSuchChange"})
+WHOLE = (
+    b"HTTP/1.1 200 OK\r\nContent-Type: text/plain; charset=utf-8\r\nContent-Length: 5\r\n"
+    b'ETag: "aaf4c61ddcc5e8a2dabede0f3b482cd9aea9434d"\r\nAccept-Ranges: bytes\r\n\r\nhello'
+)
+
+# What may follow the reply that says that there was no memory for a request, by the request's place: the replies
+# where the request left nothing, or what it does first, or all that it does.
+TAILS = [
+    [[NO_DEPLOY, NO_FILE, NO_CHANGE, NO_FILE], [UPLOADED, PART, UNDONE, GONE]],
+    [[NO_FILE, NO_CHANGE, NO_FILE], [PART, UNDONE, GONE]],
+    [[UNDONE, GONE]],
+    [[WHOLE], [GONE]],
+    [[]],
+]
+
+
+def is_right(replies):
+    """Whether these are the replies of the first run, of which one may say that there was no memory."""
+    stated = [OPENED, UPLOADED, PART, UNDONE, GONE]
+    if replies == stated:
+        return True
+    place = next((n for n, (one, other) in enumerate(zip(replies, stated)) if one != other), len(replies))
+    if place == len(replies):
+        return False
+    if replies[place] == told("503 Service Unavailable", {"error": "OutOfMemory"}, "Connection: close"):
+        return len(replies) == place + 1
+    if replies[place] != told("503 Service Unavailable", {"error": "OutOfMemory"}):
+        return False
+    return replies[place + 1:] in TAILS[place]
+
+
+class RefusedAllocations(test_program.Program):
+    def setUp(self):
+        super().setUp()
+        folder = tempfile.TemporaryDirectory()
+        self.addCleanup(folder.cleanup)
+        self.folder = pathlib.Path(folder.name)
+        self.library = self.folder / "refuse_allocation.so"
+        subprocess.run(["gcc", "-O1", "-shared", "-fPIC", "-o", self.library, SOURCE, "-ldl"], check=True, timeout=SECONDS)
+
+    def run_refusing(self, place):
+        """Its status, output and words on standard error where this allocation is refused; how many there were."""
+        told_in = self.folder / "allocations"
+        told_in.unlink(missing_ok=True)
+        names = {"LD_PRELOAD": str(self.library), "REFUSED_PLACE": str(place), "ALLOCATIONS_FILE": str(told_in)}
+        ran = subprocess.run([PROGRAM, "solo"], input=GIVEN, capture_output=True, timeout=SECONDS, env=os.environ | names)
+        return (ran.returncode, ran.stdout, ran.stderr), int(told_in.read_text())
+
+    def test_give_no_wrong_answer_at_any_place_of_the_first_run(self):
+        whole, count = self.run_refusing(0)
+        self.assertEqual(whole, (0, b"".join([OPENED, UPLOADED, PART, UNDONE, GONE]), b""))
+        self.assertGreater(count, 20)
+        refused = 0
+        for place in range(1, count + 1):
+            with self.subTest(place=place):
+                (status, out, errors), _ = self.run_refusing(place)
+                if status == 2:
+                    self.assertEqual((out, errors), (b"", NO_MEMORY))
+                else:
+                    self.assertEqual((status, errors), (0, b""))
+                    self.assertTrue(is_right(pieces(out)), out.decode())
+                refused += out != whole[1]
+        self.assertGreater(refused, 20)
+
+
+if __name__ == "__main__":
+    unittest.main()
