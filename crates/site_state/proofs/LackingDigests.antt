@@ -15,7 +15,7 @@ use Rattle.host_names.specs.Blobs.{Contents}
 use Rattle.host_names.specs.Digests.{digest_cmp, digest_cmp_total}
 use Rattle.host_names.specs.declared.digests.Digest.{Digest}
 use Rattle.site_state.specs.Files.{Paths}
-use Rattle.site_state.specs.Missing.{AreMissing, digests_of, is_lacking, lesser, if_lacking, least_missing_of}
+use Rattle.site_state.specs.Missing.{AreMissing, digests_of, is_lacking, lesser, if_lacking, least_missing_of, IsLeastMissing}
 use Rattle.site_state.specs.SameValues.{digest_eq-decides, digest_eq-equiv}
 use Rattle.site_state.specs.Values.{digest_eq}
 
@@ -111,23 +111,17 @@ least_step contents items files i item least next same lt at is =
     ap (λ o. lesser o rest) is ∙ lesser_assoc least (if_lacking contents item.1) rest
     ∙ sym (ap (lesser least) (at_drop_more (least_missing_of contents) files i item within ∙ ap (λ (e : List ℕ × Digest). lesser (if_lacking contents e.1) rest) (sym here)))
 
--- what the least missing digest is: one that is listed and lacking, and not above any such
-abbrev IsLeast : Contents → Paths Digest → Option Digest → Type 0
-IsLeast contents files None = (d : Digest) → Contains (digests_of files) d → is_lacking contents d ≡ true → ⊥
-IsLeast contents files (Some m) =
-    Contains (digests_of files) m × (is_lacking contents m ≡ true) × ((d : Digest) → Contains (digests_of files) d → is_lacking contents d ≡ true → is_gt (digest_cmp m d) ≡ false)
-
 not_gt_itself : (d : Digest) → is_gt (digest_cmp d d) ≡ false
 not_gt_itself d = ap is_gt (tied_itself digest_cmp_total d)
 
 -- a digest that is not above another's lesser is above neither
-below_lesser : (contents : Contents) (e : List ℕ × Digest) (files : Paths Digest) (rest : Option Digest) → IsLeast contents files rest → IsLeast contents (e ∷ files) (lesser (if_lacking contents e.1) rest)
-below_lesser contents e files rest least = elim (is_lacking contents e.1) as (λ t. is_lacking contents e.1 ≡ t → IsLeast contents (e ∷ files) (lesser (cond t (Some e.1) None) rest)) [
+below_lesser : (contents : Contents) (e : List ℕ × Digest) (files : Paths Digest) (rest : Option Digest) → IsLeastMissing contents files rest → IsLeastMissing contents (e ∷ files) (lesser (if_lacking contents e.1) rest)
+below_lesser contents e files rest least = elim (is_lacking contents e.1) as (λ t. is_lacking contents e.1 ≡ t → IsLeastMissing contents (e ∷ files) (lesser (cond t (Some e.1) None) rest)) [
   | false ↦ λ known. skip contents e files rest known least
   | true ↦ λ lacking. take_in contents e files rest lacking least
 ] refl
   where
-    skip : (contents : Contents) (e : List ℕ × Digest) (files : Paths Digest) (rest : Option Digest) → is_lacking contents e.1 ≡ false → IsLeast contents files rest → IsLeast contents (e ∷ files) rest
+    skip : (contents : Contents) (e : List ℕ × Digest) (files : Paths Digest) (rest : Option Digest) → is_lacking contents e.1 ≡ false → IsLeastMissing contents files rest → IsLeastMissing contents (e ∷ files) rest
     skip contents e files None known least = λ d h lacking. ⊎_elim
         (λ same. false≢true (sym known ∙ ap (is_lacking contents) same ∙ lacking))
         (λ later. least d later lacking)
@@ -141,7 +135,7 @@ below_lesser contents e files rest least = elim (is_lacking contents e.1) as (λ
           (contains_cases e.1 d (digests_of files) h),
     )
 
-    take_in : (contents : Contents) (e : List ℕ × Digest) (files : Paths Digest) (rest : Option Digest) → is_lacking contents e.1 ≡ true → IsLeast contents files rest → IsLeast contents (e ∷ files) (lesser (Some e.1) rest)
+    take_in : (contents : Contents) (e : List ℕ × Digest) (files : Paths Digest) (rest : Option Digest) → is_lacking contents e.1 ≡ true → IsLeastMissing contents files rest → IsLeastMissing contents (e ∷ files) (lesser (Some e.1) rest)
     take_in contents e files None lacking least = (
       contains_here e.1 e.1 (digests_of files) refl,
       lacking,
@@ -150,7 +144,7 @@ below_lesser contents e files rest least = elim (is_lacking contents e.1) as (λ
           (λ later. absurd (least d later missing))
           (contains_cases e.1 d (digests_of files) h),
     )
-    take_in contents e files (Some m) lacking least = elim (is_gt (digest_cmp e.1 m)) as (λ t. is_gt (digest_cmp e.1 m) ≡ t → IsLeast contents (e ∷ files) (cond t (Some m) (Some e.1))) [
+    take_in contents e files (Some m) lacking least = elim (is_gt (digest_cmp e.1 m)) as (λ t. is_gt (digest_cmp e.1 m) ≡ t → IsLeastMissing contents (e ∷ files) (cond t (Some m) (Some e.1))) [
       | true ↦ λ above. (
         contains_later e.1 m (digests_of files) least.0,
         least.1,
@@ -169,12 +163,12 @@ below_lesser contents e files rest least = elim (is_lacking contents e.1) as (λ
       )
     ] refl
 
-IsLeast-least_missing_of : (contents : Contents) (files : Paths Digest) → IsLeast contents files (least_missing_of contents files)
+pub IsLeast-least_missing_of : (contents : Contents) (files : Paths Digest) → IsLeastMissing contents files (least_missing_of contents files)
 IsLeast-least_missing_of contents [] = λ d h _. omega (arith, h.1)
 IsLeast-least_missing_of contents (e ∷ files) = below_lesser contents e files (least_missing_of contents files) (IsLeast-least_missing_of contents files)
 
 -- the first of the missing digests is the least of them
-first_is_least : (contents : Contents) (files : Paths Digest) (digests : List Digest) (least : Option Digest) → IsLeast contents files least → AreMissing contents files digests → slice_get digests 0 ≡ least
+first_is_least : (contents : Contents) (files : Paths Digest) (digests : List Digest) (least : Option Digest) → IsLeastMissing contents files least → AreMissing contents files digests → slice_get digests 0 ≡ least
 first_is_least contents files [] None least are = refl
 first_is_least contents files [] (Some m) least are = let h = (are.exactly m).1 (least.0, least.1) in absurd (omega (arith, h.1))
 first_is_least contents files (x ∷ xs) None least are =

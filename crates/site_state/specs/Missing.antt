@@ -1,5 +1,5 @@
 -- Which files of a deploy have not been uploaded.
-use Rattle.std.specs.Prelude.{◌≡◌, ◌↔◌, List, [], ◌∷◌, map, Bool, true, not, Option, Some, None, Contains, if◌then◌else◌}
+use Rattle.std.specs.Prelude.{◌≡◌, ◌↔◌, List, [], ◌∷◌, map, Bool, true, false, not, Option, Some, None, Contains, if◌then◌else◌}
 use Rattle.std.specs.FinMap.{contains_key}
 use Rattle.std.specs.List.Sorted.{IsStrictlySortedBy}
 use Rattle.std.specs.Ordering.{is_gt}
@@ -35,3 +35,10 @@ if_lacking contents digest = if is_lacking contents digest then Some digest else
 abbrev pub least_missing_of : Contents → Paths Digest → Option Digest
 least_missing_of contents [] = None
 least_missing_of contents (e ∷ files) = lesser (if_lacking contents e.1) (least_missing_of contents files)
+
+-- what the least of them is: one that is listed and lacking, and above no other such; none only where there is none
+abbrev pub IsLeastMissing : Contents → Paths Digest → Option Digest → Type 0
+IsLeastMissing contents files None = (digest : Digest) → Contains (digests_of files) digest → is_lacking contents digest ≡ true → ⊥
+IsLeastMissing contents files (Some least) =
+    Contains (digests_of files) least × (is_lacking contents least ≡ true)
+    × ((digest : Digest) → Contains (digests_of files) digest → is_lacking contents digest ≡ true → is_gt (digest_cmp least digest) ≡ false)

@@ -4,15 +4,23 @@
 mod drafts;
 mod files;
 mod keys;
+mod laws;
 mod merge;
+#[cfg(test)]
+mod missing_tests;
 mod paths;
+#[cfg(test)]
+mod samples;
+#[cfg(test)]
+mod state_tests;
 mod states;
 #[cfg(test)]
-mod tests;
+mod value_tests;
 mod values;
 
 pub use drafts::{least_missing, missing};
 pub use files::File;
+pub use laws::the_least_missing_digest_is_least;
 pub use paths::PathMap;
 pub use states::State;
 pub use values::{Draft, Listing, Tree, Value};

@@ -1,13 +1,9 @@
-//! Each call once with ample memory, and its answers at the edges.
+//! States: what is looked up and written, and its edges.
 use super::*;
-use host_names::{AliasName, BlobInfo, Cell, Digest, FilePath, MemoryUploads, SiteName};
+use crate::samples::{draft, file, tree};
+use host_names::{AliasName, Cell, Digest, FilePath, SiteName};
 use std::alloc::{AllocError, Global};
-use std::sync::Arc;
 use std::test::Fail;
-
-fn file(alloc: Global, bytes: &[u8]) -> Result<File, AllocError> {
-    Ok(File::new(Arc::new(alloc, BlobInfo::of(alloc, bytes)?)?))
-}
 
 fn set_file(
     alloc: Global,
@@ -60,36 +56,6 @@ fn set_and_remove(
         state.set_cells(alloc, cells)?;
     }
     Ok(())
-}
-
-/// A listing of two paths, or none where they don't rise.
-fn listing(
-    alloc: Global,
-    first: (FilePath, Digest),
-    second: (FilePath, Digest),
-) -> Result<Listing, AllocError> {
-    if first.0.cmp(&second.0).is_lt() {
-        return PathMap::from_sorted(alloc, vec![in alloc; first, second]?);
-    }
-    no_files(alloc)
-}
-
-fn no_files(alloc: Global) -> Result<Listing, AllocError> {
-    PathMap::from_sorted(alloc, Vec::new(alloc))
-}
-
-/// An open deploy of `/a` and `/b`.
-fn draft(alloc: Global, auto: bool, first: Digest, second: Digest) -> Result<Draft, Fail> {
-    let a = FilePath::read(alloc, "a")?;
-    let b = FilePath::read(alloc, "b")?;
-    let files = listing(alloc, (a, first), (b, second))?;
-    Ok(Draft { auto, files })
-}
-
-/// A tree of one file.
-fn tree(alloc: Global, path: FilePath, bytes: &[u8]) -> Result<Tree, AllocError> {
-    let file = file(alloc, bytes)?;
-    PathMap::from_sorted(alloc, vec![in alloc; (path, file)]?)
 }
 
 /// No cells.
@@ -211,40 +177,5 @@ fn writes_many_cells(rt: HostRuntime) -> Result<(), Fail> {
     set_two(rt.alloc(), &mut state, &one, (&b, b"new"), (&c, b"3"))?;
     assert_eq!(rt; bytes_at(&state, &one, &b), b"new".as_slice());
     assert_eq!(rt; state.live(&one).len(), 3);
-    Ok(())
-}
-
-#[test]
-fn finds_what_is_missing(rt: HostRuntime) -> Result<(), Fail> {
-    let hello = Digest::of_bytes(b"hello");
-    let abc = Digest::of_bytes(b"abc");
-    let draft = draft(rt.alloc(), false, hello, abc)?;
-    let mut uploads = MemoryUploads::new(rt.alloc());
-    assert_eq!(rt;
-        missing(rt.alloc(), &draft, &uploads)?.as_slice(),
-        [abc, hello].as_slice()
-    );
-    assert_eq!(rt; least_missing(&draft, &uploads), Some(abc));
-    uploads.add(rt.alloc(), Vec::from_slice(rt.alloc(), b"abc")?)?;
-    assert_eq!(rt;
-        missing(rt.alloc(), &draft, &uploads)?.as_slice(),
-        [hello].as_slice()
-    );
-    assert_eq!(rt; least_missing(&draft, &uploads), Some(hello));
-    Ok(())
-}
-
-#[test]
-fn lists_a_missing_digest_once(rt: HostRuntime) -> Result<(), Fail> {
-    let hello = Digest::of_bytes(b"hello");
-    let draft = draft(rt.alloc(), false, hello, hello)?;
-    let mut uploads = MemoryUploads::new(rt.alloc());
-    assert_eq!(rt;
-        missing(rt.alloc(), &draft, &uploads)?.as_slice(),
-        [hello].as_slice()
-    );
-    uploads.add(rt.alloc(), Vec::from_slice(rt.alloc(), b"hello")?)?;
-    assert!(rt; missing(rt.alloc(), &draft, &uploads)?.is_empty());
-    assert_eq!(rt; least_missing(&draft, &uploads), None);
     Ok(())
 }

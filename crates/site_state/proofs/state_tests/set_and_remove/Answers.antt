@@ -4,7 +4,7 @@ use Rattle.host_names.specs.declared.cells.Cell.{Cell}
 use Rattle.site_state.specs.declared.values.Value.{Value}
 use Rattle.site_state.specs.States.{may_stand}
 use Rattle.site_state.proofs.Two.{sorted_two, all_two}
-use Rattle.site_state.proofs.tests.set_two.Goals as goal
+use Rattle.site_state.proofs.state_tests.set_and_remove.Goals as goal
 
 pub set_cells-requires-clause-rising : goal.set_cells-requires-clause-rising
 set_cells-requires-clause-rising c =

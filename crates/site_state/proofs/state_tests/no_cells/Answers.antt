@@ -1,5 +1,5 @@
 use Rattle.std.specs.List.Sorted.{IsStrictlySortedBy}
-use Rattle.site_state.proofs.tests.no_cells.Goals as goal
+use Rattle.site_state.proofs.state_tests.no_cells.Goals as goal
 
 pub set_cells-requires-clause-rising : goal.set_cells-requires-clause-rising
 unfolding IsStrictlySortedBy

@@ -1,6 +1,6 @@
 use Rattle.std.specs.List.Sorted.{IsStrictlySortedBy}
-use Rattle.site_state.proofs.tests.tree.Goals as goal
+use Rattle.site_state.proofs.samples.no_files.Goals as goal
 
 pub from_sorted-requires : goal.from_sorted-requires
 unfolding IsStrictlySortedBy
-from_sorted-requires c = rw c.in_ok-vec.ensures.items (tt, tt)
+from_sorted-requires c = rw c.new.ensures.items tt
