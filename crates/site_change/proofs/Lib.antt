@@ -9,3 +9,4 @@ pub mod PathLists
 pub mod Locality
 pub mod LeftOut
 pub mod Growing
+pub mod Touched

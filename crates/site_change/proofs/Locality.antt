@@ -20,7 +20,7 @@ use Rattle.site_change.specs.Changes.{same_cell, publish_refusal, tree_of, publi
 use Rattle.site_change.specs.Laws.{AgreeOn, SameEffect, IsLocal}
 use Rattle.site_change.proofs.Effects.{same_cell-itself, get-published}
 
-same_value-itself : (v : Option Value) → same_value v v ≡ true
+pub same_value-itself : (v : Option Value) → same_value v v ≡ true
 same_value-itself v = (same_value-decides v v).1 refl
 
 pub same_value-same : (v w : Option Value) → same_value v w ≡ true → v ≡ w

@@ -48,7 +48,7 @@ abbrev pub with_live : SiteName → Paths (List ℕ) → State → State
 with_live site [] state = state
 with_live site (f ∷ files) state = map.insert (with_live site files state) (cell.Live site f.0) (value.Live f.1)
 
--- the site serves these files and no others, they are kept under the number, and no deploy of it is open
+-- the site serves these files and no others, they are kept under the number, and no draft has that number
 abbrev pub with_published : SiteName → ℕ → Paths (List ℕ) → State → State
 with_published site m tree state =
     with_live site tree (without_live site (with_cell (with_cell state (cell.Kept site m) (Some (value.Kept tree))) (cell.Draft site m) None))

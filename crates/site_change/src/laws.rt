@@ -1,9 +1,18 @@
 //! Laws of changes, each the contract of a function that does nothing.
-ghost use Rattle.std.specs.Prelude.{ℕ, List};
+ghost use Rattle.std.specs.Prelude.{◌≡◌, ◌≢◌, ◌↔◌, ℕ, Bool, true, List, None, Some};
+ghost use Rattle.std.specs.FinMap as map;
 ghost use Rattle.host_names.specs.Blobs.{Contents};
-ghost use Rattle.site_state.specs.States.{State};
+ghost use Rattle.host_names.specs.declared.cells.Cell.{Cell};
+ghost use Rattle.host_names.specs.declared.cells.Cell.TheVariants as cell;
+ghost use Rattle.host_names.specs.declared.digests.Digest.{Digest};
+ghost use Rattle.host_names.specs.declared.names.SiteName.{SiteName};
+ghost use Rattle.site_state.specs.Files.{Paths};
+ghost use Rattle.site_state.specs.States.{State, draft_at};
+ghost use Rattle.site_state.specs.declared.values.Draft.{Draft};
 ghost use Rattle.site_change.specs.declared.commands.Command.{Command};
-ghost use Rattle.site_change.specs.Laws.{IsLocal, LeavesOut, KeepsRunning};
+ghost use Rattle.site_change.specs.declared.commands.Command.TheVariants.{Open, Publish};
+ghost use Rattle.site_change.specs.Changes.{applied, changes, touches};
+ghost use Rattle.site_change.specs.Laws.{IsLocal, IsPartOfDeploy, LeavesOut, KeepsRunning};
 
 /// All that a command reads or writes is what it touches. In two states that have the same there, it gets the
 /// same answer, touches the same cells, and leaves the same in them; every other cell stays as it was, and what
@@ -25,4 +34,25 @@ pub fn a_change_can_be_left_out()
 pub fn accepted_stays_accepted()
     ensures { (uploads more : Contents) (state : State) (commands : List (ℕ × Command)) →
         KeepsRunning uploads more state commands }
+{}
+
+/// A command changes a cell exactly where the state after it has something else there than the state before it.
+pub fn changes_are_where_the_states_differ()
+    ensures { (command : Command) (number : ℕ) (state : State) (uploads : Contents) (c : Cell) →
+        (changes command number state uploads c ≡ true) ↔ (map.get state c ≢ map.get (applied command number state uploads) c) }
+{}
+
+/// An opening touches the cell of its draft, and no other.
+pub fn an_opening_touches_its_draft_alone()
+    ensures { (site : SiteName) (files : Paths Digest) (auto : Bool) (number : ℕ) (state : State) (c : Cell) →
+        (touches (Open site files auto) number state c ≡ true) ↔ (c ≡ cell.Draft site number) }
+{}
+
+/// A publish touches the draft of its number, the kept deploy of that number, and each path of its site, whether a file
+/// is there or not; where there is no such draft, it touches the cell of that draft alone.
+pub fn a_publish_touches_its_deploy_alone()
+    ensures opened { (site : SiteName) (m number : ℕ) (state : State) (draft : Draft) (c : Cell) → draft_at state site m ≡ Some draft →
+        (touches (Publish site m) number state c ≡ true) ↔ IsPartOfDeploy site m c }
+    ensures unknown { (site : SiteName) (m number : ℕ) (state : State) (c : Cell) → draft_at state site m ≡ None →
+        (touches (Publish site m) number state c ≡ true) ↔ (c ≡ cell.Draft site m) }
 {}

@@ -2,15 +2,20 @@
 #![tactic(auto)]
 
 mod commands;
+#[cfg(test)]
+mod decide_tests;
 mod decisions;
 mod laws;
 mod live;
 mod plans;
 #[cfg(test)]
-mod tests;
+mod samples;
 mod trees;
 
 pub use commands::{Command, Refusal};
 pub use decisions::{DecideError, decide};
-pub use laws::{a_change_can_be_left_out, accepted_stays_accepted, commands_are_local};
+pub use laws::{
+    a_change_can_be_left_out, a_publish_touches_its_deploy_alone, accepted_stays_accepted,
+    an_opening_touches_its_draft_alone, changes_are_where_the_states_differ, commands_are_local,
+};
 pub use plans::{Change, Plan};

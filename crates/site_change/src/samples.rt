@@ -1,0 +1,203 @@
+//! Listings, states and commands for the tests, and the text of a plan.
+ghost use Rattle.std.specs.Prelude.{◌≡◌, true, [], ◌∷◌, ◌++◌};
+ghost use Rattle.host_names.specs.declared.digests.Digest.{Digest};
+ghost use Rattle.site_state.specs.Files.{IsByPath};
+ghost use Rattle.site_state.specs.States as states;
+
+use super::*;
+use host_names::{BlobInfo, Cell, Digest, FilePath, MemoryUploads, SiteName};
+use site_state::{File, Listing, PathMap, State, Value};
+use std::alloc::{AllocError, Global};
+use std::process::Abort;
+use std::str;
+use std::sync::Arc;
+use std::test::Fail;
+
+/// Their digests are aaf4.. and a999.., so that of `ABC` is the lesser.
+pub(crate) const HELLO: &[u8] = b"hello";
+
+pub(crate) const ABC: &[u8] = b"abc";
+
+/// Whether a path comes behind those of a list.
+fn is_behind(entries: &[(FilePath, Digest)], path: &FilePath) -> bool
+    ensures { result ≡ true → IsByPath entries.now → (digest : Digest) →
+        IsByPath (entries.now ++ (path.now, digest) ∷ []) }
+{
+    let count = entries.len();
+    if count == 0 {
+        return true;
+    }
+    entries[count - 1].0.cmp(path).is_lt()
+}
+
+/// Adds a path, which has to come behind those that are there.
+fn push_path(
+    rt: &impl Abort,
+    entries: &mut Vec<(FilePath, Digest)>,
+    path: FilePath,
+    digest: Digest,
+) -> Result<(), AllocError>
+    requires { IsByPath entries.old.items }
+    ensures { IsByPath entries.new.items }
+{
+    assert!(rt; is_behind(entries.as_slice(), &path));
+    Ok(entries.push((path, digest))?)
+}
+
+/// These paths, which have to rise, with the digests of the bytes.
+pub(crate) fn listing(
+    rt: &impl Abort,
+    alloc: Global,
+    files: &[(&str, &[u8])],
+) -> Result<Listing, Fail> {
+    let mut entries = Vec::new(alloc);
+    for (path, bytes) in files {
+        let path = FilePath::read(alloc, path)?;
+        push_path(rt, &mut entries, path, Digest::of_bytes(bytes))?;
+    }
+    Ok(PathMap::from_sorted(alloc, entries)?)
+}
+
+/// As many paths, each with the same file.
+pub(crate) fn long_listing(rt: &impl Abort, alloc: Global, count: u32) -> Result<Listing, Fail> {
+    let mut entries = Vec::new(alloc);
+    for number in 0..count {
+        let path = FilePath::read(alloc, format!(in alloc; "/{number:05}")?.as_str())?;
+        push_path(rt, &mut entries, path, Digest::of_bytes(ABC))?;
+    }
+    Ok(PathMap::from_sorted(alloc, entries)?)
+}
+
+fn may_stand(cell: &Cell, value: &Option<Value>) -> bool
+    ensures { result ≡ states.may_stand cell.now value.now }
+{
+    match (cell, value) {
+        (_, None) => true,
+        (Cell::Live(..), Some(Value::Live(_))) => true,
+        (Cell::Kept(..), Some(Value::Kept(_))) => true,
+        (Cell::Alias(..), Some(Value::Alias(_))) => true,
+        (Cell::Draft(..), Some(Value::Draft(_))) => true,
+        _ => false,
+    }
+}
+
+fn write(
+    rt: &impl Abort,
+    state: &mut State,
+    cell: Cell,
+    value: Option<Value>,
+) -> Result<(), AllocError> {
+    assert!(rt; may_stand(&cell, &value));
+    state.set_cell(cell, value)
+}
+
+/// Carries out a plan.
+fn carry_out(rt: &impl Abort, state: &mut State, plan: Plan) -> Result<(), AllocError> {
+    let Plan { changes } = plan;
+    for change in changes {
+        let Change {
+            cell,
+            before: _,
+            after,
+        } = change;
+        write(rt, state, cell, after)?;
+    }
+    Ok(())
+}
+
+fn shown(value: &Option<Value>) -> &str {
+    match value {
+        None => "nothing",
+        Some(Value::Live(file)) => match str::from_utf8(file.bytes()) {
+            Ok(text) => text,
+            Err(_) => "no text",
+        },
+        Some(Value::Kept(_)) => "a tree",
+        Some(Value::Alias(_)) => "a number",
+        Some(Value::Draft(_)) => "a draft",
+    }
+}
+
+/// Each change of a plan on a line: the cell, what stands there before, and what stands there afterwards.
+fn told(alloc: Global, plan: &Plan) -> Result<String, AllocError> {
+    let mut text = String::new(alloc);
+    for change in &plan.changes {
+        let before = shown(&change.before);
+        let after = shown(&change.after);
+        let cell = &change.cell;
+        let line = format!(in alloc; "{cell}: {before}, {after}\n")?;
+        text.push_str(line.as_str())?;
+    }
+    Ok(text)
+}
+
+pub(crate) fn open(site: &SiteName, files: &Listing) -> Result<Command, AllocError> {
+    Ok(Command::Open {
+        site: site.clone()?,
+        files: files.clone()?,
+        auto: false,
+    })
+}
+
+pub(crate) fn publish(site: &SiteName, number: u64) -> Result<Command, AllocError> {
+    Ok(Command::Publish {
+        site: site.clone()?,
+        number,
+    })
+}
+
+/// Decides a command and carries it out, and tells its changes.
+pub(crate) fn done(
+    rt: &impl Abort,
+    alloc: Global,
+    state: &mut State,
+    uploads: &MemoryUploads,
+    number: u64,
+    command: &Command,
+) -> Result<String, Fail> {
+    let plan = decide(alloc, state, uploads, number, command)?;
+    let text = told(alloc, &plan)?;
+    carry_out(rt, state, plan)?;
+    Ok(text)
+}
+
+pub(crate) fn is_refused(decided: Result<Plan, DecideError>, reason: Refusal) -> bool {
+    match decided {
+        Ok(_) => false,
+        Err(error) => error == DecideError::Refused(reason),
+    }
+}
+
+pub(crate) fn uploaded(alloc: Global, files: &[&[u8]]) -> Result<MemoryUploads, AllocError> {
+    let mut uploads = MemoryUploads::new(alloc);
+    for bytes in files {
+        uploads.add(alloc, Vec::from_slice(alloc, bytes)?)?;
+    }
+    Ok(uploads)
+}
+
+/// Opens a deploy of these files under a number and publishes it, and tells what the publishing changes.
+pub(crate) fn deploy(
+    rt: &impl Abort,
+    alloc: Global,
+    state: &mut State,
+    uploads: &MemoryUploads,
+    number: u64,
+    files: &[(&str, &[u8])],
+) -> Result<String, Fail> {
+    let site = SiteName::new("one")?;
+    let files = listing(rt, alloc, files)?;
+    done(rt, alloc, state, uploads, number, &open(&site, &files)?)?;
+    done(rt, alloc, state, uploads, 0, &publish(&site, number)?)
+}
+
+/// A state in which three sites serve a file each.
+pub(crate) fn served(rt: &impl Abort, alloc: Global) -> Result<State, Fail> {
+    let mut state = State::new(alloc);
+    for site in ["none", "one", "two"] {
+        let cell = Cell::Live(SiteName::new(site)?, FilePath::read(alloc, "/b")?);
+        let file = File::new(Arc::new(alloc, BlobInfo::of(alloc, b"before")?)?);
+        write(rt, &mut state, cell, Some(Value::Live(file)))?;
+    }
+    Ok(state)
+}
