@@ -5,4 +5,4 @@ pub mod Writes
 pub mod Found
 pub mod Errors
 pub mod Sound
-pub mod PathLists
+pub mod Clashing

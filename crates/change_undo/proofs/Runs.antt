@@ -140,7 +140,7 @@ not_false : (b : Bool) → not b ≡ false → b ≡ true
 not_false true e = refl
 not_false false e = cc e
 
-newest_of : (entries : List Entry) (site : SiteName) (k : ℕ) (entry : Option Entry) → refusal_at entries site k entry ≡ None → is_newest entries k ≡ true
+pub newest_of : (entries : List Entry) (site : SiteName) (k : ℕ) (entry : Option Entry) → refusal_at entries site k entry ≡ None → is_newest entries k ≡ true
 newest_of entries site k None h = cc h
 newest_of entries site k (Some (Undo other j)) h = cc (guard (same_site other site) NotAChange (Some NoSuchChange) h).1
 newest_of entries site k (Some (Change command)) h =
@@ -156,6 +156,30 @@ run-undo uploads entries site k state legal ran ok =
     let rest = run_without-newest uploads map.empty state k 1 (live_changes entries) (live_from-rising (undone entries) 1 entries)
     (newest_of entries site k (entry_at entries k) ok) ran in
     (rest.0, ap (run_from uploads map.empty) (live_changes-undo entries site k) ∙ rest.1, legal-push uploads [] entries (Undo site k) legal (rw ok refl))
+
+runs-after : (uploads : Contents) (before entries : List Entry) (state : State) → IsLegal uploads before → run uploads before ≡ Some state
+    → IsLegalAfter uploads before entries → (after : State) × (run uploads (before ++ entries) ≡ Some after)
+runs-after uploads before [] state legal ran more = (state, ap (run uploads) (append-nil before) ∙ ran)
+runs-after uploads before (Change command ∷ entries) state legal ran more =
+    let there = is_accepted uploads (run uploads before) (length before + 1) command more.0 in
+    let next = run-change uploads before command there.0 legal there.1 there.2 in
+    let rest = runs-after uploads (before ++ Change command ∷ []) entries (applied command (length before + 1) there.0 uploads) next.1 next.0 more.1 in
+    (rest.0, ap (run uploads) (sym (append_assoc before (Change command ∷ []) entries)) ∙ rest.1)
+runs-after uploads before (Undo site k ∷ entries) state legal ran more =
+    let next = run-undo uploads before site k state legal ran (is_none-none _ more.0) in
+    let rest = runs-after uploads (before ++ Undo site k ∷ []) entries next.0 next.2 next.1 more.1 in
+    (rest.0, ap (run uploads) (sym (append_assoc before (Undo site k ∷ []) entries)) ∙ rest.1)
+
+-- a legal history has a run
+pub legal-runs : (uploads : Contents) (entries : List Entry) → IsLegal uploads entries → (state : State) × (run uploads entries ≡ Some state)
+legal-runs uploads entries legal = runs-after uploads [] entries map.empty tt refl legal
+
+-- so an accepted undo leaves one
+pub undo-leaves : (uploads : Contents) (entries : List Entry) (site : SiteName) (k : ℕ) → IsLegal uploads entries → change_refusal entries site k ≡ None
+    → (before : State) × (run uploads (entries ++ Undo site k ∷ []) ≡ Some before) × IsLegal uploads (entries ++ Undo site k ∷ [])
+undo-leaves uploads entries site k legal ok =
+    let ran = legal-runs uploads entries legal in
+    run-undo uploads entries site k ran.0 legal ran.1 ok
 
 legal-front : (uploads : Contents) (before xs ys : List Entry) → IsLegalAfter uploads before (xs ++ ys) → IsLegalAfter uploads before xs
 legal-front uploads before [] ys legal = tt

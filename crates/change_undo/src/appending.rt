@@ -35,8 +35,8 @@ fn keep_found<U: Uploads>(
     }
 }
 
-/// Appends a command that is accepted, and carries it out. Where it is refused, or without memory, the entries and the
-/// state stay.
+/// Appends a command that is accepted, and carries it out. Where it is refused nothing changes; without memory the
+/// entries and the state stay.
 pub(crate) fn append<U: Uploads>(
     alloc: Global,
     logged: &mut Vec<Logged>,
@@ -52,6 +52,7 @@ pub(crate) fn append<U: Uploads>(
     ensures effect { OnOk result (state.new ≡ applied command number state.old (U.contents uploads.now)) }
     ensures accepted { OnOk result (refusal command number state.old found.new ≡ None) }
     ensures err { OnErr result ((logged.new.items ≡ logged.old.items) × (state.new ≡ state.old)) }
+    ensures unchanged { (reason : Reason) → result ≡ Err (DecideError.Refused reason) → found.new ≡ found.old }
     ensures kept { IsWithin found.old found.new }
     ensures within { IsWithin found.new (U.contents uploads.now) }
 {

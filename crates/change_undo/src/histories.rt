@@ -1,5 +1,5 @@
 //! Histories: changes are committed at their end, and undone by an entry of their own.
-ghost use Rattle.std.specs.Prelude.{◌≡◌, ◌↔◌, ◌+◌, ◌≤◌, ◌<◌, [], ◌∷◌, ◌++◌, length, false, Some, None, Err, List, IfOk, OnOk, OnErr, option_copied};
+ghost use Rattle.std.specs.Prelude.{◌≡◌, ◌≢◌, ◌↔◌, ◌+◌, ◌≤◌, ◌<◌, [], ◌∷◌, ◌++◌, length, false, Some, None, Err, List, IfOk, OnOk, OnErr, option_copied};
 ghost use Rattle.std.specs.FinMap as map;
 ghost use Rattle.site_change.specs.Changes.{IsWithin, applied, refusal};
 ghost use Rattle.site_change.specs.declared.commands.Refusal.{Refusal as Reason};
@@ -91,7 +91,7 @@ impl History {
     }
 
     /// Commits a command as the next entry, with these uploads, which have all that earlier commits found. Answers
-    /// its number. On an error the entries and the state stay as they were.
+    /// its number. Where it is refused nothing changes; without memory the entries and the state stay as they were.
     pub fn commit<U: Uploads>(
         &mut self,
         alloc: Global,
@@ -107,6 +107,7 @@ impl History {
         ensures entries { OnOk result (self.new.entries ≡ self.old.entries ++ entry.Change command ∷ []) }
         ensures state { OnOk result (self.new.state ≡ applied command (length self.old.entries + 1) self.old.state (U.contents uploads.now)) }
         ensures err { OnErr result ((self.new.entries ≡ self.old.entries) × (self.new.state ≡ self.old.state)) }
+        ensures unchanged { result ≢ Err CommitError.OutOfMemory → OnErr result (self.new ≡ self.old) }
         ensures limit { self.new.limit ≡ self.old.limit }
         ensures kept { IsWithin self.old.found self.new.found }
         ensures found { IsWithin self.new.found (U.contents uploads.now) }

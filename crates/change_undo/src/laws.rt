@@ -1,12 +1,14 @@
 //! Laws of histories, each the contract of a function that does nothing.
-ghost use Rattle.std.specs.Prelude.{◌≡◌, ◌++◌, ◌∷◌, [], ℕ, List, Some, None};
+ghost use Rattle.std.specs.Prelude.{◌≡◌, ◌++◌, ◌∷◌, [], ℕ, List, Some, None, true};
 ghost use Rattle.host_names.specs.Blobs.{Contents};
+ghost use Rattle.host_names.specs.declared.cells.Cell.{Cell};
 ghost use Rattle.host_names.specs.declared.names.SiteName.{SiteName as Site};
 ghost use Rattle.site_change.specs.Changes.{IsWithin};
 ghost use Rattle.site_state.specs.States.{State as Cells};
 ghost use Rattle.change_undo.specs.declared.entries.Entry.{Entry as Line};
 ghost use Rattle.change_undo.specs.declared.entries.Entry.TheVariants as line;
-ghost use Rattle.change_undo.specs.Histories.{IsLegal, change_refusal, run};
+ghost use Rattle.change_undo.specs.Clashes.{IsClash};
+ghost use Rattle.change_undo.specs.Histories.{IsLegal, change_refusal, is_newest, run};
 
 /// A history that was legal stays legal, with the same state, when more is uploaded.
 pub fn histories_outlast_uploads()
@@ -15,10 +17,27 @@ pub fn histories_outlast_uploads()
         → run uploads entries ≡ Some state → run more entries ≡ Some state }
 {}
 
+/// In a legal history the changes that live are accepted from nothing, each in its place.
+pub fn a_legal_history_has_a_run()
+    ensures { (uploads : Contents) (entries : List Line) → IsLegal uploads entries → (state : Cells) × (run uploads entries ≡ Some state) }
+{}
+
 /// Where the undo of a change is not refused, the other changes are accepted without it, each in its place, and the
 /// history with the undo is legal again.
 pub fn an_allowed_undo_leaves_a_legal_history()
-    ensures { (uploads : Contents) (entries : List Line) (site : Site) (k : ℕ) (state : Cells) → IsLegal uploads entries → run uploads entries ≡ Some state
-        → change_refusal entries site k ≡ None
+    ensures { (uploads : Contents) (entries : List Line) (site : Site) (k : ℕ) → IsLegal uploads entries → change_refusal entries site k ≡ None
         → (without : Cells) × (run uploads (entries ++ line.Undo site k ∷ []) ≡ Some without) × IsLegal uploads (entries ++ line.Undo site k ∷ []) }
+{}
+
+/// One later change at most stands in the way of an undo, in one cell.
+pub fn a_change_has_one_clash_at_most()
+    ensures { (uploads : Contents) (entries : List Line) (k j i : ℕ) (at other : Cell) → IsClash uploads entries k j at → IsClash uploads entries k i other
+        → (j ≡ i) × (at ≡ other) }
+{}
+
+/// No later change stands in the way of an undo that is not refused, nor in the way of the newest change that lives.
+pub fn the_newest_change_has_no_clash()
+    ensures newest { (uploads : Contents) (entries : List Line) (k j : ℕ) (at : Cell) → is_newest entries k ≡ true → IsClash uploads entries k j at → ⊥ }
+    ensures allowed { (uploads : Contents) (entries : List Line) (site : Site) (k j : ℕ) (at : Cell) → change_refusal entries site k ≡ None
+        → IsClash uploads entries k j at → ⊥ }
 {}

@@ -2,7 +2,7 @@ use Rattle.std.proofs.Common.{◌≡◌, sym, subst}
 use Rattle.host_names.specs.Blobs.{Contents}
 use Rattle.site_change.specs.Changes.{IsWithin}
 use Rattle.change_undo.proofs.Found.{kept-with_file}
-use Rattle.change_undo.proofs.tests.upload.Goals as goal
+use Rattle.change_undo.proofs.hosts.upload.Goals as goal
 
 pub returns : goal.returns
 returns c =

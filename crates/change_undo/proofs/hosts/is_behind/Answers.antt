@@ -1,6 +1,6 @@
 use Rattle.std.proofs.Common.{◌≡◌, ◌<◌, length, arith}
-use Rattle.change_undo.proofs.PathLists.{behind_nothing, behind_last, less_by_test}
-use Rattle.change_undo.proofs.tests.is_behind.Goals as goal
+use Rattle.site_change.proofs.PathLists.{behind_nothing, behind_last, less_by_test}
+use Rattle.change_undo.proofs.hosts.is_behind.Goals as goal
 
 pub returns-then-count-eq0 : goal.returns-then-count-eq0
 returns-then-count-eq0 c = λ _ sorted digest. behind_nothing c.args.entries.now c.args.path.now digest (omega arith) sorted
