@@ -1,5 +1,5 @@
 -- One exchange, put together from its parts.
-use Rattle.std.proofs.Common.{◌≡◌, ◌⊎◌, inl, inr, ℕ, List, [], ◌∷◌, ◌++◌, Bool, true, false, Option, Some, None, Result, Ok, Err, codes, refl, sym, ap, subst, ◌∙◌}
+use Rattle.std.proofs.Common.{◌≡◌, ◌<◌, ◌⊎◌, inl, inr, ℕ, List, [], ◌∷◌, ◌++◌, length, Bool, true, false, Option, Some, None, Result, Ok, Err, codes, refl, sym, ap, subst, ◌∙◌}
 use Rattle.std.specs.Io.KnownBytes.{Appends}
 use Rattle.std.specs.Str.{bytes_eq}
 use Rattle.std.proofs.lemmas.List.{append-nil}
@@ -20,13 +20,13 @@ is_sent close head_only host next parts body answer named right =
 
 -- a front of what was to be sent
 abbrev pub IsFront : List ℕ → Stream → Stream → Type 0
-IsFront text held new_held = (sent : List ℕ) × (rest : List ℕ) × (text ≡ sent ++ rest) × Appends held new_held sent
+IsFront text held new_held = (sent : List ℕ) × (rest : List ℕ) × (0 < length rest) × (text ≡ sent ++ rest) × Appends held new_held sent
 
 pub cut_exchange : (write_fails : Type 0) (close : Bool) (host next : Host) (parts : RequestParts) (body text : List ℕ) (held new_held : Stream)
     → IsSent close host parts body text next → IsFront text held new_held → write_fails
     → Exchanges write_fails (Err fault.OutputFault) close host parts body held new_held next
 cut_exchange write_fails close host next parts body text held new_held sent front fails =
-    (fails, (front.0, front.1, subst (λ t. IsSent close host parts body t next) front.2 sent, front.3))
+    (fails, (front.0, front.1, front.2, subst (λ t. IsSent close host parts body t next) front.3 sent, front.4))
 
 -- ---- with the request that was read
 
@@ -45,11 +45,11 @@ answered close is_last request_last host next old new parts body sent request sa
 
 cut : (close is_last request_last : Bool) (host next : Host) (old new : Stream) (parts : RequestParts) (body sent rest : List ℕ)
     → TakesRequest old new parts body → request_last ≡ is_last → closes parts request_last ≡ close
-    → IsSent (closes parts request_last) host parts body (sent ++ rest) next → IsFrontSent host is_last old sent next
-cut false is_last request_last host next old new parts body sent rest request same closing s =
-    record { rest = rest; whole = inl (new, answered false is_last request_last host next old new parts body (sent ++ rest) request same closing s) }
-cut true is_last request_last host next old new parts body sent rest request same closing s =
-    record { rest = rest; whole = inr (inl (new, answered true is_last request_last host next old new parts body (sent ++ rest) request same closing s)) }
+    → 0 < length rest → IsSent (closes parts request_last) host parts body (sent ++ rest) next → IsFrontSent host is_last old sent next
+cut false is_last request_last host next old new parts body sent rest request same closing some s =
+    record { rest = rest; some = some; whole = inl (new, answered false is_last request_last host next old new parts body (sent ++ rest) request same closing s) }
+cut true is_last request_last host next old new parts body sent rest request same closing some s =
+    record { rest = rest; some = some; whole = inr (inl (new, answered true is_last request_last host next old new parts body (sent ++ rest) request same closing s)) }
 
 pub turned : (read_fails write_fails : Type 0) (result : Result Next ConnectionFault) (is_last request_last : Bool) (host next : Host) (old new held new_held : Stream)
     (parts : RequestParts) (body : List ℕ) → TakesRequest old new parts body → request_last ≡ is_last
@@ -60,7 +60,7 @@ turned read_fails write_fails (Ok next_is.End) is_last request_last host next ol
     (e.1.0, inr (inl (new, answered true is_last request_last host next old new parts body e.1.0 request same e.0 e.1.1)), e.1.2)
 turned read_fails write_fails (Err fault.InputFault) is_last request_last host next old new held new_held parts body request same e = absurd e
 turned read_fails write_fails (Err fault.OutputFault) is_last request_last host next old new held new_held parts body request same e =
-    (e.0, (e.1.0, cut (closes parts request_last) is_last request_last host next old new parts body e.1.0 e.1.1 request same refl e.1.2, e.1.3))
+    (e.0, (e.1.0, cut (closes parts request_last) is_last request_last host next old new parts body e.1.0 e.1.1 request same refl e.1.2 e.1.3, e.1.4))
 turned read_fails write_fails (Err fault.OutOfMemory) is_last request_last host next old new held new_held parts body request same e = absurd e
 
 -- ---- without a request
@@ -80,4 +80,4 @@ not_read read_fails write_fails is_last host old new held new_held sent why appe
 pub not_read_cut : (read_fails write_fails : Type 0) (is_last : Bool) (host : Host) (old new held new_held : Stream) (text : List ℕ) → IsNotRead old text → IsFront text held new_held
     → write_fails → Turns read_fails write_fails (Err fault.OutputFault) is_last host old new held new_held host
 not_read_cut read_fails write_fails is_last host old new held new_held text why front fails =
-    (fails, (front.0, record { rest = front.1; whole = inr (inr (subst (IsNotRead old) front.2 why, refl)) }, front.3))
+    (fails, (front.0, record { rest = front.1; some = front.2; whole = inr (inr (subst (IsNotRead old) front.3 why, refl)) }, front.4))

@@ -144,7 +144,7 @@ abbrev pub kept : Host → List ℕ → Result (SiteName × Digest) Refusal → 
 kept host bytes (Ok at) = with_upload host bytes
 kept host bytes (Err reason) = host
 
--- A command may leave what was there, or its entry alone, or all that it does.
+-- A command may leave what was there, or its entry alone, or all that it does, whatever digests are told as required.
 abbrev pub CommandMayLeave : Host → Command → Host → Type 0
 CommandMayLeave host command next =
     (next ≡ host)

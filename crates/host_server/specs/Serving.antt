@@ -102,9 +102,10 @@ IsCut old = IfSome old CutShort ⊎ IsBodyCut old
 
 -- ---- where a write failed
 
--- a front of the reply was sent, whose command stands
+-- a front of the reply was sent, and some of it was not; what its request did stands
 pub record IsFrontSent (host : Host) (is_last : Bool) (old : Stream) (sent : List ℕ) (next : Host) : Type 0 where
   pub rest : List ℕ
+  pub some : 0 < length rest
   pub whole : ((new : Stream) × IsExchange host is_last old (sent ++ rest) next new) ⊎ IsLast host is_last old (sent ++ rest) next
 
 -- ---- a whole connection
@@ -157,7 +158,8 @@ Exchanges write_fails (Ok next_is.End) close host parts body held new_held next 
     (close ≡ true) × ((sent : List ℕ) × IsSent close host parts body sent next × Appends held new_held sent)
 Exchanges write_fails (Err fault.InputFault) close host parts body held new_held next = ⊥
 Exchanges write_fails (Err fault.OutputFault) close host parts body held new_held next =
-    write_fails × ((sent : List ℕ) × (rest : List ℕ) × IsSent close host parts body (sent ++ rest) next × Appends held new_held sent)
+    write_fails × ((sent : List ℕ) × (rest : List ℕ) × (0 < length rest)
+        × IsSent close host parts body (sent ++ rest) next × Appends held new_held sent)
 Exchanges write_fails (Err fault.OutOfMemory) close host parts body held new_held next = ⊥
 
 -- what the turn of a connection does

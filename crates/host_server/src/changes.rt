@@ -1,4 +1,4 @@
-//! What a host tells of changes, undos and uploads.
+//! What a host tells of changes and undos.
 ghost use Rattle.std.specs.Prelude.{◌≡◌, ◌⊎◌, None, OnErr, Err, IsErrOf};
 ghost use Rattle.site_change.specs.declared.commands.Command.TheVariants as command;
 ghost use Rattle.change_undo.specs.declared.entries.Entry.TheVariants as entry;

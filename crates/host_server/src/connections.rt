@@ -139,7 +139,7 @@ fn read_request<S: Source>(
 /// Sends a reply.
 fn send<W: Sink>(sink: &mut W, reply: &Reply, head_only: bool) -> Result<(), ConnectionFault>
     ensures ok { OnOk result (Appends (W.held sink.old) (W.held sink.new) (sent_text head_only (answer_of reply.now))) }
-    ensures fault { OnErr result ((sent : List ℕ) × (rest : List ℕ) × (sent_text head_only (answer_of reply.now) ≡ sent ++ rest)
+    ensures fault { OnErr result ((sent : List ℕ) × (rest : List ℕ) × (0 < length rest) × (sent_text head_only (answer_of reply.now) ≡ sent ++ rest)
         × Appends (W.held sink.old) (W.held sink.new) sent) }
     ensures cause { OnErr result W.may_fail }
     ensures only { IfErr result (λ fault. fault ≡ ConnectionFault.OutputFault) }

@@ -256,13 +256,6 @@ impl Reply {
         }
     }
 
-    /// Whether the connection ends behind it.
-    pub(crate) fn closes(&self) -> bool
-        ensures { result ≡ self.now.close }
-    {
-        self.close
-    }
-
     /// Its head, with the text of its entity tag.
     fn head<'a>(&'a self, etag: Option<&'a str>) -> ReplyHead<'a>
         requires { option_map (λ t. t.now) etag ≡ (answer_of self.now).fields.etag }
