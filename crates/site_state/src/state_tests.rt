@@ -21,18 +21,17 @@ fn remove_file(state: &mut State, site: &SiteName, path: &FilePath) -> Result<()
     state.set_cell(cell, None)
 }
 
-/// Writes two files at once, where their paths rise.
+/// Writes two files at once, where their cells rise.
 fn set_two(
     alloc: Global,
     state: &mut State,
-    site: &SiteName,
-    first: (&FilePath, &[u8]),
-    second: (&FilePath, &[u8]),
+    first: (&SiteName, &FilePath, &[u8]),
+    second: (&SiteName, &FilePath, &[u8]),
 ) -> Result<(), AllocError> {
-    let a = Cell::Live(site.clone()?, first.0.clone()?);
-    let b = Cell::Live(site.clone()?, second.0.clone()?);
-    let x = Value::Live(file(alloc, first.1)?);
-    let y = Value::Live(file(alloc, second.1)?);
+    let a = Cell::Live(first.0.clone()?, first.1.clone()?);
+    let b = Cell::Live(second.0.clone()?, second.1.clone()?);
+    let x = Value::Live(file(alloc, first.2)?);
+    let y = Value::Live(file(alloc, second.2)?);
     if a.cmp(&b).is_lt() {
         let cells = vec![in alloc; (a, Some(x)), (b, Some(y))]?;
         state.set_cells(alloc, cells)?;
@@ -169,13 +168,29 @@ fn writes_many_cells(rt: HostRuntime) -> Result<(), Fail> {
     let c = FilePath::read(rt.alloc(), "c")?;
     let mut state = State::new(rt.alloc());
     no_cells(rt.alloc(), &mut state)?;
-    set_two(rt.alloc(), &mut state, &one, (&a, b"1"), (&c, b"3"))?;
+    set_two(rt.alloc(), &mut state, (&one, &a, b"1"), (&one, &c, b"3"))?;
     set_and_remove(rt.alloc(), &mut state, &one, (&b, b"2"), &c)?;
     assert_eq!(rt; bytes_at(&state, &one, &a), b"1".as_slice());
     assert_eq!(rt; bytes_at(&state, &one, &b), b"2".as_slice());
     assert!(rt; state.file(&one, &c).is_none());
-    set_two(rt.alloc(), &mut state, &one, (&b, b"new"), (&c, b"3"))?;
+    set_two(rt.alloc(), &mut state, (&one, &b, b"new"), (&one, &c, b"3"))?;
     assert_eq!(rt; bytes_at(&state, &one, &b), b"new".as_slice());
     assert_eq!(rt; state.live(&one).len(), 3);
+    Ok(())
+}
+
+#[test]
+fn writes_cells_of_two_sites(rt: HostRuntime) -> Result<(), Fail> {
+    let one = SiteName::new("one")?;
+    let two = SiteName::new("two")?;
+    let a = FilePath::read(rt.alloc(), "a")?;
+    let b = FilePath::read(rt.alloc(), "b")?;
+    let mut state = State::new(rt.alloc());
+    set_two(rt.alloc(), &mut state, (&one, &b, b"1"), (&two, &a, b"2"))?;
+    assert_eq!(rt; bytes_at(&state, &one, &b), b"1".as_slice());
+    assert_eq!(rt; bytes_at(&state, &two, &a), b"2".as_slice());
+    assert!(rt; state.file(&one, &a).is_none());
+    assert_eq!(rt; state.live(&one).len(), 1);
+    assert_eq!(rt; state.live(&two).len(), 1);
     Ok(())
 }
