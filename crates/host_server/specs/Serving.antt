@@ -159,7 +159,7 @@ Exchanges write_fails (Ok next_is.End) close host parts body held new_held next 
 Exchanges write_fails (Err fault.InputFault) close host parts body held new_held next = ⊥
 Exchanges write_fails (Err fault.OutputFault) close host parts body held new_held next =
     write_fails × ((sent : List ℕ) × (rest : List ℕ) × (0 < length rest)
-        × IsSent close host parts body (sent ++ rest) next × Appends held new_held sent)
+    × IsSent close host parts body (sent ++ rest) next × Appends held new_held sent)
 Exchanges write_fails (Err fault.OutOfMemory) close host parts body held new_held next = ⊥
 
 -- what the turn of a connection does
