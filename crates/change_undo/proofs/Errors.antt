@@ -1,5 +1,5 @@
 -- Errors that are passed on.
-use Rattle.std.proofs.Common.{◌≡◌, ◌↔◌, Result, Ok, Err, ap}
+use Rattle.std.proofs.Common.{◌≡◌, ◌↔◌, Result, Err, ap}
 
 -- an error says the same at another type
 pub err_moves : {A B E P : Type 0} (e x : E) → (◌≡◌ {A = Result A E} (Err e) (Err x)) ↔ P → (◌≡◌ {A = Result B E} (Err e) (Err x)) ↔ P

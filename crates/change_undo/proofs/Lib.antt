@@ -6,3 +6,11 @@ pub mod Found
 pub mod Errors
 pub mod Sound
 pub mod Clashing
+pub mod ChangedCells
+pub mod WithoutClash
+pub mod Places
+pub mod FirstTouch
+pub mod TheClash
+pub mod GrowingClash
+pub mod Planned
+pub mod KeptClash

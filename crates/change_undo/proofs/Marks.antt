@@ -1,5 +1,5 @@
 -- What the marks of the entries tell.
-use Rattle.std.proofs.Common.{◌≡◌, ℕ, zero, suc, ◌+◌, ◌-◌, ◌<◌, ◌≤◌, ◌==◌, nat_le, nat_lt, Bool, true, false, not, cond, ◌&&◌, ◌||◌, List, [], ◌∷◌, ◌++◌, map, drop, get_or, set, length, slice_get, Option, Some, None, IsSome, refl, sym, ap, subst, ◌∙◌, arith, eq-eqb, inl, inr, if◌then◌else◌}
+use Rattle.std.proofs.Common.{◌≡◌, ℕ, zero, suc, ◌+◌, ◌-◌, ◌<◌, ◌≤◌, ◌==◌, nat_le, Bool, true, false, not, cond, ◌&&◌, ◌||◌, List, [], ◌∷◌, ◌++◌, drop, get_or, set, length, slice_get, Option, Some, None, IsSome, refl, sym, ap, subst, ◌∙◌, arith, eq-eqb, inl, inr, if◌then◌else◌}
 use Rattle.std.specs.List.{list_any, list_all}
 use Rattle.std.proofs.Math.Seq.{drop-nil}
 use Rattle.std.proofs.lemmas.List.{length-map, drop_more, append-nil, length-append}
@@ -10,13 +10,12 @@ use Rattle.host_names.specs.Blobs.{Contents}
 use Rattle.host_names.specs.declared.names.SiteName.{SiteName}
 use Rattle.site_state.specs.States.{State}
 use Rattle.site_change.specs.declared.commands.Refusal.{Refusal}
-use Rattle.site_change.specs.Changes.{refusal, applied, if_accepted, run_from}
+use Rattle.site_change.specs.Changes.{site_of_command, refusal, applied, if_accepted, run_from}
 use Rattle.change_undo.specs.declared.entries.Entry.{Entry}
 use Rattle.change_undo.specs.declared.entries.Entry.TheVariants.{Change, Undo}
-use Rattle.change_undo.specs.declared.entries.UndoRefusal.{UndoRefusal}
-use Rattle.change_undo.specs.declared.entries.UndoRefusal.TheVariants.{HistoryFull, NoSuchChange, NotAChange, AlreadyUndone, NotNewest}
+use Rattle.change_undo.specs.declared.entries.UndoRefusal.TheVariants.{HistoryFull, NoSuchChange, AlreadyUndone, NotNewest}
 use Rattle.change_undo.specs.declared.logged.Logged.{Logged}
-use Rattle.change_undo.specs.Histories.{undone, is_among, live_from, live_changes, site_of_command, site_of_entry, same_site, entry_at, is_newest, refusal_at, undo_refusal}
+use Rattle.change_undo.specs.Histories.{undone, is_among, live_from, site_of_entry, same_site, entry_at, is_newest, refusal_at, undo_refusal}
 use Rattle.change_undo.specs.Live.{without}
 use Rattle.change_undo.proofs.Live.{is_among-push, undone-append}
 use Rattle.change_undo.specs.Logged.{entries_of, AreMarked, marked_live, with_change, is_change, is_live, command_if, carried_out}
@@ -162,7 +161,7 @@ carried_none uploads state n o changes e = ap (λ o. run_from uploads state (bef
 
 -- marking an entry leaves the entries
 pub entries_of-mark : (logged : List Logged) (i : ℕ) (l : Logged) → i < length logged → l ≡ get_or logged i l
-    → entries_of (set logged i (record { entry = l.entry; is_undone = true })) ≡ entries_of logged
+    → entries_of (set logged i (record { entry = l.entry; is_undone = true; plan = None })) ≡ entries_of logged
 entries_of-mark [] i l within at = absurd (omega arith)
 entries_of-mark (x ∷ logged) zero l within at = ap (λ (y : Logged). y.entry ∷ entries_of logged) at
 entries_of-mark (x ∷ logged) (suc i) l within at = ap (λ es. x.entry ∷ es) (entries_of-mark logged i l (omega arith) at)
@@ -181,7 +180,7 @@ AreMarked-other gone k n (x ∷ logged) below marked =
     or_false false = refl
 
 pub AreMarked-mark : (gone : List ℕ) (n i m : ℕ) (logged : List Logged) (l : Logged) → i < length logged → m ≡ n + i → AreMarked gone n logged
-    → AreMarked (gone ++ m ∷ []) n (set logged i (record { entry = l.entry; is_undone = true }))
+    → AreMarked (gone ++ m ∷ []) n (set logged i (record { entry = l.entry; is_undone = true; plan = None }))
 AreMarked-mark gone n i m [] l within at marked = absurd (omega arith)
 AreMarked-mark gone n zero m (x ∷ logged) l within at marked =
     let same : (m == n) ≡ true = eq-eqb m n (omega arith) in
@@ -216,17 +215,17 @@ entries_of-push (x ∷ logged) l = ap (λ es. x.entry ∷ es) (entries_of-push l
 pub after_undo : (logged : List Logged) (new : Logged) (site : SiteName) (k : ℕ) (l : Logged) → AreMarked (undone (entries_of logged)) 1 logged
     → is_among (undone (entries_of logged)) (length logged + 1) ≡ false → 0 < k → k ≤ length logged → new.entry ≡ Undo site k → new.is_undone ≡ false
     → l ≡ get_or (logged ++ new ∷ []) (k - 1) l
-    → (entries_of (set (logged ++ new ∷ []) (k - 1) (record { entry = l.entry; is_undone = true })) ≡ entries_of logged ++ Undo site k ∷ [])
-    × AreMarked (undone (entries_of (set (logged ++ new ∷ []) (k - 1) (record { entry = l.entry; is_undone = true })))) 1
-    (set (logged ++ new ∷ []) (k - 1) (record { entry = l.entry; is_undone = true }))
+    → (entries_of (set (logged ++ new ∷ []) (k - 1) (record { entry = l.entry; is_undone = true; plan = None })) ≡ entries_of logged ++ Undo site k ∷ [])
+    × AreMarked (undone (entries_of (set (logged ++ new ∷ []) (k - 1) (record { entry = l.entry; is_undone = true; plan = None })))) 1
+    (set (logged ++ new ∷ []) (k - 1) (record { entry = l.entry; is_undone = true; plan = None }))
 after_undo logged new site k l marked next some within is_undo unmarked at =
     let items : List Logged = logged ++ new ∷ [] in
     let longer = length-append logged (new ∷ []) in
-    let same : entries_of (set items (k - 1) (record { entry = l.entry; is_undone = true })) ≡ entries_of logged ++ Undo site k ∷ [] =
+    let same : entries_of (set items (k - 1) (record { entry = l.entry; is_undone = true; plan = None })) ≡ entries_of logged ++ Undo site k ∷ [] =
     entries_of-mark items (k - 1) l (omega (arith, longer)) at ∙ entries_of-push logged new ∙ ap (λ (e : Entry). entries_of logged ++ e ∷ []) is_undo in
     let number : 1 + length logged ≡ length logged + 1 = omega arith in
     let pushed = AreMarked-push (undone (entries_of logged)) 1 logged new marked (unmarked ∙ sym next ∙ ap (is_among (undone (entries_of logged))) (sym number)) in
-    let P : List ℕ → Type 0 = λ gone. AreMarked gone 1 (set items (k - 1) (record { entry = l.entry; is_undone = true })) in (
+    let P : List ℕ → Type 0 = λ gone. AreMarked gone 1 (set items (k - 1) (record { entry = l.entry; is_undone = true; plan = None })) in (
       same,
       subst P (sym (ap undone same ∙ undone-append (entries_of logged) (Undo site k ∷ [])))
           (AreMarked-mark (undone (entries_of logged)) 1 (k - 1) k items l (omega (arith, longer)) (omega arith) pushed),

@@ -1,22 +1,20 @@
 -- What a history's changes give after one entry more, and as uploads grow.
-use Rattle.std.proofs.Common.{◌≡◌, ℕ, zero, suc, ◌+◌, ◌-◌, ◌<◌, ◌≤◌, ◌==◌, nat_le, Bool, true, false, not, cond, ◌&&◌, ◌||◌, List, [], ◌∷◌, ◌++◌, length, slice_get, filter, Option, Some, None, is_none, refl, sym, ap, subst, ◌∙◌, arith, IsTrue, inl, inr, eq-eqb}
+use Rattle.std.proofs.Common.{◌≡◌, ℕ, zero, suc, ◌+◌, ◌-◌, ◌<◌, ◌≤◌, ◌==◌, nat_le, Bool, true, false, not, cond, ◌||◌, List, [], ◌∷◌, ◌++◌, length, slice_get, Option, Some, None, is_none, refl, sym, ap, subst, ◌∙◌, arith, IsTrue, eq-eqb}
 use Rattle.std.specs.FinMap as map
-use Rattle.std.specs.List.{list_any, list_all}
-use Rattle.std.proofs.lemmas.Bool.{and_parts, eqb-true, leb-true, cases_lt, cases_eq}
+use Rattle.std.specs.List.{list_all}
+use Rattle.std.proofs.lemmas.Bool.{and_parts, eqb-true, leb-true}
 use Rattle.std.proofs.lemmas.List.{append-nil, append_assoc, length-append}
 use Rattle.host_names.specs.Blobs.{Contents}
 use Rattle.host_names.specs.declared.names.SiteName.{SiteName}
 use Rattle.site_state.specs.States.{State}
 use Rattle.site_change.specs.declared.commands.Command.{Command}
-use Rattle.site_change.specs.declared.commands.Refusal.{Refusal}
-use Rattle.site_change.specs.Changes.{refusal, applied, if_accepted, run_from, IsWithin}
+use Rattle.site_change.specs.Changes.{site_of_command, refusal, applied, if_accepted, run_from, IsWithin}
 use Rattle.site_change.proofs.LeftOut.{accepted}
 use Rattle.site_change.proofs.Growing.{command_grows, keeps_running}
 use Rattle.change_undo.specs.declared.entries.Entry.{Entry}
 use Rattle.change_undo.specs.declared.entries.Entry.TheVariants.{Change, Undo}
-use Rattle.change_undo.specs.declared.entries.UndoRefusal.{UndoRefusal}
 use Rattle.change_undo.specs.declared.entries.UndoRefusal.TheVariants.{HistoryFull, NoSuchChange, NotAChange, AlreadyUndone, NotNewest}
-use Rattle.change_undo.specs.Histories.{undone, is_among, live_from, live_changes, run, site_of_command, same_site, entry_at, is_newest, refusal_at, change_refusal, undo_refusal, is_accepted_in, is_allowed, IsLegalAfter, IsLegal}
+use Rattle.change_undo.specs.Histories.{undone, is_among, live_changes, run, same_site, entry_at, is_newest, refusal_at, change_refusal, undo_refusal, is_accepted_in, is_allowed, IsLegalAfter, IsLegal}
 use Rattle.change_undo.specs.Live.{without}
 use Rattle.change_undo.proofs.Live.{IsRising, live_from-rising, live_changes-undo, live_changes-change, without-late}
 

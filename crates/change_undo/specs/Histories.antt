@@ -1,5 +1,5 @@
 -- Histories: lists of entries, numbered from 1.
-use Rattle.std.specs.Prelude.{◌≡◌, ℕ, ◌+◌, ◌-◌, ◌==◌, nat_le, List, [], ◌∷◌, ◌++◌, length, slice_get, Bool, true, false, not, IsTrue, Option, Some, None, is_none, if◌then◌else◌}
+use Rattle.std.specs.Prelude.{ℕ, ◌+◌, ◌-◌, ◌==◌, nat_le, List, [], ◌∷◌, ◌++◌, length, slice_get, Bool, false, not, IsTrue, Option, Some, None, is_none, if◌then◌else◌}
 use Rattle.std.specs.FinMap as map
 use Rattle.std.specs.List.{list_any, list_all}
 use Rattle.std.specs.Str.{bytes_eq}
@@ -7,8 +7,7 @@ use Rattle.host_names.specs.Blobs.{Contents}
 use Rattle.host_names.specs.declared.names.SiteName.{SiteName}
 use Rattle.site_state.specs.States.{State}
 use Rattle.site_change.specs.declared.commands.Command.{Command}
-use Rattle.site_change.specs.declared.commands.Command.TheVariants.{Open, Publish}
-use Rattle.site_change.specs.Changes.{refusal, run_from}
+use Rattle.site_change.specs.Changes.{refusal, run_from, site_of_command}
 use Rattle.change_undo.specs.declared.entries.Entry.{Entry}
 use Rattle.change_undo.specs.declared.entries.Entry.TheVariants.{Change, Undo}
 use Rattle.change_undo.specs.declared.entries.UndoRefusal.{UndoRefusal}
@@ -40,10 +39,6 @@ abbrev pub run : Contents → List Entry → Option State
 run uploads entries = run_from uploads map.empty (live_changes entries)
 
 -- ---- whether a change can be undone
-
-abbrev pub site_of_command : Command → SiteName
-site_of_command (Open site files auto) = site
-site_of_command (Publish site m) = site
 
 abbrev pub site_of_entry : Entry → SiteName
 site_of_entry (Change command) = site_of_command command

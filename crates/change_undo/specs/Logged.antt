@@ -4,7 +4,7 @@ use Rattle.site_change.specs.declared.commands.Command.{Command}
 use Rattle.change_undo.specs.declared.entries.Entry.{Entry}
 use Rattle.change_undo.specs.declared.entries.Entry.TheVariants.{Change, Undo}
 use Rattle.change_undo.specs.declared.logged.Logged.{Logged}
-use Rattle.change_undo.specs.Histories.{undone, is_among}
+use Rattle.change_undo.specs.Histories.{is_among}
 
 -- the entries alone
 abbrev pub entries_of : List Logged → List Entry

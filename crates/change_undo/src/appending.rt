@@ -2,12 +2,14 @@
 ghost use Rattle.std.specs.Prelude.{◌≡◌, ◌↔◌, ◌+◌, [], ◌∷◌, ◌++◌, length, false, Some, None, Err, OnOk, OnErr};
 ghost use Rattle.site_change.specs.Changes.{IsWithin, applied, refusal};
 ghost use Rattle.site_change.specs.declared.commands.Refusal.{Refusal as Reason};
+ghost use Rattle.site_change.specs.declared.plans.Plan.{Plan as Kept};
 ghost use Rattle.change_undo.specs.declared.entries.Entry.TheVariants as entry;
+ghost use Rattle.change_undo.specs.Kept.{IsPlanOf};
 
 use crate::entries::Entry;
 use crate::founds::keep_all;
 use crate::logged::Logged;
-use crate::steps::decided;
+use crate::steps::{Decision, decided};
 use host_names::{MemoryUploads, Uploads};
 use site_change::{Command, DecideError};
 use site_state::State;
@@ -48,7 +50,8 @@ pub(crate) fn append<U: Uploads>(
 ) -> Result<(), DecideError>
     requires within { IsWithin found.old (U.contents uploads.now) }
     ensures refused { (reason : Reason) → (result ≡ Err (DecideError.Refused reason)) ↔ (refusal command number state.old (U.contents uploads.now) ≡ Some reason) }
-    ensures entries { OnOk result (logged.new.items ≡ logged.old.items ++ record { entry = entry.Change command; is_undone = false } ∷ []) }
+    ensures entries { OnOk result ((plan : Kept) × (logged.new.items ≡ logged.old.items ++ record { entry = entry.Change command; is_undone = false; plan = Some plan } ∷ [])
+        × IsPlanOf (U.contents uploads.now) state.old number command plan) }
     ensures effect { OnOk result (state.new ≡ applied command number state.old (U.contents uploads.now)) }
     ensures accepted { OnOk result (refusal command number state.old found.new ≡ None) }
     ensures err { OnErr result ((logged.new.items ≡ logged.old.items) × (state.new ≡ state.old)) }
@@ -56,8 +59,8 @@ pub(crate) fn append<U: Uploads>(
     ensures kept { IsWithin found.old found.new }
     ensures within { IsWithin found.new (U.contents uploads.now) }
 {
-    let writes = match decided(alloc, state, uploads, number, &command) {
-        Ok(writes) => writes,
+    let Decision { plan, writes } = match decided(alloc, state, uploads, number, &command) {
+        Ok(decided) => decided,
         Err(error) => return Err(error),
     };
     if keep_found(found, state, uploads, &command).is_err() || logged.reserve(1).is_err() {
@@ -68,6 +71,7 @@ pub(crate) fn append<U: Uploads>(
             logged.push_reserved(Logged {
                 entry: Entry::Change(command),
                 is_undone: false,
+                plan: Some(plan),
             });
             Ok(())
         }

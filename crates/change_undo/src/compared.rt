@@ -31,6 +31,10 @@ impl Names {
     pub(crate) fn site(&self, place: usize) -> &SiteName {
         &self.sites[place % 2]
     }
+
+    pub(crate) fn path(&self, place: usize) -> &FilePath {
+        &self.paths[place % 3]
+    }
 }
 
 /// Adds a path, unless it isn't listed.

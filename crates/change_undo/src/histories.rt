@@ -1,17 +1,19 @@
 //! Histories: changes are committed at their end, and undone by an entry of their own.
-ghost use Rattle.std.specs.Prelude.{◌≡◌, ◌≢◌, ◌↔◌, ◌+◌, ◌≤◌, ◌<◌, [], ◌∷◌, ◌++◌, length, false, Some, None, Err, List, IfOk, OnOk, OnErr, option_copied};
+ghost use Rattle.std.specs.Prelude.{◌≡◌, ◌≢◌, ◌↔◌, ◌+◌, ◌≤◌, ◌<◌, [], ◌∷◌, ◌++◌, length, false, Some, None, Err, List, IfOk, OnOk, OnErr, option_copied, option_map};
 ghost use Rattle.std.specs.FinMap as map;
 ghost use Rattle.site_change.specs.Changes.{IsWithin, applied, refusal};
 ghost use Rattle.site_change.specs.declared.commands.Refusal.{Refusal as Reason};
 ghost use Rattle.change_undo.specs.declared.entries.Entry.TheVariants as entry;
 ghost use Rattle.change_undo.specs.declared.entries.UndoRefusal.{UndoRefusal as UndoReason};
+ghost use Rattle.change_undo.specs.Clashes;
 ghost use Rattle.change_undo.specs.Histories;
 
 use crate::appending::append;
+use crate::clashes::clash_of;
 use crate::entries::{CommitError, Entry, UndoError};
 use crate::logged::{Logged, undo_refusal};
 use crate::undoing::undone;
-use host_names::{MemoryUploads, SiteName, Uploads};
+use host_names::{Cell, MemoryUploads, SiteName, Uploads};
 use site_change::{Command, DecideError};
 use site_state::State;
 use std::alloc::Global;
@@ -88,6 +90,16 @@ impl History {
             return None;
         }
         Some(&self.logged[number as usize - 1].entry)
+    }
+
+    /// The clash of the change of a number: the number of the first later change that was not undone and touches a cell,
+    /// by reading or writing it, which that change changed; and the first such cell, in the order of cells. None where no
+    /// later change does so, and where the number is not that of a change, or of one that was undone. Numbers count over
+    /// all sites. It takes no memory; the work grows with the later changes and the cells that were changed.
+    pub fn clash(&self, change: u64) -> Option<(u64, &Cell)>
+        ensures { option_map (λ found. (found.0, found.1.now)) result ≡ Clashes.clash self.now.found self.now.entries change }
+    {
+        clash_of(self.logged.as_slice(), change)
     }
 
     /// Commits a command as the next entry, with these uploads, which have all that earlier commits found. Answers

@@ -3,18 +3,22 @@ ghost use Rattle.std.specs.Prelude.{◌≡◌, ◌++◌, ◌∷◌, [], ℕ, Lis
 ghost use Rattle.host_names.specs.Blobs.{Contents};
 ghost use Rattle.host_names.specs.declared.cells.Cell.{Cell};
 ghost use Rattle.host_names.specs.declared.names.SiteName.{SiteName as Site};
-ghost use Rattle.site_change.specs.Changes.{IsWithin};
+ghost use Rattle.std.specs.FinMap as map;
+ghost use Rattle.site_change.specs.Changes.{IsWithin, run_from};
 ghost use Rattle.site_state.specs.States.{State as Cells};
 ghost use Rattle.change_undo.specs.declared.entries.Entry.{Entry as Line};
 ghost use Rattle.change_undo.specs.declared.entries.Entry.TheVariants as line;
-ghost use Rattle.change_undo.specs.Clashes.{IsClash};
-ghost use Rattle.change_undo.specs.Histories.{IsLegal, change_refusal, is_newest, run};
+ghost use Rattle.change_undo.specs.Clashes.{IsClash, clash};
+ghost use Rattle.change_undo.specs.Histories.{IsLegal, change_refusal, is_newest, live_changes, run};
+ghost use Rattle.change_undo.specs.Live.{without};
 
-/// A history that was legal stays legal, with the same state, when more is uploaded.
+/// A history that was legal stays legal, with the same state and the same clashes, when more is uploaded.
 pub fn histories_outlast_uploads()
     ensures legal { (uploads more : Contents) (entries : List Line) → IsWithin uploads more → IsLegal uploads entries → IsLegal more entries }
     ensures run { (uploads more : Contents) (entries : List Line) (state : Cells) → IsWithin uploads more → IsLegal uploads entries
         → run uploads entries ≡ Some state → run more entries ≡ Some state }
+    ensures clash { (uploads more : Contents) (entries : List Line) (k : ℕ) → IsWithin uploads more → IsLegal uploads entries
+        → clash more entries k ≡ clash uploads entries k }
 {}
 
 /// In a legal history the changes that live are accepted from nothing, each in its place.
@@ -27,6 +31,20 @@ pub fn a_legal_history_has_a_run()
 pub fn an_allowed_undo_leaves_a_legal_history()
     ensures { (uploads : Contents) (entries : List Line) (site : Site) (k : ℕ) → IsLegal uploads entries → change_refusal entries site k ≡ None
         → (without : Cells) × (run uploads (entries ++ line.Undo site k ∷ []) ≡ Some without) × IsLegal uploads (entries ++ line.Undo site k ∷ []) }
+{}
+
+/// A change without a clash can be left out: the others are accepted without it, each in its place.
+pub fn a_change_without_a_clash_can_be_left_out()
+    ensures { (uploads : Contents) (entries : List Line) (k : ℕ) → IsLegal uploads entries → clash uploads entries k ≡ None
+        → (others : Cells) × (run_from uploads map.empty (without k (live_changes entries)) ≡ Some others) }
+{}
+
+/// What is found as the clash of a change is its clash: of the later changes that live and touch a cell which it changed,
+/// the first, and the first such cell. Where none is found, there is none.
+pub fn the_clash_is_found()
+    ensures found { (uploads : Contents) (entries : List Line) (k j : ℕ) (at : Cell) → IsLegal uploads entries → clash uploads entries k ≡ Some (j, at)
+        → IsClash uploads entries k j at }
+    ensures none { (uploads : Contents) (entries : List Line) (k j : ℕ) (at : Cell) → clash uploads entries k ≡ None → IsClash uploads entries k j at → ⊥ }
 {}
 
 /// One later change at most stands in the way of an undo, in one cell.

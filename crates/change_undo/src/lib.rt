@@ -3,6 +3,11 @@
 
 mod appending;
 #[cfg(test)]
+mod clash_model;
+#[cfg(test)]
+mod clash_tests;
+mod clashes;
+#[cfg(test)]
 mod compared;
 mod entries;
 mod founds;
@@ -23,7 +28,7 @@ mod undoing;
 pub use entries::{CommitError, Entry, UndoError, UndoRefusal};
 pub use histories::{GREATEST_LIMIT, History};
 pub use laws::{
-    a_change_has_one_clash_at_most, a_legal_history_has_a_run,
-    an_allowed_undo_leaves_a_legal_history, histories_outlast_uploads,
-    the_newest_change_has_no_clash,
+    a_change_has_one_clash_at_most, a_change_without_a_clash_can_be_left_out,
+    a_legal_history_has_a_run, an_allowed_undo_leaves_a_legal_history, histories_outlast_uploads,
+    the_clash_is_found, the_newest_change_has_no_clash,
 };

@@ -6,12 +6,14 @@ ghost use Rattle.change_undo.specs.Logged.{AreMarked, entries_of, is_live};
 
 use crate::entries::{Entry, UndoRefusal};
 use host_names::SiteName;
+use site_change::Plan;
 
-/// An entry, and whether a later one undoes it.
+/// An entry, whether a later one undoes it, and of a change that lives what it changes and touches in its place.
 #[derive(Drop)]
 pub(crate) struct Logged {
     pub(crate) entry: Entry,
     pub(crate) is_undone: bool,
+    pub(crate) plan: Option<Plan>,
 }
 
 /// Whether a change stands among these entries that was not undone.

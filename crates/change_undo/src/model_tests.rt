@@ -1,6 +1,7 @@
 //! Generated histories, which are compared with the model.
 ghost use Rattle.std.specs.Prelude.{◌<◌};
 
+use crate::clash_model::tells_clashes;
 use crate::compared::{Names, answer_of_host, is_entry, is_site};
 use crate::hosts::Host;
 use crate::model::{Answer, Deploy, LIMIT, Step, answer_of_model, bytes_of};
@@ -133,6 +134,7 @@ impl Compared {
         assert_eq!(rt; host.history.len(), entries.len() as u64);
         assert!(rt; is_site(names, host.history.state(), entries, 0));
         assert!(rt; is_site(names, host.history.state(), entries, 1));
+        assert!(rt; tells_clashes(names, &host.history, entries));
         Ok(answer)
     }
 

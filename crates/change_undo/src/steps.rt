@@ -7,6 +7,7 @@ ghost use Rattle.host_names.specs.Cells.{cell_cmp};
 ghost use Rattle.site_change.specs.Changes.{applied, refusal, run_from};
 ghost use Rattle.site_change.specs.declared.commands.Refusal.{Refusal as Reason};
 ghost use Rattle.site_state.specs.States.{may_stand, with_cells};
+ghost use Rattle.change_undo.specs.Kept.{IsPlanOf};
 ghost use Rattle.change_undo.specs.Live.{without};
 ghost use Rattle.change_undo.specs.Logged.{carried_out, marked_live};
 
@@ -20,40 +21,49 @@ use std::alloc::{AllocError, Global};
 /// What stands in a cell from now on.
 pub(crate) type Write = (Cell, Option<Value>);
 
-/// What a plan leaves in the cells that it changes.
-fn writes_of(alloc: Global, plan: Plan) -> Result<Vec<Write>, AllocError>
-    ensures { IfOk result (λ writes. writes.items ≡ map (λ change. (change.cell, change.after)) plan.changes.items) }
+/// What a command changes and touches, and what it leaves in the cells that it changes, by cell.
+#[derive(Drop)]
+pub(crate) struct Decision {
+    pub(crate) plan: Plan,
+    pub(crate) writes: Vec<Write>,
+}
+
+/// What a change leaves in its cell. Copies share the files.
+fn write_of(change: &Change) -> Result<Write, AllocError>
+    ensures { IfOk result (λ write. write ≡ (change.now.cell, change.now.after)) }
 {
-    let mut writes = Vec::with_capacity(alloc, plan.changes.len())?;
-    for change in plan.changes {
-        let Change {
-            cell,
-            before,
-            after,
-        } = change;
-        drop(before);
-        writes.push((cell, after))?;
+    Ok((change.cell.clone()?, change.after.clone()?))
+}
+
+/// What some changes leave in their cells.
+fn writes_of(alloc: Global, changes: &[Change]) -> Result<Vec<Write>, AllocError>
+    ensures { IfOk result (λ writes. writes.items ≡ map (λ change. (change.cell, change.after)) changes.now) }
+{
+    let mut writes = Vec::with_capacity(alloc, changes.len())?;
+    for change in changes {
+        writes.push(write_of(change)?)?;
     }
     Ok(writes)
 }
 
-/// What a command leaves in the cells that it changes, by cell.
+/// Decides a command.
 pub(crate) fn decided<U: Uploads>(
     alloc: Global,
     state: &State,
     uploads: &U,
     number: u64,
     command: &Command,
-) -> Result<Vec<Write>, DecideError>
+) -> Result<Decision, DecideError>
     ensures refused { (reason : Reason) → (result ≡ Err (DecideError.Refused reason)) ↔ (refusal command.now number state.now (U.contents uploads.now) ≡ Some reason) }
     ensures accepted { OnOk result (refusal command.now number state.now (U.contents uploads.now) ≡ None) }
-    ensures rising { IfOk result (λ writes. IsStrictlySortedBy cell_cmp (keys_of writes.items)) }
-    ensures of_kind { IfOk result (λ writes. All (λ e. IsTrue (may_stand e.0 e.1)) writes.items) }
-    ensures effect { IfOk result (λ writes. with_cells state.now writes.items ≡ applied command.now number state.now (U.contents uploads.now)) }
+    ensures plan { IfOk result (λ decided. IsPlanOf (U.contents uploads.now) state.now number command.now decided.plan) }
+    ensures rising { IfOk result (λ decided. IsStrictlySortedBy cell_cmp (keys_of decided.writes.items)) }
+    ensures of_kind { IfOk result (λ decided. All (λ e. IsTrue (may_stand e.0 e.1)) decided.writes.items) }
+    ensures effect { IfOk result (λ decided. with_cells state.now decided.writes.items ≡ applied command.now number state.now (U.contents uploads.now)) }
 {
     match decide(alloc, state, uploads, number, command) {
-        Ok(plan) => match writes_of(alloc, plan) {
-            Ok(writes) => Ok(writes),
+        Ok(plan) => match writes_of(alloc, plan.changes.as_slice()) {
+            Ok(writes) => Ok(Decision { plan, writes }),
             Err(_) => Err(DecideError::OutOfMemory),
         },
         Err(error) => Err(error),
@@ -72,7 +82,7 @@ fn carry_out(
     ensures { OnOk result (state.new ≡ applied command.now number state.old uploads.now) }
 {
     match decided(alloc, state, uploads, number, command) {
-        Ok(writes) => state.set_cells(alloc, writes),
+        Ok(Decision { writes, .. }) => state.set_cells(alloc, writes),
         Err(DecideError::OutOfMemory) => Err(AllocError),
         Err(DecideError::Refused(_)) => unreachable!(),
     }

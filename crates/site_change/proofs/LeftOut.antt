@@ -16,23 +16,21 @@ accepted None next after e = (refl, e)
 accepted (Some reason) next after e = cc e
 
 -- without has what state has where the test passes, and elsewhere what with_it has
-Differs : (Cell → Bool) → State → State → State → Type 0
+abbrev pub Differs : (Cell → Bool) → State → State → State → Type 0
 Differs test state with_it without = (c : Cell) → map.get without c ≡ cond (test c) (map.get state c) (map.get with_it c)
 
 -- one later command keeps that
-step_agrees : (test : Cell → Bool) (state a b : State) (command : Command) (n : ℕ) → Differs test state a b
+pub step_agrees : (test : Cell → Bool) (state a b : State) (command : Command) (n : ℕ) → Differs test state a b
     → ((at : Cell) → test at ≡ true → touches command n a at ≡ false) → AgreeOn (touches command n a) a b
-unfolding Differs
 step_agrees test state a b command n differs avoids c touched =
     differs c ∙ (elim (test c) as (λ t. test c ≡ t → cond t (map.get state c) (map.get a c) ≡ map.get a c) [
       | true ↦ λ e. cc (sym touched ∙ avoids c e)
       | false ↦ λ e. refl
     ] refl)
 
-step_differs : (test : Cell → Bool) (state a b : State) (command : Command) (n : ℕ) (uploads : Contents) → Differs test state a b
+pub step_differs : (test : Cell → Bool) (state a b : State) (command : Command) (n : ℕ) (uploads : Contents) → Differs test state a b
     → ((at : Cell) → test at ≡ true → touches command n a at ≡ false)
     → Differs test state (applied command n a uploads) (applied command n b uploads)
-unfolding Differs
 step_differs test state a b command n uploads differs avoids c =
     let here = is_local command n a uploads in
     let there = is_local command n b uploads in
@@ -47,10 +45,9 @@ step_differs test state a b command n uploads differs avoids c =
           ] refl
     ] refl
 
-later_stays : (uploads : Contents) (test : Cell → Bool) (state a b : State) (later : List (ℕ × Command)) (with_it : State)
+pub later_stays : (uploads : Contents) (test : Cell → Bool) (state a b : State) (later : List (ℕ × Command)) (with_it : State)
     → Differs test state a b → run_from uploads a later ≡ Some with_it → AvoidAll uploads a later test
     → (without : State) × (run_from uploads b later ≡ Some without) × Differs test state with_it without
-unfolding Differs
 later_stays uploads test state a b [] with_it differs ran avoid =
     let same : a ≡ with_it = cc ran in
     (b, refl, λ c. differs c ∙ ap (λ s. cond (test c) (map.get state c) (map.get s c)) same)
@@ -66,7 +63,6 @@ not_false true e = refl
 not_false false e = cc e
 
 pub can_be_left_out : (uploads : Contents) (state : State) (change : ℕ × Command) (later : List (ℕ × Command)) → LeavesOut uploads state change later
-unfolding Differs
 can_be_left_out uploads state change later with_it ran avoid =
     let after = applied change.1 change.0 state uploads in
     let test = changes change.1 change.0 state uploads in

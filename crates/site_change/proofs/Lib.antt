@@ -9,4 +9,4 @@ pub mod PathLists
 pub mod Locality
 pub mod LeftOut
 pub mod Growing
-pub mod Touched
+pub mod Touching

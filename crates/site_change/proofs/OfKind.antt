@@ -1,5 +1,5 @@
 -- What a command writes is of its cell's kind.
-use Rattle.std.proofs.Common.{◌≡◌, ℕ, true, false, cond, ◌⊎◌, inl, inr, IsTrue, List, [], ◌∷◌, Option, Some, None, Result, Ok, Err, IfOk, option_map, refl, sym, ap, ◌∙◌}
+use Rattle.std.proofs.Common.{◌≡◌, ℕ, Bool, true, false, cond, ◌⊎◌, inl, inr, IsTrue, List, [], ◌∷◌, Option, Some, None, Result, Ok, Err, IfOk, option_map, refl, sym, ap, ◌∙◌}
 use Rattle.std.specs.FinMap as map
 use Rattle.std.specs.List.{AllByRecursion}
 use Rattle.std.proofs.lemmas.List.Elements.{All-from_recursion}
@@ -98,7 +98,7 @@ writes_of_kind command n state uploads changes is =
     All-from_recursion (λ (change : Change). IsTrue (may_stand change.cell change.after)) changes
     (changes_fit state (applied command n state uploads) (command_fits command n state uploads) changes is.each)
 
-pub decided_of_kind : (command : Command) (n : ℕ) (state : State) (uploads : Contents) (reason : Option Refusal) (result : Result Plan DecideError)
-    → IsDecision reason state (applied command n state uploads) result → IfOk result (λ plan. WritesOfKind plan.changes.items)
-decided_of_kind command n state uploads reason (Ok plan) is = writes_of_kind command n state uploads plan.changes.items is.1
-decided_of_kind command n state uploads reason (Err e) is = tt
+pub decided_of_kind : (command : Command) (n : ℕ) (state : State) (uploads : Contents) (reason : Option Refusal) (site : SiteName) (test : Cell → Bool) (result : Result Plan DecideError)
+    → IsDecision reason site test state (applied command n state uploads) result → IfOk result (λ plan. WritesOfKind plan.changes.items)
+decided_of_kind command n state uploads reason site test (Ok plan) is = writes_of_kind command n state uploads plan.changes.items is.1
+decided_of_kind command n state uploads reason site test (Err e) is = tt

@@ -64,7 +64,13 @@ applied (Publish site m) n state uploads = published site m uploads state (draft
 
 -- ---- what it reads or writes
 
--- whether the command touches the cell. A publish touches each path of its site, whether a file is there or not
+-- the site that the command is for
+abbrev pub site_of_command : Command → SiteName
+site_of_command (Open site files auto) = site
+site_of_command (Publish site m) = site
+
+-- whether the command touches the cell. A publish that finds its draft touches each path of its site, whether a file is
+-- there or not
 abbrev pub touches : Command → ℕ → State → Cell → Bool
 touches (Open site files auto) n state c = same_cell c (cell.Draft site n)
 touches (Publish site m) n state c =

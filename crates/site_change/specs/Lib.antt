@@ -3,3 +3,4 @@ pub mod Decisions
 pub mod Differences
 pub mod Laws
 pub mod Plans
+pub mod TouchedCells

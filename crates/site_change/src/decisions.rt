@@ -1,4 +1,4 @@
-//! Deciding a command: whether it is refused, and else what it changes.
+//! Deciding a command: whether it is refused, and else what it changes and touches.
 ghost use Rattle.std.specs.Prelude.{◌≡◌, IfOk, OnOk, Some, None, nat_lt, length, if◌then◌else◌};
 ghost use Rattle.std.specs.FinMap as map;
 ghost use Rattle.host_names.specs.declared.cells.Cell.TheVariants as cell;
@@ -6,13 +6,16 @@ ghost use Rattle.site_state.specs.Missing.{least_missing_of};
 ghost use Rattle.site_state.specs.States.{draft_at};
 ghost use Rattle.site_state.specs.declared.values.Value.TheVariants as value;
 ghost use Rattle.site_change.specs.declared.commands.Refusal.TheVariants.{TooManyFiles};
-ghost use Rattle.site_change.specs.Changes.{refusal, publish_refusal, applied, published, tree_of, with_published};
+ghost use Rattle.site_change.specs.declared.commands.Command.TheVariants as command_of;
+ghost use Rattle.site_change.specs.Changes.{refusal, publish_refusal, applied, published, site_of_command, touches, tree_of, with_published};
 ghost use Rattle.site_change.specs.Decisions.{IsDecision, IsRefusedBy};
 ghost use Rattle.site_change.specs.Plans.{IsDifference, WritesOfKind};
+ghost use Rattle.site_change.specs.TouchedCells.{AreTouched};
 
 use crate::commands::{Command, Refusal};
 use crate::live::live_changes;
 use crate::plans::{Change, Plan, change_in, push_some};
+use crate::touched::Touched;
 use crate::trees::tree_of;
 use host_names::{Cell, SiteName, Uploads};
 use site_state::{Draft, Listing, State, Value, least_missing};
@@ -66,7 +69,7 @@ fn opened(files: &Listing, auto: bool) -> Result<Value, AllocError>
     Ok(Value::Draft(Draft { auto, files }))
 }
 
-/// What the opening of a deploy changes.
+/// What the opening of a deploy changes and touches.
 fn open(
     alloc: Global,
     state: &State,
@@ -75,7 +78,8 @@ fn open(
     files: &Listing,
     auto: bool,
 ) -> Result<Plan, DecideError>
-    ensures { IsDecision (if nat_lt 10000 (length files.now) then Some TooManyFiles else None) state.now
+    ensures { IsDecision (if nat_lt 10000 (length files.now) then Some TooManyFiles else None)
+        site.now (touches (command_of.Open site.now files.now auto) number state.now) state.now
         (map.insert state.now (cell.Draft site.now number)
         (value.Draft (record { auto = auto; files = files.now })))
         result }
@@ -88,7 +92,8 @@ fn open(
     let change = change_in(state, cell, Some(draft))?;
     let mut changes = Vec::new(alloc);
     push_some(&mut changes, change)?;
-    Ok(Plan { changes })
+    let touched = Touched::by_open(alloc, site, number)?;
+    Ok(Plan { changes, touched })
 }
 
 /// What changes where a site comes to serve the files of a draft, of which none is missing.
@@ -114,7 +119,7 @@ fn publish_draft<U: Uploads>(
     Ok(changes)
 }
 
-/// What the publishing of an open deploy changes.
+/// What the publishing of an open deploy changes and touches.
 fn publish<U: Uploads>(
     alloc: Global,
     state: &State,
@@ -122,7 +127,8 @@ fn publish<U: Uploads>(
     site: &SiteName,
     number: u64,
 ) -> Result<Plan, DecideError>
-    ensures { IsDecision (publish_refusal (U.contents uploads.now) (draft_at state.now site.now number)) state.now
+    ensures { IsDecision (publish_refusal (U.contents uploads.now) (draft_at state.now site.now number))
+        site.now (touches (command_of.Publish site.now number) 0 state.now) state.now
         (published site.now number (U.contents uploads.now) state.now (draft_at state.now site.now number))
         result }
 {
@@ -133,11 +139,12 @@ fn publish<U: Uploads>(
         return Err(DecideError::Refused(Refusal::NotComplete(digest)));
     }
     let changes = publish_draft(alloc, state, uploads, site, number, draft)?;
-    Ok(Plan { changes })
+    let touched = Touched::by_publish(alloc, site, number)?;
+    Ok(Plan { changes, touched })
 }
 
 /// Decides a command that would become the entry of this number: what it changes in the state, with what was
-/// uploaded, or why it is refused. It fails for want of memory only where it isn't refused.
+/// uploaded, and what it touches, or why it is refused. It fails for want of memory only where it isn't refused.
 pub fn decide<U: Uploads>(
     alloc: Global,
     state: &State,
@@ -149,6 +156,8 @@ pub fn decide<U: Uploads>(
     ensures accepted { OnOk result (refusal command.now number state.now (U.contents uploads.now) ≡ None) }
     ensures plan { IfOk result (λ plan. IsDifference state.now
         (applied command.now number state.now (U.contents uploads.now)) plan.changes.items) }
+    ensures touched { IfOk result (λ plan. AreTouched (site_of_command command.now)
+        (touches command.now number state.now) plan.touched) }
     ensures of_kind { IfOk result (λ plan. WritesOfKind plan.changes.items) }
 {
     match command {

@@ -10,6 +10,9 @@ mod live;
 mod plans;
 #[cfg(test)]
 mod samples;
+mod touched;
+#[cfg(test)]
+mod touched_tests;
 mod trees;
 
 pub use commands::{Command, Refusal};
@@ -19,3 +22,4 @@ pub use laws::{
     an_opening_touches_its_draft_alone, changes_are_where_the_states_differ, commands_are_local,
 };
 pub use plans::{Change, Plan};
+pub use touched::Touched;

@@ -1,14 +1,15 @@
-//! What a command changes, cell by cell.
+//! What a command changes, cell by cell, and what it touches.
 ghost use Rattle.std.specs.Prelude.{◌≡◌, ◌++◌, IfOk, OnOk, option_copied, option_to_list};
 ghost use Rattle.std.specs.FinMap as map;
 ghost use Rattle.site_state.specs.Values.{same_value};
 ghost use Rattle.site_change.specs.Differences.{change_at};
 
+use crate::touched::Touched;
 use host_names::Cell;
 use site_state::{State, Value};
 use std::alloc::AllocError;
 
-/// What changes in one cell; that nothing stands there counts as a value.
+/// What changes in one cell. That nothing stands there counts as a value.
 #[derive(Drop)]
 pub struct Change {
     /// The cell.
@@ -19,11 +20,14 @@ pub struct Change {
     pub after: Option<Value>,
 }
 
-/// What a command changes.
+/// What a command changes and touches, in the state and with the number for which it was decided. A plan is not carried
+/// out yet. Each cell that it changes is among those that it touches.
 #[derive(Drop)]
 pub struct Plan {
     /// The cells that it changes, in their order, each with two different values.
     pub changes: Vec<Change>,
+    /// The cells that it touches.
+    pub touched: Touched,
 }
 
 /// Adds a change, if there is one, behind the others.

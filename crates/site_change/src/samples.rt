@@ -93,7 +93,7 @@ fn write(
 
 /// Carries out a plan.
 fn carry_out(rt: &impl Abort, state: &mut State, plan: Plan) -> Result<(), AllocError> {
-    let Plan { changes } = plan;
+    let Plan { changes, .. } = plan;
     for change in changes {
         let Change {
             cell,

@@ -1,4 +1,4 @@
-use Rattle.std.proofs.Common.{◌≡◌, Some, sym, ap, ◌∙◌}
+use Rattle.std.proofs.Common.{Some, sym, ap, ◌∙◌}
 use Rattle.change_undo.proofs.Found.{after_keep}
 use Rattle.change_undo.proofs.founds.keep_one.Goals as goal
 

@@ -1,4 +1,5 @@
-use Rattle.change_undo.proofs.Runs.{history-grows}
+use Rattle.change_undo.proofs.GrowingClash.{clash-grows}
+use Rattle.change_undo.proofs.Runs.{history-grows, legal-runs}
 use Rattle.change_undo.proofs.laws.histories_outlast_uploads.Goals as goal
 
 pub returns-clause-legal : goal.returns-clause-legal
@@ -6,3 +7,7 @@ returns-clause-legal c = λ uploads more entries within legal. (history-grows up
 
 pub returns-clause-run : goal.returns-clause-run
 returns-clause-run c = λ uploads more entries state within legal. (history-grows uploads more entries within legal).1 state
+
+pub returns-clause-clash : goal.returns-clause-clash
+returns-clause-clash c uploads more entries k within legal =
+    let ran = legal-runs uploads entries legal in clash-grows uploads more within entries k ran.0 ran.1

@@ -1,7 +1,6 @@
-use Rattle.std.proofs.Common.{◌≡◌, Bool, true, false, Option, arith, sym, ap, ◌∙◌, cond, Some, None, drop}
+use Rattle.std.proofs.Common.{◌≡◌, Bool, true, false, arith, sym, ap, ◌∙◌, cond, Some, None}
 use Rattle.std.specs.List.{list_any}
 use Rattle.change_undo.specs.Logged.{is_live}
-use Rattle.change_undo.specs.declared.entries.UndoRefusal.{UndoRefusal}
 use Rattle.change_undo.specs.declared.entries.UndoRefusal.TheVariants.{AlreadyUndone, NotNewest}
 use Rattle.change_undo.proofs.Marks.{named_site, refusal_by_marks}
 use Rattle.change_undo.proofs.logged.undo_refusal.Goals as goal

@@ -1,4 +1,4 @@
-use Rattle.std.proofs.Common.{◌≡◌, Err, sym, ap, ◌∙◌}
+use Rattle.std.proofs.Common.{Err, sym, ap, ◌∙◌}
 use Rattle.change_undo.proofs.steps.carry_out.Goals as goal
 
 pub unreachable-requires : goal.unreachable-requires

@@ -10,4 +10,5 @@ returns c =
       ap (λ t. cond t (Some TooManyFiles) None) (rw c.entries.ensures.pairs at few),
       open_plan c.args.state.now _ c.in_ok-cell.cell _ c.in_ok-draft.draft c.in_ok-change.change c.new-changes.result.items c.push_some.new.changes.items
           c.in_ok-cell.ensures c.in_ok-draft.ensures c.in_ok-change.ensures c.new-changes.ensures.items c.in_ok-push_some.ensures,
+      c.in_ok-touched.ensures,
     )

@@ -1,4 +1,4 @@
-use Rattle.site_change.proofs.Touched.{by_open}
+use Rattle.site_change.proofs.Touching.{by_open}
 use Rattle.site_change.proofs.laws.an_opening_touches_its_draft_alone.Goals as goal
 
 pub returns : goal.returns

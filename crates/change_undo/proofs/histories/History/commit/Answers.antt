@@ -1,6 +1,5 @@
-use Rattle.std.proofs.Common.{◌≡◌, ◌↔◌, ℕ, ◌+◌, ◌<◌, ◌≤◌, length, rules, arith, Some, Result, Err, refl, sym, ap, subst, ◌∙◌}
+use Rattle.std.proofs.Common.{◌≡◌, ◌↔◌, ℕ, ◌+◌, ◌<◌, ◌≤◌, length, rules, arith, Some, Result, Err, sym, ap, subst, ◌∙◌}
 use Rattle.site_change.specs.Changes.{IsWithin, refusal}
-use Rattle.site_change.specs.declared.commands.Refusal.{Refusal}
 use Rattle.change_undo.specs.declared.entries.CommitError.{CommitError}
 use Rattle.change_undo.specs.declared.entries.CommitError.TheVariants as commit
 use Rattle.change_undo.specs.Histories.{Past}

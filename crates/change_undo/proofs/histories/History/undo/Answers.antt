@@ -1,11 +1,10 @@
-use Rattle.std.proofs.Common.{◌≡◌, ◌≤◌, ◌++◌, ◌∷◌, [], ◌+◌, ℕ, List, length, Some, arith, sym, ap, subst, ◌∙◌}
-use Rattle.change_undo.specs.declared.entries.Entry.{Entry}
+use Rattle.std.proofs.Common.{◌≡◌, ◌++◌, ◌∷◌, [], List, Some, arith, sym, ap, subst, ◌∙◌}
 use Rattle.change_undo.specs.declared.entries.Entry.TheVariants as entry
 use Rattle.change_undo.specs.declared.logged.Logged.{Logged}
 use Rattle.change_undo.specs.Histories.{Past, run, undo_refusal}
 use Rattle.change_undo.specs.Logged.{entries_of}
 use Rattle.change_undo.proofs.Runs.{within_limit, named-within}
-use Rattle.change_undo.proofs.Sound.{length-entries_of, next_number, rerun-is, rerun-runs, sound-undo, undone-at_once}
+use Rattle.change_undo.proofs.Sound.{length-entries_of, next_number, rerun-is, rerun-runs, clear-of, sound-undo, undone-at_once}
 use Rattle.change_undo.proofs.histories.History.undo.Goals as goal
 
 pub undone-requires-clause-next : goal.undone-requires-clause-next
@@ -25,12 +24,18 @@ undone-requires-clause-runs c =
     (within_limit c.self.inside.limit (entries_of c.self.inside.logged.items) c.args.site.now c.args.change
     (ap (λ (xs : List Logged). undo_refusal c.self.inside.limit (entries_of xs) c.args.site.now c.args.change) (sym c.as_slice.ensures.value) ∙ sym c.undo_refusal.ensures ∙ c.in_default.is))
 
+pub undone-requires-clause-clear : goal.undone-requires-clause-clear
+undone-requires-clause-clear c =
+    clear-of c.self.inside.logged.items c.self.inside.found c.self.inside.state c.args.site.now c.args.change c.self.invariant
+    (within_limit c.self.inside.limit (entries_of c.self.inside.logged.items) c.args.site.now c.args.change
+    (ap (λ (xs : List Logged). undo_refusal c.self.inside.limit (entries_of xs) c.args.site.now c.args.change) (sym c.as_slice.ensures.value) ∙ sym c.undo_refusal.ensures ∙ c.in_default.is))
+
 pub invariant_of-self : goal.invariant_of-self
 invariant_of-self c =
     sound-undo c.self.inside.logged.items c.undone.new.logged.items c.self.inside.found c.self.inside.state c.in-Ok.state c.args.site.now c.args.change c.self.invariant
     (within_limit c.self.inside.limit (entries_of c.self.inside.logged.items) c.args.site.now c.args.change
     (ap (λ (xs : List Logged). undo_refusal c.self.inside.limit (entries_of xs) c.args.site.now c.args.change) (sym c.as_slice.ensures.value) ∙ sym c.undo_refusal.ensures ∙ c.in_default.is))
-    c.in-Ok.ensures.entries c.in-Ok.ensures.marked c.in-Ok.ensures.state
+    c.in-Ok.ensures.entries c.in-Ok.ensures.marked c.in-Ok.ensures.state c.in-Ok.ensures.planned
 
 pub returns-in-Ok-clause-state : goal.returns-in-Ok-clause-state
 returns-in-Ok-clause-state c =
