@@ -21,7 +21,7 @@ use Rattle.change_undo.specs.declared.entries.Entry.{Entry}
 use Rattle.change_undo.specs.declared.entries.Entry.TheVariants.{Change, Undo}
 use Rattle.change_undo.specs.declared.logged.Logged.{Logged}
 use Rattle.change_undo.specs.Clashes.{changed_cells, in_cell, first_touch, clash_in}
-use Rattle.change_undo.specs.Kept.{IsPlanOf, IsPlanned, state_after, ArePlanned, cells_of, first_touched, kept_touch, plan_clash}
+use Rattle.change_undo.specs.Kept.{IsPlanOf, IsPlanned, state_after, ArePlanned, cells_of, first_touched, kept_touch}
 use Rattle.change_undo.specs.Logged.{marked_live, with_change}
 use Rattle.change_undo.proofs.ChangedCells.{is_listed}
 use Rattle.change_undo.proofs.FirstTouch.{not_among, changed-sorted}
@@ -119,6 +119,11 @@ kept-touch uploads cells state n (l ∷ logged) planned = one (λ s rest. kept-t
         ∙ (λ i. in_cell n (find (λ c. sym (is.touched.1 c) i) cells) (kept_touch cells (n + 1) logged))
 
 -- ---- the clash of a change
+
+-- the first of these entries that touches a cell which the plan changes, with the first such cell
+abbrev pub plan_clash : Option Plan → ℕ → List Logged → Option (ℕ × Cell)
+plan_clash None n later = None
+plan_clash (Some plan) n later = kept_touch (cells_of plan.changes.items) n later
 
 -- of a number that is not among them
 pub clash-absent : (uploads : Contents) (k n : ℕ) (state : State) (logged : List Logged) → (k < n) ⊎ (n + length logged ≤ k) → clash_in uploads k state (marked_live n logged) ≡ None

@@ -51,8 +51,3 @@ first_touched cells (Some plan) = find (is_touched plan.touched) cells
 abbrev pub kept_touch : List Cell → ℕ → List Logged → Option (ℕ × Cell)
 kept_touch cells n [] = None
 kept_touch cells n (l ∷ logged) = in_cell n (first_touched cells l.plan) (kept_touch cells (n + 1) logged)
-
--- the first of these entries that touches a cell which the plan changes, with the first such cell
-abbrev pub plan_clash : Option Plan → ℕ → List Logged → Option (ℕ × Cell)
-plan_clash None n later = None
-plan_clash (Some plan) n later = kept_touch (cells_of plan.changes.items) n later

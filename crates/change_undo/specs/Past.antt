@@ -1,12 +1,12 @@
 -- How a history is kept, and what it keeps true.
 use Rattle.std.specs.Prelude.{◌≡◌, ℕ, List, Some, refl}
+use Rattle.std.specs.FinMap as map
 use Rattle.std.specs.Coded.{Coded, code_by, coded×, coded_ℕ}
 use Rattle.host_names.specs.Blobs.{Contents}
 use Rattle.site_state.specs.States.{State}
 use Rattle.change_undo.specs.declared.entries.Entry.{Entry}
 use Rattle.change_undo.specs.declared.logged.Logged.{Logged}
 use Rattle.change_undo.specs.Histories.{Past, undone, run, IsLegal}
-use Rattle.std.specs.FinMap as map
 use Rattle.change_undo.specs.Kept.{ArePlanned}
 use Rattle.change_undo.specs.Logged.{AreMarked, entries_of}
 

@@ -2,7 +2,7 @@
 ghost use Rattle.std.specs.Prelude.{◌≡◌, ◌↔◌, ◌+◌, [], ◌∷◌, ◌++◌, length, false, Some, None, Err, OnOk, OnErr};
 ghost use Rattle.site_change.specs.Changes.{IsWithin, applied, refusal};
 ghost use Rattle.site_change.specs.declared.commands.Refusal.{Refusal as Reason};
-ghost use Rattle.site_change.specs.declared.plans.Plan.{Plan as Kept};
+ghost use Rattle.site_change.specs.declared.plans.Plan.{Plan};
 ghost use Rattle.change_undo.specs.declared.entries.Entry.TheVariants as entry;
 ghost use Rattle.change_undo.specs.Kept.{IsPlanOf};
 
@@ -50,7 +50,7 @@ pub(crate) fn append<U: Uploads>(
 ) -> Result<(), DecideError>
     requires within { IsWithin found.old (U.contents uploads.now) }
     ensures refused { (reason : Reason) → (result ≡ Err (DecideError.Refused reason)) ↔ (refusal command number state.old (U.contents uploads.now) ≡ Some reason) }
-    ensures entries { OnOk result ((plan : Kept) × (logged.new.items ≡ logged.old.items ++ record { entry = entry.Change command; is_undone = false; plan = Some plan } ∷ [])
+    ensures entries { OnOk result ((plan : Plan) × (logged.new.items ≡ logged.old.items ++ record { entry = entry.Change command; is_undone = false; plan = Some plan } ∷ [])
         × IsPlanOf (U.contents uploads.now) state.old number command plan) }
     ensures effect { OnOk result (state.new ≡ applied command number state.old (U.contents uploads.now)) }
     ensures accepted { OnOk result (refusal command number state.old found.new ≡ None) }

@@ -1,4 +1,4 @@
-//! What stands in the way of an undo, by the plain model.
+//! The clashes of changes, by the plain model.
 use crate::compared::Names;
 use crate::model::{Step, is_undone, opened, published_at, site_of};
 use crate::*;
@@ -51,7 +51,7 @@ fn met_by(entries: &[Step], change: usize, entry: Step, published: usize) -> Opt
     }
 }
 
-/// The first later entry that stands in the way of the undo of a change, and what it meets.
+/// The first later entry that meets what a change changed, and where.
 fn clash_of_model(entries: &[Step], change: usize, entry: Step) -> Option<(usize, Met)> {
     if is_undone(entries, change) {
         return None;

@@ -92,10 +92,10 @@ impl History {
         Some(&self.logged[number as usize - 1].entry)
     }
 
-    /// The clash of the change of a number: the number of the first later change that was not undone and touches a cell,
-    /// by reading or writing it, which that change changed; and the first such cell, in the order of cells. None where no
-    /// later change does so, and where the number is not that of a change, or of one that was undone. Numbers count over
-    /// all sites. It takes no memory; the work grows with the later changes and the cells that were changed.
+    /// The clash of the change of a number: the number of the first later change that was not undone and reads or writes
+    /// a cell which that change changed; and the first such cell, in the order of cells. None where no later change does
+    /// so, and for each number that isn't that of a change, or that of one that was undone. Numbers count over all sites.
+    /// The work is at most a look-up of each changed cell for each later change.
     pub fn clash(&self, change: u64) -> Option<(u64, &Cell)>
         ensures { option_map (λ found. (found.0, found.1.now)) result ≡ Clashes.clash self.now.found self.now.entries change }
     {

@@ -1,9 +1,9 @@
 //! Laws of histories, each the contract of a function that does nothing.
 ghost use Rattle.std.specs.Prelude.{◌≡◌, ◌++◌, ◌∷◌, [], ℕ, List, Some, None, true};
+ghost use Rattle.std.specs.FinMap as map;
 ghost use Rattle.host_names.specs.Blobs.{Contents};
 ghost use Rattle.host_names.specs.declared.cells.Cell.{Cell};
 ghost use Rattle.host_names.specs.declared.names.SiteName.{SiteName as Site};
-ghost use Rattle.std.specs.FinMap as map;
 ghost use Rattle.site_change.specs.Changes.{IsWithin, run_from};
 ghost use Rattle.site_state.specs.States.{State as Cells};
 ghost use Rattle.change_undo.specs.declared.entries.Entry.{Entry as Line};

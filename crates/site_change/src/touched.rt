@@ -7,6 +7,7 @@ ghost use Rattle.site_change.specs.TouchedCells as spec;
 ghost use Rattle.site_change.specs.TouchedCells.{AreTouched};
 
 use host_names::{Cell, SiteName};
+use site_state::is_live_of;
 use std::alloc::{AllocError, Global};
 use std::collections::BTreeSet;
 
@@ -19,15 +20,6 @@ pub struct Touched {
     pub cells: BTreeSet<Cell>,
     /// Whether each path of it is touched as well, whether a file is there or not.
     pub all_live: bool,
-}
-
-fn is_live_of(cell: &Cell, site: &SiteName) -> bool
-    ensures { result ≡ states.is_live_of site.now cell.now }
-{
-    match cell {
-        Cell::Live(own, _) => site == own,
-        Cell::Kept(..) | Cell::Alias(..) | Cell::Draft(..) => false,
-    }
 }
 
 impl Touched {

@@ -100,7 +100,8 @@ fn is_of_site_before(cell: &Cell, site: &SiteName) -> bool
     cell.site().cmp(site).is_lt()
 }
 
-fn is_live_of(cell: &Cell, site: &SiteName) -> bool
+/// Whether a cell is a path of a site, at which a file may be served.
+pub fn is_live_of(cell: &Cell, site: &SiteName) -> bool
     ensures { result ≡ States.is_live_of site.now cell.now }
 {
     match cell {

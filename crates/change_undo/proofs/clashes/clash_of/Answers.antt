@@ -1,8 +1,8 @@
 use Rattle.std.proofs.Common.{◌≡◌, inl, inr, ℕ, zero, suc, ◌+◌, ◌-◌, ◌<◌, drop, Some, None, sym, ap, ◌∙◌, arith}
 use Rattle.std.specs.FinMap as map
 use Rattle.change_undo.specs.declared.logged.Logged.{Logged}
-use Rattle.change_undo.specs.Kept.{cells_of, kept_touch, plan_clash}
-use Rattle.change_undo.proofs.KeptClash.{clash-absent, clash-kept}
+use Rattle.change_undo.specs.Kept.{cells_of, kept_touch}
+use Rattle.change_undo.proofs.KeptClash.{plan_clash, clash-absent, clash-kept}
 use Rattle.change_undo.proofs.clashes.clash_of.Goals as goal
 use Rattle.change_undo.proofs.clashes.clash_of.Goals.{then-change-eq0-via-then-change-eq0, then-change-eq0-via-else-change-eq0+then-logged-change}
 
