@@ -14,8 +14,9 @@ use Rattle.site_state.proofs.Entries.{less_back}
 use Rattle.site_change.specs.declared.commands.Command.{Command}
 use Rattle.change_undo.specs.declared.entries.Entry.{Entry}
 use Rattle.change_undo.specs.Clashes.{IsClash}
-use Rattle.change_undo.specs.Histories.{live_changes, entry_at, is_newest, change_refusal}
-use Rattle.change_undo.proofs.Runs.{newest_of}
+use Rattle.change_undo.specs.Histories.{live_changes, is_newest, change_refusal}
+use Rattle.change_undo.proofs.Runs.{clear_where_allowed}
+use Rattle.change_undo.proofs.TheClash.{no_clash_found}
 
 one_change : (uploads : Contents) (entries : List Entry) (k j i : ℕ) (at other : Cell) → IsClash uploads entries k j at → IsClash uploads entries k i other → j ≡ i
 one_change uploads entries k j i at other first second =
@@ -48,6 +49,6 @@ none_after_newest uploads entries k j at newest clash =
     let not_later = All-contains P (live_changes entries) (j, clash.touched.command) (AllPass-from_list_all (λ (c : ℕ × Command). nat_le c.0 k) (live_changes entries) newest) clash.touched.lives in
     absurd (omega (arith, leb-true j k not_later, clash.later))
 
-pub none_where_allowed : (uploads : Contents) (entries : List Entry) (site : SiteName) (k j : ℕ) (at : Cell) → change_refusal entries site k ≡ None
+pub none_where_allowed : (uploads : Contents) (entries : List Entry) (site : SiteName) (k j : ℕ) (at : Cell) → change_refusal uploads entries site k ≡ None
     → IsClash uploads entries k j at → ⊥
-none_where_allowed uploads entries site k j at ok = none_after_newest uploads entries k j at (newest_of entries site k (entry_at entries k) ok)
+none_where_allowed uploads entries site k j at ok = no_clash_found uploads entries k j at (clear_where_allowed uploads entries site k ok)

@@ -1,9 +1,8 @@
 -- What the marks of the entries tell.
-use Rattle.std.proofs.Common.{◌≡◌, ℕ, zero, suc, ◌+◌, ◌-◌, ◌<◌, ◌≤◌, ◌==◌, nat_le, Bool, true, false, not, cond, ◌&&◌, ◌||◌, List, [], ◌∷◌, ◌++◌, drop, get_or, set, length, slice_get, Option, Some, None, IsSome, refl, sym, ap, subst, ◌∙◌, arith, eq-eqb, inl, inr, if◌then◌else◌}
-use Rattle.std.specs.List.{list_any, list_all}
-use Rattle.std.proofs.Math.Seq.{drop-nil}
+use Rattle.std.proofs.Common.{◌≡◌, ℕ, zero, suc, ◌+◌, ◌-◌, ◌<◌, ◌≤◌, ◌==◌, nat_le, Bool, true, false, not, cond, ◌&&◌, ◌||◌, List, [], ◌∷◌, ◌++◌, drop, get_or, set, length, slice_get, Option, Some, None, IsSome, option_map, refl, sym, ap, subst, ◌∙◌, arith, eq-eqb, if◌then◌else◌}
+use Rattle.std.specs.FinMap as map
 use Rattle.std.proofs.lemmas.List.{length-map, drop_more, append-nil, length-append}
-use Rattle.std.proofs.lemmas.Bool.{cases_lt, le-leb, leb-true, eqb-true}
+use Rattle.std.proofs.lemmas.Bool.{leb-true, eqb-true}
 use Rattle.std.specs.Str.{bytes_eq}
 use Rattle.site_change.specs.declared.commands.Command.{Command}
 use Rattle.host_names.specs.Blobs.{Contents}
@@ -13,12 +12,13 @@ use Rattle.site_change.specs.declared.commands.Refusal.{Refusal}
 use Rattle.site_change.specs.Changes.{site_of_command, refusal, applied, if_accepted, run_from}
 use Rattle.change_undo.specs.declared.entries.Entry.{Entry}
 use Rattle.change_undo.specs.declared.entries.Entry.TheVariants.{Change, Undo}
-use Rattle.change_undo.specs.declared.entries.UndoRefusal.TheVariants.{HistoryFull, NoSuchChange, AlreadyUndone, NotNewest}
+use Rattle.change_undo.specs.declared.entries.UndoRefusal.TheVariants.{HistoryFull, NoSuchChange, AlreadyUndone, Clash}
+use Rattle.change_undo.specs.Clashes.{clash, clash_in}
 use Rattle.change_undo.specs.declared.logged.Logged.{Logged}
-use Rattle.change_undo.specs.Histories.{undone, is_among, live_from, site_of_entry, same_site, entry_at, is_newest, refusal_at, undo_refusal}
+use Rattle.change_undo.specs.Histories.{undone, is_among, live_from, site_of_entry, same_site, entry_at, refusal_at, undo_refusal}
 use Rattle.change_undo.specs.Live.{without}
 use Rattle.change_undo.proofs.Live.{is_among-push, undone-append}
-use Rattle.change_undo.specs.Logged.{entries_of, AreMarked, marked_live, with_change, is_change, is_live, command_if, carried_out}
+use Rattle.change_undo.specs.Logged.{entries_of, AreMarked, marked_live, with_change, command_if, carried_out}
 
 -- the marked entries have the live changes
 pub marked_live-is : (gone : List ℕ) (n : ℕ) (logged : List Logged) → AreMarked gone n logged → marked_live n logged ≡ live_from gone n (entries_of logged)
@@ -42,38 +42,6 @@ entry_at_place i [] l within at = absurd (omega arith)
 entry_at_place zero (x ∷ logged) l within at = ap (λ (x : Logged). Some x.entry) (sym at)
 entry_at_place (suc i) (x ∷ logged) l within at = entry_at_place i logged l (omega arith) at
 
--- ---- the newest live change
-
--- no number of the live changes is above k where no change after the one of number k is live
-newest_mark : (gone : List ℕ) (k n : ℕ) (logged : List Logged) → AreMarked gone n logged
-    → list_all (λ c. nat_le c.0 k) (live_from gone n (entries_of logged)) ≡ not (list_any is_live (drop (k + 1 - n) logged))
-newest_mark gone k n [] marked = rw (drop-nil {A = Logged} (k + 1 - n)) refl
-newest_mark gone k n (l ∷ logged) marked =
-    let rest = newest_mark gone k (n + 1) logged marked.1 in
-    elim (cases_lt k n) [
-      | inl above ↦
-          let here : k + 1 - n ≡ 0 = omega arith in
-          let next : k + 1 - (n + 1) ≡ 0 = omega arith in
-          rw here (after l.entry (not_le k n above) (rw next at rest))
-      | inr le ↦
-          let here : k + 1 - n ≡ suc (k + 1 - (n + 1)) = omega arith in
-          rw here (before l.entry (le-leb n k le) ∙ rest)
-    ]
-  where
-    not_le : (k n : ℕ) → k < n → nat_le n k ≡ false
-    not_le k n above = elim (nat_le n k) as (λ t. nat_le n k ≡ t → t ≡ false) [ true ↦ λ e. absurd (omega (arith, leb-true n k e)) | false ↦ λ e. refl ] refl
-
-    before : (entry : Entry) → nat_le n k ≡ true → list_all (λ c. nat_le c.0 k) (live_from gone n (entry ∷ entries_of logged)) ≡ list_all (λ c. nat_le c.0 k) (live_from gone (n + 1) (entries_of logged))
-    before (Undo site j) le = refl
-    before (Change command) le = elim (is_among gone n) as (λ t. list_all (λ c. nat_le c.0 k) (cond t (live_from gone (n + 1) (entries_of logged)) ((n, command) ∷ live_from gone (n + 1) (entries_of logged)))
-        ≡ list_all (λ c. nat_le c.0 k) (live_from gone (n + 1) (entries_of logged))) [ true ↦ refl | false ↦ rw le refl ]
-
-    after : (entry : Entry) → nat_le n k ≡ false → list_all (λ c. nat_le c.0 k) (live_from gone (n + 1) (entries_of logged)) ≡ not (list_any is_live logged)
-        → list_all (λ c. nat_le c.0 k) (live_from gone n (entry ∷ entries_of logged)) ≡ not ((is_change entry && not l.is_undone) || list_any is_live logged)
-    after (Undo site j) above rest = rest
-    after (Change command) above rest = rw marked.0 (elim (is_among gone n) as (λ t. list_all (λ c. nat_le c.0 k) (cond t (live_from gone (n + 1) (entries_of logged)) ((n, command) ∷ live_from gone (n + 1) (entries_of logged)))
-        ≡ not (not t || list_any is_live logged)) [ true ↦ rest | false ↦ rw above refl ])
-
 -- ---- the first reason to refuse the undo of a change
 
 nonzero : (k : ℕ) → 0 < k → (k == 0) ≡ false
@@ -82,29 +50,24 @@ nonzero k h = elim (k == 0) as (λ t. (k == 0) ≡ t → t ≡ false) [ true ↦
 room : (limit n : ℕ) → n < limit → nat_le limit n ≡ false
 room limit n h = elim (nat_le limit n) as (λ t. nat_le limit n ≡ t → t ≡ false) [ true ↦ λ e. absurd (omega (arith, leb-true limit n e)) | false ↦ λ e. refl ] refl
 
--- where the number names a change of the site, the marks tell the rest
-pub refusal_by_marks : (limit : ℕ) (logged : List Logged) (site : SiteName) (k : ℕ) (l : Logged) (command : Command)
+-- where the number names a change of the site, its mark and its clash tell the rest
+pub refusal_by_mark : (uploads : Contents) (limit : ℕ) (logged : List Logged) (site : SiteName) (k : ℕ) (l : Logged) (command : Command)
     → AreMarked (undone (entries_of logged)) 1 logged → length logged < limit → 0 < k → k ≤ length logged
     → l ≡ get_or logged (k - 1) l → l.entry ≡ Change command → same_site (site_of_command command) site ≡ true
-    → undo_refusal limit (entries_of logged) site k
-    ≡ (if l.is_undone then Some AlreadyUndone else if list_any is_live (drop k logged) then Some NotNewest else None)
-refusal_by_marks limit logged site k l command marked full some within at is_one same =
+    → undo_refusal uploads limit (entries_of logged) site k
+    ≡ (if l.is_undone then Some AlreadyUndone else option_map (λ later. Clash later.0 later.1) (clash_in uploads k map.empty (marked_live 1 logged)))
+refusal_by_mark uploads limit logged site k l command marked full some within at is_one same =
     let es = entries_of logged in
     let len : length es ≡ length logged = length-map logged (λ (l : Logged). l.entry) in
     let mark : l.is_undone ≡ is_among (undone es) k = mark_at (undone es) 1 (k - 1) logged l marked (omega arith) at ∙ ap (is_among (undone es)) (omega arith) in
     let found : entry_at es k ≡ Some (Change command) = ap (λ t. cond t None (slice_get es (k - 1))) (nonzero k some) ∙ entry_at_place (k - 1) logged l (omega arith) at ∙ ap Some is_one in
-    let newest : is_newest es k ≡ not (list_any is_live (drop k logged)) =
-    newest_mark (undone es) k 1 logged marked ∙ ap (λ (m : ℕ). not (list_any is_live (drop m logged))) (omega arith) in
-    ap (λ t. cond t (Some HistoryFull) (refusal_at es site k (entry_at es k))) (ap (nat_le limit) len ∙ room limit (length logged) full)
-    ∙ ap (refusal_at es site k) found
-    ∙ ap (λ t. cond (not t) (Some NoSuchChange) (cond (is_among (undone es) k) (Some AlreadyUndone) (cond (not (is_newest es k)) (Some NotNewest) None))) same
-    ∙ ap (λ t. cond t (Some AlreadyUndone) (cond (not (is_newest es k)) (Some NotNewest) None)) (sym mark)
-    ∙ ap (λ t. cond l.is_undone (Some AlreadyUndone) (cond (not t) (Some NotNewest) None)) newest
-    ∙ ap (λ t. cond l.is_undone (Some AlreadyUndone) (cond t (Some NotNewest) None)) (twice (list_any is_live (drop k logged)))
-  where
-    twice : (b : Bool) → not (not b) ≡ b
-    twice true = refl
-    twice false = refl
+    let others = option_map (λ later. Clash later.0 later.1) (clash uploads es k) in
+    ap (λ t. cond t (Some HistoryFull) (refusal_at uploads es site k (entry_at es k))) (ap (nat_le limit) len ∙ room limit (length logged) full)
+    ∙ ap (refusal_at uploads es site k) found
+    ∙ ap (λ t. cond (not t) (Some NoSuchChange) (cond (is_among (undone es) k) (Some AlreadyUndone) others)) same
+    ∙ ap (λ t. cond t (Some AlreadyUndone) others) (sym mark)
+    ∙ ap (λ changes. cond l.is_undone (Some AlreadyUndone) (option_map (λ later. Clash later.0 later.1) (clash_in uploads k map.empty changes)))
+    (sym (marked_live-is (undone es) 1 logged marked))
 
 -- the site that was compared is the change's
 pub named_site : (found : SiteName) (entry : Entry) (command : Command) (site : SiteName) → found ≡ site_of_entry entry → entry ≡ Change command

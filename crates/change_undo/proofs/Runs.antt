@@ -1,10 +1,10 @@
 -- What a history's changes give after one entry more, and as uploads grow.
-use Rattle.std.proofs.Common.{◌≡◌, ℕ, zero, suc, ◌+◌, ◌-◌, ◌<◌, ◌≤◌, ◌==◌, nat_le, Bool, true, false, not, cond, ◌||◌, List, [], ◌∷◌, ◌++◌, length, slice_get, Option, Some, None, is_none, refl, sym, ap, subst, ◌∙◌, arith, IsTrue, eq-eqb}
+use Rattle.std.proofs.Common.{◌≡◌, ℕ, zero, suc, ◌+◌, ◌-◌, ◌<◌, ◌≤◌, ◌==◌, nat_le, Bool, true, false, not, cond, ◌||◌, List, [], ◌∷◌, ◌++◌, length, slice_get, Option, Some, None, is_none, option_map, refl, sym, ap, subst, ◌∙◌, arith, IsTrue, eq-eqb}
 use Rattle.std.specs.FinMap as map
-use Rattle.std.specs.List.{list_all}
-use Rattle.std.proofs.lemmas.Bool.{and_parts, eqb-true, leb-true}
+use Rattle.std.proofs.lemmas.Bool.{eqb-true}
 use Rattle.std.proofs.lemmas.List.{append-nil, append_assoc, length-append}
 use Rattle.host_names.specs.Blobs.{Contents}
+use Rattle.host_names.specs.declared.cells.Cell.{Cell}
 use Rattle.host_names.specs.declared.names.SiteName.{SiteName}
 use Rattle.site_state.specs.States.{State}
 use Rattle.site_change.specs.declared.commands.Command.{Command}
@@ -13,10 +13,13 @@ use Rattle.site_change.proofs.LeftOut.{accepted}
 use Rattle.site_change.proofs.Growing.{command_grows, keeps_running}
 use Rattle.change_undo.specs.declared.entries.Entry.{Entry}
 use Rattle.change_undo.specs.declared.entries.Entry.TheVariants.{Change, Undo}
-use Rattle.change_undo.specs.declared.entries.UndoRefusal.TheVariants.{HistoryFull, NoSuchChange, NotAChange, AlreadyUndone, NotNewest}
-use Rattle.change_undo.specs.Histories.{undone, is_among, live_changes, run, same_site, entry_at, is_newest, refusal_at, change_refusal, undo_refusal, is_accepted_in, is_allowed, IsLegalAfter, IsLegal}
+use Rattle.change_undo.specs.declared.entries.UndoRefusal.TheVariants.{HistoryFull, NoSuchChange, NotAChange, AlreadyUndone, Clash}
+use Rattle.change_undo.specs.Clashes.{clash}
+use Rattle.change_undo.specs.Histories.{undone, is_among, live_changes, run, same_site, entry_at, refusal_at, change_refusal, undo_refusal, is_accepted_in, is_allowed, IsLegalAfter, IsLegal}
 use Rattle.change_undo.specs.Live.{without}
-use Rattle.change_undo.proofs.Live.{IsRising, live_from-rising, live_changes-undo, live_changes-change, without-late}
+use Rattle.change_undo.proofs.GrowingClash.{clash-grows}
+use Rattle.change_undo.proofs.WithoutClash.{left_out}
+use Rattle.change_undo.proofs.Live.{live_from-rising, live_changes-undo, live_changes-change, without-late}
 
 -- ---- changes in a row
 
@@ -29,27 +32,6 @@ run_from-append uploads state mid (c ∷ xs) ys ran =
     let parts = accepted (refusal c.1 c.0 state uploads) _ mid ran in
     ap (λ r. if_accepted r (run_from uploads (applied c.1 c.0 state uploads) (xs ++ ys))) parts.0
     ∙ run_from-append uploads (applied c.1 c.0 state uploads) mid xs ys parts.1
-
--- without the newest of them, the others are accepted too
-pub run_without-newest : (uploads : Contents) (state after : State) (k low : ℕ) (changes : List (ℕ × Command)) → IsRising low changes
-    → list_all (λ c. nat_le c.0 k) changes ≡ true → run_from uploads state changes ≡ Some after
-    → (before : State) × (run_from uploads state (without k changes) ≡ Some before)
-run_without-newest uploads state after k low [] rising newest ran = (state, refl)
-run_without-newest uploads state after k low (c ∷ changes) rising newest ran =
-    let parts = accepted (refusal c.1 c.0 state uploads) _ after ran in
-    let tests = and_parts (nat_le c.0 k) (list_all (λ d. nat_le d.0 k) changes) newest in
-    elim (k == c.0) as (λ t. (k == c.0) ≡ t → (before : State) × (run_from uploads state (cond (not t) (c ∷ without k changes) (without k changes)) ≡ Some before)) [
-      | true ↦ λ same. (state, ap (run_from uploads state) (none_later k (c.0 + 1) changes (omega (arith, eqb-true k c.0 same)) rising.1 tests.1))
-      | false ↦ λ other.
-          let rest = run_without-newest uploads (applied c.1 c.0 state uploads) after k (c.0 + 1) changes rising.1 tests.1 parts.1 in
-          (rest.0, ap (λ r. if_accepted r (run_from uploads (applied c.1 c.0 state uploads) (without k changes))) parts.0 ∙ rest.1)
-    ] refl
-  where
-    none_later : (k low : ℕ) (changes : List (ℕ × Command)) → k < low → IsRising low changes → list_all (λ d. nat_le d.0 k) changes ≡ true → without k changes ≡ []
-    none_later k low [] above rising newest = refl
-    none_later k low (c ∷ changes) above rising newest =
-        let tests = and_parts (nat_le c.0 k) (list_all (λ d. nat_le d.0 k) changes) newest in
-        absurd (omega (arith, leb-true c.0 k tests.0, rising.0))
 
 -- ---- legal histories
 
@@ -75,13 +57,13 @@ entry_at-within entries k entry e =
       | false ↦ λ z h. omega (arith, slice_get-some entries (k - 1) entry h)
     ] refl e
 
-refusal_at-there : (entries : List Entry) (site : SiteName) (k : ℕ) (entry : Option Entry) → refusal_at entries site k entry ≡ None → (e : Entry) × (entry ≡ Some e)
-refusal_at-there entries site k None h = cc h
-refusal_at-there entries site k (Some e) h = (e, refl)
+refusal_at-there : (uploads : Contents) (entries : List Entry) (site : SiteName) (k : ℕ) (entry : Option Entry) → refusal_at uploads entries site k entry ≡ None → (e : Entry) × (entry ≡ Some e)
+refusal_at-there uploads entries site k None h = cc h
+refusal_at-there uploads entries site k (Some e) h = (e, refl)
 
-named_within : (entries : List Entry) (site : SiteName) (k : ℕ) → change_refusal entries site k ≡ None → k ≤ length entries
-named_within entries site k h =
-    let there = refusal_at-there entries site k (entry_at entries k) h in
+named_within : (uploads : Contents) (entries : List Entry) (site : SiteName) (k : ℕ) → change_refusal uploads entries site k ≡ None → k ≤ length entries
+named_within uploads entries site k h =
+    let there = refusal_at-there uploads entries site k (entry_at entries k) h in
     entry_at-within entries k there.0 there.1
 
 undone-within : (uploads : Contents) (before entries : List Entry) (n : ℕ) → IsLegalAfter uploads before entries → is_among (undone entries) n ≡ true
@@ -92,7 +74,7 @@ undone-within uploads before (Change command ∷ entries) n legal among =
     omega (arith, rest, length-append before (Change command ∷ []))
 undone-within uploads before (Undo site k ∷ entries) n legal among =
     elim (k == n) as (λ t. (k == n) ≡ t → (t || is_among (undone entries) n) ≡ true → n ≤ length before + length (Undo site k ∷ entries)) [
-      | true ↦ λ same h. omega (arith, eqb-true k n same, named_within before site k (is_none-none _ legal.0))
+      | true ↦ λ same h. omega (arith, eqb-true k n same, named_within uploads before site k (is_none-none _ legal.0))
       | false ↦ λ other h.
           let rest = undone-within uploads (before ++ Undo site k ∷ []) entries n legal.1 h in
           omega (arith, rest, length-append before (Undo site k ∷ []))
@@ -134,25 +116,29 @@ guard : {A : Type 0} (t : Bool) (x : A) (o : Option A) → cond t (Some x) o ≡
 guard true x o e = cc e
 guard false x o e = (refl, e)
 
-not_false : (b : Bool) → not b ≡ false → b ≡ true
-not_false true e = refl
-not_false false e = cc e
+no_clash : (clash : Option (ℕ × Cell)) → option_map (λ later. Clash later.0 later.1) clash ≡ None → clash ≡ None
+no_clash None h = refl
+no_clash (Some later) h = cc h
 
-pub newest_of : (entries : List Entry) (site : SiteName) (k : ℕ) (entry : Option Entry) → refusal_at entries site k entry ≡ None → is_newest entries k ≡ true
-newest_of entries site k None h = cc h
-newest_of entries site k (Some (Undo other j)) h = cc (guard (same_site other site) NotAChange (Some NoSuchChange) h).1
-newest_of entries site k (Some (Change command)) h =
+-- a change that may be undone has no clash
+clear_at : (uploads : Contents) (entries : List Entry) (site : SiteName) (k : ℕ) (entry : Option Entry) → refusal_at uploads entries site k entry ≡ None → clash uploads entries k ≡ None
+clear_at uploads entries site k None h = cc h
+clear_at uploads entries site k (Some (Undo other j)) h = cc (guard (same_site other site) NotAChange (Some NoSuchChange) h).1
+clear_at uploads entries site k (Some (Change command)) h =
     let at_site = guard (not (same_site (site_of_command command) site)) NoSuchChange _ h in
     let live = guard (is_among (undone entries) k) AlreadyUndone _ at_site.1 in
-    not_false _ (guard (not (is_newest entries k)) NotNewest None live.1).0
+    no_clash (clash uploads entries k) live.1
+
+pub clear_where_allowed : (uploads : Contents) (entries : List Entry) (site : SiteName) (k : ℕ) → change_refusal uploads entries site k ≡ None → clash uploads entries k ≡ None
+clear_where_allowed uploads entries site k = clear_at uploads entries site k (entry_at entries k)
 
 -- after an accepted undo
 pub run-undo : (uploads : Contents) (entries : List Entry) (site : SiteName) (k : ℕ) (state : State) → IsLegal uploads entries → run uploads entries ≡ Some state
-    → change_refusal entries site k ≡ None
+    → change_refusal uploads entries site k ≡ None
     → (before : State) × (run uploads (entries ++ Undo site k ∷ []) ≡ Some before) × IsLegal uploads (entries ++ Undo site k ∷ [])
 run-undo uploads entries site k state legal ran ok =
-    let rest = run_without-newest uploads map.empty state k 1 (live_changes entries) (live_from-rising (undone entries) 1 entries)
-    (newest_of entries site k (entry_at entries k) ok) ran in
+    let rest = left_out uploads k 1 map.empty state (live_changes entries) (live_from-rising (undone entries) 1 entries) ran
+    (clear_where_allowed uploads entries site k ok) in
     (rest.0, ap (run_from uploads map.empty) (live_changes-undo entries site k) ∙ rest.1, legal-push uploads [] entries (Undo site k) legal (rw ok refl))
 
 runs-after : (uploads : Contents) (before entries : List Entry) (state : State) → IsLegal uploads before → run uploads before ≡ Some state
@@ -173,7 +159,7 @@ pub legal-runs : (uploads : Contents) (entries : List Entry) → IsLegal uploads
 legal-runs uploads entries legal = runs-after uploads [] entries map.empty tt refl legal
 
 -- so an accepted undo leaves one
-pub undo-leaves : (uploads : Contents) (entries : List Entry) (site : SiteName) (k : ℕ) → IsLegal uploads entries → change_refusal entries site k ≡ None
+pub undo-leaves : (uploads : Contents) (entries : List Entry) (site : SiteName) (k : ℕ) → IsLegal uploads entries → change_refusal uploads entries site k ≡ None
     → (before : State) × (run uploads (entries ++ Undo site k ∷ []) ≡ Some before) × IsLegal uploads (entries ++ Undo site k ∷ [])
 undo-leaves uploads entries site k legal ok =
     let ran = legal-runs uploads entries legal in
@@ -211,34 +197,59 @@ run-undone_at_once uploads before command site k legal at =
 run-grows : (uploads more : Contents) (entries : List Entry) (state : State) → IsWithin uploads more → run uploads entries ≡ Some state → run more entries ≡ Some state
 run-grows uploads more entries state within ran = keeps_running uploads more map.empty (live_changes entries) within state ran
 
-allowed-grows : (uploads more : Contents) (before : List Entry) (entry : Entry) → IsWithin uploads more → IsTrue (is_allowed uploads before entry) → IsTrue (is_allowed more before entry)
-allowed-grows uploads more before (Undo site k) within allowed = allowed
-allowed-grows uploads more before (Change command) within allowed =
-    let there = is_accepted uploads (run uploads before) (length before + 1) command allowed in
-    let ran = run-grows uploads more before there.0 within there.1 in
-    let grown = command_grows command (length before + 1) there.0 uploads more within there.2 in
-    rw (ran, grown.0) refl
+-- the reason to refuse an undo stays too, where its clash does
+refusal_at-grows : (uploads more : Contents) (entries : List Entry) (site : SiteName) (k : ℕ) (entry : Option Entry) → clash more entries k ≡ clash uploads entries k
+    → refusal_at more entries site k entry ≡ refusal_at uploads entries site k entry
+refusal_at-grows uploads more entries site k None same = refl
+refusal_at-grows uploads more entries site k (Some (Undo other j)) same = refl
+refusal_at-grows uploads more entries site k (Some (Change command)) same =
+    ap (λ c. cond (not (same_site (site_of_command command) site)) (Some NoSuchChange)
+    (cond (is_among (undone entries) k) (Some AlreadyUndone) (option_map (λ later. Clash later.0 later.1) c))) same
 
-legal-grows-after : (uploads more : Contents) (before entries : List Entry) → IsWithin uploads more → IsLegalAfter uploads before entries → IsLegalAfter more before entries
-legal-grows-after uploads more before [] within legal = tt
-legal-grows-after uploads more before (entry ∷ entries) within legal =
-    (allowed-grows uploads more before entry within legal.0, legal-grows-after uploads more (before ++ entry ∷ []) entries within legal.1)
+refusal_grows : (uploads more : Contents) (entries : List Entry) (site : SiteName) (k : ℕ) (state : State) → IsWithin uploads more → run uploads entries ≡ Some state
+    → change_refusal more entries site k ≡ change_refusal uploads entries site k
+refusal_grows uploads more entries site k state within ran =
+    refusal_at-grows uploads more entries site k (entry_at entries k) (clash-grows uploads more within entries k state ran)
+
+allowed-grows : (uploads more : Contents) (before : List Entry) (state : State) (entry : Entry) → IsWithin uploads more → run uploads before ≡ Some state
+    → IsTrue (is_allowed uploads before entry) → IsTrue (is_allowed more before entry)
+allowed-grows uploads more before state (Undo site k) within ran allowed = rw (refusal_grows uploads more before site k state within ran) allowed
+allowed-grows uploads more before state (Change command) within ran allowed =
+    let there = is_accepted uploads (run uploads before) (length before + 1) command allowed in
+    let grown = command_grows command (length before + 1) there.0 uploads more within there.2 in
+    rw (run-grows uploads more before there.0 within there.1, grown.0) refl
+
+legal-grows-after : (uploads more : Contents) (before entries : List Entry) → IsWithin uploads more → IsLegal uploads before → IsLegalAfter uploads before entries
+    → IsLegalAfter more before entries
+legal-grows-after uploads more before [] within first legal = tt
+legal-grows-after uploads more before (entry ∷ entries) within first legal =
+    let ran = legal-runs uploads before first in (
+      allowed-grows uploads more before ran.0 entry within ran.1 legal.0,
+      legal-grows-after uploads more (before ++ entry ∷ []) entries within (legal-push uploads [] before entry first legal.0) legal.1,
+    )
 
 pub history-grows : (uploads more : Contents) (entries : List Entry) → IsWithin uploads more → IsLegal uploads entries
     → IsLegal more entries × ((state : State) → run uploads entries ≡ Some state → run more entries ≡ Some state)
-history-grows uploads more entries within legal = (legal-grows-after uploads more [] entries within legal, λ state ran. run-grows uploads more entries state within ran)
+history-grows uploads more entries within legal = (legal-grows-after uploads more [] entries within tt legal, λ state ran. run-grows uploads more entries state within ran)
+
+pub undo_refusal-grows : (uploads more : Contents) (limit : ℕ) (entries : List Entry) (site : SiteName) (k : ℕ) → IsWithin uploads more → IsLegal uploads entries
+    → undo_refusal more limit entries site k ≡ undo_refusal uploads limit entries site k
+undo_refusal-grows uploads more limit entries site k within legal =
+    let ran = legal-runs uploads entries legal in
+    ap (cond (nat_le limit (length entries)) (Some HistoryFull)) (refusal_grows uploads more entries site k ran.0 within ran.1)
 
 -- ---- the reasons to refuse an undo
 
-pub within_limit : (limit : ℕ) (entries : List Entry) (site : SiteName) (k : ℕ) → undo_refusal limit entries site k ≡ None → change_refusal entries site k ≡ None
-within_limit limit entries site k e = (guard (nat_le limit (length entries)) HistoryFull (change_refusal entries site k) e).1
+pub within_limit : (uploads : Contents) (limit : ℕ) (entries : List Entry) (site : SiteName) (k : ℕ) → undo_refusal uploads limit entries site k ≡ None
+    → change_refusal uploads entries site k ≡ None
+within_limit uploads limit entries site k e = (guard (nat_le limit (length entries)) HistoryFull (change_refusal uploads entries site k) e).1
 
 entry_at-some : (entries : List Entry) (k : ℕ) (entry : Entry) → entry_at entries k ≡ Some entry → 0 < k
 entry_at-some entries zero entry e = cc e
 entry_at-some entries (suc k) entry e = omega arith
 
 -- the number of a change that may be undone is that of an entry
-pub named-within : (entries : List Entry) (site : SiteName) (k : ℕ) → change_refusal entries site k ≡ None → (0 < k) × (k ≤ length entries)
-named-within entries site k ok =
-    let there = refusal_at-there entries site k (entry_at entries k) ok in
+pub named-within : (uploads : Contents) (entries : List Entry) (site : SiteName) (k : ℕ) → change_refusal uploads entries site k ≡ None → (0 < k) × (k ≤ length entries)
+named-within uploads entries site k ok =
+    let there = refusal_at-there uploads entries site k (entry_at entries k) ok in
     (entry_at-some entries k there.0 there.1, entry_at-within entries k there.0 there.1)

@@ -1,5 +1,5 @@
 -- A history stays sound: its marks, its entries and its state go together.
-use Rattle.std.proofs.Common.{◌≡◌, ◌↔◌, ℕ, ◌+◌, ◌<◌, ◌≤◌, false, List, [], ◌∷◌, ◌++◌, length, Some, None, IsSome, Result, Ok, Err, OnOk, OnErr, refl, sym, ap, subst, ◌∙◌, arith}
+use Rattle.std.proofs.Common.{◌≡◌, ◌↔◌, ℕ, ◌+◌, ◌<◌, ◌≤◌, false, List, [], ◌∷◌, ◌++◌, length, Option, Some, None, IsSome, Result, Ok, Err, OnOk, OnErr, refl, sym, ap, subst, ◌∙◌, arith}
 use Rattle.std.specs.FinMap as map
 use Rattle.std.proofs.lemmas.List.{length-map}
 use Rattle.host_names.specs.Blobs.{Contents}
@@ -15,19 +15,19 @@ use Rattle.change_undo.specs.declared.entries.CommitError.{CommitError}
 use Rattle.change_undo.specs.declared.entries.CommitError.TheVariants as commit
 use Rattle.change_undo.specs.declared.entries.Entry.{Entry}
 use Rattle.change_undo.specs.declared.entries.Entry.TheVariants.{Change, Undo}
+use Rattle.change_undo.specs.declared.entries.UndoRefusal.{UndoRefusal}
 use Rattle.change_undo.specs.declared.logged.Logged.{Logged}
-use Rattle.change_undo.specs.Histories.{undone, is_among, run, live_changes, entry_at, change_refusal, IsLegal}
+use Rattle.change_undo.specs.Histories.{undone, is_among, run, change_refusal, undo_refusal, IsLegal}
 use Rattle.change_undo.specs.Live.{without}
 use Rattle.change_undo.specs.Logged.{AreMarked, entries_of, marked_live}
 use Rattle.change_undo.specs.Past.{IsSound}
 use Rattle.change_undo.specs.Clashes.{clash_in}
-use Rattle.change_undo.proofs.Live.{live_changes-undo, live_from-rising}
-use Rattle.change_undo.proofs.WithoutClash.{newest_clear}
+use Rattle.change_undo.proofs.Live.{live_changes-undo}
 use Rattle.site_change.specs.declared.plans.Plan.{Plan}
 use Rattle.change_undo.specs.Kept.{IsPlanOf, ArePlanned}
 use Rattle.change_undo.proofs.Planned.{plan-shrinks, planned-grows, planned-push}
 use Rattle.change_undo.proofs.Marks.{marked_live-is, after_change}
-use Rattle.change_undo.proofs.Runs.{history-grows, next-not_undone, newest_of, run-change, run-undo, run-undone_at_once}
+use Rattle.change_undo.proofs.Runs.{history-grows, next-not_undone, clear_where_allowed, run-change, run-undo, run-undone_at_once, within_limit}
 
 pub length-entries_of : (logged : List Logged) → length (entries_of logged) ≡ length logged
 length-entries_of logged = length-map logged (λ (l : Logged). l.entry)
@@ -107,21 +107,30 @@ rerun-is logged found site k marked =
     ap (λ changes. run_from found map.empty (without k changes)) (marked_live-is (undone (entries_of logged)) 1 logged marked)
     ∙ sym (ap (run_from found map.empty) (live_changes-undo (entries_of logged) site k))
 
-pub rerun-runs : (logged : List Logged) (found : Contents) (state : State) (site : SiteName) (k : ℕ) → IsSound logged found state → change_refusal (entries_of logged) site k ≡ None
+pub rerun-runs : (logged : List Logged) (found : Contents) (state : State) (site : SiteName) (k : ℕ) → IsSound logged found state → change_refusal found (entries_of logged) site k ≡ None
     → IsSome (run_from found map.empty (without k (marked_live 1 logged)))
 rerun-runs logged found state site k sound ok =
     let after = run-undo found (entries_of logged) site k state sound.legal sound.ran ok in
     rw (rerun-is logged found site k sound.marked ∙ after.1) refl
 
+-- where no reason against the undo was found, there is none
+pub allowed_by : (logged items : List Logged) (found : Contents) (state : State) (limit : ℕ) (site : SiteName) (k : ℕ) (reason : Option UndoRefusal) → IsSound logged found state
+    → items ≡ logged → ((uploads : Contents) → ArePlanned uploads map.empty 1 items → reason ≡ undo_refusal uploads limit (entries_of items) site k) → reason ≡ None
+    → change_refusal found (entries_of logged) site k ≡ None
+allowed_by logged items found state limit site k reason sound is told none =
+    let P : List Logged → Type 0 = ArePlanned found map.empty 1 in
+    within_limit found limit (entries_of logged) site k (
+    ap (λ (xs : List Logged). undo_refusal found limit (entries_of xs) site k) (sym is) ∙ sym (told found (subst P (sym is) sound.planned)) ∙ none
+    )
+
 -- a change that may be undone has no clash
-pub clear-of : (logged : List Logged) (found : Contents) (state : State) (site : SiteName) (k : ℕ) → IsSound logged found state → change_refusal (entries_of logged) site k ≡ None
+pub clear-of : (logged : List Logged) (found : Contents) (state : State) (site : SiteName) (k : ℕ) → IsSound logged found state → change_refusal found (entries_of logged) site k ≡ None
     → clash_in found k map.empty (marked_live 1 logged) ≡ None
 clear-of logged found state site k sound ok =
     ap (clash_in found k map.empty) (marked_live-is (undone (entries_of logged)) 1 logged sound.marked)
-    ∙ newest_clear found k 1 map.empty (live_changes (entries_of logged)) (live_from-rising (undone (entries_of logged)) 1 (entries_of logged))
-    (newest_of (entries_of logged) site k (entry_at (entries_of logged) k) ok)
+    ∙ clear_where_allowed found (entries_of logged) site k ok
 
-pub sound-undo : (logged items : List Logged) (found : Contents) (state after : State) (site : SiteName) (k : ℕ) → IsSound logged found state → change_refusal (entries_of logged) site k ≡ None
+pub sound-undo : (logged items : List Logged) (found : Contents) (state after : State) (site : SiteName) (k : ℕ) → IsSound logged found state → change_refusal found (entries_of logged) site k ≡ None
     → entries_of items ≡ entries_of logged ++ Undo site k ∷ [] → AreMarked (undone (entries_of items)) 1 items
     → run_from found map.empty (without k (marked_live 1 logged)) ≡ Some after → ArePlanned found map.empty 1 items → IsSound items found after
 sound-undo logged items found state after site k sound ok is marked ran planned =

@@ -9,7 +9,7 @@ use Rattle.site_state.specs.States.{State}
 use Rattle.site_change.specs.declared.commands.Command.{Command}
 use Rattle.site_change.specs.Changes.{applied, touches, changes, run_from}
 use Rattle.change_undo.specs.declared.entries.Entry.{Entry}
-use Rattle.change_undo.specs.Histories.{live_changes}
+use Rattle.change_undo.specs.LiveChanges.{live_changes}
 
 -- a state with something in each cell in which one of the two has something
 abbrev pub joined : State → State → State

@@ -2,5 +2,6 @@ pub mod Histories
 pub mod Clashes
 pub mod Kept
 pub mod Live
+pub mod LiveChanges
 pub mod Logged
 pub mod Past

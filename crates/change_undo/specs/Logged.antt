@@ -1,10 +1,10 @@
 -- How a history is kept: its entries, each with a mark whether it was undone.
-use Rattle.std.specs.Prelude.{◌≡◌, ℕ, ◌+◌, List, [], ◌∷◌, map, Bool, true, false, not, ◌&&◌, ◌==◌, Option, Some, None, if◌then◌else◌}
+use Rattle.std.specs.Prelude.{◌≡◌, ℕ, ◌+◌, List, [], ◌∷◌, map, Bool, not, ◌&&◌, ◌==◌, Option, Some, None, if◌then◌else◌}
 use Rattle.site_change.specs.declared.commands.Command.{Command}
 use Rattle.change_undo.specs.declared.entries.Entry.{Entry}
 use Rattle.change_undo.specs.declared.entries.Entry.TheVariants.{Change, Undo}
 use Rattle.change_undo.specs.declared.logged.Logged.{Logged}
-use Rattle.change_undo.specs.Histories.{is_among}
+use Rattle.change_undo.specs.LiveChanges.{is_among}
 
 -- the entries alone
 abbrev pub entries_of : List Logged → List Entry
@@ -24,14 +24,6 @@ with_change gone n (Undo site k) changes = changes
 abbrev pub marked_live : ℕ → List Logged → List (ℕ × Command)
 marked_live n [] = []
 marked_live n (l ∷ logged) = with_change l.is_undone n l.entry (marked_live (n + 1) logged)
-
--- whether it is a change that was not undone
-abbrev pub is_change : Entry → Bool
-is_change (Change command) = true
-is_change (Undo site k) = false
-
-abbrev pub is_live : Logged → Bool
-is_live l = is_change l.entry && not l.is_undone
 
 abbrev pub command_if : Bool → Entry → Option Command
 command_if live (Change command) = if live then Some command else None

@@ -1,6 +1,7 @@
 //! One change more.
 ghost use Rattle.std.specs.Prelude.{◌≡◌, ◌↔◌, ◌+◌, [], ◌∷◌, ◌++◌, length, false, Some, None, Err, OnOk, OnErr};
-ghost use Rattle.site_change.specs.Changes.{IsWithin, applied, refusal};
+ghost use Rattle.site_change.specs.Changes.{IsWithin, applied, publish_refusal, refusal};
+ghost use Rattle.site_state.specs.States.{draft_at};
 ghost use Rattle.site_change.specs.declared.commands.Refusal.{Refusal as Reason};
 ghost use Rattle.site_change.specs.declared.plans.Plan.{Plan};
 ghost use Rattle.change_undo.specs.declared.entries.Entry.TheVariants as entry;
@@ -10,10 +11,30 @@ use crate::entries::Entry;
 use crate::founds::keep_all;
 use crate::logged::Logged;
 use crate::steps::{Decision, decided};
-use host_names::{MemoryUploads, Uploads};
+use host_names::{MemoryUploads, SiteName, Uploads};
 use site_change::{Command, DecideError};
 use site_state::State;
 use std::alloc::{AllocError, Global};
+
+/// Keeps what the publishing of a deploy finds among the uploads. Without memory it keeps some of it.
+fn keep_deploy<U: Uploads>(
+    found: &mut MemoryUploads,
+    state: &State,
+    uploads: &U,
+    site: &SiteName,
+    number: u64,
+) -> Result<(), AllocError>
+    requires within { IsWithin found.old (U.contents uploads.now) }
+    requires accepted { publish_refusal (U.contents uploads.now) (draft_at state.now site.now number) ≡ None }
+    ensures kept { IsWithin found.old found.new }
+    ensures within { IsWithin found.new (U.contents uploads.now) }
+    ensures accepted { OnOk result (publish_refusal found.new (draft_at state.now site.now number) ≡ None) }
+{
+    match state.draft(site, number) {
+        Some(draft) => keep_all(found, uploads, draft.files.entries()),
+        None => Ok(()),
+    }
+}
 
 /// Keeps what an accepted command finds among the uploads. Without memory it keeps some of it.
 fn keep_found<U: Uploads>(
@@ -29,11 +50,18 @@ fn keep_found<U: Uploads>(
     ensures accepted { OnOk result (refusal command.now 0 state.now found.new ≡ None) }
 {
     match command {
-        Command::Open { .. } => Ok(()),
-        Command::Publish { site, number } => match state.draft(site, *number) {
-            Some(draft) => keep_all(found, uploads, draft.files.entries()),
-            None => Ok(()),
-        },
+        Command::Publish { site, number } => keep_deploy(found, state, uploads, site, *number),
+        Command::Restore { site, number } if state.kept(site, *number).is_none() => {
+            keep_deploy(found, state, uploads, site, *number)
+        }
+        Command::Open { .. }
+        | Command::Cancel { .. }
+        | Command::Remove { .. }
+        | Command::Rename { .. }
+        | Command::MoveAlias { .. }
+        | Command::RemoveAlias { .. }
+        | Command::Restore { .. }
+        | Command::RemoveDeploy { .. } => Ok(()),
     }
 }
 

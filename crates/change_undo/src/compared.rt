@@ -2,20 +2,22 @@
 ghost use Rattle.site_state.specs.Files.{IsByPath};
 
 use super::*;
-use crate::hosts::{Host, no_entries, open, publish, push_path};
-use crate::model::{Answer, Deploy, LIMIT, Step, bytes_of, draft, kept, served};
-use host_names::{Digest, FilePath, SiteName};
+use crate::clash_model::met_at;
+use crate::hosts::{Host, no_entries, push_path};
+use crate::model::{Answer, Deploy, NUMBERS, Step, bytes_of, draft, kept, played, site_of};
+use host_names::{AliasName, Digest, FilePath, SiteName};
 use site_change::{Command, Refusal};
 use site_state::{Draft, File, Listing, PathMap, State, Tree};
 use std::alloc::{AllocError, Global};
 use std::process::Abort;
 use std::test::Fail;
 
-/// The two sites and the three paths, by their places.
+/// The two sites, the four paths and the two aliases, by their places.
 #[derive(Drop)]
 pub(crate) struct Names {
     sites: [SiteName; 2],
-    paths: [FilePath; 3],
+    paths: [FilePath; 4],
+    aliases: [AliasName; 2],
 }
 
 impl Names {
@@ -24,8 +26,14 @@ impl Names {
         let a = FilePath::read(alloc, "/a")?;
         let b = FilePath::read(alloc, "/b")?;
         let c = FilePath::read(alloc, "/c")?;
-        let paths = [a, b, c];
-        Ok(Names { sites, paths })
+        let d = FilePath::read(alloc, "/d")?;
+        let paths = [a, b, c, d];
+        let aliases = [AliasName::new("next")?, AliasName::new("now")?];
+        Ok(Names {
+            sites,
+            paths,
+            aliases,
+        })
     }
 
     pub(crate) fn site(&self, place: usize) -> &SiteName {
@@ -33,7 +41,29 @@ impl Names {
     }
 
     pub(crate) fn path(&self, place: usize) -> &FilePath {
-        &self.paths[place % 3]
+        &self.paths[place % 4]
+    }
+
+    pub(crate) fn alias(&self, place: usize) -> &AliasName {
+        &self.aliases[place % 2]
+    }
+
+    pub(crate) fn place_of_path(&self, path: &FilePath) -> Option<usize> {
+        for place in 0..4 {
+            if path == &self.paths[place] {
+                return Some(place);
+            }
+        }
+        None
+    }
+
+    pub(crate) fn place_of_alias(&self, name: &AliasName) -> Option<usize> {
+        for place in 0..2 {
+            if name == &self.aliases[place] {
+                return Some(place);
+            }
+        }
+        None
     }
 }
 
@@ -58,36 +88,107 @@ pub(crate) fn listing(
     rt: &impl Abort,
     alloc: Global,
     names: &Names,
-    contents: [usize; 3],
+    contents: [usize; 4],
 ) -> Result<Listing, AllocError> {
     let mut entries = no_entries(alloc);
     push_content(rt, &mut entries, &names.paths[0], contents[0])?;
     push_content(rt, &mut entries, &names.paths[1], contents[1])?;
     push_content(rt, &mut entries, &names.paths[2], contents[2])?;
+    push_content(rt, &mut entries, &names.paths[3], contents[3])?;
     PathMap::from_sorted(alloc, entries)
 }
 
-pub(crate) fn answer_of_commit(committed: Result<u64, CommitError>) -> Answer {
-    match committed {
-        Ok(number) => Answer::Number(number),
+fn answer_of_refusal(names: &Names, reason: &Refusal) -> Answer {
+    match reason {
+        Refusal::NoSuchDraft => Answer::NoSuchDraft,
+        Refusal::NotComplete(digest) => Answer::NotComplete(*digest),
+        Refusal::NoSuchDeploy => Answer::NoSuchDeploy,
+        Refusal::NoSuchFile => Answer::NoSuchFile,
+        Refusal::PathTaken => Answer::PathTaken,
+        Refusal::SamePath => Answer::SamePath,
+        Refusal::NoSuchAlias => Answer::NoSuchAlias,
+        Refusal::DeployInUse(name) => {
+            Answer::DeployInUse(names.place_of_alias(name).unwrap_or(2))
+        }
+        Refusal::TooManyFiles => Answer::TooManyFiles,
+    }
+}
+
+fn answer_of_commit(names: &Names, committed: Result<u64, CommitError>) -> Answer {
+    match &committed {
+        Ok(number) => Answer::Number(*number),
         Err(CommitError::HistoryFull) => Answer::HistoryFull,
-        Err(CommitError::Refused(Refusal::NoSuchDraft)) => Answer::NoSuchDraft,
-        Err(CommitError::Refused(Refusal::NotComplete(digest))) => Answer::NotComplete(digest),
-        Err(CommitError::Refused(Refusal::TooManyFiles)) => Answer::TooManyFiles,
+        Err(CommitError::Refused(reason)) => answer_of_refusal(names, reason),
         Err(CommitError::OutOfMemory) => Answer::OutOfMemory,
     }
 }
 
-pub(crate) fn answer_of_undo(undone: Result<u64, UndoError>) -> Answer {
+fn answer_of_undo(names: &Names, site: usize, undone: Result<u64, UndoError>) -> Answer {
     match undone {
         Ok(number) => Answer::Number(number),
         Err(UndoError::Refused(UndoRefusal::HistoryFull)) => Answer::HistoryFull,
         Err(UndoError::Refused(UndoRefusal::NoSuchChange)) => Answer::NoSuchChange,
         Err(UndoError::Refused(UndoRefusal::NotAChange)) => Answer::NotAChange,
         Err(UndoError::Refused(UndoRefusal::AlreadyUndone)) => Answer::AlreadyUndone,
-        Err(UndoError::Refused(UndoRefusal::NotNewest)) => Answer::NotNewest,
+        Err(UndoError::Refused(UndoRefusal::Clash { change, cell })) => Answer::Clash {
+            change: change as usize,
+            met: met_at(names, site, &cell),
+        },
         Err(UndoError::OutOfMemory) => Answer::OutOfMemory,
     }
+}
+
+/// The command of a step, but for an undo.
+fn command_of(
+    rt: &impl Abort,
+    alloc: Global,
+    names: &Names,
+    step: Step,
+) -> Result<Option<Command>, AllocError> {
+    let site = names.site(site_of(step)).clone()?;
+    let command = match step {
+        Step::Open { deploy, .. } => Command::Open {
+            site,
+            files: listing(rt, alloc, names, deploy.contents)?,
+            auto: deploy.auto,
+        },
+        Step::Publish { number, .. } => Command::Publish {
+            site,
+            number: number as u64,
+        },
+        Step::Cancel { number, .. } => Command::Cancel {
+            site,
+            number: number as u64,
+        },
+        Step::Remove { path, .. } => Command::Remove {
+            site,
+            path: names.path(path).clone()?,
+        },
+        Step::Rename { source, target, .. } => Command::Rename {
+            site,
+            source: names.path(source).clone()?,
+            target: names.path(target).clone()?,
+        },
+        Step::MoveAlias { name, number, .. } => Command::MoveAlias {
+            site,
+            name: names.alias(name).clone()?,
+            number: number as u64,
+        },
+        Step::RemoveAlias { name, .. } => Command::RemoveAlias {
+            site,
+            name: names.alias(name).clone()?,
+        },
+        Step::Restore { number, .. } => Command::Restore {
+            site,
+            number: number as u64,
+        },
+        Step::RemoveDeploy { number, .. } => Command::RemoveDeploy {
+            site,
+            number: number as u64,
+        },
+        Step::Undo { .. } => return Ok(None),
+    };
+    Ok(Some(command))
 }
 
 pub(crate) fn answer_of_host(
@@ -97,24 +198,17 @@ pub(crate) fn answer_of_host(
     host: &mut Host,
     step: Step,
 ) -> Result<Answer, AllocError> {
-    match step {
-        Step::Open { site, deploy } => {
-            let files = listing(rt, alloc, names, deploy.contents)?;
-            let command = open(names.site(site), files, deploy.auto)?;
-            Ok(answer_of_commit(host.commit(alloc, command)))
-        }
-        Step::Publish { site, number } => {
-            let command = publish(names.site(site), number as u64)?;
-            Ok(answer_of_commit(host.commit(alloc, command)))
-        }
-        Step::Undo { site, change } => {
-            let undone = host.undo(alloc, names.site(site), change as u64);
-            Ok(answer_of_undo(undone))
-        }
+    if let Step::Undo { site, change } = step {
+        let undone = host.undo(alloc, names.site(site), change as u64);
+        return Ok(answer_of_undo(names, site, undone));
+    }
+    match command_of(rt, alloc, names, step)? {
+        Some(command) => Ok(answer_of_commit(names, host.commit(alloc, command))),
+        None => Ok(Answer::OutOfMemory),
     }
 }
 
-pub(crate) fn count(contents: [usize; 3]) -> usize {
+fn count(contents: [usize; 4]) -> usize {
     let mut count = 0usize;
     for content in contents {
         if content != 0 {
@@ -124,57 +218,43 @@ pub(crate) fn count(contents: [usize; 3]) -> usize {
     count
 }
 
-pub(crate) fn contents_of(deploy: Option<Deploy>) -> [usize; 3] {
-    match deploy {
-        None => [0, 0, 0],
-        Some(deploy) => deploy.contents,
-    }
-}
-
-pub(crate) fn is_file(file: Option<&File>, content: usize) -> bool {
+fn is_file(file: Option<&File>, content: usize) -> bool {
     match file {
         None => content == 0,
         Some(file) => content != 0 && file.bytes() == bytes_of(content),
     }
 }
 
-pub(crate) fn is_digest(digest: Option<&Digest>, content: usize) -> bool {
+fn is_digest(digest: Option<&Digest>, content: usize) -> bool {
     match digest {
         None => content == 0,
         Some(digest) => content != 0 && *digest == Digest::of_bytes(bytes_of(content)),
     }
 }
 
-pub(crate) fn is_serving(
-    names: &Names,
-    state: &State,
-    site: &SiteName,
-    deploy: Option<Deploy>,
-) -> bool {
-    let contents = contents_of(deploy);
-    for place in 0..3 {
-        if !is_file(state.file(site, &names.paths[place]), contents[place]) {
+fn is_serving(names: &Names, state: &State, site: &SiteName, live: [usize; 4]) -> bool {
+    for place in 0..4 {
+        if !is_file(state.file(site, &names.paths[place]), live[place]) {
             return false;
         }
     }
-    state.live(site).len() == count(contents)
+    state.live(site).len() == count(live)
 }
 
-pub(crate) fn is_tree(names: &Names, tree: Option<&Tree>, deploy: Option<Deploy>) -> bool {
-    let Some(tree) = tree else {
-        return deploy.is_none();
+fn is_tree(names: &Names, tree: Option<&Tree>, contents: Option<[usize; 4]>) -> bool {
+    let (Some(tree), Some(contents)) = (tree, contents) else {
+        return tree.is_none() && contents.is_none();
     };
-    let contents = contents_of(deploy);
-    for place in 0..3 {
+    for place in 0..4 {
         if !is_file(tree.get(&names.paths[place]), contents[place]) {
             return false;
         }
     }
-    deploy.is_some() && tree.entries().len() == count(contents)
+    tree.entries().len() == count(contents)
 }
 
-pub(crate) fn is_listing(names: &Names, files: &Listing, contents: [usize; 3]) -> bool {
-    for place in 0..3 {
+fn is_listing(names: &Names, files: &Listing, contents: [usize; 4]) -> bool {
+    for place in 0..4 {
         if !is_digest(files.get(&names.paths[place]), contents[place]) {
             return false;
         }
@@ -182,7 +262,7 @@ pub(crate) fn is_listing(names: &Names, files: &Listing, contents: [usize; 3]) -
     files.entries().len() == count(contents)
 }
 
-pub(crate) fn is_draft(names: &Names, draft: Option<&Draft>, deploy: Option<Deploy>) -> bool {
+fn is_draft(names: &Names, draft: Option<&Draft>, deploy: Option<Deploy>) -> bool {
     match (draft, deploy) {
         (None, None) => true,
         (Some(draft), Some(deploy)) => {
@@ -192,48 +272,81 @@ pub(crate) fn is_draft(names: &Names, draft: Option<&Draft>, deploy: Option<Depl
     }
 }
 
+fn is_alias(state: &State, site: &SiteName, name: &AliasName, number: usize) -> bool {
+    match state.alias(site, name) {
+        Some(told) => told == number as u64,
+        None => number == 0,
+    }
+}
+
+/// Whether the state has at the site of this place what the model has there.
 pub(crate) fn is_site(names: &Names, state: &State, entries: &[Step], place: usize) -> bool {
     let site = names.site(place);
-    for number in 0..LIMIT + 2 {
-        let key = number as u64;
-        if !is_tree(names, state.kept(site, key), kept(entries, place, number)) {
+    let model = played(entries, place, entries.len());
+    for number in 0..NUMBERS {
+        if !is_tree(names, state.kept(site, number as u64), kept(&model, number)) {
             return false;
         }
-        if !is_draft(names, state.draft(site, key), draft(entries, place, number)) {
+        if !is_draft(
+            names,
+            state.draft(site, number as u64),
+            draft(&model, number),
+        ) {
             return false;
         }
     }
-    is_serving(names, state, site, served(entries, place))
+    is_alias(state, site, names.alias(0), model.aliases[0])
+        && is_alias(state, site, names.alias(1), model.aliases[1])
+        && is_serving(names, state, site, model.live)
+}
+
+/// Whether the command is that of the step, which is of the same site.
+fn is_command(names: &Names, command: &Command, step: Step) -> bool {
+    match (command, step) {
+        (Command::Open { files, auto, .. }, Step::Open { deploy, .. }) => {
+            *auto == deploy.auto && is_listing(names, files, deploy.contents)
+        }
+        (Command::Publish { number: told, .. }, Step::Publish { number, .. })
+        | (Command::Cancel { number: told, .. }, Step::Cancel { number, .. })
+        | (Command::Restore { number: told, .. }, Step::Restore { number, .. })
+        | (Command::RemoveDeploy { number: told, .. }, Step::RemoveDeploy { number, .. }) => {
+            *told == number as u64
+        }
+        (Command::Remove { path: told, .. }, Step::Remove { path, .. }) => {
+            told == names.path(path)
+        }
+        (
+            Command::Rename {
+                source: from,
+                target: to,
+                ..
+            },
+            Step::Rename { source, target, .. },
+        ) => from == names.path(source) && to == names.path(target),
+        (
+            Command::MoveAlias {
+                name: told,
+                number: of,
+                ..
+            },
+            Step::MoveAlias { name, number, .. },
+        ) => told == names.alias(name) && *of == number as u64,
+        (Command::RemoveAlias { name: told, .. }, Step::RemoveAlias { name, .. }) => {
+            told == names.alias(name)
+        }
+        _ => false,
+    }
 }
 
 /// Whether the entry is that of the step.
 pub(crate) fn is_entry(names: &Names, entry: Option<&Entry>, step: Step) -> bool {
-    match (entry, step) {
-        (
-            Some(Entry::Change(Command::Open { site, files, auto })),
-            Step::Open {
-                site: place,
-                deploy,
-            },
-        ) => {
-            site == names.site(place)
-                && *auto == deploy.auto
-                && is_listing(names, files, deploy.contents)
-        }
-        (
-            Some(Entry::Change(Command::Publish { site, number })),
-            Step::Publish {
-                site: place,
-                number: wanted,
-            },
-        ) => site == names.site(place) && *number == wanted as u64,
-        (
-            Some(Entry::Undo { site, change }),
-            Step::Undo {
-                site: place,
-                change: wanted,
-            },
-        ) => { site == names.site(place) && *change == wanted as u64 }
+    let Some(entry) = entry else {
+        return false;
+    };
+    let is_same = match (entry, step) {
+        (Entry::Change(command), _) => is_command(names, command, step),
+        (Entry::Undo { change: told, .. }, Step::Undo { change, .. }) => *told == change as u64,
         _ => false,
-    }
+    };
+    is_same && entry.site() == names.site(site_of(step))
 }

@@ -1,6 +1,7 @@
 //! The entries of a history, and the reasons to refuse an undo.
-use host_names::SiteName;
+use host_names::{Cell, SiteName};
 use site_change::{Command, Refusal};
+use std::alloc::AllocError;
 use thiserror::Error;
 
 /// An entry of a history. Entries are numbered from 1, over all sites.
@@ -21,15 +22,14 @@ impl Entry {
         ensures { result.now ≡ site_of_entry self.now }
     {
         match self {
-            Entry::Change(Command::Open { site, .. }) => site,
-            Entry::Change(Command::Publish { site, .. }) => site,
+            Entry::Change(command) => command.site(),
             Entry::Undo { site, .. } => site,
         }
     }
 }
 
 /// Why an undo is refused.
-#[derive(Clone, Copy, Debug, PartialEq, Eq, Error)]
+#[derive(Debug, Drop, PartialEq, Eq, Error)]
 pub enum UndoRefusal {
     /// The history has as many entries as it may have.
     #[error("the history is full")]
@@ -43,13 +43,13 @@ pub enum UndoRefusal {
     /// The change was undone before.
     #[error("undone already")]
     AlreadyUndone,
-    /// A later change stands that was not undone.
-    #[error("not the newest change")]
-    NotNewest,
+    /// The first later change that was not undone and reads or writes what this one changed, and the first such cell.
+    #[error("change {change} needs it, at {cell}")]
+    Clash { change: u64, cell: Cell },
 }
 
 /// Why a command is not committed.
-#[derive(Clone, Copy, Debug, PartialEq, Eq, Error)]
+#[derive(Debug, Drop, PartialEq, Eq, Error)]
 pub enum CommitError {
     /// The history has as many entries as it may have.
     #[error("the history is full")]
@@ -63,7 +63,7 @@ pub enum CommitError {
 }
 
 /// Why a change is not undone.
-#[derive(Clone, Copy, Debug, PartialEq, Eq, Error)]
+#[derive(Debug, Drop, PartialEq, Eq, Error)]
 pub enum UndoError {
     /// The undo is refused.
     #[error("{0}")]
@@ -71,4 +71,15 @@ pub enum UndoError {
     /// There was no memory for it.
     #[error("out of memory")]
     OutOfMemory,
+}
+
+impl From<AllocError> for UndoError {
+    ghost use Rattle.std.specs.Prelude.{◌≡◌};
+    ghost use Rattle.change_undo.specs.declared.entries.UndoError.TheVariants.{OutOfMemory};
+
+    ghost from_gives = { λ _ error. error ≡ OutOfMemory };
+
+    fn from(_error: AllocError) -> UndoError {
+        UndoError::OutOfMemory
+    }
 }

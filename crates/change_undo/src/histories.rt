@@ -1,6 +1,7 @@
 //! Histories: changes are committed at their end, and undone by an entry of their own.
-ghost use Rattle.std.specs.Prelude.{◌≡◌, ◌≢◌, ◌↔◌, ◌+◌, ◌≤◌, ◌<◌, [], ◌∷◌, ◌++◌, length, false, Some, None, Err, List, IfOk, OnOk, OnErr, option_copied, option_map};
+ghost use Rattle.std.specs.Prelude.{◌≡◌, ◌≢◌, ◌↔◌, ◌+◌, ◌≤◌, ◌<◌, [], ◌∷◌, ◌++◌, length, false, Some, None, true, Err, IsErrOf, List, IfOk, OnOk, OnErr, option_copied, option_map};
 ghost use Rattle.std.specs.FinMap as map;
+ghost use Rattle.host_names.specs.Blobs.{Contents};
 ghost use Rattle.site_change.specs.Changes.{IsWithin, applied, refusal};
 ghost use Rattle.site_change.specs.declared.commands.Refusal.{Refusal as Reason};
 ghost use Rattle.change_undo.specs.declared.entries.Entry.TheVariants as entry;
@@ -143,11 +144,17 @@ impl History {
         }
     }
 
-    /// Undoes the change of a number, which belongs to this site, by the next entry. Answers that entry's number. On an
+    /// Undoes the change of a number, which belongs to this site, by the next entry. Answers that entry's number. Where a
+    /// later change that was not undone reads or writes what this one changed, the undo is refused by its clash. On an
     /// error nothing changes.
     pub fn undo(&mut self, alloc: Global, site: &SiteName, change: u64) -> Result<u64, UndoError>
-        ensures refused { (reason : UndoReason) → (result ≡ Err (UndoError.Refused reason))
-            ↔ (Histories.undo_refusal self.old.limit self.old.entries site.now change ≡ Some reason) }
+        ensures refused { (reason : UndoReason) → result ≡ Err (UndoError.Refused reason)
+            → Histories.undo_refusal self.old.found self.old.limit self.old.entries site.now change ≡ Some reason }
+        ensures accepted { OnOk result (Histories.undo_refusal self.old.found self.old.limit self.old.entries site.now change ≡ None) }
+        ensures memory { IsErrOf result UndoError.OutOfMemory
+            → Histories.may_take_memory (Histories.undo_refusal self.old.found self.old.limit self.old.entries site.now change) ≡ true }
+        ensures outlasts { (uploads : Contents) → IsWithin self.old.found uploads → Histories.undo_refusal uploads self.old.limit self.old.entries site.now change
+            ≡ Histories.undo_refusal self.old.found self.old.limit self.old.entries site.now change }
         ensures number { IfOk result (λ number. number ≡ length self.old.entries + 1) }
         ensures entries { OnOk result (self.new.entries ≡ self.old.entries ++ entry.Undo site.now change ∷ []) }
         ensures state { OnOk result (Histories.run self.old.found self.new.entries ≡ Some self.new.state) }
@@ -157,16 +164,11 @@ impl History {
         ensures limit { self.new.limit ≡ self.old.limit }
         ensures found { self.new.found ≡ self.old.found }
     {
-        if let Some(reason) = undo_refusal(self.limit, self.logged.as_slice(), site, change) {
+        if let Some(reason) = undo_refusal(self.limit, self.logged.as_slice(), site, change)? {
             return Err(UndoError::Refused(reason));
         }
         let number = self.logged.len() as u64 + 1;
-        match undone(alloc, &mut self.logged, &self.found, site, change) {
-            Ok(state) => {
-                self.state = state;
-                Ok(number)
-            }
-            Err(_) => Err(UndoError::OutOfMemory),
-        }
+        self.state = undone(alloc, &mut self.logged, &self.found, site, change)?;
+        Ok(number)
     }
 }

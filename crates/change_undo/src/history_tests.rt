@@ -1,7 +1,7 @@
 //! Histories whose answers are known from outside.
 use super::*;
 use crate::hosts::{Host, listing_of_one, long_listing, open, publish};
-use host_names::{Digest, FilePath, SiteName};
+use host_names::{Cell, Digest, FilePath, SiteName};
 use site_change::{Command, Refusal};
 use site_state::State;
 use std::alloc::Global;
@@ -16,9 +16,9 @@ fn is_undo_refused(undone: Result<u64, UndoError>, reason: UndoRefusal) -> bool 
 }
 
 fn is_commit_refused(committed: Result<u64, CommitError>, reason: Refusal) -> bool {
-    match committed {
-        Ok(_) => false,
-        Err(error) => error == CommitError::Refused(reason),
+    match &committed {
+        Err(CommitError::Refused(told)) => *told == reason,
+        Ok(_) | Err(CommitError::HistoryFull | CommitError::OutOfMemory) => false,
     }
 }
 
@@ -52,7 +52,6 @@ fn publishes_a_deploy_and_takes_it_back(rt: HostRuntime) -> Result<(), Fail> {
     let kept = host.history.state().kept(&one, 1);
     assert!(rt; kept.is_some_and(|tree| tree.entries().len() == 1));
     for (site, change, reason) in [
-        (&one, 1, UndoRefusal::NotNewest),
         (&two, 2, UndoRefusal::NoSuchChange),
         (&one, 0, UndoRefusal::NoSuchChange),
         (&one, 99, UndoRefusal::NoSuchChange),
@@ -62,6 +61,13 @@ fn publishes_a_deploy_and_takes_it_back(rt: HostRuntime) -> Result<(), Fail> {
             "{change}"
         );
     }
+    let cell = Cell::Draft(one.clone()?, 1);
+    assert!(rt;
+        is_undo_refused(
+            host.undo(alloc, &one, 1),
+            UndoRefusal::Clash { change: 2, cell }
+        )
+    );
     assert_eq!(rt; host.undo(alloc, &one, 2)?, 3);
     assert_eq!(rt; told(host.history.state(), &one), (0, true, false));
     assert!(rt; is_undo_refused(host.undo(alloc, &one, 2), UndoRefusal::AlreadyUndone));
@@ -176,19 +182,43 @@ fn reruns_a_publish_whose_file_came_after_its_open(rt: HostRuntime) -> Result<()
 }
 
 #[test]
-fn counts_the_changes_of_every_site(rt: HostRuntime) -> Result<(), Fail> {
+fn undoes_a_change_that_later_ones_leave_alone(rt: HostRuntime) -> Result<(), Fail> {
     let alloc = rt.alloc();
     let one = SiteName::new("one")?;
     let two = SiteName::new("two")?;
     let mut host = Host::new(alloc, 10);
+    host.upload(alloc, b"hello")?;
     for (site, number) in [(&one, 1), (&two, 2)] {
-        let files = listing_of_one(&rt, alloc, "/a.txt", b"hello")?;
-        assert_eq!(rt; host.commit(alloc, open(site, files, false)?)?, number);
+        open_one(&rt, alloc, &mut host, site, number, ("/a.txt", b"hello"))?;
     }
-    assert!(rt; is_undo_refused(host.undo(alloc, &one, 1), UndoRefusal::NotNewest));
-    assert_eq!(rt; host.undo(alloc, &two, 2)?, 3);
+    assert_eq!(rt; host.commit(alloc, publish(&two, 2)?)?, 3);
     assert_eq!(rt; host.undo(alloc, &one, 1)?, 4);
-    assert!(rt; is_undo_refused(host.undo(alloc, &one, 3), UndoRefusal::NoSuchChange));
-    assert!(rt; is_undo_refused(host.undo(alloc, &two, 3), UndoRefusal::NotAChange));
+    assert_eq!(rt; told(host.history.state(), &one), (0, false, false));
+    assert_eq!(rt; host.history.state().live(&two).len(), 1);
+    assert!(rt; is_undo_refused(host.undo(alloc, &one, 4), UndoRefusal::NotAChange));
+    assert!(rt; is_undo_refused(host.undo(alloc, &two, 4), UndoRefusal::NoSuchChange));
+    let cell = Cell::Draft(two.clone()?, 2);
+    assert!(rt;
+        is_undo_refused(
+            host.undo(alloc, &two, 2),
+            UndoRefusal::Clash { change: 3, cell }
+        )
+    );
+    assert_eq!(rt; host.undo(alloc, &two, 3)?, 5);
+    assert_eq!(rt; host.undo(alloc, &two, 2)?, 6);
+    assert_eq!(rt; host.history.state().live(&two).len(), 0);
+    Ok(())
+}
+
+#[test]
+fn tells_of_a_clash_in_words(rt: HostRuntime) -> Result<(), Fail> {
+    let alloc = rt.alloc();
+    let path = FilePath::read(alloc, "/a.txt")?;
+    let cell = Cell::Live(SiteName::new("one")?, path);
+    let told = format!(in alloc;
+        "{}",
+        UndoError::Refused(UndoRefusal::Clash { change: 4, cell })
+    )?;
+    assert_eq!(rt; told.as_str(), "change 4 needs it, at live /a.txt");
     Ok(())
 }

@@ -5,7 +5,7 @@ ghost use Rattle.site_change.specs.Changes.{IsWithin};
 ghost use Rattle.site_state.specs.Files.{IsByPath};
 
 use super::*;
-use host_names::{Digest, FilePath, MemoryUploads, SiteName};
+use host_names::{AliasName, Digest, FilePath, MemoryUploads, SiteName};
 use site_change::Command;
 use site_state::{Listing, PathMap};
 use std::alloc::{AllocError, Global};
@@ -107,6 +107,20 @@ pub(crate) fn listing_of_one(
     Ok(PathMap::from_sorted(alloc, entries)?)
 }
 
+/// These paths, which have to rise, each with the digest of the bytes.
+pub(crate) fn listing_of(
+    rt: &impl Abort,
+    alloc: Global,
+    files: &[(&str, &[u8])],
+) -> Result<Listing, Fail> {
+    let mut entries = no_entries(alloc);
+    for (path, bytes) in files {
+        let path = FilePath::read(alloc, path)?;
+        push_path(rt, &mut entries, path, Digest::of_bytes(bytes))?;
+    }
+    Ok(PathMap::from_sorted(alloc, entries)?)
+}
+
 /// As many paths, each with the same file.
 pub(crate) fn long_listing(rt: &impl Abort, alloc: Global, count: u32) -> Result<Listing, Fail> {
     let mut entries = no_entries(alloc);
@@ -125,4 +139,50 @@ pub(crate) fn open(site: &SiteName, files: Listing, auto: bool) -> Result<Comman
 pub(crate) fn publish(site: &SiteName, number: u64) -> Result<Command, AllocError> {
     let site = site.clone()?;
     Ok(Command::Publish { site, number })
+}
+
+pub(crate) fn cancel(site: &SiteName, number: u64) -> Result<Command, AllocError> {
+    let site = site.clone()?;
+    Ok(Command::Cancel { site, number })
+}
+
+pub(crate) fn remove(alloc: Global, site: &SiteName, path: &str) -> Result<Command, Fail> {
+    let site = site.clone()?;
+    let path = FilePath::read(alloc, path)?;
+    Ok(Command::Remove { site, path })
+}
+
+pub(crate) fn rename(
+    alloc: Global,
+    site: &SiteName,
+    source: &str,
+    target: &str,
+) -> Result<Command, Fail> {
+    Ok(Command::Rename {
+        site: site.clone()?,
+        source: FilePath::read(alloc, source)?,
+        target: FilePath::read(alloc, target)?,
+    })
+}
+
+pub(crate) fn move_alias(site: &SiteName, name: &str, number: u64) -> Result<Command, Fail> {
+    let site = site.clone()?;
+    let name = AliasName::new(name)?;
+    Ok(Command::MoveAlias { site, name, number })
+}
+
+pub(crate) fn remove_alias(site: &SiteName, name: &str) -> Result<Command, Fail> {
+    let site = site.clone()?;
+    let name = AliasName::new(name)?;
+    Ok(Command::RemoveAlias { site, name })
+}
+
+pub(crate) fn restore(site: &SiteName, number: u64) -> Result<Command, AllocError> {
+    let site = site.clone()?;
+    Ok(Command::Restore { site, number })
+}
+
+pub(crate) fn remove_deploy(site: &SiteName, number: u64) -> Result<Command, AllocError> {
+    let site = site.clone()?;
+    Ok(Command::RemoveDeploy { site, number })
 }

@@ -9,16 +9,19 @@ ghost use Rattle.site_state.specs.States.{State as Cells};
 ghost use Rattle.change_undo.specs.declared.entries.Entry.{Entry as Line};
 ghost use Rattle.change_undo.specs.declared.entries.Entry.TheVariants as line;
 ghost use Rattle.change_undo.specs.Clashes.{IsClash, clash};
-ghost use Rattle.change_undo.specs.Histories.{IsLegal, change_refusal, is_newest, live_changes, run};
+ghost use Rattle.change_undo.specs.Histories.{IsLegal, change_refusal, is_newest, live_changes, run, undo_refusal};
 ghost use Rattle.change_undo.specs.Live.{without};
 
-/// A history that was legal stays legal, with the same state and the same clashes, when more is uploaded.
+/// A history that was legal stays legal, with the same state, the same clashes and the same reasons to refuse an undo,
+/// when more is uploaded.
 pub fn histories_outlast_uploads()
     ensures legal { (uploads more : Contents) (entries : List Line) → IsWithin uploads more → IsLegal uploads entries → IsLegal more entries }
     ensures run { (uploads more : Contents) (entries : List Line) (state : Cells) → IsWithin uploads more → IsLegal uploads entries
         → run uploads entries ≡ Some state → run more entries ≡ Some state }
     ensures clash { (uploads more : Contents) (entries : List Line) (k : ℕ) → IsWithin uploads more → IsLegal uploads entries
         → clash more entries k ≡ clash uploads entries k }
+    ensures refusal { (uploads more : Contents) (limit : ℕ) (entries : List Line) (site : Site) (k : ℕ) → IsWithin uploads more → IsLegal uploads entries
+        → undo_refusal more limit entries site k ≡ undo_refusal uploads limit entries site k }
 {}
 
 /// In a legal history the changes that live are accepted from nothing, each in its place.
@@ -29,7 +32,7 @@ pub fn a_legal_history_has_a_run()
 /// Where the undo of a change is not refused, the other changes are accepted without it, each in its place, and the
 /// history with the undo is legal again.
 pub fn an_allowed_undo_leaves_a_legal_history()
-    ensures { (uploads : Contents) (entries : List Line) (site : Site) (k : ℕ) → IsLegal uploads entries → change_refusal entries site k ≡ None
+    ensures { (uploads : Contents) (entries : List Line) (site : Site) (k : ℕ) → IsLegal uploads entries → change_refusal uploads entries site k ≡ None
         → (without : Cells) × (run uploads (entries ++ line.Undo site k ∷ []) ≡ Some without) × IsLegal uploads (entries ++ line.Undo site k ∷ []) }
 {}
 
@@ -56,6 +59,6 @@ pub fn a_change_has_one_clash_at_most()
 /// No later change stands in the way of an undo that is not refused, nor in the way of the newest change that lives.
 pub fn the_newest_change_has_no_clash()
     ensures newest { (uploads : Contents) (entries : List Line) (k j : ℕ) (at : Cell) → is_newest entries k ≡ true → IsClash uploads entries k j at → ⊥ }
-    ensures allowed { (uploads : Contents) (entries : List Line) (site : Site) (k j : ℕ) (at : Cell) → change_refusal entries site k ≡ None
+    ensures allowed { (uploads : Contents) (entries : List Line) (site : Site) (k j : ℕ) (at : Cell) → change_refusal uploads entries site k ≡ None
         → IsClash uploads entries k j at → ⊥ }
 {}

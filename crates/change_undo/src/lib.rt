@@ -24,6 +24,8 @@ mod model;
 mod model_tests;
 mod steps;
 mod undoing;
+#[cfg(test)]
+mod worked_tests;
 
 pub use entries::{CommitError, Entry, UndoError, UndoRefusal};
 pub use histories::{GREATEST_LIMIT, History};

@@ -4,7 +4,7 @@ ghost use Rattle.std.specs.Prelude.{◌<◌};
 use crate::clash_model::tells_clashes;
 use crate::compared::{Names, answer_of_host, is_entry, is_site};
 use crate::hosts::Host;
-use crate::model::{Answer, Deploy, LIMIT, Step, answer_of_model, bytes_of};
+use crate::model::{Answer, Deploy, LIMIT, Step, answer_of_model, bytes_of, site_of};
 use std::alloc::{AllocError, Global};
 use std::process::Abort;
 use std::test::Fail;
@@ -38,70 +38,125 @@ impl Generator {
         let first = self.content();
         let second = self.content();
         let third = self.content();
+        let fourth = self.content();
         Deploy {
-            contents: [first, second, third],
+            contents: [first, second, third, fourth],
             auto: self.below(2) == 0,
         }
     }
 
-    /// A step that names one of the last three entries, or the next.
+    /// Mostly the site of the entry of this number.
+    fn site(&mut self, entries: &[Step], number: usize) -> usize {
+        let any = self.below(2);
+        if number == 0 || entries.len() < number || self.below(4) == 0 {
+            return any;
+        }
+        site_of(entries[number - 1])
+    }
+
+    /// The number of an opening among the entries, mostly; 1 where there is none.
+    fn opened(&mut self, entries: &[Step]) -> usize {
+        let last = self.below(LIMIT as u64 + 2);
+        if self.below(8) == 0 {
+            return last;
+        }
+        let mut number = 1usize;
+        for place in 0..entries.len() {
+            if place <= last && matches!(entries[place], Step::Open { .. }) {
+                number = place.wrapping_add(1);
+            }
+        }
+        number
+    }
+
+    /// A step that names an opening, or undoes one of the last five entries or the next.
     fn step(&mut self, entries: &[Step]) -> Step {
-        let site = self.below(2);
-        let back = self.below(4);
-        let number = (entries.len() + 1).saturating_sub(back);
-        match self.below(5) {
+        let number = self.opened(entries);
+        let site = self.site(entries, number);
+        match self.below(16) {
             0 => {
                 let deploy = self.deploy();
                 Step::Open { site, deploy }
             }
-            1 | 2 => Step::Publish { site, number },
-            _ => Step::Undo {
+            1..=3 => Step::Publish { site, number },
+            4 => Step::Cancel { site, number },
+            5 => Step::Restore { site, number },
+            6 | 7 => Step::RemoveDeploy { site, number },
+            8..=10 => self.undo(entries),
+            _ => self.step_at_names(site, number),
+        }
+    }
+
+    fn undo(&mut self, entries: &[Step]) -> Step {
+        let back = self.below(6);
+        let change = (entries.len() + 1).saturating_sub(back);
+        let site = self.site(entries, change);
+        Step::Undo { site, change }
+    }
+
+    /// A step that names a path or an alias.
+    fn step_at_names(&mut self, site: usize, number: usize) -> Step {
+        let path = self.below(4);
+        let target = self.below(4);
+        let name = self.below(2);
+        match self.below(6) {
+            0 => Step::Remove { site, path },
+            1 | 2 => Step::Rename {
                 site,
-                change: number,
+                source: path,
+                target,
             },
+            3 => Step::RemoveAlias { site, name },
+            _ => Step::MoveAlias { site, name, number },
         }
     }
 }
 
+/// So many ways there are to answer, but for those that no history here meets.
+const WAYS: usize = 14;
+
+/// The place of an answer among the ways.
+fn way(answer: Answer) -> Option<usize> {
+    match answer {
+        Answer::Number(_) => Some(0),
+        Answer::HistoryFull => Some(1),
+        Answer::NoSuchDraft => Some(2),
+        Answer::NotComplete(_) => Some(3),
+        Answer::NoSuchDeploy => Some(4),
+        Answer::NoSuchFile => Some(5),
+        Answer::PathTaken => Some(6),
+        Answer::SamePath => Some(7),
+        Answer::NoSuchAlias => Some(8),
+        Answer::DeployInUse(_) => Some(9),
+        Answer::NoSuchChange => Some(10),
+        Answer::NotAChange => Some(11),
+        Answer::AlreadyUndone => Some(12),
+        Answer::Clash { .. } => Some(13),
+        Answer::TooManyFiles | Answer::OutOfMemory => None,
+    }
+}
+
 /// How often a history answered in each way.
-#[derive(Debug, Default, Drop)]
+#[derive(Debug, Drop)]
 struct Tally {
-    accepted: u32,
-    full: u32,
-    no_such_draft: u32,
-    not_complete: u32,
-    no_such_change: u32,
-    not_a_change: u32,
-    already_undone: u32,
-    not_newest: u32,
+    counts: [u32; 14],
 }
 
 impl Tally {
     fn count(&mut self, answer: Answer) {
-        let counted = match answer {
-            Answer::Number(_) => &mut self.accepted,
-            Answer::HistoryFull => &mut self.full,
-            Answer::NoSuchDraft => &mut self.no_such_draft,
-            Answer::NotComplete(_) => &mut self.not_complete,
-            Answer::NoSuchChange => &mut self.no_such_change,
-            Answer::NotAChange => &mut self.not_a_change,
-            Answer::AlreadyUndone => &mut self.already_undone,
-            Answer::NotNewest => &mut self.not_newest,
-            Answer::TooManyFiles | Answer::OutOfMemory => return,
-        };
-        *counted = counted.wrapping_add(1);
+        if let Some(place) = way(answer) {
+            let count = &mut self.counts[place % WAYS];
+            *count = count.wrapping_add(1);
+        }
     }
 
     /// The least of the counts.
     fn least(&self) -> u32 {
-        self.accepted
-            .min(self.full)
-            .min(self.no_such_draft)
-            .min(self.not_complete)
-            .min(self.no_such_change)
-            .min(self.not_a_change)
-            .min(self.already_undone)
-            .min(self.not_newest)
+        let mut least = u32::MAX;
+        for count in self.counts {
+            least = least.min(count);
+        }
+        least
     }
 }
 
@@ -162,7 +217,7 @@ fn compare(
         entries: Vec::new(alloc),
         uploaded: 1,
     };
-    for turn in 0..20 {
+    for turn in 0..24 {
         if turn == 8 {
             compared.upload_second(alloc)?;
         }
@@ -177,8 +232,8 @@ fn agrees_with_a_plain_model(rt: HostRuntime) -> Result<(), Fail> {
     let alloc = rt.alloc();
     let names = Names::new(alloc)?;
     let mut generator = Generator { state: 1 };
-    let mut tally = Tally::default();
-    for _ in 0..300 {
+    let mut tally = Tally { counts: [0; 14] };
+    for _ in 0..1000 {
         compare(&rt, alloc, &names, &mut generator, &mut tally)?;
     }
     assert!(rt;

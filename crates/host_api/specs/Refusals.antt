@@ -1,19 +1,23 @@
 -- The names and the status codes of refusals.
 use Rattle.std.specs.Prelude.{ℕ, List, codes}
 use Rattle.host_api.specs.declared.refusals.Refusal.{Refusal}
-use Rattle.host_api.specs.declared.refusals.Refusal.TheVariants.{NoSuchDraft, NotComplete, NoSuchDeploy, NoSuchFile, TooManyFiles, HistoryFull, NoSuchChange, NotAChange, AlreadyUndone, NotNewest, BadName, BadPath, BadDigest, BadBody, NotListed, WrongDigest, OutOfMemory, NoRoute, BadMethod, BadHead, NotSatisfiable}
+use Rattle.host_api.specs.declared.refusals.Refusal.TheVariants.{NoSuchDraft, NotComplete, NoSuchDeploy, NoSuchFile, PathTaken, SamePath, NoSuchAlias, DeployInUse, TooManyFiles, HistoryFull, NoSuchChange, NotAChange, AlreadyUndone, Clash, BadName, BadPath, BadDigest, BadBody, NotListed, WrongDigest, OutOfMemory, NoRoute, BadMethod, BadHead, NotSatisfiable}
 
 abbrev pub name_of : Refusal → List ℕ
 name_of NoSuchDraft = codes "NoSuchDraft"
 name_of (NotComplete digest) = codes "NotComplete"
 name_of NoSuchDeploy = codes "NoSuchDeploy"
 name_of NoSuchFile = codes "NoSuchFile"
+name_of PathTaken = codes "PathTaken"
+name_of SamePath = codes "SamePath"
+name_of NoSuchAlias = codes "NoSuchAlias"
+name_of (DeployInUse name) = codes "DeployInUse"
 name_of TooManyFiles = codes "TooManyFiles"
 name_of HistoryFull = codes "HistoryFull"
 name_of NoSuchChange = codes "NoSuchChange"
 name_of NotAChange = codes "NotAChange"
 name_of AlreadyUndone = codes "AlreadyUndone"
-name_of NotNewest = codes "NotNewest"
+name_of (Clash change cell) = codes "Clash"
 name_of BadName = codes "BadName"
 name_of BadPath = codes "BadPath"
 name_of BadDigest = codes "BadDigest"
@@ -32,12 +36,16 @@ status_of NoSuchDraft = 404
 status_of (NotComplete digest) = 409
 status_of NoSuchDeploy = 404
 status_of NoSuchFile = 404
+status_of PathTaken = 409
+status_of SamePath = 409
+status_of NoSuchAlias = 404
+status_of (DeployInUse name) = 409
 status_of TooManyFiles = 413
 status_of HistoryFull = 507
 status_of NoSuchChange = 404
 status_of NotAChange = 409
 status_of AlreadyUndone = 409
-status_of NotNewest = 409
+status_of (Clash change cell) = 409
 status_of BadName = 400
 status_of BadPath = 400
 status_of BadDigest = 400

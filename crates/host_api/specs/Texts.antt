@@ -3,10 +3,13 @@ use Rattle.std.specs.Prelude.{ℕ, List, ◌++◌, map, Option, Some, None, code
 use Rattle.std.specs.List.{join_with_byte}
 use Rattle.std.specs.Str.{byte}
 use Rattle.hex.specs.Hex.{encode_lower}
+use Rattle.host_names.specs.Cells.{cell_text}
 use Rattle.host_names.specs.declared.digests.Digest.{Digest}
+use Rattle.serde_json.specs.Data.{string}
+use Rattle.serde_json.specs.Written.{compact_text}
 use Rattle.host_api.specs.Refusals.{name_of}
 use Rattle.host_api.specs.declared.refusals.Refusal.{Refusal}
-use Rattle.host_api.specs.declared.refusals.Refusal.TheVariants.{NotComplete}
+use Rattle.host_api.specs.declared.refusals.Refusal.TheVariants.{NotComplete, DeployInUse, Clash}
 use Rattle.host_api.specs.declared.texts.Told.{Told}
 use Rattle.host_api.specs.declared.texts.Told.TheVariants.{Opened, Uploaded, Entered, Refused}
 
@@ -24,6 +27,8 @@ digest_list digests = join_with_byte (byte ",") (map (λ d. quoted (encode_lower
 -- what stands before the name of a refusal
 abbrev pub detail_of : Refusal → List ℕ
 detail_of (NotComplete digest) = codes "\"digest\":" ++ quoted (encode_lower digest.0) ++ codes ","
+detail_of (DeployInUse name) = codes "\"alias\":" ++ quoted name.0 ++ codes ","
+detail_of (Clash change cell) = codes "\"cell\":" ++ compact_text (string (cell_text cell)) ++ codes ",\"change\":" ++ decimal change ++ codes ","
 detail_of refusal = codes ""
 
 abbrev pub opened_text : ℕ → Option ℕ → List Digest → List ℕ

@@ -1,11 +1,11 @@
 //! Why a request is refused.
 use crate::routes::Kind;
-use host_names::Digest;
+use host_names::{AliasName, Cell, Digest};
 use http::StatusCode;
 use std::alloc::AllocError;
 
 /// Why a request is refused. A reply names the reason.
-#[derive(Clone, Copy, Debug, PartialEq, Eq)]
+#[derive(Debug, Drop, PartialEq, Eq)]
 pub enum Refusal {
     /// There is no open deploy of that number.
     NoSuchDraft,
@@ -15,6 +15,14 @@ pub enum Refusal {
     NoSuchDeploy,
     /// There is no file at that path.
     NoSuchFile,
+    /// A file is served at the new path.
+    PathTaken,
+    /// The two paths are one.
+    SamePath,
+    /// There is no such alias.
+    NoSuchAlias,
+    /// An alias stands for the deploy; of several the least is named.
+    DeployInUse(AliasName),
     /// The deploy lists more than 10,000 paths.
     TooManyFiles,
     /// The history has as many entries as it may have.
@@ -25,8 +33,9 @@ pub enum Refusal {
     NotAChange,
     /// The change was undone before.
     AlreadyUndone,
-    /// A later change stands that was not undone.
-    NotNewest,
+    /// A later change that was not undone reads or writes what the change changed: the first such change, and its first
+    /// such cell.
+    Clash { change: u64, cell: Cell },
     /// The text is no name of a site.
     BadName,
     /// The text is no path.
@@ -64,12 +73,16 @@ impl Refusal {
             Refusal::NotComplete(_) => "NotComplete",
             Refusal::NoSuchDeploy => "NoSuchDeploy",
             Refusal::NoSuchFile => "NoSuchFile",
+            Refusal::PathTaken => "PathTaken",
+            Refusal::SamePath => "SamePath",
+            Refusal::NoSuchAlias => "NoSuchAlias",
+            Refusal::DeployInUse(_) => "DeployInUse",
             Refusal::TooManyFiles => "TooManyFiles",
             Refusal::HistoryFull => "HistoryFull",
             Refusal::NoSuchChange => "NoSuchChange",
             Refusal::NotAChange => "NotAChange",
             Refusal::AlreadyUndone => "AlreadyUndone",
-            Refusal::NotNewest => "NotNewest",
+            Refusal::Clash { .. } => "Clash",
             Refusal::BadName => "BadName",
             Refusal::BadPath => "BadPath",
             Refusal::BadDigest => "BadDigest",
@@ -97,14 +110,18 @@ impl Refusal {
             Refusal::NoSuchDraft
             | Refusal::NoSuchDeploy
             | Refusal::NoSuchFile
+            | Refusal::NoSuchAlias
             | Refusal::NoSuchChange
             | Refusal::NotListed
             | Refusal::NoRoute => StatusCode::NOT_FOUND,
             Refusal::BadMethod(_) => StatusCode::METHOD_NOT_ALLOWED,
             Refusal::NotComplete(_)
+            | Refusal::PathTaken
+            | Refusal::SamePath
+            | Refusal::DeployInUse(_)
             | Refusal::NotAChange
             | Refusal::AlreadyUndone
-            | Refusal::NotNewest => StatusCode::CONFLICT,
+            | Refusal::Clash { .. } => StatusCode::CONFLICT,
             Refusal::TooManyFiles => StatusCode::PAYLOAD_TOO_LARGE,
             Refusal::NotSatisfiable(_) => StatusCode::RANGE_NOT_SATISFIABLE,
             Refusal::WrongDigest => StatusCode::UNPROCESSABLE_ENTITY,

@@ -241,11 +241,13 @@ fn path_length(
         target.push('a')?;
     }
     target.push_str(end)?;
-    Ok(match route_of(alloc, method, target.as_str()) {
-        Ok(Route::Read { path, .. }) => Some(path.as_str().len()),
-        Ok(Route::Upload { path, .. }) => Some(path.as_str().len()),
-        _ => None,
-    })
+    let Ok(route) = route_of(alloc, method, target.as_str()) else {
+        return Ok(None);
+    };
+    match &route {
+        Route::Read { path, .. } | Route::Upload { path, .. } => Ok(Some(path.as_str().len())),
+        _ => Ok(None),
+    }
 }
 
 #[test]

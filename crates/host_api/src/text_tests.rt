@@ -1,6 +1,6 @@
 //! The texts of replies, the names and codes of refusals, and the types of files, against values written by hand.
 use super::*;
-use host_names::{Digest, FilePath};
+use host_names::{AliasName, Cell, Digest, FilePath, SiteName};
 use std::alloc::Global;
 use std::process::Abort;
 use std::test::Fail;
@@ -72,16 +72,18 @@ fn tells_of_an_upload_and_an_entry(rt: HostRuntime) -> Result<(), Fail> {
 }
 
 /// Each refusal without a detail of its own, with its name and its code.
-const REFUSALS: [(Refusal, &str, u16); 20] = [
+const REFUSALS: [(Refusal, &str, u16); 22] = [
     (Refusal::NoSuchDraft, "NoSuchDraft", 404),
     (Refusal::NoSuchDeploy, "NoSuchDeploy", 404),
     (Refusal::NoSuchFile, "NoSuchFile", 404),
+    (Refusal::PathTaken, "PathTaken", 409),
+    (Refusal::SamePath, "SamePath", 409),
+    (Refusal::NoSuchAlias, "NoSuchAlias", 404),
     (Refusal::TooManyFiles, "TooManyFiles", 413),
     (Refusal::HistoryFull, "HistoryFull", 507),
     (Refusal::NoSuchChange, "NoSuchChange", 404),
     (Refusal::NotAChange, "NotAChange", 409),
     (Refusal::AlreadyUndone, "AlreadyUndone", 409),
-    (Refusal::NotNewest, "NotNewest", 409),
     (Refusal::BadName, "BadName", 400),
     (Refusal::BadPath, "BadPath", 400),
     (Refusal::BadDigest, "BadDigest", 400),
@@ -123,6 +125,55 @@ fn names_refusals(rt: HostRuntime) -> Result<(), Fail> {
     assert_eq!(rt;
         text(alloc, &Told::Refused(lacking))?.as_str(),
         r#"{"digest":"a9993e364706816aba3e25717850c26c9cd0d89d","error":"NotComplete"}"#
+    );
+    Ok(())
+}
+
+#[test]
+fn names_the_alias_that_stands_for_a_deploy(rt: HostRuntime) -> Result<(), Fail> {
+    let alloc = rt.alloc();
+    let used = Refusal::DeployInUse(AliasName::new("next")?);
+    assert_eq!(rt; used.name(), "DeployInUse");
+    assert_eq!(rt; used.status().as_u16(), 409);
+    assert_eq!(rt;
+        text(alloc, &Told::Refused(used))?.as_str(),
+        r#"{"alias":"next","error":"DeployInUse"}"#
+    );
+    Ok(())
+}
+
+/// A clash with change 4, at a path of a site.
+fn clash_at(alloc: Global, path: &str) -> Result<Refusal, Fail> {
+    let path = FilePath::read(alloc, path)?;
+    let cell = Cell::Live(SiteName::new("one")?, path);
+    Ok(Refusal::Clash { change: 4, cell })
+}
+
+#[test]
+fn names_the_change_and_the_cell_of_a_clash(rt: HostRuntime) -> Result<(), Fail> {
+    let alloc = rt.alloc();
+    let clash = clash_at(alloc, "/b.txt")?;
+    assert_eq!(rt; clash.name(), "Clash");
+    assert_eq!(rt; clash.status().as_u16(), 409);
+    for (path, want) in [
+        (
+            "/b.txt",
+            r#"{"cell":"live /b.txt","change":4,"error":"Clash"}"#,
+        ),
+        (
+            "/a\"b\n\u{1}",
+            r#"{"cell":"live /a\"b\n\u0001","change":4,"error":"Clash"}"#,
+        ),
+        ("/é", r#"{"cell":"live /é","change":4,"error":"Clash"}"#),
+    ] {
+        let told = text(alloc, &Told::Refused(clash_at(alloc, path)?))?;
+        assert_eq!(rt; told.as_str(), want);
+    }
+    let cell = Cell::Draft(SiteName::new("one")?, 1);
+    let told = text(alloc, &Told::Refused(Refusal::Clash { change: 2, cell }))?;
+    assert_eq!(rt;
+        told.as_str(),
+        r#"{"cell":"draft 1","change":2,"error":"Clash"}"#
     );
     Ok(())
 }

@@ -3,10 +3,14 @@ ghost use Rattle.std.specs.Prelude.{◌≡◌, ◌++◌, IfOk, OnOk, codes};
 ghost use Rattle.std.specs.List.{flat_map};
 ghost use Rattle.hex.specs.Hex.{encode_lower};
 ghost use Rattle.std.specs.String.{string_bytes};
+ghost use Rattle.host_names.specs.Cells.{cell_text};
+ghost use Rattle.serde_json.specs.Data.{string};
+ghost use Rattle.serde_json.specs.Written.{compact_text};
 ghost use Rattle.host_api.specs.Texts.{quoted, number_or_null, digest_list, detail_of, opened_text, uploaded_text, refused_text, told_text};
 
 use crate::refusals::Refusal;
-use host_names::Digest;
+use host_names::{Cell, Digest};
+use serde_json::Value;
 use std::alloc::{AllocError, Global};
 use std::marker::Model;
 
@@ -111,16 +115,31 @@ fn push_digests(text: &mut String, digests: &[Digest]) -> Result<(), AllocError>
     push_others(text, others)
 }
 
+/// The text of a cell as a JSON string. A path may hold what has to be escaped.
+fn cell_string(alloc: Global, cell: &Cell) -> Result<String, AllocError>
+    ensures { IfOk result (λ text. string_bytes text ≡ compact_text (string (cell_text cell.now))) }
+{
+    let text = format!(in alloc; "{cell}")?;
+    Value::String(text).to_string(alloc)
+}
+
 /// Appends what stands before the name of a refusal.
-fn push_detail(text: &mut String, refusal: &Refusal) -> Result<(), AllocError>
+fn push_detail(alloc: Global, text: &mut String, refusal: &Refusal) -> Result<(), AllocError>
     ensures { OnOk result (string_bytes text.new ≡ string_bytes text.old ++ detail_of refusal.now) }
 {
-    if let Refusal::NotComplete(digest) = refusal {
-        text.push_str("\"digest\":")?;
-        push_digest(text, digest)?;
-        text.push_str(",")?;
+    match refusal {
+        Refusal::NotComplete(digest) => {
+            text.push_str("\"digest\":")?;
+            push_digest(text, digest)?;
+            text.push_str(",")
+        }
+        Refusal::DeployInUse(name) => write!(text, "\"alias\":\"{name}\","),
+        Refusal::Clash { change, cell } => {
+            let cell = cell_string(alloc, cell)?;
+            write!(text, "\"cell\":{cell},\"change\":{change},")
+        }
+        _ => Ok(()),
     }
-    Ok(())
 }
 
 /// The text of an opened deploy.
@@ -163,7 +182,7 @@ fn refused(alloc: Global, refusal: &Refusal) -> Result<String, AllocError>
 {
     let mut text = String::with_capacity(alloc, ROOM)?;
     text.push_str("{")?;
-    push_detail(&mut text, refusal)?;
+    push_detail(alloc, &mut text, refusal)?;
     let name = refusal.name();
     write!(text, "\"error\":\"{name}\"}}")?;
     Ok(text)

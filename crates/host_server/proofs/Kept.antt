@@ -1,24 +1,20 @@
 -- A host stays as it is kept: through commits, undos and uploads.
-use Rattle.std.proofs.Common.{◌≡◌, ◌↔◌, ℕ, ◌+◌, ◌<◌, ◌≤◌, Bool, true, false, cond, List, [], ◌∷◌, ◌++◌, length, nat_le, Option, Some, None, option_map, Result, Ok, Err, OnOk, OnErr, refl, sym, ap, subst, ◌∙◌, arith}
+use Rattle.std.proofs.Common.{◌≡◌, ◌↔◌, ℕ, ◌+◌, ◌<◌, ◌≤◌, List, [], ◌∷◌, ◌++◌, length, Some, None, Result, Ok, Err, OnOk, OnErr, refl, sym, ap, subst, ◌∙◌}
 use Rattle.host_names.specs.Blobs.{Contents, with_file}
 use Rattle.host_names.specs.declared.names.SiteName.{SiteName}
-use Rattle.site_state.specs.States.{State}
 use Rattle.site_change.specs.Changes.{IsWithin, applied, refusal}
 use Rattle.site_change.specs.declared.commands.Command.{Command}
 use Rattle.site_change.specs.declared.commands.Refusal.{Refusal as ChangeRefusal}
 use Rattle.site_change.proofs.Growing.{keeps_running}
 use Rattle.change_undo.specs.declared.entries.CommitError.{CommitError}
 use Rattle.change_undo.specs.declared.entries.CommitError.TheVariants as commit
-use Rattle.change_undo.specs.declared.entries.Entry.{Entry}
 use Rattle.change_undo.specs.declared.entries.Entry.TheVariants.{Change, Undo}
 use Rattle.change_undo.specs.declared.entries.UndoError.{UndoError}
-use Rattle.change_undo.specs.declared.entries.UndoError.TheVariants as undo
-use Rattle.change_undo.specs.declared.entries.UndoRefusal.{UndoRefusal}
 use Rattle.change_undo.specs.Histories.{Past, run, IsLegal, undo_refusal, live_changes}
 use Rattle.change_undo.proofs.Found.{IsWithin-trans, kept-with_file}
 use Rattle.change_undo.proofs.Runs.{run-change, run-undo, history-grows, within_limit}
 use Rattle.host_server.specs.Hosts.{IsKept}
-use Rattle.host_server.proofs.Refusing.{commit_accepted, undo_accepted}
+use Rattle.host_server.proofs.Refusing.{commit_accepted}
 
 after_change : (old new : Past) (uploads : Contents) (command : Command) → IsKept old uploads
     → refusal command (length old.entries + 1) old.state uploads ≡ None
@@ -50,18 +46,19 @@ kept_by_commit (Ok n) old new uploads command kept full refused is effect err wi
 kept_by_commit (Err e) old new uploads command kept full refused is effect err within = unchanged old new uploads kept err.0 err.1 within
 
 pub kept_by_undo : (r : Result ℕ UndoError) (old new : Past) (uploads : Contents) (site : SiteName) (k : ℕ) → IsKept old uploads
-    → ((reason : UndoRefusal) → (r ≡ Err (undo.Refused reason)) ↔ (undo_refusal old.limit old.entries site k ≡ Some reason))
+    → undo_refusal uploads old.limit old.entries site k ≡ undo_refusal old.found old.limit old.entries site k
+    → OnOk r (undo_refusal old.found old.limit old.entries site k ≡ None)
     → OnOk r (new.entries ≡ old.entries ++ Undo site k ∷ []) → OnOk r (run old.found new.entries ≡ Some new.state)
     → OnErr r (new ≡ old) → new.found ≡ old.found → IsKept new uploads
-kept_by_undo (Ok n) old new uploads site k kept refused is ran err same =
-    let ok = within_limit old.limit old.entries site k (undo_accepted n (Ok n) _ refl refused) in
+kept_by_undo (Ok n) old new uploads site k kept outlasts accepted is ran err same =
+    let ok = within_limit uploads old.limit old.entries site k (outlasts ∙ accepted) in
     let more = run-undo uploads old.entries site k old.state kept.legal kept.ran ok in
     record {
       within = subst (λ found. IsWithin found uploads) (sym same) kept.within;
       legal = subst (IsLegal uploads) (sym is) more.2;
       ran = keeps_running old.found uploads _ (live_changes new.entries) kept.within new.state ran;
     }
-kept_by_undo (Err e) old new uploads site k kept refused is ran err same = subst (λ past. IsKept past uploads) (sym err) kept
+kept_by_undo (Err e) old new uploads site k kept outlasts accepted is ran err same = subst (λ past. IsKept past uploads) (sym err) kept
 
 kept_by_more : (past : Past) (uploads more : Contents) → IsKept past uploads → IsWithin uploads more → IsKept past more
 kept_by_more past uploads more kept grown =

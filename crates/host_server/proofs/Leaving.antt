@@ -42,6 +42,13 @@ same_host : (host : Host) (change : Command) (required : List Digest) (refusal :
 same_host host change required (Some reason) = refl
 same_host host (command.Open site files auto) required None = refl
 same_host host (command.Publish site m) required None = refl
+same_host host (command.Cancel site m) required None = refl
+same_host host (command.Remove site path) required None = refl
+same_host host (command.Rename site source target) required None = refl
+same_host host (command.MoveAlias site name m) required None = refl
+same_host host (command.RemoveAlias site name) required None = refl
+same_host host (command.Restore site m) required None = refl
+same_host host (command.RemoveDeploy site m) required None = refl
 
 ask_leaves_all : (close : Bool) (host next : Host) (parts : RequestParts) (body : List ℕ) (answer : Answer) (asking : Result Ask Refusal)
     → IsReplyToAsk close host parts body asking answer next → AskMayLeave host body asking next

@@ -2,6 +2,7 @@ pub mod Leaving
 pub mod Kept
 pub mod Refusing
 pub mod Opening
+pub mod Entering
 pub mod Growing
 pub mod Turns
 pub mod Served

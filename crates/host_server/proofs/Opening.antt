@@ -1,5 +1,5 @@
 -- A deploy that was opened, and published if it was ready.
-use Rattle.std.proofs.Common.{◌≡◌, ◌⊎◌, inl, inr, ℕ, List, Option, Some, None, Result, Ok, Err, IsErrAnd, refl, sym, ap, subst, ◌∙◌}
+use Rattle.std.proofs.Common.{◌≡◌, inl, inr, ℕ, List, Option, None, Result, Ok, Err, refl, sym, ap, subst, ◌∙◌}
 use Rattle.host_names.specs.Blobs.{Contents}
 use Rattle.host_names.specs.declared.digests.Digest.{Digest}
 use Rattle.host_names.specs.declared.names.SiteName.{SiteName}
@@ -8,11 +8,10 @@ use Rattle.site_state.specs.Missing.{AreMissing}
 use Rattle.site_change.specs.declared.commands.Command.TheVariants.{Open}
 use Rattle.change_undo.specs.declared.entries.Entry.TheVariants.{Change}
 use Rattle.host_api.specs.declared.refusals.Refusal.{Refusal}
-use Rattle.host_api.specs.declared.refusals.Refusal.TheVariants.{OutOfMemory}
 use Rattle.host_api.specs.declared.texts.Told.{Told}
 use Rattle.host_api.specs.declared.texts.Told.TheVariants.{Opened}
 use Rattle.host_server.specs.Hosts.{Host, next_number, with_entry}
-use Rattle.host_server.specs.Outcomes.{Outcome, Publishes, Publishing, DoesCommit, published_if_ready, then_published, told_of, told_by, commit_outcome}
+use Rattle.host_server.specs.Outcomes.{Outcome, Publishes, DoesCommit, published_if_ready, then_published, told_of, told_by, commit_outcome}
 use Rattle.host_server.specs.Reasons.{commit_refusal}
 
 -- what the call answers when the publishing answered so

@@ -1,5 +1,5 @@
 -- The reasons of the layers below, and those that a host answers.
-use Rattle.std.proofs.Common.{◌≡◌, ◌↔◌, ◌⊎◌, inl, inr, ℕ, ◌+◌, ◌<◌, ◌≤◌, Bool, true, false, cond, length, nat_le, Option, Some, None, option_map, unwrap_or, Result, Ok, Err, OnOk, IfErr, MatchResult, IsErrAnd, refl, sym, ap, subst, ◌∙◌, arith, leb-true, le-leb}
+use Rattle.std.proofs.Common.{◌≡◌, ◌↔◌, inl, inr, ℕ, ◌+◌, ◌<◌, ◌≤◌, true, false, cond, length, nat_le, Option, Some, None, option_map, unwrap_or, Result, Ok, Err, OnOk, IfErr, MatchResult, IsErrAnd, refl, sym, ap, subst, ◌∙◌, arith, leb-true, le-leb}
 use Rattle.host_names.specs.Blobs.{Contents}
 use Rattle.site_change.specs.Changes.{refusal}
 use Rattle.site_change.specs.declared.commands.Command.{Command}
@@ -9,12 +9,14 @@ use Rattle.change_undo.specs.declared.entries.CommitError.TheVariants as commit
 use Rattle.change_undo.specs.declared.entries.UndoError.{UndoError}
 use Rattle.change_undo.specs.declared.entries.UndoError.TheVariants as undo
 use Rattle.change_undo.specs.declared.entries.UndoRefusal.{UndoRefusal}
+use Rattle.change_undo.specs.declared.entries.UndoRefusal.TheVariants as undo_reason
+use Rattle.change_undo.specs.Histories as histories
 use Rattle.change_undo.specs.Histories.{Past}
 use Rattle.host_api.specs.declared.refusals.Refusal.{Refusal}
 use Rattle.host_api.specs.declared.refusals.Refusal.TheVariants as reason
 use Rattle.std.specs.FinMap as map
 use Rattle.host_server.specs.Hosts.{IsKept, host_of}
-use Rattle.host_server.specs.Reasons.{IsReason, commit_refusal, of_change, of_undo, reason_of_commit, reason_of_undo}
+use Rattle.host_server.specs.Reasons.{IsReason, IsUndoReason, may_take_memory, commit_refusal, of_change, of_undo, reason_of_commit, reason_of_undo}
 
 not_le : (limit len : ℕ) → (limit ≤ len → ⊥) → nat_le limit len ≡ false
 not_le limit len h =
@@ -60,25 +62,19 @@ commit_told commit.OutOfMemory r limit len refusal is full refused =
     ] refl in
     inr (rw (not_le limit len full_is, none) refl, refl)
 
-pub undo_accepted : (n : ℕ) (r : Result ℕ UndoError) (refusal : Option UndoRefusal) → r ≡ Ok n
-    → ((x : UndoRefusal) → (r ≡ Err (undo.Refused x)) ↔ (refusal ≡ Some x)) → refusal ≡ None
-undo_accepted n r refusal is refused =
-    elim refusal as (λ o. refusal ≡ o → o ≡ None) [
-      | None ↦ λ e. refl
-      | Some x ↦ λ e. cc (sym is ∙ (refused x).1 e)
-    ] refl
+takes_memory : (first : Option UndoRefusal) → histories.may_take_memory first ≡ true → may_take_memory (option_map of_undo first) ≡ true
+takes_memory None h = refl
+takes_memory (Some undo_reason.HistoryFull) h = cc h
+takes_memory (Some undo_reason.NoSuchChange) h = cc h
+takes_memory (Some undo_reason.NotAChange) h = cc h
+takes_memory (Some undo_reason.AlreadyUndone) h = cc h
+takes_memory (Some (undo_reason.Clash change cell)) h = refl
 
-pub undo_told : (e : UndoError) (r : Result ℕ UndoError) (refusal : Option UndoRefusal) → r ≡ Err e
-    → ((x : UndoRefusal) → (r ≡ Err (undo.Refused x)) ↔ (refusal ≡ Some x))
-    → IsReason (option_map of_undo refusal) (reason_of_undo e)
-undo_told (undo.Refused x) r refusal is refused = inl (ap (option_map of_undo) ((refused x).0 is))
-undo_told undo.OutOfMemory r refusal is refused =
-    let none : refusal ≡ None =
-    elim refusal as (λ o. refusal ≡ o → o ≡ None) [
-      | None ↦ λ e. refl
-      | Some x ↦ λ e. cc (sym is ∙ (refused x).1 e)
-    ] refl in
-    inr (ap (option_map of_undo) none, refl)
+pub undo_told : (e : UndoError) (r : Result ℕ UndoError) (first : Option UndoRefusal) → r ≡ Err e
+    → ((x : UndoRefusal) → r ≡ Err (undo.Refused x) → first ≡ Some x) → (r ≡ Err undo.OutOfMemory → histories.may_take_memory first ≡ true)
+    → IsUndoReason (option_map of_undo first) (reason_of_undo e)
+undo_told (undo.Refused x) r first is refused memory = inl (ap (option_map of_undo) (refused x is))
+undo_told undo.OutOfMemory r first is refused memory = inr (takes_memory first (memory is), refl)
 
 -- ---- the answers of the history, as the host gives them
 
@@ -130,16 +126,21 @@ commit_answers r s past uploads command kept mapped full refused =
     (subst (IsAnswered (told_commit r)) (refusal_is past uploads command kept)
     (commit_answer r past.limit (length past.entries) (refusal command (length past.entries + 1) past.state uploads) full refused))
 
-undo_answer : (r : Result ℕ UndoError) (refusal : Option UndoRefusal)
-    → ((x : UndoRefusal) → (r ≡ Err (undo.Refused x)) ↔ (refusal ≡ Some x))
-    → IsAnswered (told_undo r) (option_map of_undo refusal)
-undo_answer (Ok n) refusal refused = (rw (undo_accepted n (Ok n) refusal refl refused) refl, tt)
-undo_answer (Err e) refusal refused = (tt, undo_told e (Err e) refusal refl refused)
+abbrev pub IsUndoAnswered : Result ℕ Refusal → Option Refusal → Type 0
+IsUndoAnswered s asked = OnOk s (asked ≡ None) × IfErr s (IsUndoReason asked)
 
-pub undo_answers : (r : Result ℕ UndoError) (s : Result ℕ Refusal) (refusal : Option UndoRefusal)
-    → MatchResult r (λ x. s ≡ Ok x) (λ e. IsErrAnd s (λ d. d ≡ reason_of_undo e))
-    → ((x : UndoRefusal) → (r ≡ Err (undo.Refused x)) ↔ (refusal ≡ Some x))
-    → IsAnswered s (option_map of_undo refusal)
-undo_answers r s refusal mapped refused =
-    let P : Result ℕ Refusal → Type 0 = λ s. IsAnswered s (option_map of_undo refusal) in
-    subst P (sym (mapped_undo r s mapped)) (undo_answer r refusal refused)
+undo_answer : (r : Result ℕ UndoError) (first : Option UndoRefusal) → OnOk r (first ≡ None)
+    → ((x : UndoRefusal) → r ≡ Err (undo.Refused x) → first ≡ Some x) → (r ≡ Err undo.OutOfMemory → histories.may_take_memory first ≡ true)
+    → IsUndoAnswered (told_undo r) (option_map of_undo first)
+undo_answer (Ok n) first accepted refused memory = (ap (option_map of_undo) accepted, tt)
+undo_answer (Err e) first accepted refused memory = (tt, undo_told e (Err e) first refl refused memory)
+
+-- the same over uploads that give the same first reason
+pub undo_answers : (r : Result ℕ UndoError) (s : Result ℕ Refusal) (found first : Option UndoRefusal) → first ≡ found
+    → MatchResult r (λ x. s ≡ Ok x) (λ e. IsErrAnd s (λ d. d ≡ reason_of_undo e)) → OnOk r (found ≡ None)
+    → ((x : UndoRefusal) → r ≡ Err (undo.Refused x) → found ≡ Some x) → (r ≡ Err undo.OutOfMemory → histories.may_take_memory found ≡ true)
+    → IsUndoAnswered s (option_map of_undo first)
+undo_answers r s found first same mapped accepted refused memory =
+    let P : Result ℕ Refusal → Type 0 = λ s. IsUndoAnswered s (option_map of_undo first) in
+    let Q : Option UndoRefusal → Type 0 = λ o. IsUndoAnswered (told_undo r) (option_map of_undo o) in
+    subst P (sym (mapped_undo r s mapped)) (subst Q (sym same) (undo_answer r found accepted refused memory))

@@ -8,11 +8,10 @@ use Rattle.site_change.specs.Changes.{IsWithin}
 use Rattle.change_undo.specs.declared.entries.Entry.{Entry}
 use Rattle.host_api.specs.declared.refusals.Refusal.{Refusal}
 use Rattle.host_api.specs.declared.refusals.Refusal.TheVariants.{OutOfMemory}
-use Rattle.host_api.specs.declared.texts.Told.{Told}
 use Rattle.host_server.specs.declared.replies.Reply.{Reply}
 use Rattle.host_server.specs.Bodies.{answer_of}
 use Rattle.host_server.specs.Hosts.{Host, state_of}
-use Rattle.host_server.specs.Replies.{Answer, refused_answer, told_answer, read_answer, AsksRange, IsReply, MayLeave}
+use Rattle.host_server.specs.Replies.{Answer, refused_answer, read_answer, AsksRange, IsReply, MayLeave}
 
 -- the answer where a call gives this reply, or this reason to refuse
 abbrev pub answer_by : Bool → Result Reply Refusal → Answer

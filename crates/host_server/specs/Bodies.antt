@@ -2,7 +2,6 @@
 use Rattle.std.specs.Prelude.{ℕ, List, Some, option_map, is_some, length}
 use Rattle.std.specs.String.{string_bytes}
 use Rattle.hex.specs.Hex.{encode_lower}
-use Rattle.host_api.specs.declared.refusals.Refusal.{Refusal}
 use Rattle.host_server.specs.declared.replies.Body.{Body}
 use Rattle.host_server.specs.declared.replies.Body.TheVariants as body
 use Rattle.host_server.specs.declared.replies.Reply.{Reply}

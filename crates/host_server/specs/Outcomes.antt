@@ -1,5 +1,5 @@
 -- What a host tells of a change, an undo or an upload, and what it has then.
-use Rattle.std.specs.Prelude.{◌≡◌, ◌⊎◌, ℕ, List, [], ◌∷◌, Bool, false, ◌&&◌, Option, Some, None, Result, Ok, Err, is_none, option_map, if◌then◌else◌}
+use Rattle.std.specs.Prelude.{◌≡◌, ◌⊎◌, ℕ, List, [], Bool, false, ◌&&◌, Option, Some, None, Result, Ok, Err, is_none, option_map, if◌then◌else◌}
 use Rattle.host_names.specs.Blobs.{Contents, digest_of}
 use Rattle.host_names.specs.declared.digests.Digest.{Digest}
 use Rattle.host_names.specs.declared.names.SiteName.{SiteName}
@@ -70,14 +70,21 @@ then_published p tell = record { told = told_of p.entry tell; host = p.host }
 -- what an opened deploy lists and is not uploaded; of other commands nothing is asked
 abbrev pub AreRequired : Contents → Command → List Digest → Type 0
 AreRequired uploads (Open site files auto) required = AreMissing uploads files required
-AreRequired uploads (Publish site m) required = required ≡ []
+AreRequired uploads command required = required ≡ []
+
+-- the command's entry, whose number is told
+abbrev pub entering : Host → Command → Outcome
+entering host command = record { told = Entered (next_number host); host = with_entry host (Change command) }
+
+abbrev pub enter_outcome : Host → Command → Option Refusal → Outcome
+enter_outcome host command (Some reason) = refused host reason
+enter_outcome host command None = entering host command
 
 abbrev pub committed : Host → Command → List Digest → Outcome
 committed host (Open site files auto) required =
     then_published (published_if_ready (with_entry host (Change (Open site files auto))) site (next_number host))
     (λ published. Opened (next_number host) published required)
-committed host (Publish site m) required =
-    record { told = Entered (next_number host); host = with_entry host (Change (Publish site m)) }
+committed host command required = entering host command
 
 abbrev pub commit_outcome : Host → Command → List Digest → Option Refusal → Outcome
 commit_outcome host command required (Some reason) = refused host reason
@@ -94,9 +101,7 @@ undone host site k None = record { told = Entered (next_number host); host = wit
 -- the site of a deploy is that of the entry which opened it
 abbrev pub site_of_deploy : Option Entry → Option SiteName
 site_of_deploy (Some (Change (Open site files auto))) = Some site
-site_of_deploy (Some (Change (Publish site m))) = None
-site_of_deploy (Some (Undo site k)) = None
-site_of_deploy None = None
+site_of_deploy entry = None
 
 -- the digest at the path, where the deploy is open or kept and lists the path
 abbrev pub listed_at : Option Draft → Option (Paths (List ℕ)) → List ℕ → Option (Option Digest)

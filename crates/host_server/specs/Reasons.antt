@@ -1,5 +1,5 @@
 -- The reasons of the layers below, as replies name them.
-use Rattle.std.specs.Prelude.{◌≡◌, ◌⊎◌, ℕ, length, nat_le, Option, Some, None, option_map, if◌then◌else◌}
+use Rattle.std.specs.Prelude.{◌≡◌, ◌⊎◌, ℕ, length, nat_le, Bool, true, false, Option, Some, None, option_map, if◌then◌else◌}
 use Rattle.host_names.specs.declared.names.SiteName.{SiteName}
 use Rattle.site_change.specs.declared.commands.Command.{Command}
 use Rattle.site_change.specs.declared.commands.Refusal.{Refusal as ChangeRefusal}
@@ -19,6 +19,12 @@ use Rattle.host_server.specs.Hosts.{Host, state_of, next_number}
 abbrev pub of_change : ChangeRefusal → Refusal
 of_change change.NoSuchDraft = reason.NoSuchDraft
 of_change (change.NotComplete digest) = reason.NotComplete digest
+of_change change.NoSuchDeploy = reason.NoSuchDeploy
+of_change change.NoSuchFile = reason.NoSuchFile
+of_change change.PathTaken = reason.PathTaken
+of_change change.SamePath = reason.SamePath
+of_change change.NoSuchAlias = reason.NoSuchAlias
+of_change (change.DeployInUse name) = reason.DeployInUse name
 of_change change.TooManyFiles = reason.TooManyFiles
 
 abbrev pub of_undo : UndoRefusal → Refusal
@@ -26,7 +32,7 @@ of_undo undo.HistoryFull = reason.HistoryFull
 of_undo undo.NoSuchChange = reason.NoSuchChange
 of_undo undo.NotAChange = reason.NotAChange
 of_undo undo.AlreadyUndone = reason.AlreadyUndone
-of_undo undo.NotNewest = reason.NotNewest
+of_undo (undo.Clash change cell) = reason.Clash change cell
 
 -- the first reason why the host does not take the command as its next entry
 abbrev pub commit_refusal : Host → Command → Option Refusal
@@ -36,7 +42,7 @@ commit_refusal host command =
 
 -- the first reason why it does not take the undo of the change
 abbrev pub undo_refusal : Host → SiteName → ℕ → Option Refusal
-undo_refusal host site k = option_map of_undo (histories.undo_refusal host.limit host.entries site k)
+undo_refusal host site k = option_map of_undo (histories.undo_refusal host.uploads host.limit host.entries site k)
 
 -- why it was not committed, or not undone
 abbrev pub reason_of_commit : CommitError → Refusal
@@ -51,3 +57,13 @@ reason_of_undo undo_error.OutOfMemory = reason.OutOfMemory
 -- the reason that a call answers: the first against it, or, where there is none, that there is no memory
 abbrev pub IsReason : Option Refusal → Refusal → Type 0
 IsReason first answered = (first ≡ Some answered) ⊎ ((first ≡ None) × (answered ≡ reason.OutOfMemory))
+
+-- what may find no memory: an undo that is not refused, and the cell of a clash
+abbrev pub may_take_memory : Option Refusal → Bool
+may_take_memory None = true
+may_take_memory (Some (reason.Clash change cell)) = true
+may_take_memory (Some other) = false
+
+-- the same of an undo, where there may be no memory to name the cell of a clash either
+abbrev pub IsUndoReason : Option Refusal → Refusal → Type 0
+IsUndoReason first answered = (first ≡ Some answered) ⊎ ((may_take_memory first ≡ true) × (answered ≡ reason.OutOfMemory))

@@ -1,13 +1,13 @@
 //! What a host tells of changes and undos.
-ghost use Rattle.std.specs.Prelude.{◌≡◌, ◌⊎◌, None, OnErr, Err, IsErrOf};
+ghost use Rattle.std.specs.Prelude.{◌≡◌, ◌⊎◌, true, OnErr, Err, IsErrOf};
 ghost use Rattle.site_change.specs.declared.commands.Command.TheVariants as command;
 ghost use Rattle.change_undo.specs.declared.entries.Entry.TheVariants as entry;
 ghost use Rattle.host_server.specs.Answers.{Grows};
 ghost use Rattle.host_server.specs.Hosts.{with_entry, with_upload};
 ghost use Rattle.host_server.specs.Outcomes;
-ghost use Rattle.host_server.specs.Outcomes.{entered, published_if_ready, undone, Publishes, Does, DoesCommit};
+ghost use Rattle.host_server.specs.Outcomes.{enter_outcome, entered, published_if_ready, undone, Publishes, Does, DoesCommit};
 ghost use Rattle.host_server.specs.Reasons;
-ghost use Rattle.host_server.specs.Reasons.{commit_refusal};
+ghost use Rattle.host_server.specs.Reasons.{commit_refusal, may_take_memory};
 
 use crate::houses::SoloHouse;
 use host_api::{Digests, Refusal, Told};
@@ -72,6 +72,16 @@ impl SoloHouse {
         })
     }
 
+    /// Commits a command, and tells its entry's number. On an error nothing changes.
+    fn enter(&mut self, alloc: Global, command: Command) -> Result<Told, Refusal>
+        ensures done { Does result self.new (enter_outcome self.old command (commit_refusal self.old command)) }
+        ensures err { OnErr result (self.new ≡ self.old) }
+        ensures grows { Grows self.old self.new }
+    {
+        let number = self.commit(alloc, command)?;
+        Ok(Told::Entered { number })
+    }
+
     /// Commits a command, and publishes a deploy that it leaves ready. Where that fails for want of memory, the
     /// command may stand.
     pub fn change(&mut self, alloc: Global, command: Command) -> Result<Told, Refusal>
@@ -81,10 +91,7 @@ impl SoloHouse {
     {
         match command {
             Command::Open { site, files, auto } => self.open(alloc, site, files, auto),
-            Command::Publish { site, number } => {
-                let number = self.commit(alloc, Command::Publish { site, number })?;
-                Ok(Told::Entered { number })
-            }
+            other => self.enter(alloc, other),
         }
     }
 
@@ -96,7 +103,7 @@ impl SoloHouse {
         change: u64,
     ) -> Result<Told, Refusal>
         ensures done { Does result self.new (undone self.old site.now change (Reasons.undo_refusal self.old site.now change)) }
-        ensures memory { IsErrOf result Refusal.OutOfMemory → Reasons.undo_refusal self.old site.now change ≡ None }
+        ensures memory { IsErrOf result Refusal.OutOfMemory → may_take_memory (Reasons.undo_refusal self.old site.now change) ≡ true }
         ensures err { OnErr result (self.new ≡ self.old) }
         ensures grows { Grows self.old self.new }
     {

@@ -184,7 +184,7 @@ POST /api/v1/sites/one/undo {"change":"002"}
 POST /api/v1/sites/two/undo {"change":2}
 404 Not Found {"error":"NoSuchChange"}
 POST /api/v1/sites/one/undo {"change":1}
-409 Conflict {"error":"NotNewest"}
+409 Conflict {"cell":"draft 1","change":2,"error":"Clash"}
 POST /api/v1/sites/one/undo {"change":2}
 200 OK {"entry":3}
 POST /api/v1/sites/one/undo {"change":2}
@@ -200,7 +200,7 @@ POST /api/v1/sites/one/undo {"change":1}
 }
 
 #[test]
-fn refuses_an_undo_behind_a_change_of_another_site(rt: HostRuntime) -> Result<(), Fail> {
+fn undoes_a_change_behind_which_others_stand(rt: HostRuntime) -> Result<(), Fail> {
     assert_script(
         &rt,
         rt.alloc(),
@@ -209,14 +209,40 @@ POST /api/v1/sites/one/deploys {"files":{}}
 200 OK {"id":"1","published":2,"required":[]}
 POST /api/v1/sites/two/deploys {"files":{},"draft":true}
 200 OK {"id":"3","published":null,"required":[]}
-POST /api/v1/sites/one/undo {"change":2}
-409 Conflict {"error":"NotNewest"}
 POST /api/v1/sites/one/undo {"change":3}
 404 Not Found {"error":"NoSuchChange"}
-POST /api/v1/sites/two/undo {"change":3}
-200 OK {"entry":4}
 POST /api/v1/sites/one/undo {"change":2}
+200 OK {"entry":4}
+POST /api/v1/sites/one/undo {"change":1}
 200 OK {"entry":5}
+POST /api/v1/sites/two/undo {"change":3}
+200 OK {"entry":6}
+"#,
+    )
+}
+
+#[test]
+fn names_the_change_and_the_place_in_an_undos_way(rt: HostRuntime) -> Result<(), Fail> {
+    assert_script(
+        &rt,
+        rt.alloc(),
+        r#"
+POST /api/v1/sites/one/deploys {"files":{"b \"c\".txt":"H"}}
+200 OK {"id":"1","published":null,"required":["H"]}
+PUT /api/v1/deploys/1/files/b%20%22c%22.txt hello
+200 OK {"published":2,"sha":"H"}
+POST /api/v1/sites/one/deploys {"files":{"a.txt":"H"}}
+200 OK {"id":"3","published":4,"required":[]}
+POST /api/v1/sites/one/undo {"change":2}
+409 Conflict {"cell":"live /b \"c\".txt","change":4,"error":"Clash"}
+GET /s/one/a.txt
+200 OK ="H" hello
+POST /api/v1/sites/one/undo {"change":4}
+200 OK {"entry":5}
+POST /api/v1/sites/one/undo {"change":2}
+200 OK {"entry":6}
+GET /s/one/b%20%22c%22.txt
+404 Not Found {"error":"NoSuchFile"}
 "#,
     )
 }

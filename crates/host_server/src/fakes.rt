@@ -78,14 +78,33 @@ impl Write for Narrow {
     }
 }
 
+/// A command in words.
+fn push_command(text: &mut String, command: &Command) -> Result<(), AllocError> {
+    match command {
+        Command::Open { site, .. } => write!(text, "open {site};"),
+        Command::Publish { site, number } => write!(text, "publish {site} {number};"),
+        Command::Cancel { site, number } => write!(text, "cancel {site} {number};"),
+        Command::Remove { site, path } => write!(text, "remove {site} {path};"),
+        Command::Rename {
+            site,
+            source,
+            target,
+        } => write!(text, "rename {site} {source} {target};"),
+        Command::MoveAlias { site, name, number } => {
+            write!(text, "alias {site} {name} {number};")
+        }
+        Command::RemoveAlias { site, name } => write!(text, "no alias {site} {name};"),
+        Command::Restore { site, number } => write!(text, "restore {site} {number};"),
+        Command::RemoveDeploy { site, number } => {
+            write!(text, "remove deploy {site} {number};")
+        }
+    }
+}
+
 /// An entry in words.
 fn push_entry(text: &mut String, entry: &Entry) -> Result<(), AllocError> {
     match entry {
-        Entry::Change(Command::Open { site, .. }) => write!(text, "open {site};"),
-        Entry::Change(Command::Publish { site, number }) => write!(
-            text,
-            "publish {site} {number};"
-        ),
+        Entry::Change(command) => push_command(text, command),
         Entry::Undo { site, change } => write!(text, "undo {site} {change};"),
     }
 }

@@ -6,7 +6,7 @@ ghost use Rattle.change_undo.specs.declared.entries.Entry.TheVariants as entry;
 ghost use Rattle.host_server.specs.Answers.{Grows};
 ghost use Rattle.host_server.specs.Hosts.{Host, state_of, next_number, with_entry, with_upload, IsLawful};
 ghost use Rattle.host_server.specs.Reasons;
-ghost use Rattle.host_server.specs.Reasons.{commit_refusal, IsReason};
+ghost use Rattle.host_server.specs.Reasons.{commit_refusal, IsReason, IsUndoReason};
 
 use crate::reasons::{commit_reason, undo_error_reason};
 use change_undo::{Entry, GREATEST_LIMIT, History};
@@ -108,7 +108,7 @@ impl SoloHouse {
         ensures number { IfOk result (λ number. number ≡ next_number self.old) }
         ensures accepted { OnOk result (Reasons.undo_refusal self.old site.now change ≡ None) }
         ensures entries { OnOk result (self.new ≡ with_entry self.old (entry.Undo site.now change)) }
-        ensures refused { IfErr result (λ reason. IsReason (Reasons.undo_refusal self.old site.now change) reason) }
+        ensures refused { IfErr result (λ reason. IsUndoReason (Reasons.undo_refusal self.old site.now change) reason) }
         ensures err { OnErr result (self.new ≡ self.old) }
         ensures grows { Grows self.old self.new }
     {

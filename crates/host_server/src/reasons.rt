@@ -13,6 +13,12 @@ pub(crate) fn change_reason(reason: ChangeRefusal) -> Refusal
     match reason {
         ChangeRefusal::NoSuchDraft => Refusal::NoSuchDraft,
         ChangeRefusal::NotComplete(digest) => Refusal::NotComplete(digest),
+        ChangeRefusal::NoSuchDeploy => Refusal::NoSuchDeploy,
+        ChangeRefusal::NoSuchFile => Refusal::NoSuchFile,
+        ChangeRefusal::PathTaken => Refusal::PathTaken,
+        ChangeRefusal::SamePath => Refusal::SamePath,
+        ChangeRefusal::NoSuchAlias => Refusal::NoSuchAlias,
+        ChangeRefusal::DeployInUse(name) => Refusal::DeployInUse(name),
         ChangeRefusal::TooManyFiles => Refusal::TooManyFiles,
     }
 }
@@ -26,7 +32,7 @@ pub(crate) fn undo_reason(reason: UndoRefusal) -> Refusal
         UndoRefusal::NoSuchChange => Refusal::NoSuchChange,
         UndoRefusal::NotAChange => Refusal::NotAChange,
         UndoRefusal::AlreadyUndone => Refusal::AlreadyUndone,
-        UndoRefusal::NotNewest => Refusal::NotNewest,
+        UndoRefusal::Clash { change, cell } => Refusal::Clash { change, cell },
     }
 }
 

@@ -97,13 +97,13 @@ fn answers_requests_of_separate_connections_alike(rt: HostRuntime) -> Result<(),
 }
 
 #[test]
-fn refuses_to_undo_an_older_change(rt: HostRuntime) -> Result<(), Fail> {
+fn refuses_to_undo_a_change_that_a_later_one_needs(rt: HostRuntime) -> Result<(), Fail> {
     let alloc = rt.alloc();
     let [open, upload, read, ..] = REQUESTS;
     let asked = joined(alloc, &[open, upload, read, UNDO_OF_ONE])?;
     let [opened, uploaded, sent, ..] = REPLIES;
     let refused =
-        "HTTP/1.1 409 Conflict\r\nContent-Type: application/json\r\nContent-Length: 21\r\n\r\n{\"error\":\"NotNewest\"}";
+        "HTTP/1.1 409 Conflict\r\nContent-Type: application/json\r\nContent-Length: 45\r\n\r\n{\"cell\":\"draft 1\",\"change\":2,\"error\":\"Clash\"}";
     let wanted = joined(alloc, &[opened, uploaded, sent, refused])?;
     assert_answers(&rt, alloc, asked.as_bytes(), wanted.as_str())
 }

@@ -14,16 +14,16 @@ use Rattle.host_names.specs.declared.names.SiteName.{SiteName}
 use Rattle.host_names.specs.declared.cells.Cell.{Cell}
 use Rattle.host_names.specs.declared.cells.Cell.TheVariants as cell
 use Rattle.site_state.specs.Files.{Paths, IsByPath, at_path}
-use Rattle.site_state.specs.States.{State, is_live_of, live_entries}
+use Rattle.site_state.specs.States.{State, with_cell, is_live_of, live_entries}
 use Rattle.site_state.specs.declared.values.Value.{Value}
 use Rattle.site_state.specs.declared.values.Value.TheVariants as value
 use Rattle.site_state.proofs.Entries.{sorted_from_test}
 use Rattle.site_change.specs.declared.plans.Change.{Change}
-use Rattle.site_change.specs.Changes.{same_cell, with_published}
+use Rattle.site_change.specs.Changes.{same_cell, with_served, with_published}
 use Rattle.site_change.specs.Differences.{Reading, AreChangesIn, AreLiveChanges, AreSides, in_list, live_cells, change_at}
 use Rattle.site_change.specs.Plans.{IsDifference}
 use Rattle.site_change.proofs.Composing.{reread, change_in_cell, joined, whole, is_cell}
-use Rattle.site_change.proofs.Effects.{one_cell, same_cell-itself, live_of, same_paths, get-published}
+use Rattle.site_change.proofs.Effects.{one_cell, same_cell-itself, get-with_cell, get-with_two, live_of, same_paths, get-served, get-published}
 
 -- ---- the two lists of a site's files
 
@@ -138,32 +138,71 @@ module _ (site : SiteName) (m : ℕ) (tree : Paths (List ℕ)) (state : State) w
       whole _ state after others_after _
       (joined _ (is_cell draft) f g before_draft _ _ (joined (is_live_of site) (is_cell kept) f g live_before_kept changes _ live kept_part) draft_part)
 
--- ---- an opening
+-- ---- the files that are served
 
-module _ (state : State) (at : Cell) (v : Value) where
-  there : finmap.get (finmap.insert state at v) at ≡ Some v
-  there = finmap.get-insert cell_cmp_total state at v at ∙ ap (λ t. cond t (Some v) (finmap.get state at)) (same_cell-itself at)
+-- where they alone change
+pub served_changes : (site : SiteName) (tree : Paths (List ℕ)) (state : State) (changes : List Change) → AreLiveChanges site (live_entries state site) tree changes
+    → IsDifference state (with_served site tree state) changes
+served_changes site tree state changes are =
+    let f : Reading = finmap.get state in
+    let g : Reading = finmap.get (with_served site tree state) in
+    let after : (c : Cell) → is_live_of site c ≡ true → in_list (live_cells site tree) c ≡ g c = λ c live.
+    in_tree site tree c live
+    ∙ sym (get-served site tree state c ∙ ap (λ t. cond t (option_map value.Live (at_path tree (text_of c))) (f c)) live) in
+    whole (is_live_of site) state (with_served site tree state)
+    (λ c other. get-served site tree state c ∙ ap (λ t. cond t (option_map value.Live (at_path tree (text_of c))) (f c)) other)
+    changes (reread (is_live_of site) _ _ f g (in_live_entries state site) after changes are)
 
-  pub opened_changes : (change : Option Change) → change ≡ change_at at (finmap.get state at) (Some v) → IsDifference state (finmap.insert state at v) (option_to_list change)
-  opened_changes change is =
+-- ---- one cell, or two
+
+module _ (state : State) (at : Cell) (v : Option Value) where
+  there : finmap.get (with_cell state at v) at ≡ v
+  there = get-with_cell state at v at ∙ ap (λ t. cond t v (finmap.get state at)) (same_cell-itself at)
+
+  pub one_change : IsDifference state (with_cell state at v) (option_to_list (change_at at (finmap.get state at) v))
+  one_change =
       let f : Reading = finmap.get state in
-      let g : Reading = finmap.get (finmap.insert state at v) in
-      let one : AreChangesIn (is_cell at) f g (option_to_list (change_at at (f at) (Some v))) = rw there at (change_in_cell at f g) in
-      let P : Option Change → Type 0 = λ o. AreChangesIn (is_cell at) f g (option_to_list o) in
-      whole (is_cell at) state (finmap.insert state at v)
-      (λ c other. finmap.get-insert cell_cmp_total state at v c ∙ ap (λ t. cond t (Some v) (finmap.get state c)) other)
-      (option_to_list change) (subst P (sym is) one)
+      let g : Reading = finmap.get (with_cell state at v) in
+      let one : AreChangesIn (is_cell at) f g (option_to_list (change_at at (f at) v)) = rw there at (change_in_cell at f g) in
+      whole (is_cell at) state (with_cell state at v) (λ c other. get-with_cell state at v c ∙ ap (λ t. cond t v (finmap.get state c)) other) _ one
+
+module _ (state : State) (a b : Cell) (v w : Option Value) (less : cell_cmp a b ≡ Less) where
+  abbrev both : State
+  both = with_cell (with_cell state a v) b w
+
+  apart : same_cell a b ≡ false
+  apart = ap is_eq less
+
+  in_first : finmap.get both a ≡ v
+  in_first = get-with_two state a b v w a ∙ rw (apart, same_cell-itself a) refl
+
+  in_second : finmap.get both b ≡ w
+  in_second = get-with_two state a b v w b ∙ rw (same_cell-itself b) refl
+
+  parted : (c d : Cell) → is_cell a c ≡ true → is_cell b d ≡ true → cell_cmp c d ≡ Less
+  parted c d is_a is_b = rw (one_cell c a is_a, one_cell d b is_b) less
+
+  pub two_changes : IsDifference state both (option_to_list (change_at a (finmap.get state a) v) ++ option_to_list (change_at b (finmap.get state b) w))
+  two_changes =
+      let f : Reading = finmap.get state in
+      let g : Reading = finmap.get both in
+      let first : AreChangesIn (is_cell a) f g (option_to_list (change_at a (f a) v)) = rw in_first at (change_in_cell a f g) in
+      let second : AreChangesIn (is_cell b) f g (option_to_list (change_at b (f b) w)) = rw in_second at (change_in_cell b f g) in
+      whole (λ c. is_cell a c || is_cell b c) state both
+      (λ c other. let parts = not_or (is_cell a c) (is_cell b c) other in get-with_two state a b v w c ∙ rw (parts.1, parts.0) refl)
+      _ (joined (is_cell a) (is_cell b) f g parted _ _ first second)
+
+-- the order of two writes in different cells doesn't matter
+pub swapped : (state : State) (a b : Cell) (v w : Option Value) → same_cell a b ≡ false → with_cell (with_cell state b w) a v ≡ with_cell (with_cell state a v) b w
+swapped state a b v w apart = finmap.same_map cell_cmp_total cell_cmp-IsAntisymmetric _ _ (λ c.
+    get-with_two state b a w v c
+    ∙ (elim (same_cell c a) as (λ t. same_cell c a ≡ t → cond t v (cond (same_cell c b) w (finmap.get state c)) ≡ cond (same_cell c b) w (cond t v (finmap.get state c))) [
+      | true ↦ λ e. sym (ap (λ t. cond t w (cond true v (finmap.get state c))) (ap (λ x. same_cell x b) (one_cell c a e) ∙ apart))
+      | false ↦ λ e. refl
+    ] refl)
+    ∙ sym (get-with_two state a b v w c))
 
 -- ---- the same, as the code puts it together
-
-pub open_plan : (state : State) (at made_at : Cell) (v made : Value) (change : Option Change) (before changes : List Change) → made_at ≡ at → made ≡ v
-    → change ≡ change_at made_at (finmap.get state made_at) (Some made) → before ≡ [] → changes ≡ before ++ option_to_list change
-    → IsDifference state (finmap.insert state at v) changes
-open_plan state at made_at v made change before changes is_at is_made is_change is_before is_changes =
-    let made_change : change ≡ change_at at (finmap.get state at) (Some v) = is_change ∙ (λ i. change_at (is_at i) (finmap.get state (is_at i)) (Some (is_made i))) in
-    let all : changes ≡ option_to_list change = is_changes ∙ ap (λ (l : List Change). l ++ option_to_list change) is_before in
-    let P : List Change → Type 0 = IsDifference state (finmap.insert state at v) in
-    subst P (sym all) (opened_changes state at v change made_change)
 
 pub publish_plan : (site : SiteName) (m : ℕ) (tree made_tree : Paths (List ℕ)) (state : State) (live : List (Cell × Value)) (listed : Paths (List ℕ)) (kept_at draft_at : Cell)
     (kept_change draft_change : Option Change) (first second third : List Change) → made_tree ≡ tree → live ≡ live_entries state site → listed ≡ made_tree

@@ -14,10 +14,10 @@ use Rattle.host_names.specs.declared.names.SiteName.{SiteName}
 use Rattle.host_names.specs.declared.cells.Cell.{Cell}
 use Rattle.host_names.specs.declared.cells.Cell.TheVariants as cell
 use Rattle.site_state.specs.Files.{Paths, at_path}
-use Rattle.site_state.specs.States.{State, is_live_of}
+use Rattle.site_state.specs.States.{State, with_cell, is_live_of}
 use Rattle.site_state.specs.declared.values.Value.{Value}
 use Rattle.site_state.specs.declared.values.Value.TheVariants as value
-use Rattle.site_change.specs.Changes.{same_cell, without_live, with_live, with_published}
+use Rattle.site_change.specs.Changes.{same_cell, without_live, with_live, with_served, with_published}
 
 is_eq-true : (o : Ordering) → is_eq o ≡ true → o ≡ Equal
 is_eq-true Less e = cc e
@@ -30,6 +30,16 @@ one_cell a b e = cell_cmp-IsAntisymmetric a b (is_eq-true _ e)
 
 pub same_cell-itself : (c : Cell) → same_cell c c ≡ true
 same_cell-itself c = (eq_by_cmp_equiv cell_cmp_total).refl c
+
+-- ---- one cell written
+
+pub get-with_cell : (state : State) (at : Cell) (v : Option Value) (c : Cell) → map.get (with_cell state at v) c ≡ cond (same_cell c at) v (map.get state c)
+get-with_cell state at None c = map.get-remove cell_cmp_total state at c
+get-with_cell state at (Some v) c = map.get-insert cell_cmp_total state at v c
+
+pub get-with_two : (state : State) (a b : Cell) (v w : Option Value) (c : Cell)
+    → map.get (with_cell (with_cell state a v) b w) c ≡ cond (same_cell c b) w (cond (same_cell c a) v (map.get state c))
+get-with_two state a b v w c = get-with_cell (with_cell state a v) b w c ∙ ap (cond (same_cell c b) w) (get-with_cell state a v c)
 
 -- ---- the live cells of a site
 
@@ -48,6 +58,13 @@ pub same_paths : (site : SiteName) (p q : List ℕ) → same_cell (cell.Live sit
 same_paths site p q =
     rw (tied_itself nat_list_cmp_total site.0)
     (elim (slice_cmp nat_cmp p q) as (λ r. is_eq (ordering_then r Equal) ≡ is_eq r) [ Less ↦ refl | Equal ↦ refl | Greater ↦ refl ])
+
+-- different paths of a site are different cells
+pub apart_paths : (site : SiteName) (p q : List ℕ) → bytes_eq p q ≡ false → same_cell (cell.Live site p) (cell.Live site q) ≡ false
+apart_paths site p q other = elim (same_cell (cell.Live site p) (cell.Live site q)) as (λ t. same_cell (cell.Live site p) (cell.Live site q) ≡ t → t ≡ false) [
+  | true ↦ λ e. cc (sym other ∙ ap (bytes_eq p) (sym (ap text_of (one_cell (cell.Live site p) (cell.Live site q) e))) ∙ bytes_eq-itself p)
+  | false ↦ λ e. refl
+] refl
 
 -- the first of two that is there
 abbrev pub or_else : {A : Type 0} → Option A → Option A → Option A
@@ -80,25 +97,18 @@ get-with_live_other site (f ∷ tree) state c h =
 pub get-without_live : (site : SiteName) (state : State) (c : Cell) → map.get (without_live site state) c ≡ cond (not (is_live_of site c)) (map.get state c) None
 get-without_live site state c = map.get-retain_keys state (λ x. not (is_live_of site x)) c (λ x e. ap (λ y. not (is_live_of site y)) (sym (cell_cmp-IsAntisymmetric c x e)))
 
--- ---- a publish
-
--- what stands in a cell afterwards
-abbrev pub published_value : SiteName → ℕ → Paths (List ℕ) → State → Cell → Option Value
-published_value site m tree state c =
-    cond (is_live_of site c) (option_map value.Live (at_path tree (text_of c)))
-    (cond (same_cell c (cell.Draft site m)) None (cond (same_cell c (cell.Kept site m)) (Some (value.Kept tree)) (map.get state c)))
+-- ---- the files that are served
 
 or_else-None : {A : Type 0} (o : Option A) → or_else o None ≡ o
 or_else-None (Some x) = refl
 or_else-None None = refl
 
-pub get-published : (site : SiteName) (m : ℕ) (tree : Paths (List ℕ)) (state : State) (c : Cell)
-    → map.get (with_published site m tree state) c ≡ published_value site m tree state c
-get-published site m tree state c =
-    let kept : State = map.insert state (cell.Kept site m) (value.Kept tree) in
-    let base : State = map.remove kept (cell.Draft site m) in
+-- what stands in a cell where the site comes to serve these files
+pub get-served : (site : SiteName) (tree : Paths (List ℕ)) (state : State) (c : Cell)
+    → map.get (with_served site tree state) c ≡ cond (is_live_of site c) (option_map value.Live (at_path tree (text_of c))) (map.get state c)
+get-served site tree base c =
     elim (is_live_of site c) as (λ t. is_live_of site c ≡ t → map.get (with_live site tree (without_live site base)) c
-    ≡ cond t (option_map value.Live (at_path tree (text_of c))) (cond (same_cell c (cell.Draft site m)) None (cond (same_cell c (cell.Kept site m)) (Some (value.Kept tree)) (map.get state c)))) [
+    ≡ cond t (option_map value.Live (at_path tree (text_of c))) (map.get base c)) [
       | true ↦ λ e.
           let at : c ≡ cell.Live site (text_of c) = live_of site c e in
           let none : map.get (without_live site base) (cell.Live site (text_of c)) ≡ None =
@@ -107,6 +117,17 @@ get-published site m tree state c =
           ∙ ap (or_else (option_map value.Live (at_path tree (text_of c)))) none ∙ or_else-None _
       | false ↦ λ e.
           get-with_live_other site tree (without_live site base) c e ∙ get-without_live site base c ∙ ap (λ t. cond (not t) (map.get base c) None) e
-          ∙ map.get-remove cell_cmp_total kept (cell.Draft site m) c
-          ∙ ap (cond (same_cell c (cell.Draft site m)) None) (map.get-insert cell_cmp_total state (cell.Kept site m) (value.Kept tree) c)
     ] refl
+
+-- what stands in a cell after a publish
+abbrev pub published_value : SiteName → ℕ → Paths (List ℕ) → State → Cell → Option Value
+published_value site m tree state c =
+    cond (is_live_of site c) (option_map value.Live (at_path tree (text_of c)))
+    (cond (same_cell c (cell.Draft site m)) None (cond (same_cell c (cell.Kept site m)) (Some (value.Kept tree)) (map.get state c)))
+
+pub get-published : (site : SiteName) (m : ℕ) (tree : Paths (List ℕ)) (state : State) (c : Cell)
+    → map.get (with_published site m tree state) c ≡ published_value site m tree state c
+get-published site m tree state c =
+    get-served site tree (with_cell (with_cell state (cell.Kept site m) (Some (value.Kept tree))) (cell.Draft site m) None) c
+    ∙ ap (cond (is_live_of site c) (option_map value.Live (at_path tree (text_of c))))
+    (get-with_two state (cell.Kept site m) (cell.Draft site m) (Some (value.Kept tree)) None c)

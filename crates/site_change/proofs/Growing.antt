@@ -6,12 +6,12 @@ use Rattle.host_names.specs.declared.names.SiteName.{SiteName}
 use Rattle.host_names.specs.declared.digests.Digest.{Digest}
 use Rattle.site_state.specs.Files.{Paths}
 use Rattle.site_state.specs.Missing.{least_missing_of}
-use Rattle.site_state.specs.States.{State, draft_at}
+use Rattle.site_state.specs.States.{State, kept_at, draft_at}
 use Rattle.site_state.specs.declared.values.Draft.{Draft}
 use Rattle.site_change.specs.declared.commands.Command.{Command}
-use Rattle.site_change.specs.declared.commands.Command.TheVariants.{Open, Publish}
+use Rattle.site_change.specs.declared.commands.Command.TheVariants.{Open, Publish, Cancel, Remove, Rename, MoveAlias, RemoveAlias, Restore, RemoveDeploy}
 use Rattle.site_change.specs.declared.commands.Refusal.TheVariants.{NotComplete}
-use Rattle.site_change.specs.Changes.{publish_refusal, refusal, tree_of, published, applied, if_accepted, run_from, IsWithin}
+use Rattle.site_change.specs.Changes.{publish_refusal, restore_refusal, refusal, tree_of, published, restored, applied, if_accepted, run_from, IsWithin}
 use Rattle.site_change.specs.Laws.{KeepsRunning}
 use Rattle.site_change.proofs.LeftOut.{accepted}
 use Rattle.site_change.proofs.Listings.{none_missing}
@@ -46,11 +46,25 @@ publish_grows site m uploads more state (Some draft) within e =
     let same = same_files uploads more draft.files within (no_option NotComplete _ e) in
     (ap (option_map NotComplete) same.complete, rw same.tree refl)
 
+restore_grows : (site : SiteName) (m : ℕ) (uploads more : Contents) (state : State) (kept : Option (Paths (List ℕ))) (draft : Option Draft) → IsWithin uploads more
+    → restore_refusal uploads kept draft ≡ None
+    → (restore_refusal more kept draft ≡ None) × (restored site m more state kept draft ≡ restored site m uploads state kept draft)
+restore_grows site m uploads more state (Some tree) draft within e = (refl, refl)
+restore_grows site m uploads more state None None within e = cc e
+restore_grows site m uploads more state None (Some draft) within e = publish_grows site m uploads more state (Some draft) within e
+
 -- an accepted command stays accepted, and does the same
 pub command_grows : (command : Command) (n : ℕ) (state : State) (uploads more : Contents) → IsWithin uploads more → refusal command n state uploads ≡ None
     → (refusal command n state more ≡ None) × (applied command n state more ≡ applied command n state uploads)
 command_grows (Open site files auto) n state uploads more within e = (e, refl)
 command_grows (Publish site m) n state uploads more within e = publish_grows site m uploads more state (draft_at state site m) within e
+command_grows (Cancel site m) n state uploads more within e = (e, refl)
+command_grows (Remove site path) n state uploads more within e = (e, refl)
+command_grows (Rename site source target) n state uploads more within e = (e, refl)
+command_grows (MoveAlias site name m) n state uploads more within e = (e, refl)
+command_grows (RemoveAlias site name) n state uploads more within e = (e, refl)
+command_grows (Restore site m) n state uploads more within e = restore_grows site m uploads more state (kept_at state site m) (draft_at state site m) within e
+command_grows (RemoveDeploy site m) n state uploads more within e = (e, refl)
 
 pub keeps_running : (uploads more : Contents) (state : State) (commands : List (ℕ × Command)) → KeepsRunning uploads more state commands
 keeps_running uploads more state [] within after ran = ran

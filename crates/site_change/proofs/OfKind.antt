@@ -5,25 +5,24 @@ use Rattle.std.specs.List.{AllByRecursion}
 use Rattle.std.proofs.lemmas.List.Elements.{All-from_recursion}
 use Rattle.host_names.specs.Blobs.{Contents}
 use Rattle.host_names.specs.Cells.{text_of}
-use Rattle.host_names.specs.CellOrder.{cell_cmp_total}
 use Rattle.host_names.specs.declared.names.SiteName.{SiteName}
 use Rattle.host_names.specs.declared.cells.Cell.{Cell}
 use Rattle.host_names.specs.declared.cells.Cell.TheVariants as cell
 use Rattle.site_state.specs.Files.{Paths, at_path}
-use Rattle.site_state.specs.States.{State, draft_at, is_live_of, may_stand}
+use Rattle.site_state.specs.States.{State, with_cell, live_at, kept_at, draft_at, is_live_of, may_stand}
 use Rattle.site_state.specs.declared.values.Draft.{Draft}
 use Rattle.site_state.specs.declared.values.Value.{Value}
 use Rattle.site_state.specs.declared.values.Value.TheVariants as value
 use Rattle.site_change.specs.declared.commands.Command.{Command}
-use Rattle.site_change.specs.declared.commands.Command.TheVariants.{Open, Publish}
+use Rattle.site_change.specs.declared.commands.Command.TheVariants.{Open, Publish, Cancel, Remove, Rename, MoveAlias, RemoveAlias, Restore, RemoveDeploy}
 use Rattle.site_change.specs.declared.commands.Refusal.{Refusal}
 use Rattle.site_change.specs.declared.decisions.DecideError.{DecideError}
 use Rattle.site_change.specs.declared.plans.Change.{Change}
 use Rattle.site_change.specs.declared.plans.Plan.{Plan}
 use Rattle.site_change.specs.Decisions.{IsDecision}
-use Rattle.site_change.specs.Changes.{same_cell, tree_of, with_published, published, applied}
+use Rattle.site_change.specs.Changes.{same_cell, tree_of, with_served, with_published, published, restored, applied}
 use Rattle.site_change.specs.Plans.{IsChange, IsDifference, WritesOfKind}
-use Rattle.site_change.proofs.Effects.{one_cell, live_of, get-published, published_value}
+use Rattle.site_change.proofs.Effects.{one_cell, get-with_cell, live_of, get-served, get-published, published_value}
 
 -- a cell is left as it is, or gets something of its kind
 abbrev IsLeftOrFits : State → State → Cell → Type 0
@@ -33,14 +32,18 @@ live_fits : (site : SiteName) (p : List ℕ) (o : Option (List ℕ)) → may_sta
 live_fits site p None = refl
 live_fits site p (Some file) = refl
 
-open_fits : (state : State) (site : SiteName) (n : ℕ) (draft : Draft) (c : Cell) → IsLeftOrFits state (map.insert state (cell.Draft site n) (value.Draft draft)) c
-open_fits state site n draft c =
-    let at : map.get (map.insert state (cell.Draft site n) (value.Draft draft)) c ≡ cond (same_cell c (cell.Draft site n)) (Some (value.Draft draft)) (map.get state c) =
-    map.get-insert cell_cmp_total state (cell.Draft site n) (value.Draft draft) c in
-    elim (same_cell c (cell.Draft site n)) as (λ t. same_cell c (cell.Draft site n) ≡ t → IsLeftOrFits state (map.insert state (cell.Draft site n) (value.Draft draft)) c) [
-      | true ↦ λ e. inr (ap (may_stand c) (at ∙ ap (λ t. cond t (Some (value.Draft draft)) (map.get state c)) e) ∙ ap (λ x. may_stand x (Some (value.Draft draft))) (one_cell c (cell.Draft site n) e))
-      | false ↦ λ e. inl (at ∙ ap (λ t. cond t (Some (value.Draft draft)) (map.get state c)) e)
+write_fits : (state : State) (at : Cell) (v : Option Value) → may_stand at v ≡ true → (c : Cell) → IsLeftOrFits state (with_cell state at v) c
+write_fits state at v fits c =
+    elim (same_cell c at) as (λ t. same_cell c at ≡ t → IsLeftOrFits state (with_cell state at v) c) [
+      | true ↦ λ e. inr (ap (may_stand c) (get-with_cell state at v c ∙ ap (λ t. cond t v (map.get state c)) e) ∙ ap (λ x. may_stand x v) (one_cell c at e) ∙ fits)
+      | false ↦ λ e. inl (get-with_cell state at v c ∙ ap (λ t. cond t v (map.get state c)) e)
     ] refl
+
+-- of two writes
+both_fit : (state mid after : State) (c : Cell) → IsLeftOrFits state mid c → IsLeftOrFits mid after c → IsLeftOrFits state after c
+both_fit state mid after c first (inr fits) = inr fits
+both_fit state mid after c (inl left) (inl stays) = inl (stays ∙ left)
+both_fit state mid after c (inr fits) (inl stays) = inr (ap (may_stand c) stays ∙ fits)
 
 module _ (site : SiteName) (m : ℕ) (tree : Paths (List ℕ)) (state : State) (c : Cell) where
   abbrev after : Option Value
@@ -81,9 +84,35 @@ publish_fits : (site : SiteName) (m : ℕ) (uploads : Contents) (state : State) 
 publish_fits site m uploads state None c = inl refl
 publish_fits site m uploads state (Some draft) c = published_fits site m (tree_of uploads draft.files) state c
 
+served_fits : (site : SiteName) (tree : Paths (List ℕ)) (state : State) (c : Cell) → IsLeftOrFits state (with_served site tree state) c
+served_fits site tree state c =
+    elim (is_live_of site c) as (λ t. is_live_of site c ≡ t → IsLeftOrFits state (with_served site tree state) c) [
+      | true ↦ λ live. inr (
+          ap (may_stand c) (get-served site tree state c ∙ ap (λ t. cond t (option_map value.Live (at_path tree (text_of c))) (map.get state c)) live)
+          ∙ ap (λ x. may_stand x (option_map value.Live (at_path tree (text_of c)))) (live_of site c live) ∙ live_fits site (text_of c) (at_path tree (text_of c)))
+      | false ↦ λ other. inl (get-served site tree state c ∙ ap (λ t. cond t (option_map value.Live (at_path tree (text_of c))) (map.get state c)) other)
+    ] refl
+
+restore_fits : (site : SiteName) (m : ℕ) (uploads : Contents) (state : State) (kept : Option (Paths (List ℕ))) (draft : Option Draft) (c : Cell)
+    → IsLeftOrFits state (restored site m uploads state kept draft) c
+restore_fits site m uploads state (Some tree) draft c = served_fits site tree state c
+restore_fits site m uploads state None draft c = publish_fits site m uploads state draft c
+
 command_fits : (command : Command) (n : ℕ) (state : State) (uploads : Contents) (c : Cell) → IsLeftOrFits state (applied command n state uploads) c
-command_fits (Open site files auto) n state uploads c = open_fits state site n (record { auto = auto; files = files }) c
+command_fits (Open site files auto) n state uploads c = write_fits state (cell.Draft site n) (Some (value.Draft (record { auto = auto; files = files }))) refl c
 command_fits (Publish site m) n state uploads c = publish_fits site m uploads state (draft_at state site m) c
+command_fits (Cancel site m) n state uploads c = write_fits state (cell.Draft site m) None refl c
+command_fits (Remove site path) n state uploads c = write_fits state (cell.Live site path) None refl c
+command_fits (Rename site source target) n state uploads c =
+    let a = cell.Live site source in
+    let b = cell.Live site target in
+    let file = option_map value.Live (live_at state site source) in
+    both_fit state (with_cell state a None) (with_cell (with_cell state a None) b file) c (write_fits state a None refl c)
+    (write_fits (with_cell state a None) b file (live_fits site target (live_at state site source)) c)
+command_fits (MoveAlias site name m) n state uploads c = write_fits state (cell.Alias site name) (Some (value.Alias m)) refl c
+command_fits (RemoveAlias site name) n state uploads c = write_fits state (cell.Alias site name) None refl c
+command_fits (Restore site m) n state uploads c = restore_fits site m uploads state (kept_at state site m) (draft_at state site m) c
+command_fits (RemoveDeploy site m) n state uploads c = write_fits state (cell.Kept site m) None refl c
 
 change_fits : (state next : State) (change : Change) → IsLeftOrFits state next change.cell → IsChange state next change → IsTrue (may_stand change.cell change.after)
 change_fits state next change (inl left) is = absurd (is.2 (is.0 ∙ sym left ∙ sym is.1))

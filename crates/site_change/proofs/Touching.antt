@@ -47,8 +47,21 @@ or_right : (a b : Bool) → b ≡ true → (a || b) ≡ true
 or_right true b e = refl
 or_right false b e = e
 
-cell_is : (a b : Cell) → (same_cell a b ≡ true) ↔ (a ≡ b)
+pub cell_is : (a b : Cell) → (same_cell a b ≡ true) ↔ (a ≡ b)
 cell_is a b = (one_cell a b, λ e. ap (same_cell a) (sym e) ∙ same_cell-itself a)
+
+-- of two cells
+pub either_is : (c a b : Cell) → ((same_cell c a || same_cell c b) ≡ true) ↔ ((c ≡ a) ⊎ (c ≡ b))
+either_is c a b = (
+  λ h. elim (or_cases (same_cell c a) (same_cell c b) h) [
+    | inl first ↦ inl (one_cell c a first)
+    | inr second ↦ inr (one_cell c b second)
+  ],
+  λ is. elim is [
+    | inl first ↦ or_left (same_cell c a) (same_cell c b) ((cell_is c a).1 first)
+    | inr second ↦ or_right (same_cell c a) (same_cell c b) ((cell_is c b).1 second)
+  ],
+)
 
 pub by_open : (site : SiteName) (files : Paths Digest) (auto : Bool) (n : ℕ) (state : State) (c : Cell)
     → (touches (Open site files auto) n state c ≡ true) ↔ (c ≡ cell.Draft site n)

@@ -2,22 +2,25 @@
 use Rattle.std.specs.Prelude.{◌≡◌, ℕ, List, [], ◌∷◌, Bool, true, false, not, ◌&&◌, ◌||◌, nat_lt, Option, Some, None, is_some, unwrap_or, option_map, map, length, if◌then◌else◌}
 use Rattle.std.specs.FinMap as map
 use Rattle.std.specs.Ordering.{eq_by_cmp}
+use Rattle.std.specs.Str.{bytes_eq}
 use Rattle.host_names.specs.Blobs.{Contents}
 use Rattle.host_names.specs.Cells.{cell_cmp}
 use Rattle.host_names.specs.declared.names.SiteName.{SiteName}
 use Rattle.host_names.specs.declared.cells.Cell.{Cell}
 use Rattle.host_names.specs.declared.cells.Cell.TheVariants as cell
 use Rattle.host_names.specs.declared.digests.Digest.{Digest}
+use Rattle.host_names.specs.declared.names.AliasName.{AliasName}
+use Rattle.site_state.specs.Aliases.{alias_for}
 use Rattle.site_state.specs.Files.{Paths}
 use Rattle.site_state.specs.Missing.{least_missing_of}
-use Rattle.site_state.specs.States.{State, with_cell, draft_at, is_live_of}
+use Rattle.site_state.specs.States.{State, with_cell, live_at, kept_at, alias_at, draft_at, is_live_of, is_alias_of}
 use Rattle.site_state.specs.Values.{same_value}
 use Rattle.site_state.specs.declared.values.Draft.{Draft}
 use Rattle.site_state.specs.declared.values.Value.TheVariants as value
 use Rattle.site_change.specs.declared.commands.Command.{Command}
-use Rattle.site_change.specs.declared.commands.Command.TheVariants.{Open, Publish}
+use Rattle.site_change.specs.declared.commands.Command.TheVariants.{Open, Publish, Cancel, Remove, Rename, MoveAlias, RemoveAlias, Restore, RemoveDeploy}
 use Rattle.site_change.specs.declared.commands.Refusal.{Refusal}
-use Rattle.site_change.specs.declared.commands.Refusal.TheVariants.{NoSuchDraft, NotComplete, TooManyFiles}
+use Rattle.site_change.specs.declared.commands.Refusal.TheVariants.{NoSuchDraft, NotComplete, NoSuchDeploy, NoSuchFile, PathTaken, SamePath, NoSuchAlias, DeployInUse, TooManyFiles}
 
 abbrev pub same_cell : Cell → Cell → Bool
 same_cell = eq_by_cmp cell_cmp
@@ -28,10 +31,40 @@ abbrev pub publish_refusal : Contents → Option Draft → Option Refusal
 publish_refusal uploads None = Some NoSuchDraft
 publish_refusal uploads (Some draft) = option_map NotComplete (least_missing_of uploads draft.files)
 
+-- this reason, unless there is something
+abbrev pub needed : {A : Type 0} → Refusal → Option A → Option Refusal
+needed reason (Some x) = None
+needed reason None = Some reason
+
+-- the reasons against a renaming, by what is served at the two paths
+abbrev pub rename_refusal : Bool → Option (List ℕ) → Option (List ℕ) → Option Refusal
+rename_refusal true source target = Some SamePath
+rename_refusal false None target = Some NoSuchFile
+rename_refusal false (Some file) None = None
+rename_refusal false (Some file) (Some other) = Some PathTaken
+
+-- the reasons against a restoring, by what is kept and what is open under the number
+abbrev pub restore_refusal : Contents → Option (Paths (List ℕ)) → Option Draft → Option Refusal
+restore_refusal uploads (Some tree) draft = None
+restore_refusal uploads None (Some draft) = publish_refusal uploads (Some draft)
+restore_refusal uploads None None = Some NoSuchDeploy
+
+-- the reasons against the removal of a deploy, by what is kept under the number and the least alias that stands for it
+abbrev pub removal_refusal : Option (Paths (List ℕ)) → Option AliasName → Option Refusal
+removal_refusal None alias = Some NoSuchDeploy
+removal_refusal (Some tree) alias = option_map DeployInUse alias
+
 -- the first reason to refuse the command, if there is one
 abbrev pub refusal : Command → ℕ → State → Contents → Option Refusal
 refusal (Open site files auto) n state uploads = if nat_lt 10000 (length files) then Some TooManyFiles else None
 refusal (Publish site m) n state uploads = publish_refusal uploads (draft_at state site m)
+refusal (Cancel site m) n state uploads = needed NoSuchDraft (draft_at state site m)
+refusal (Remove site path) n state uploads = needed NoSuchFile (live_at state site path)
+refusal (Rename site source target) n state uploads = rename_refusal (bytes_eq source target) (live_at state site source) (live_at state site target)
+refusal (MoveAlias site name m) n state uploads = needed NoSuchDeploy (kept_at state site m)
+refusal (RemoveAlias site name) n state uploads = needed NoSuchAlias (alias_at state site name)
+refusal (Restore site m) n state uploads = restore_refusal uploads (kept_at state site m) (draft_at state site m)
+refusal (RemoveDeploy site m) n state uploads = removal_refusal (kept_at state site m) (alias_for state site m)
 
 -- ---- what it leaves
 
@@ -48,19 +81,39 @@ abbrev pub with_live : SiteName → Paths (List ℕ) → State → State
 with_live site [] state = state
 with_live site (f ∷ files) state = map.insert (with_live site files state) (cell.Live site f.0) (value.Live f.1)
 
--- the site serves these files and no others, they are kept under the number, and no draft has that number
+-- the site serves these files and no others
+abbrev pub with_served : SiteName → Paths (List ℕ) → State → State
+with_served site tree state = with_live site tree (without_live site state)
+
+-- and they are kept under the number, and no draft has that number
 abbrev pub with_published : SiteName → ℕ → Paths (List ℕ) → State → State
 with_published site m tree state =
-    with_live site tree (without_live site (with_cell (with_cell state (cell.Kept site m) (Some (value.Kept tree))) (cell.Draft site m) None))
+    with_served site tree (with_cell (with_cell state (cell.Kept site m) (Some (value.Kept tree))) (cell.Draft site m) None)
 
 abbrev pub published : SiteName → ℕ → Contents → State → Option Draft → State
 published site m uploads state None = state
 published site m uploads state (Some draft) = with_published site m (tree_of uploads draft.files) state
 
+-- the site serves a kept deploy again, or else what is open is published
+abbrev pub restored : SiteName → ℕ → Contents → State → Option (Paths (List ℕ)) → Option Draft → State
+restored site m uploads state (Some tree) draft = with_served site tree state
+restored site m uploads state None draft = published site m uploads state draft
+
+-- the state in which the file at the one path stands at the other
+abbrev pub renamed : SiteName → List ℕ → List ℕ → State → Option (List ℕ) → State
+renamed site source target state file = with_cell (with_cell state (cell.Live site source) None) (cell.Live site target) (option_map value.Live file)
+
 -- the state after the command
 abbrev pub applied : Command → ℕ → State → Contents → State
-applied (Open site files auto) n state uploads = map.insert state (cell.Draft site n) (value.Draft (record { auto = auto; files = files }))
+applied (Open site files auto) n state uploads = with_cell state (cell.Draft site n) (Some (value.Draft (record { auto = auto; files = files })))
 applied (Publish site m) n state uploads = published site m uploads state (draft_at state site m)
+applied (Cancel site m) n state uploads = with_cell state (cell.Draft site m) None
+applied (Remove site path) n state uploads = with_cell state (cell.Live site path) None
+applied (Rename site source target) n state uploads = renamed site source target state (live_at state site source)
+applied (MoveAlias site name m) n state uploads = with_cell state (cell.Alias site name) (Some (value.Alias m))
+applied (RemoveAlias site name) n state uploads = with_cell state (cell.Alias site name) None
+applied (Restore site m) n state uploads = restored site m uploads state (kept_at state site m) (draft_at state site m)
+applied (RemoveDeploy site m) n state uploads = with_cell state (cell.Kept site m) None
 
 -- ---- what it reads or writes
 
@@ -68,13 +121,29 @@ applied (Publish site m) n state uploads = published site m uploads state (draft
 abbrev pub site_of_command : Command → SiteName
 site_of_command (Open site files auto) = site
 site_of_command (Publish site m) = site
+site_of_command (Cancel site m) = site
+site_of_command (Remove site path) = site
+site_of_command (Rename site source target) = site
+site_of_command (MoveAlias site name m) = site
+site_of_command (RemoveAlias site name) = site
+site_of_command (Restore site m) = site
+site_of_command (RemoveDeploy site m) = site
 
--- whether the command touches the cell. A publish that finds its draft touches each path of its site, whether a file is
--- there or not
+-- whether the command touches the cell. A publish that finds its draft, and a restoring that finds a kept deploy or a draft,
+-- touch each path of their site, whether a file is there or not
 abbrev pub touches : Command → ℕ → State → Cell → Bool
 touches (Open site files auto) n state c = same_cell c (cell.Draft site n)
 touches (Publish site m) n state c =
     same_cell c (cell.Draft site m) || (is_some (draft_at state site m) && (same_cell c (cell.Kept site m) || is_live_of site c))
+touches (Cancel site m) n state c = same_cell c (cell.Draft site m)
+touches (Remove site path) n state c = same_cell c (cell.Live site path)
+touches (Rename site source target) n state c = same_cell c (cell.Live site source) || same_cell c (cell.Live site target)
+touches (MoveAlias site name m) n state c = same_cell c (cell.Kept site m) || same_cell c (cell.Alias site name)
+touches (RemoveAlias site name) n state c = same_cell c (cell.Alias site name)
+touches (Restore site m) n state c =
+    same_cell c (cell.Draft site m)
+    || (same_cell c (cell.Kept site m) || ((is_some (kept_at state site m) || is_some (draft_at state site m)) && is_live_of site c))
+touches (RemoveDeploy site m) n state c = same_cell c (cell.Kept site m) || is_alias_of site c
 
 -- whether it changes what stands in the cell; that nothing stands there counts as a value
 abbrev pub changes : Command → ℕ → State → Contents → Cell → Bool

@@ -1,5 +1,8 @@
 //! Commands, and the reasons to refuse one.
-use host_names::{Digest, SiteName};
+ghost use Rattle.std.specs.Prelude.{◌≡◌};
+ghost use Rattle.site_change.specs.Changes.{site_of_command};
+
+use host_names::{AliasName, Digest, FilePath, SiteName};
 use site_state::Listing;
 use thiserror::Error;
 
@@ -17,10 +20,67 @@ pub enum Command {
         site: SiteName,
         number: u64,
     },
+    /// Gives an open deploy up.
+    Cancel {
+        site: SiteName,
+        number: u64,
+    },
+    /// Serves nothing at a path any more.
+    Remove {
+        site: SiteName,
+        path: FilePath,
+    },
+    /// Serves the file of one path at another, where nothing is served.
+    Rename {
+        site: SiteName,
+        source: FilePath,
+        target: FilePath,
+    },
+    /// Makes an alias stand for a kept deploy.
+    MoveAlias {
+        site: SiteName,
+        name: AliasName,
+        number: u64,
+    },
+    /// Gives an alias up.
+    RemoveAlias {
+        site: SiteName,
+        name: AliasName,
+    },
+    /// Makes the files of a kept deploy those that the site serves, and no others; where no such deploy is kept, publishes
+    /// the open one of that number.
+    Restore {
+        site: SiteName,
+        number: u64,
+    },
+    /// Keeps a deploy no longer, for which no alias stands.
+    RemoveDeploy {
+        site: SiteName,
+        number: u64,
+    },
+}
+
+impl Command {
+    /// The site that it is for.
+    pub fn site(&self) -> &SiteName
+        ensures { result.now ≡ site_of_command self.now }
+    {
+        match self {
+            Command::Open { site, .. }
+            | Command::Publish { site, .. }
+            | Command::Cancel { site, .. }
+            | Command::Remove { site, .. }
+            | Command::Rename { site, .. }
+            | Command::MoveAlias { site, .. }
+            | Command::RemoveAlias { site, .. }
+            | Command::Restore { site, .. }
+            | Command::RemoveDeploy { site, .. } => site,
+        }
+    }
 }
 
 /// Why a command is refused.
-#[derive(Clone, Copy, Debug, PartialEq, Eq, Error)]
+#[derive(Debug, Drop, PartialEq, Eq, Error)]
 pub enum Refusal {
     /// There is no open deploy of that number.
     #[error("no such draft")]
@@ -28,6 +88,24 @@ pub enum Refusal {
     /// A file of the deploy was not uploaded; of several the one of the least digest is named.
     #[error("not complete")]
     NotComplete(Digest),
+    /// There is no deploy of that number that is kept, or, to be restored, open.
+    #[error("no such deploy")]
+    NoSuchDeploy,
+    /// No file is served at that path.
+    #[error("no such file")]
+    NoSuchFile,
+    /// A file is served at the new path.
+    #[error("path taken")]
+    PathTaken,
+    /// The two paths are one.
+    #[error("same path")]
+    SamePath,
+    /// There is no such alias.
+    #[error("no such alias")]
+    NoSuchAlias,
+    /// An alias stands for the deploy; of several the least is named.
+    #[error("the deploy is in use")]
+    DeployInUse(AliasName),
     /// The deploy lists more than 10,000 paths.
     #[error("too many files")]
     TooManyFiles,

@@ -1,24 +1,24 @@
 //! Deciding a command: whether it is refused, and else what it changes and touches.
 ghost use Rattle.std.specs.Prelude.{◌≡◌, IfOk, OnOk, Some, None, nat_lt, length, if◌then◌else◌};
-ghost use Rattle.std.specs.FinMap as map;
 ghost use Rattle.host_names.specs.declared.cells.Cell.TheVariants as cell;
 ghost use Rattle.site_state.specs.Missing.{least_missing_of};
-ghost use Rattle.site_state.specs.States.{draft_at};
+ghost use Rattle.site_state.specs.States.{draft_at, kept_at, with_cell};
 ghost use Rattle.site_state.specs.declared.values.Value.TheVariants as value;
 ghost use Rattle.site_change.specs.declared.commands.Refusal.TheVariants.{TooManyFiles};
 ghost use Rattle.site_change.specs.declared.commands.Command.TheVariants as command_of;
-ghost use Rattle.site_change.specs.Changes.{refusal, publish_refusal, applied, published, site_of_command, touches, tree_of, with_published};
+ghost use Rattle.site_change.specs.Changes.{refusal, publish_refusal, applied, published, restore_refusal, restored, site_of_command, touches, tree_of, with_published, with_served};
 ghost use Rattle.site_change.specs.Decisions.{IsDecision, IsRefusedBy};
 ghost use Rattle.site_change.specs.Plans.{IsDifference, WritesOfKind};
-ghost use Rattle.site_change.specs.TouchedCells.{AreTouched};
+ghost use Rattle.site_change.specs.TouchedCells.{AreTouched, is_of_deploy};
 
 use crate::commands::{Command, Refusal};
+use crate::few_cells::{cancel, move_alias, plan_one, remove, remove_alias, remove_deploy, rename};
 use crate::live::live_changes;
 use crate::plans::{Change, Plan, change_in, push_some};
 use crate::touched::Touched;
 use crate::trees::tree_of;
 use host_names::{Cell, SiteName, Uploads};
-use site_state::{Draft, Listing, State, Value, least_missing};
+use site_state::{Draft, Listing, State, Tree, Value, least_missing};
 use std::alloc::{AllocError, Global};
 use thiserror::Error;
 
@@ -26,7 +26,7 @@ use thiserror::Error;
 const MOST_FILES: usize = 10_000;
 
 /// Why a command has no plan.
-#[derive(Clone, Copy, Debug, PartialEq, Eq, Error)]
+#[derive(Debug, Drop, PartialEq, Eq, Error)]
 pub enum DecideError {
     /// The command is refused.
     #[error("{0}")]
@@ -80,8 +80,8 @@ fn open(
 ) -> Result<Plan, DecideError>
     ensures { IsDecision (if nat_lt 10000 (length files.now) then Some TooManyFiles else None)
         site.now (touches (command_of.Open site.now files.now auto) number state.now) state.now
-        (map.insert state.now (cell.Draft site.now number)
-        (value.Draft (record { auto = auto; files = files.now })))
+        (with_cell state.now (cell.Draft site.now number)
+        (Some (value.Draft (record { auto = auto; files = files.now }))))
         result }
 {
     if files.entries().len() > MOST_FILES {
@@ -89,11 +89,8 @@ fn open(
     }
     let cell = draft_cell(site, number)?;
     let draft = opened(files, auto)?;
-    let change = change_in(state, cell, Some(draft))?;
-    let mut changes = Vec::new(alloc);
-    push_some(&mut changes, change)?;
-    let touched = Touched::by_open(alloc, site, number)?;
-    Ok(Plan { changes, touched })
+    let plan = plan_one(alloc, state, site, cell, Some(draft))?;
+    Ok(plan)
 }
 
 /// What changes where a site comes to serve the files of a draft, of which none is missing.
@@ -119,6 +116,28 @@ fn publish_draft<U: Uploads>(
     Ok(changes)
 }
 
+/// What the publishing of this draft changes and touches.
+fn publish_open<U: Uploads>(
+    alloc: Global,
+    state: &State,
+    uploads: &U,
+    site: &SiteName,
+    number: u64,
+    draft: &Draft,
+) -> Result<Plan, DecideError>
+    ensures { IsDecision (publish_refusal (U.contents uploads.now) (Some draft.now))
+        site.now (is_of_deploy site.now number) state.now
+        (with_published site.now number (tree_of (U.contents uploads.now) draft.now.files) state.now)
+        result }
+{
+    if let Some(digest) = least_missing(draft, uploads) {
+        return Err(DecideError::Refused(Refusal::NotComplete(digest)));
+    }
+    let changes = publish_draft(alloc, state, uploads, site, number, draft)?;
+    let touched = Touched::deploy(alloc, site, number)?;
+    Ok(Plan { changes, touched })
+}
+
 /// What the publishing of an open deploy changes and touches.
 fn publish<U: Uploads>(
     alloc: Global,
@@ -132,15 +151,49 @@ fn publish<U: Uploads>(
         (published site.now number (U.contents uploads.now) state.now (draft_at state.now site.now number))
         result }
 {
-    let Some(draft) = state.draft(site, number) else {
-        return Err(DecideError::Refused(Refusal::NoSuchDraft));
-    };
-    if let Some(digest) = least_missing(draft, uploads) {
-        return Err(DecideError::Refused(Refusal::NotComplete(digest)));
+    match state.draft(site, number) {
+        Some(draft) => publish_open(alloc, state, uploads, site, number, draft),
+        None => Err(DecideError::Refused(Refusal::NoSuchDraft)),
     }
-    let changes = publish_draft(alloc, state, uploads, site, number, draft)?;
-    let touched = Touched::by_publish(alloc, site, number)?;
+}
+
+/// What changes and is touched where a site comes to serve the files of a kept deploy again.
+fn serve_kept(
+    alloc: Global,
+    state: &State,
+    site: &SiteName,
+    number: u64,
+    tree: &Tree,
+) -> Result<Plan, AllocError>
+    ensures changes { IfOk result (λ plan. IsDifference state.now (with_served site.now tree.now state.now) plan.changes.items) }
+    ensures touched { IfOk result (λ plan. AreTouched site.now (is_of_deploy site.now number) plan.touched) }
+{
+    let changes = live_changes(alloc, site, state.live(site), tree.entries())?;
+    let touched = Touched::deploy(alloc, site, number)?;
     Ok(Plan { changes, touched })
+}
+
+/// What the restoring of a deploy changes and touches.
+fn restore<U: Uploads>(
+    alloc: Global,
+    state: &State,
+    uploads: &U,
+    site: &SiteName,
+    number: u64,
+) -> Result<Plan, DecideError>
+    ensures { IsDecision (restore_refusal (U.contents uploads.now) (kept_at state.now site.now number) (draft_at state.now site.now number))
+        site.now (touches (command_of.Restore site.now number) 0 state.now) state.now
+        (restored site.now number (U.contents uploads.now) state.now (kept_at state.now site.now number) (draft_at state.now site.now number))
+        result }
+{
+    if let Some(tree) = state.kept(site, number) {
+        let plan = serve_kept(alloc, state, site, number, tree)?;
+        return Ok(plan);
+    }
+    match state.draft(site, number) {
+        Some(opened) => publish_open(alloc, state, uploads, site, number, opened),
+        None => Err(DecideError::Refused(Refusal::NoSuchDeploy)),
+    }
 }
 
 /// Decides a command that would become the entry of this number: what it changes in the state, with what was
@@ -163,5 +216,18 @@ pub fn decide<U: Uploads>(
     match command {
         Command::Open { site, files, auto } => open(alloc, state, number, site, files, *auto),
         Command::Publish { site, number } => publish(alloc, state, uploads, site, *number),
+        Command::Cancel { site, number } => cancel(alloc, state, site, *number),
+        Command::Remove { site, path } => remove(alloc, state, site, path),
+        Command::Rename {
+            site,
+            source,
+            target,
+        } => rename(alloc, state, site, source, target),
+        Command::MoveAlias { site, name, number } => {
+            move_alias(alloc, state, site, name, *number)
+        }
+        Command::RemoveAlias { site, name } => remove_alias(alloc, state, site, name),
+        Command::Restore { site, number } => restore(alloc, state, uploads, site, *number),
+        Command::RemoveDeploy { site, number } => remove_deploy(alloc, state, site, *number),
     }
 }

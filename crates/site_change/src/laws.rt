@@ -1,16 +1,17 @@
 //! Laws of changes, each the contract of a function that does nothing.
-ghost use Rattle.std.specs.Prelude.{◌≡◌, ◌≢◌, ◌↔◌, ℕ, Bool, true, List, None, Some};
+ghost use Rattle.std.specs.Prelude.{◌≡◌, ◌≢◌, ◌↔◌, ◌⊎◌, ℕ, Bool, true, List, None, Some};
 ghost use Rattle.std.specs.FinMap as map;
 ghost use Rattle.host_names.specs.Blobs.{Contents};
 ghost use Rattle.host_names.specs.declared.cells.Cell.{Cell};
 ghost use Rattle.host_names.specs.declared.cells.Cell.TheVariants as cell;
 ghost use Rattle.host_names.specs.declared.digests.Digest.{Digest};
+ghost use Rattle.host_names.specs.declared.names.AliasName.{AliasName};
 ghost use Rattle.host_names.specs.declared.names.SiteName.{SiteName};
 ghost use Rattle.site_state.specs.Files.{Paths};
 ghost use Rattle.site_state.specs.States.{State, draft_at};
 ghost use Rattle.site_state.specs.declared.values.Draft.{Draft};
 ghost use Rattle.site_change.specs.declared.commands.Command.{Command};
-ghost use Rattle.site_change.specs.declared.commands.Command.TheVariants.{Open, Publish};
+ghost use Rattle.site_change.specs.declared.commands.Command.TheVariants.{Open, Publish, Cancel, Remove, Rename, MoveAlias, RemoveAlias};
 ghost use Rattle.site_change.specs.Changes.{applied, changes, touches};
 ghost use Rattle.site_change.specs.Laws.{IsLocal, IsPartOfDeploy, LeavesOut, KeepsRunning};
 
@@ -55,4 +56,20 @@ pub fn a_publish_touches_its_deploy_alone()
         (touches (Publish site m) number state c ≡ true) ↔ IsPartOfDeploy site m c }
     ensures unknown { (site : SiteName) (m number : ℕ) (state : State) (c : Cell) → draft_at state site m ≡ None →
         (touches (Publish site m) number state c ≡ true) ↔ (c ≡ cell.Draft site m) }
+{}
+
+/// What the commands of few cells touch, each those of its row and no others: the giving up of a deploy its draft; a
+/// removal its path; a renaming both paths; the moving of an alias that alias and the kept deploy, which it reads; and the
+/// giving up of an alias that alias.
+pub fn commands_of_few_cells_touch_them_alone()
+    ensures cancelled { (site : SiteName) (m number : ℕ) (state : State) (c : Cell) →
+        (touches (Cancel site m) number state c ≡ true) ↔ (c ≡ cell.Draft site m) }
+    ensures removed { (site : SiteName) (path : List ℕ) (number : ℕ) (state : State) (c : Cell) →
+        (touches (Remove site path) number state c ≡ true) ↔ (c ≡ cell.Live site path) }
+    ensures renamed { (site : SiteName) (source target : List ℕ) (number : ℕ) (state : State) (c : Cell) →
+        (touches (Rename site source target) number state c ≡ true) ↔ ((c ≡ cell.Live site source) ⊎ (c ≡ cell.Live site target)) }
+    ensures moved { (site : SiteName) (name : AliasName) (m number : ℕ) (state : State) (c : Cell) →
+        (touches (MoveAlias site name m) number state c ≡ true) ↔ ((c ≡ cell.Kept site m) ⊎ (c ≡ cell.Alias site name)) }
+    ensures given_up { (site : SiteName) (name : AliasName) (number : ℕ) (state : State) (c : Cell) →
+        (touches (RemoveAlias site name) number state c ≡ true) ↔ (c ≡ cell.Alias site name) }
 {}

@@ -5,9 +5,14 @@ mod commands;
 #[cfg(test)]
 mod decide_tests;
 mod decisions;
+mod few_cells;
+#[cfg(test)]
+mod few_cells_tests;
 mod laws;
 mod live;
 mod plans;
+#[cfg(test)]
+mod restore_tests;
 #[cfg(test)]
 mod samples;
 mod touched;
@@ -20,6 +25,7 @@ pub use decisions::{DecideError, decide};
 pub use laws::{
     a_change_can_be_left_out, a_publish_touches_its_deploy_alone, accepted_stays_accepted,
     an_opening_touches_its_draft_alone, changes_are_where_the_states_differ, commands_are_local,
+    commands_of_few_cells_touch_them_alone,
 };
 pub use plans::{Change, Plan};
 pub use touched::Touched;

@@ -5,7 +5,7 @@ ghost use Rattle.site_state.specs.Files.{IsByPath};
 ghost use Rattle.site_state.specs.States as states;
 
 use super::*;
-use host_names::{BlobInfo, Cell, Digest, FilePath, MemoryUploads, SiteName};
+use host_names::{AliasName, BlobInfo, Cell, Digest, FilePath, MemoryUploads, SiteName};
 use site_state::{File, Listing, PathMap, State, Value};
 use std::alloc::{AllocError, Global};
 use std::process::Abort;
@@ -146,6 +146,52 @@ pub(crate) fn publish(site: &SiteName, number: u64) -> Result<Command, AllocErro
     })
 }
 
+pub(crate) fn cancel(site: &SiteName, number: u64) -> Result<Command, AllocError> {
+    let site = site.clone()?;
+    Ok(Command::Cancel { site, number })
+}
+
+pub(crate) fn remove(alloc: Global, site: &SiteName, path: &str) -> Result<Command, Fail> {
+    let site = site.clone()?;
+    let path = FilePath::read(alloc, path)?;
+    Ok(Command::Remove { site, path })
+}
+
+pub(crate) fn rename(
+    alloc: Global,
+    site: &SiteName,
+    source: &str,
+    target: &str,
+) -> Result<Command, Fail> {
+    Ok(Command::Rename {
+        site: site.clone()?,
+        source: FilePath::read(alloc, source)?,
+        target: FilePath::read(alloc, target)?,
+    })
+}
+
+pub(crate) fn move_alias(site: &SiteName, name: &str, number: u64) -> Result<Command, Fail> {
+    let site = site.clone()?;
+    let name = AliasName::new(name)?;
+    Ok(Command::MoveAlias { site, name, number })
+}
+
+pub(crate) fn remove_alias(site: &SiteName, name: &str) -> Result<Command, Fail> {
+    let site = site.clone()?;
+    let name = AliasName::new(name)?;
+    Ok(Command::RemoveAlias { site, name })
+}
+
+pub(crate) fn restore(site: &SiteName, number: u64) -> Result<Command, AllocError> {
+    let site = site.clone()?;
+    Ok(Command::Restore { site, number })
+}
+
+pub(crate) fn remove_deploy(site: &SiteName, number: u64) -> Result<Command, AllocError> {
+    let site = site.clone()?;
+    Ok(Command::RemoveDeploy { site, number })
+}
+
 /// Decides a command and carries it out, and tells its changes.
 pub(crate) fn done(
     rt: &impl Abort,
@@ -162,9 +208,9 @@ pub(crate) fn done(
 }
 
 pub(crate) fn is_refused(decided: Result<Plan, DecideError>, reason: Refusal) -> bool {
-    match decided {
-        Ok(_) => false,
-        Err(error) => error == DecideError::Refused(reason),
+    match &decided {
+        Err(DecideError::Refused(told)) => *told == reason,
+        Ok(_) | Err(DecideError::OutOfMemory) => false,
     }
 }
 

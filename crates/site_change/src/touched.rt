@@ -1,13 +1,12 @@
 //! What a command touches.
 ghost use Rattle.std.specs.Prelude.{◌≡◌, ◌||◌, IfOk};
-ghost use Rattle.host_names.specs.declared.cells.Cell.TheVariants as cell;
-ghost use Rattle.site_state.specs.States as states;
+ghost use Rattle.site_state.specs.States.{is_alias_of};
 ghost use Rattle.site_change.specs.Changes.{same_cell};
 ghost use Rattle.site_change.specs.TouchedCells as spec;
-ghost use Rattle.site_change.specs.TouchedCells.{AreTouched};
+ghost use Rattle.site_change.specs.TouchedCells.{AreTouched, is_of_deploy};
 
 use host_names::{Cell, SiteName};
-use site_state::is_live_of;
+use site_state::{is_alias_of, is_live_of};
 use std::alloc::{AllocError, Global};
 use std::collections::BTreeSet;
 
@@ -20,6 +19,8 @@ pub struct Touched {
     pub cells: BTreeSet<Cell>,
     /// Whether each path of it is touched as well, whether a file is there or not.
     pub all_live: bool,
+    /// Whether each alias of it is touched as well, whether it is there or not.
+    pub all_aliases: bool,
 }
 
 impl Touched {
@@ -27,33 +28,59 @@ impl Touched {
     pub fn contains(&self, cell: &Cell) -> bool
         ensures { result ≡ spec.is_touched self.now cell.now }
     {
-        self.cells.contains(cell) || (self.all_live && is_live_of(cell, &self.site))
+        self.cells.contains(cell)
+            || (self.all_live && is_live_of(cell, &self.site))
+            || (self.all_aliases && is_alias_of(cell, &self.site))
     }
 
-    /// The draft of this number.
-    pub(crate) fn by_open(
-        alloc: Global,
-        site: &SiteName,
-        number: u64,
-    ) -> Result<Touched, AllocError>
-        ensures { IfOk result (AreTouched site.now (λ c. same_cell c (cell.Draft site.now number))) }
+    /// One cell.
+    pub(crate) fn one(alloc: Global, site: &SiteName, cell: Cell) -> Result<Touched, AllocError>
+        ensures { IfOk result (AreTouched site.now (λ c. same_cell c cell)) }
     {
-        let draft = Cell::Draft(site.clone()?, number);
         Ok(Touched {
             site: site.clone()?,
-            cells: BTreeSet::from_array(alloc, [draft])?,
+            cells: BTreeSet::from_array(alloc, [cell])?,
             all_live: false,
+            all_aliases: false,
+        })
+    }
+
+    /// One cell, and every alias of the site.
+    pub(crate) fn one_and_aliases(
+        alloc: Global,
+        site: &SiteName,
+        cell: Cell,
+    ) -> Result<Touched, AllocError>
+        ensures { IfOk result (AreTouched site.now (λ c. same_cell c cell || is_alias_of site.now c)) }
+    {
+        Ok(Touched {
+            site: site.clone()?,
+            cells: BTreeSet::from_array(alloc, [cell])?,
+            all_live: false,
+            all_aliases: true,
+        })
+    }
+
+    /// Two cells.
+    pub(crate) fn two(
+        alloc: Global,
+        site: &SiteName,
+        first: Cell,
+        second: Cell,
+    ) -> Result<Touched, AllocError>
+        ensures { IfOk result (AreTouched site.now (λ c. same_cell c first || same_cell c second)) }
+    {
+        Ok(Touched {
+            site: site.clone()?,
+            cells: BTreeSet::from_array(alloc, [first, second])?,
+            all_live: false,
+            all_aliases: false,
         })
     }
 
     /// The draft and the kept deploy of this number, and every path of the site.
-    pub(crate) fn by_publish(
-        alloc: Global,
-        site: &SiteName,
-        number: u64,
-    ) -> Result<Touched, AllocError>
-        ensures { IfOk result (AreTouched site.now (λ c. same_cell c (cell.Draft site.now number)
-            || (same_cell c (cell.Kept site.now number) || states.is_live_of site.now c))) }
+    pub(crate) fn deploy(alloc: Global, site: &SiteName, number: u64) -> Result<Touched, AllocError>
+        ensures { IfOk result (AreTouched site.now (is_of_deploy site.now number)) }
     {
         let draft = Cell::Draft(site.clone()?, number);
         let kept = Cell::Kept(site.clone()?, number);
@@ -61,6 +88,7 @@ impl Touched {
             site: site.clone()?,
             cells: BTreeSet::from_array(alloc, [draft, kept])?,
             all_live: true,
+            all_aliases: false,
         })
     }
 }

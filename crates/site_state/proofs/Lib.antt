@@ -1,6 +1,8 @@
 pub mod Entries
 pub mod Items
+pub mod Ranges
 pub mod LiveRange
+pub mod AliasRange
 pub mod Edits
 pub mod Written
 pub mod LackingDigests

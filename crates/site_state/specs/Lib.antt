@@ -4,6 +4,8 @@ pub mod Items
 pub mod Keys
 pub mod Places
 pub mod LiveRange
+pub mod AliasRange
+pub mod Aliases
 pub mod Values
 pub mod SameValues
 pub mod Edits

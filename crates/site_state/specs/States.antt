@@ -79,3 +79,12 @@ is_live_of site c = false
 -- the files that the site serves, each in its cell, by path
 abbrev pub live_entries : State → SiteName → List (Cell × Value)
 live_entries state site = filter (λ e. is_live_of site e.0) (map.entries state)
+
+-- whether the cell is an alias of the site
+abbrev pub is_alias_of : SiteName → Cell → Bool
+is_alias_of site (cell.Alias other name) = bytes_eq site.0 other.0
+is_alias_of site c = false
+
+-- the aliases of the site, each in its cell, by name
+abbrev pub alias_entries : State → SiteName → List (Cell × Value)
+alias_entries state site = filter (λ e. is_alias_of site e.0) (map.entries state)

@@ -22,5 +22,5 @@ pub use drafts::{least_missing, missing};
 pub use files::File;
 pub use laws::the_least_missing_digest_is_least;
 pub use paths::PathMap;
-pub use states::{State, is_live_of};
+pub use states::{State, is_alias_of, is_live_of};
 pub use values::{Draft, Listing, Tree, Value};

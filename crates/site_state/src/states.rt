@@ -4,6 +4,8 @@ ghost use Rattle.std.specs.FinMap as map;
 ghost use Rattle.std.specs.List.Sorted.{IsStrictlySortedBy};
 ghost use Rattle.std.specs.Map.{keys_of};
 ghost use Rattle.host_names.specs.Cells.{cell_cmp};
+ghost use Rattle.site_state.specs.AliasRange;
+ghost use Rattle.site_state.specs.Aliases;
 ghost use Rattle.site_state.specs.Edits.{edited};
 ghost use Rattle.site_state.specs.Keys.{cell_of};
 ghost use Rattle.site_state.specs.LiveRange;
@@ -16,6 +18,7 @@ use crate::merge::merge;
 use crate::values::{Draft, Tree, Value};
 use host_names::{AliasName, Cell, FilePath, SiteName};
 use std::alloc::{AllocError, Global};
+use std::cmp::Ordering;
 use std::marker::Model;
 use std::mem;
 
@@ -100,6 +103,26 @@ fn is_of_site_before(cell: &Cell, site: &SiteName) -> bool
     cell.site().cmp(site).is_lt()
 }
 
+fn is_before_aliases(cell: &Cell, site: &SiteName) -> bool
+    ensures { result ≡ AliasRange.is_before_aliases cell.now site.now }
+{
+    match cell.site().cmp(site) {
+        Ordering::Less => true,
+        Ordering::Equal => matches!(cell, Cell::Live(..) | Cell::Kept(..)),
+        Ordering::Greater => false,
+    }
+}
+
+/// Whether a cell is an alias of a site.
+pub fn is_alias_of(cell: &Cell, site: &SiteName) -> bool
+    ensures { result ≡ States.is_alias_of site.now cell.now }
+{
+    match cell {
+        Cell::Alias(own, _) => site == own,
+        Cell::Live(..) | Cell::Kept(..) | Cell::Draft(..) => false,
+    }
+}
+
 /// Whether a cell is a path of a site, at which a file may be served.
 pub fn is_live_of(cell: &Cell, site: &SiteName) -> bool
     ensures { result ≡ States.is_live_of site.now cell.now }
@@ -110,8 +133,24 @@ pub fn is_live_of(cell: &Cell, site: &SiteName) -> bool
     }
 }
 
+/// The first of these aliases that stands for the deploy of a number.
+fn first_alias(aliases: &[(Cell, Value)], number: u64) -> Option<&AliasName>
+    ensures { option_copied result ≡ Aliases.first_alias number aliases.now }
+{
+    'aliases: for (cell, value) in aliases {
+        if matches!(value, Value::Alias(own) if *own == number) {
+            return match cell {
+                Cell::Alias(_, name) => Some(name),
+                Cell::Live(..) | Cell::Kept(..) | Cell::Draft(..) => None,
+            };
+        }
+    }
+    None
+}
+
 impl State {
-    ghost use Rattle.site_state.specs.States.{live_at, kept_at, alias_at, draft_at, live_entries, is_of_kind, may_stand, with_cell, with_cells};
+    ghost use Rattle.site_state.specs.Aliases.{alias_for};
+    ghost use Rattle.site_state.specs.States.{live_at, kept_at, alias_at, alias_entries, draft_at, live_entries, is_of_kind, may_stand, with_cell, with_cells};
 
     /// A state with nothing in it.
     pub fn new(alloc: Global) -> State
@@ -180,6 +219,24 @@ impl State {
             Some(Value::Alias(number)) => Some(*number),
             _ => None,
         }
+    }
+
+    /// The aliases of a site, each in its cell, by name.
+    fn aliases(&self, site: &SiteName) -> &[(Cell, Value)]
+        ensures { result.now ≡ alias_entries self.now site.now }
+    {
+        let items = self.items.as_slice();
+        let start = items.partition_point(|item| is_before_aliases(&item.0, site));
+        let behind = &items[start..];
+        let count = behind.partition_point(|item| is_alias_of(&item.0, site));
+        &behind[..count]
+    }
+
+    /// The first alias of a site, by name, that stands for the deploy of a number.
+    pub fn alias_for(&self, site: &SiteName, number: u64) -> Option<&AliasName>
+        ensures { option_copied result ≡ alias_for self.now site.now number }
+    {
+        first_alias(self.aliases(site), number)
     }
 
     /// The deploy that is open under a number.

@@ -1,5 +1,5 @@
 use Rattle.change_undo.proofs.GrowingClash.{clash-grows}
-use Rattle.change_undo.proofs.Runs.{history-grows, legal-runs}
+use Rattle.change_undo.proofs.Runs.{history-grows, legal-runs, undo_refusal-grows}
 use Rattle.change_undo.proofs.laws.histories_outlast_uploads.Goals as goal
 
 pub returns-clause-legal : goal.returns-clause-legal
@@ -11,3 +11,6 @@ returns-clause-run c = λ uploads more entries state within legal. (history-grow
 pub returns-clause-clash : goal.returns-clause-clash
 returns-clause-clash c uploads more entries k within legal =
     let ran = legal-runs uploads entries legal in clash-grows uploads more within entries k ran.0 ran.1
+
+pub returns-clause-refusal : goal.returns-clause-refusal
+returns-clause-refusal c = undo_refusal-grows

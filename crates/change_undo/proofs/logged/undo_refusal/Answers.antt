@@ -1,34 +1,53 @@
-use Rattle.std.proofs.Common.{◌≡◌, Bool, true, false, arith, sym, ap, ◌∙◌, cond, Some, None}
-use Rattle.std.specs.List.{list_any}
-use Rattle.change_undo.specs.Logged.{is_live}
-use Rattle.change_undo.specs.declared.entries.UndoRefusal.TheVariants.{AlreadyUndone, NotNewest}
-use Rattle.change_undo.proofs.Marks.{named_site, refusal_by_marks}
+use Rattle.std.proofs.Common.{◌≡◌, ℕ, cond, refl, Option, Some, None, option_map, Result, Ok, Err, IfOk, OnErr, IsSome, true, arith, sym, ap, ◌∙◌}
+use Rattle.std.specs.FinMap as map
+use Rattle.host_names.specs.Blobs.{Contents}
+use Rattle.change_undo.specs.declared.entries.UndoRefusal.{UndoRefusal}
+use Rattle.change_undo.specs.declared.entries.UndoRefusal.TheVariants.{AlreadyUndone, Clash}
+use Rattle.change_undo.specs.Clashes.{clash_in}
+use Rattle.change_undo.specs.Histories.{may_take_memory, undo_refusal}
+use Rattle.change_undo.specs.Kept.{ArePlanned}
+use Rattle.change_undo.specs.Logged.{entries_of, marked_live}
+use Rattle.host_names.specs.declared.cells.Cell.{Cell}
+use Rattle.change_undo.proofs.Marks.{named_site, refusal_by_mark}
 use Rattle.change_undo.proofs.logged.undo_refusal.Goals as goal
 
--- the answer, where the marks are known
-marked : (undone live : Bool) → undone ≡ true → cond undone (Some AlreadyUndone) (cond live (Some NotNewest) None) ≡ Some AlreadyUndone
-marked undone live e = ap (λ t. cond t (Some AlreadyUndone) (cond live (Some NotNewest) None)) e
+-- a reason that is answered is also one that is the same
+same_reason : {E : Type 0} (r : Result (Option UndoRefusal) E) (P : Contents → Type 0) (a b : Contents → Option UndoRefusal) → ((u : Contents) → a u ≡ b u)
+    → IfOk r (λ x. (u : Contents) → P u → x ≡ a u) → IfOk r (λ x. (u : Contents) → P u → x ≡ b u)
+same_reason (Ok x) P a b same h = λ u p. h u p ∙ same u
+same_reason (Err e) P a b same h = tt
 
-unmarked : (undone live live_now : Bool) → undone ≡ false → live ≡ live_now → cond undone (Some AlreadyUndone) (cond live (Some NotNewest) None) ≡ cond live_now (Some NotNewest) None
-unmarked undone live live_now e f =
-    ap (λ t. cond t (Some AlreadyUndone) (cond live (Some NotNewest) None)) e ∙ ap (λ t. cond t (Some NotNewest) None) f
+takes_memory : (clash : Option (ℕ × Cell)) → IsSome clash → may_take_memory (option_map (λ later. Clash later.0 later.1) clash) ≡ true
+takes_memory (Some later) h = refl
+takes_memory None h = cc h
 
-pub returns-in-Change : goal.returns-in-Change
-returns-in-Change c =
-    sym (refusal_by_marks c.args.limit c.args.logged.now c.args.site.now c.args.change c.index-logged-change.result c.in-Change.field-0 c.requires.marked
+without_memory : {A E : Type 0} (r : Result A E) (P : Contents → Type 0) (clash : Contents → Option (ℕ × Cell)) (b : Contents → Option UndoRefusal)
+    → ((u : Contents) → option_map (λ later. Clash later.0 later.1) (clash u) ≡ b u)
+    → OnErr r ((u : Contents) → P u → IsSome (clash u)) → OnErr r ((u : Contents) → P u → may_take_memory (b u) ≡ true)
+without_memory (Ok x) P clash b same h = tt
+without_memory (Err e) P clash b same h = λ u p. sym (ap may_take_memory (same u)) ∙ takes_memory (clash u) (h u p)
+
+pub returns-in-Change-clause-found : goal.returns-in-Change-clause-found
+returns-in-Change-clause-found c = λ uploads planned.
+    let clash = option_map (λ later. Clash later.0 later.1) (clash_in uploads c.args.change map.empty (marked_live 1 c.args.logged.now)) in
+    sym (refusal_by_mark uploads c.args.limit c.args.logged.now c.args.site.now c.args.change c.index-logged-change.result c.in-Change.field-0 c.requires.marked
     (omega arith) (omega arith) (omega arith) c.index-logged-change.is c.in-Change.is (named_site _ _ _ _ c.site.ensures c.in-Change.is c.if-ne.ensures)
-    ∙ marked _ _ c.if-named.true)
+    ∙ ap (λ t. cond t (Some AlreadyUndone) clash) c.if-named.true)
 
-pub returns-in-Change-2 : goal.returns-in-Change-2
-returns-in-Change-2 c =
-    let live = ap (list_any is_live) (sym c.split_at.ensures.back) ∙ sym c.has_live_change.ensures ∙ c.if-has_live_change.true in
-    sym (refusal_by_marks c.args.limit c.args.logged.now c.args.site.now c.args.change c.index-logged-change.result c.in-Change.field-0 c.requires.marked
-    (omega arith) (omega arith) (omega arith) c.index-logged-change.is c.in-Change.is (named_site _ _ _ _ c.site.ensures c.in-Change.is c.if-ne.ensures)
-    ∙ unmarked _ _ true c.if-named.false live)
+pub returns-in-Change-2-clause-found : goal.returns-in-Change-2-clause-found
+returns-in-Change-2-clause-found c =
+    let clash = λ (u : Contents). option_map (λ later. Clash later.0 later.1) (clash_in u c.args.change map.empty (marked_live 1 c.args.logged.now)) in
+    let P : Contents → Type 0 = λ u. ArePlanned u map.empty 1 c.args.logged.now in
+    same_reason c.clash_refusal.result P clash (λ u. undo_refusal u c.args.limit (entries_of c.args.logged.now) c.args.site.now c.args.change)
+    (λ u. sym (refusal_by_mark u c.args.limit c.args.logged.now c.args.site.now c.args.change c.index-logged-change.result c.in-Change-2.field-0 c.requires.marked
+    (omega arith) (omega arith) (omega arith) c.index-logged-change.is c.in-Change-2.is (named_site _ _ _ _ c.site.ensures c.in-Change-2.is c.if-ne.ensures)
+    ∙ ap (λ t. cond t (Some AlreadyUndone) (clash u)) c.if-named.false)) c.clash_refusal.ensures.found
 
-pub returns-in-Change-3 : goal.returns-in-Change-3
-returns-in-Change-3 c =
-    let live = ap (list_any is_live) (sym c.split_at.ensures.back) ∙ sym c.has_live_change.ensures ∙ c.if-has_live_change.false in
-    sym (refusal_by_marks c.args.limit c.args.logged.now c.args.site.now c.args.change c.index-logged-change.result c.in-Change.field-0 c.requires.marked
-    (omega arith) (omega arith) (omega arith) c.index-logged-change.is c.in-Change.is (named_site _ _ _ _ c.site.ensures c.in-Change.is c.if-ne.ensures)
-    ∙ unmarked _ _ false c.if-named.false live)
+pub returns-in-Change-2-clause-memory : goal.returns-in-Change-2-clause-memory
+returns-in-Change-2-clause-memory c =
+    let clash = λ (u : Contents). clash_in u c.args.change map.empty (marked_live 1 c.args.logged.now) in
+    let P : Contents → Type 0 = λ u. ArePlanned u map.empty 1 c.args.logged.now in
+    without_memory c.clash_refusal.result P clash (λ u. undo_refusal u c.args.limit (entries_of c.args.logged.now) c.args.site.now c.args.change)
+    (λ u. sym (refusal_by_mark u c.args.limit c.args.logged.now c.args.site.now c.args.change c.index-logged-change.result c.in-Change-2.field-0 c.requires.marked
+    (omega arith) (omega arith) (omega arith) c.index-logged-change.is c.in-Change-2.is (named_site _ _ _ _ c.site.ensures c.in-Change-2.is c.if-ne.ensures)
+    ∙ ap (λ t. cond t (Some AlreadyUndone) (option_map (λ later. Clash later.0 later.1) (clash u))) c.if-named.false)) c.clash_refusal.ensures.memory

@@ -1,4 +1,4 @@
-use Rattle.std.proofs.Common.{rules, ◌≡◌, Result, Ok, Err, subst, sym, arith, leb-false}
+use Rattle.std.proofs.Common.{rules, ◌≡◌, Result, Ok, Err, subst, sym, arith}
 use Rattle.host_server.specs.Serving.{Serves, Turns, is_last_at}
 use Rattle.host_server.specs.declared.connections.ConnectionFault.{ConnectionFault}
 use Rattle.host_server.specs.declared.connections.Next.{Next}

@@ -1,8 +1,8 @@
-use Rattle.std.proofs.Common.{rules, ◌≡◌, ℕ, List, Bool, true, Result, Err, subst, sym, ap}
+use Rattle.std.proofs.Common.{rules, ◌≡◌, Bool, true, Result, Err, subst, sym}
 use Rattle.std.specs.Io.KnownBytes.{Appends}
 use Rattle.host_api.specs.declared.refusals.Refusal.TheVariants.{BadHead, OutOfMemory}
 use Rattle.host_server.specs.Bodies.{answer_of}
-use Rattle.host_server.specs.Replies.{Answer, closes, refused_answer, sent_text}
+use Rattle.host_server.specs.Replies.{Answer, refused_answer, sent_text}
 use Rattle.host_server.specs.Serving.{IsCut, Turns}
 use Rattle.host_server.specs.declared.connections.ConnectionFault.{ConnectionFault}
 use Rattle.host_server.specs.declared.connections.ConnectionFault.TheVariants as fault

@@ -1,7 +1,6 @@
-use Rattle.std.proofs.Common.{rules, ◌≡◌, subst, inr}
+use Rattle.std.proofs.Common.{rules, subst, inr}
 use Rattle.host_server.specs.Hosts.{Host}
 use Rattle.host_server.specs.Serving.{Serves}
-use Rattle.host_server.specs.Solo.{empty_host}
 use Rattle.host_server.proofs.solo.run_solo.Goals as goal
 
 pub returns-in-Ok-Solo : goal.returns-in-Ok-Solo

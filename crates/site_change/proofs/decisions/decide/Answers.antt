@@ -1,4 +1,4 @@
-use Rattle.site_change.specs.declared.commands.Command.TheVariants.{Open, Publish}
+use Rattle.site_change.specs.declared.commands.Command.TheVariants.{Open, Publish, Cancel, Remove, Rename, MoveAlias, RemoveAlias, Restore, RemoveDeploy}
 use Rattle.site_change.proofs.OfKind.{decided_of_kind}
 use Rattle.site_change.proofs.decisions.decide.Goals as goal
 
@@ -9,3 +9,32 @@ returns-in-Open-clause-of_kind g c =
 pub returns-in-Publish-clause-of_kind : goal.returns-in-Publish-clause-of_kind
 returns-in-Publish-clause-of_kind g c =
     decided_of_kind (Publish c.in-Publish.site c.in-Publish.number) c.args.number c.args.state.now (g.U.Uploads.contents c.args.uploads.now) _ _ _ c.publish.result c.publish.ensures
+
+pub returns-in-Cancel-clause-of_kind : goal.returns-in-Cancel-clause-of_kind
+returns-in-Cancel-clause-of_kind g c =
+    decided_of_kind (Cancel c.in-Cancel.site c.in-Cancel.number) c.args.number c.args.state.now (g.U.Uploads.contents c.args.uploads.now) _ _ _ c.cancel.result c.cancel.ensures
+
+pub returns-in-Remove-clause-of_kind : goal.returns-in-Remove-clause-of_kind
+returns-in-Remove-clause-of_kind g c =
+    decided_of_kind (Remove c.in-Remove.site c.in-Remove.path) c.args.number c.args.state.now (g.U.Uploads.contents c.args.uploads.now) _ _ _ c.remove.result c.remove.ensures
+
+pub returns-in-Rename-clause-of_kind : goal.returns-in-Rename-clause-of_kind
+returns-in-Rename-clause-of_kind g c =
+    decided_of_kind (Rename c.in-Rename.site c.in-Rename.source c.in-Rename.target) c.args.number c.args.state.now (g.U.Uploads.contents c.args.uploads.now) _ _ _ c.rename.result c.rename.ensures
+
+pub returns-in-MoveAlias-clause-of_kind : goal.returns-in-MoveAlias-clause-of_kind
+returns-in-MoveAlias-clause-of_kind g c =
+    decided_of_kind (MoveAlias c.in-MoveAlias.site c.in-MoveAlias.name c.in-MoveAlias.number) c.args.number c.args.state.now (g.U.Uploads.contents c.args.uploads.now) _ _ _ c.move_alias.result c.move_alias.ensures
+
+pub returns-in-RemoveAlias-clause-of_kind : goal.returns-in-RemoveAlias-clause-of_kind
+returns-in-RemoveAlias-clause-of_kind g c =
+    decided_of_kind (RemoveAlias c.in-RemoveAlias.site c.in-RemoveAlias.name) c.args.number c.args.state.now (g.U.Uploads.contents c.args.uploads.now) _ _ _ c.remove_alias.result c.remove_alias.ensures
+
+pub returns-in-Restore-clause-of_kind : goal.returns-in-Restore-clause-of_kind
+returns-in-Restore-clause-of_kind g c =
+    decided_of_kind (Restore c.in-Restore.site c.in-Restore.number) c.args.number c.args.state.now (g.U.Uploads.contents c.args.uploads.now) _ _ _ c.restore.result c.restore.ensures
+
+pub returns-in-RemoveDeploy-clause-of_kind : goal.returns-in-RemoveDeploy-clause-of_kind
+returns-in-RemoveDeploy-clause-of_kind g c =
+    decided_of_kind (RemoveDeploy c.in-RemoveDeploy.site c.in-RemoveDeploy.number) c.args.number c.args.state.now (g.U.Uploads.contents c.args.uploads.now) _ _ _ c.remove_deploy.result
+    c.remove_deploy.ensures

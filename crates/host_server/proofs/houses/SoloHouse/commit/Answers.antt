@@ -1,4 +1,4 @@
-use Rattle.std.proofs.Common.{◌≡◌, subst}
+use Rattle.std.proofs.Common.{subst}
 use Rattle.host_server.specs.Hosts.{Host}
 use Rattle.host_server.specs.Reasons.{commit_refusal}
 use Rattle.host_server.proofs.Kept.{kept_by_commit}

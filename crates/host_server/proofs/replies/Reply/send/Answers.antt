@@ -1,4 +1,4 @@
-use Rattle.std.proofs.Common.{◌≡◌, ℕ, List, IfErr, subst, ap, ◌∙◌}
+use Rattle.std.proofs.Common.{ℕ, List, IfErr, subst, ap, ◌∙◌}
 use Rattle.http_wire.specs.Replies.{reply_text}
 use Rattle.http_wire.specs.Sending.{SentFront}
 use Rattle.host_server.specs.Bodies.{answer_of}

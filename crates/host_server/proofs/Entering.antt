@@ -1,0 +1,46 @@
+-- Commands that make one entry: all but an opening.
+use Rattle.std.proofs.Common.{◌≡◌, ◌⊎◌, inl, inr, ℕ, Bool, List, [], Option, Some, None, Result, Err, refl, sym, ap, ◌∙◌}
+use Rattle.host_names.specs.Blobs.{Contents}
+use Rattle.host_names.specs.declared.digests.Digest.{Digest}
+use Rattle.host_names.specs.declared.names.SiteName.{SiteName}
+use Rattle.site_state.specs.Files.{Paths}
+use Rattle.site_change.specs.declared.commands.Command.{Command}
+use Rattle.site_change.specs.declared.commands.Command.TheVariants as command_of
+use Rattle.host_api.specs.declared.refusals.Refusal.{Refusal}
+use Rattle.host_api.specs.declared.texts.Told.{Told}
+use Rattle.host_server.specs.Hosts.{Host}
+use Rattle.host_server.specs.Outcomes.{Outcome, AreRequired, Does, DoesCommit, commit_outcome, enter_outcome}
+use Rattle.host_server.specs.Reasons.{commit_refusal}
+
+abbrev pub IsNoOpening : Command → Type 0
+IsNoOpening command = (site : SiteName) (files : Paths Digest) (auto : Bool) → command ≡ command_of.Open site files auto → ⊥
+
+none_required : (uploads : Contents) (command : Command) → IsNoOpening command → AreRequired uploads command []
+none_required uploads (command_of.Open site files auto) other = absurd (other site files auto refl)
+none_required uploads (command_of.Publish site m) other = refl
+none_required uploads (command_of.Cancel site m) other = refl
+none_required uploads (command_of.Remove site path) other = refl
+none_required uploads (command_of.Rename site source target) other = refl
+none_required uploads (command_of.MoveAlias site name m) other = refl
+none_required uploads (command_of.RemoveAlias site name) other = refl
+none_required uploads (command_of.Restore site m) other = refl
+none_required uploads (command_of.RemoveDeploy site m) other = refl
+
+same_outcome : (host : Host) (command : Command) (refusal : Option Refusal) → IsNoOpening command → commit_outcome host command [] refusal ≡ enter_outcome host command refusal
+same_outcome host command (Some reason) other = refl
+same_outcome host (command_of.Open site files auto) None other = absurd (other site files auto refl)
+same_outcome host (command_of.Publish site m) None other = refl
+same_outcome host (command_of.Cancel site m) None other = refl
+same_outcome host (command_of.Remove site path) None other = refl
+same_outcome host (command_of.Rename site source target) None other = refl
+same_outcome host (command_of.MoveAlias site name m) None other = refl
+same_outcome host (command_of.RemoveAlias site name) None other = refl
+same_outcome host (command_of.Restore site m) None other = refl
+same_outcome host (command_of.RemoveDeploy site m) None other = refl
+
+pub enter_done : (result : Result Told Refusal) (next host : Host) (command : Command) → IsNoOpening command
+    → Does result next (enter_outcome host command (commit_refusal host command)) → DoesCommit result next host command
+enter_done result next host command other (inl none) = inl none
+enter_done result next host command other (inr done) =
+    let same = same_outcome host command (commit_refusal host command) other in
+    inr ([], none_required host.uploads command other, done.0 ∙ ap (λ (o : Outcome). o.told) (sym same), done.1 ∙ ap (λ (o : Outcome). o.host) (sym same))

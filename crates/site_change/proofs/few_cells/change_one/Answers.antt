@@ -1,0 +1,12 @@
+use Rattle.std.proofs.Common.{◌++◌, List, option_to_list, sym, subst, ◌∙◌}
+use Rattle.site_state.specs.States.{with_cell}
+use Rattle.site_change.specs.declared.plans.Change.{Change}
+use Rattle.site_change.specs.Plans.{IsDifference}
+use Rattle.site_change.proofs.Deciding.{one_change}
+use Rattle.site_change.proofs.few_cells.change_one.Goals as goal
+
+pub returns : goal.returns
+returns c =
+    let P : List Change → Type 0 = IsDifference c.args.state.now (with_cell c.args.state.now c.args.cell c.args.after) in
+    subst P (sym (c.in_ok-push_some.ensures ∙ (λ i. c.new-changes.ensures.items i ++ option_to_list (c.in_ok-change.ensures i))))
+    (one_change c.args.state.now c.args.cell c.args.after)

@@ -1,0 +1,26 @@
+-- Which alias stands for a deploy.
+use Rattle.std.specs.Prelude.{ℕ, Bool, false, ◌==◌, List, [], ◌∷◌, Option, Some, None, if◌then◌else◌}
+use Rattle.host_names.specs.declared.cells.Cell.{Cell}
+use Rattle.host_names.specs.declared.cells.Cell.TheVariants as cell
+use Rattle.host_names.specs.declared.names.AliasName.{AliasName}
+use Rattle.host_names.specs.declared.names.SiteName.{SiteName}
+use Rattle.site_state.specs.States.{State, alias_entries}
+use Rattle.site_state.specs.declared.values.Value.{Value}
+use Rattle.site_state.specs.declared.values.Value.TheVariants as value
+
+abbrev pub stands_for : ℕ → Value → Bool
+stands_for m (value.Alias n) = n == m
+stands_for m v = false
+
+abbrev pub name_in : Cell → Option AliasName
+name_in (cell.Alias site name) = Some name
+name_in c = None
+
+-- the name of the first of these aliases that stands for the deploy
+abbrev pub first_alias : ℕ → List (Cell × Value) → Option AliasName
+first_alias m [] = None
+first_alias m (e ∷ aliases) = if stands_for m e.1 then name_in e.0 else first_alias m aliases
+
+-- the least alias of the site that stands for the deploy
+abbrev pub alias_for : State → SiteName → ℕ → Option AliasName
+alias_for state site m = first_alias m (alias_entries state site)
