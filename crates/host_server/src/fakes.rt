@@ -95,9 +95,7 @@ fn push_command(text: &mut String, command: &Command) -> Result<(), AllocError> 
         }
         Command::RemoveAlias { site, name } => write!(text, "no alias {site} {name};"),
         Command::Restore { site, number } => write!(text, "restore {site} {number};"),
-        Command::RemoveDeploy { site, number } => {
-            write!(text, "remove deploy {site} {number};")
-        }
+        Command::RemoveDeploy { site, number } => { write!(text, "remove deploy {site} {number};") }
     }
 }
 

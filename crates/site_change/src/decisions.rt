@@ -89,8 +89,7 @@ fn open(
     }
     let cell = draft_cell(site, number)?;
     let draft = opened(files, auto)?;
-    let plan = plan_one(alloc, state, site, cell, Some(draft))?;
-    Ok(plan)
+    Ok(plan_one(alloc, state, site, cell, Some(draft))?)
 }
 
 /// What changes where a site comes to serve the files of a draft, of which none is missing.
@@ -187,8 +186,7 @@ fn restore<U: Uploads>(
         result }
 {
     if let Some(tree) = state.kept(site, number) {
-        let plan = serve_kept(alloc, state, site, number, tree)?;
-        return Ok(plan);
+        return Ok(serve_kept(alloc, state, site, number, tree)?);
     }
     match state.draft(site, number) {
         Some(opened) => publish_open(alloc, state, uploads, site, number, opened),

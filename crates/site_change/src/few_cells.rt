@@ -105,8 +105,7 @@ pub(crate) fn cancel(
         return Err(DecideError::Refused(Refusal::NoSuchDraft));
     }
     let draft = Cell::Draft(site.clone()?, number);
-    let plan = plan_one(alloc, state, site, draft, None)?;
-    Ok(plan)
+    Ok(plan_one(alloc, state, site, draft, None)?)
 }
 
 /// What the removal of a file changes and touches.
@@ -125,8 +124,7 @@ pub(crate) fn remove(
         return Err(DecideError::Refused(Refusal::NoSuchFile));
     }
     let live = live_cell(site, path)?;
-    let plan = plan_one(alloc, state, site, live, None)?;
-    Ok(plan)
+    Ok(plan_one(alloc, state, site, live, None)?)
 }
 
 /// What changes where these come to stand in two cells.
@@ -215,8 +213,7 @@ pub(crate) fn remove_alias(
         return Err(DecideError::Refused(Refusal::NoSuchAlias));
     }
     let alias = alias_cell(site, name)?;
-    let plan = plan_one(alloc, state, site, alias, None)?;
-    Ok(plan)
+    Ok(plan_one(alloc, state, site, alias, None)?)
 }
 
 /// What the removal of a kept deploy changes and touches.

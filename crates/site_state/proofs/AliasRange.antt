@@ -50,12 +50,12 @@ before_falls site a b less before = ⊎_elim
       | Greater ↦ λ e h. cc h
     ] refl before)
     (λ tie.
-      let same = texts-IsAntisymmetric (site_of a).0 (site_of b).0 tie.0 in
-      elim (texts (site_of b).0 site.0) as (λ r. texts (site_of b).0 site.0 ≡ r → by_site r (has_earlier_kind b) ≡ true → is_before_aliases a site ≡ true) [
-        | Less ↦ λ e h. ap (λ r. by_site r (has_earlier_kind a)) (ap (λ t. texts t site.0) same ∙ e)
-        | Equal ↦ λ e h. ap (λ r. by_site r (has_earlier_kind a)) (ap (λ t. texts t site.0) same ∙ e) ∙ kind_falls a b same less h
-        | Greater ↦ λ e h. cc h
-      ] refl before)
+    let same = texts-IsAntisymmetric (site_of a).0 (site_of b).0 tie.0 in
+    elim (texts (site_of b).0 site.0) as (λ r. texts (site_of b).0 site.0 ≡ r → by_site r (has_earlier_kind b) ≡ true → is_before_aliases a site ≡ true) [
+      | Less ↦ λ e h. ap (λ r. by_site r (has_earlier_kind a)) (ap (λ t. texts t site.0) same ∙ e)
+      | Equal ↦ λ e h. ap (λ r. by_site r (has_earlier_kind a)) (ap (λ t. texts t site.0) same ∙ e) ∙ kind_falls a b same less h
+      | Greater ↦ λ e h. cc h
+    ] refl before)
     (then_less (texts (site_of a).0 (site_of b).0) _ less)
 
 -- what comes before the aliases is none of them
