@@ -6,4 +6,5 @@ pub mod AliasRange
 pub mod Edits
 pub mod Written
 pub mod LackingDigests
+pub mod LeastAlias
 pub mod Two

@@ -1,10 +1,13 @@
 -- Which alias stands for a deploy.
-use Rattle.std.specs.Prelude.{ℕ, Bool, false, ◌==◌, List, [], ◌∷◌, Option, Some, None, if◌then◌else◌}
+use Rattle.std.specs.Prelude.{◌≡◌, ℕ, Bool, false, ◌==◌, List, [], ◌∷◌, Option, Some, None, if◌then◌else◌}
+use Rattle.std.specs.Cmp.Lexicographic.{slice_cmp}
+use Rattle.std.specs.Ordering.{nat_cmp}
+use Rattle.std.specs.declared.cmp.Ordering.TheVariants.{Less}
 use Rattle.host_names.specs.declared.cells.Cell.{Cell}
 use Rattle.host_names.specs.declared.cells.Cell.TheVariants as cell
 use Rattle.host_names.specs.declared.names.AliasName.{AliasName}
 use Rattle.host_names.specs.declared.names.SiteName.{SiteName}
-use Rattle.site_state.specs.States.{State, alias_entries}
+use Rattle.site_state.specs.States.{State, alias_at, alias_entries}
 use Rattle.site_state.specs.declared.values.Value.{Value}
 use Rattle.site_state.specs.declared.values.Value.TheVariants as value
 
@@ -24,3 +27,9 @@ first_alias m (e ∷ aliases) = if stands_for m e.1 then name_in e.0 else first_
 -- the least alias of the site that stands for the deploy
 abbrev pub alias_for : State → SiteName → ℕ → Option AliasName
 alias_for state site m = first_alias m (alias_entries state site)
+
+-- An alias of the site that stands for the deploy, where none before it by name does; or that none does.
+abbrev pub IsLeastAlias : State → SiteName → ℕ → Option AliasName → Type 0
+IsLeastAlias state site m None = (name : AliasName) → alias_at state site name ≡ Some m → ⊥
+IsLeastAlias state site m (Some name) =
+    (alias_at state site name ≡ Some m) × ((other : AliasName) → slice_cmp nat_cmp other.0 name.0 ≡ Less → alias_at state site other ≡ Some m → ⊥)

@@ -20,7 +20,7 @@ mod values;
 
 pub use drafts::{least_missing, missing};
 pub use files::File;
-pub use laws::the_least_missing_digest_is_least;
+pub use laws::{the_alias_for_a_deploy_is_least, the_least_missing_digest_is_least};
 pub use paths::PathMap;
 pub use states::{State, is_alias_of, is_live_of};
 pub use values::{Draft, Listing, Tree, Value};
