@@ -1,4 +1,4 @@
--- What the two commands change, put together from their parts.
+-- What a full publish, and writes of one cell or two, change, put together from their parts.
 use Rattle.std.proofs.Common.{◌≡◌, ℕ, Bool, true, false, cond, ◌||◌, List, [], ◌∷◌, ◌++◌, map, filter, Option, Some, None, option_map, option_to_list, ◌⊎◌, inl, inr, refl, sym, ap, subst, ◌∙◌}
 use Rattle.std.specs.FinMap as finmap
 use Rattle.std.specs.FinMap.Entries.{find-where_key, is_sorted-where_key}
@@ -55,7 +55,7 @@ in_tree : (site : SiteName) (tree : Paths (List ℕ)) (c : Cell) → is_live_of 
 in_tree site tree c live = ap (in_list (live_cells site tree)) (live_of site c live) ∙ in_tree_at site tree (text_of c)
 
 -- cells at paths of a site are in the order of the paths
-path_before : (site : SiteName) (p q : List ℕ) → slice_cmp nat_cmp p q ≡ Less → cell_cmp (cell.Live site p) (cell.Live site q) ≡ Less
+pub path_before : (site : SiteName) (p q : List ℕ) → slice_cmp nat_cmp p q ≡ Less → cell_cmp (cell.Live site p) (cell.Live site q) ≡ Less
 path_before site p q less = rw (tied_itself nat_list_cmp_total site.0) (ap (λ r. ordering_then r Equal) less)
 
 paths_before : (site : SiteName) (p : List ℕ) (tree : Paths (List ℕ)) → AllByRecursion (λ q. slice_cmp nat_cmp p q ≡ Less) (map (λ f. f.0) tree)
@@ -77,11 +77,11 @@ sides_of state site tree by_path = record {
 
 -- ---- a publish
 
-not_or : (a b : Bool) → (a || b) ≡ false → (a ≡ false) × (b ≡ false)
+pub not_or : (a b : Bool) → (a || b) ≡ false → (a ≡ false) × (b ≡ false)
 not_or true b e = cc e
 not_or false b e = (refl, e)
 
-or_cases : (a b : Bool) → (a || b) ≡ true → (a ≡ true) ⊎ (b ≡ true)
+pub or_cases : (a b : Bool) → (a || b) ≡ true → (a ≡ true) ⊎ (b ≡ true)
 or_cases true b e = inl refl
 or_cases false b e = inr e
 

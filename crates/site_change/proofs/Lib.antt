@@ -3,6 +3,7 @@ pub mod Differences
 pub mod Merging
 pub mod Composing
 pub mod Deciding
+pub mod Patches
 pub mod Listings
 pub mod OfKind
 pub mod PathLists

@@ -1,5 +1,5 @@
 -- All that a command reads or writes is what it touches.
-use Rattle.std.proofs.Common.{◌≡◌, ℕ, Bool, true, false, not, cond, ◌||◌, ◌&&◌, List, Option, Some, None, is_some, option_map, refl, sym, ap, ◌∙◌}
+use Rattle.std.proofs.Common.{◌≡◌, ℕ, Bool, true, false, not, cond, ◌||◌, List, Option, Some, None, option_map, refl, sym, ap, ◌∙◌}
 use Rattle.std.specs.FinMap as map
 use Rattle.std.specs.FinMap.Entries.{find-where_key, is_sorted-where_key, same_entries}
 use Rattle.std.specs.Str.{bytes_eq}
@@ -20,8 +20,9 @@ use Rattle.site_state.specs.declared.values.Value.TheVariants as value
 use Rattle.site_change.specs.declared.commands.Command.{Command}
 use Rattle.site_change.specs.declared.commands.Command.TheVariants.{Open, Publish, Cancel, Remove, Rename, MoveAlias, RemoveAlias, Restore, RemoveDeploy}
 use Rattle.site_change.specs.declared.commands.Refusal.TheVariants.{NoSuchDraft, NoSuchDeploy, NoSuchFile, NoSuchAlias}
-use Rattle.site_change.specs.Changes.{same_cell, needed, rename_refusal, publish_refusal, restore_refusal, removal_refusal, tree_of, published, restored, applied, touches, changes}
+use Rattle.site_change.specs.Changes.{same_cell, needed, rename_refusal, publish_refusal, restore_refusal, removal_refusal, tree_of, with_patch, with_published, published, restored, applied, is_listed, publish_touches, restore_touches, touches, changes}
 use Rattle.site_change.specs.Laws.{AgreeOn, SameEffect, IsLocal}
+use Rattle.site_change.proofs.Patches.{listed_value, get-with_patch, unlisted}
 use Rattle.site_change.proofs.Effects.{same_cell-itself, get-with_cell, get-with_two, get-served, get-published}
 
 pub same_value-itself : (v : Option Value) → same_value v v ≡ true
@@ -37,49 +38,55 @@ or_false false b e = (refl, e)
 or_true : (b : Bool) → (true || b) ≡ true
 or_true b = refl
 
--- what a publish touches, by the draft that it finds
-abbrev publish_touches : SiteName → ℕ → Option Draft → Cell → Bool
-publish_touches site m draft c = same_cell c (cell.Draft site m) || (is_some draft && (same_cell c (cell.Kept site m) || is_live_of site c))
+-- ---- a publish, by the draft that it finds
 
-publish_reads : (site : SiteName) (m : ℕ) (uploads : Contents) (state other : State) (draft : Option Draft) → AgreeOn (publish_touches site m draft) state other
-    → AgreeOn (publish_touches site m draft) (published site m uploads state draft) (published site m uploads other draft)
-publish_reads site m uploads state other None agree c h = agree c h
-publish_reads site m uploads state other (Some draft) agree c h =
-    let tree = tree_of uploads draft.files in
-    get-published site m tree other c
-    ∙ ap (λ v. cond (is_live_of site c) (option_map value.Live (at_path tree (text_of c)))
-    (cond (same_cell c (cell.Draft site m)) None (cond (same_cell c (cell.Kept site m)) (Some (value.Kept tree)) v))) (agree c h)
-    ∙ sym (get-published site m tree state c)
+-- what it leaves in a cell depends on what stood there alone
+publish_reads : (site : SiteName) (m : ℕ) (uploads : Contents) (state other : State) (draft : Option Draft) (c : Cell) → map.get other c ≡ map.get state c
+    → map.get (published site m uploads other draft) c ≡ map.get (published site m uploads state draft) c
+publish_reads site m uploads state other None c same = same
+publish_reads site m uploads state other (Some draft) c same =
+    let files = draft.files.1 in
+    let tree = tree_of uploads files in
+    elim (draft.files.0) as (λ b. map.get (cond b (with_patch site m uploads files other) (with_published site m tree other)) c
+    ≡ map.get (cond b (with_patch site m uploads files state) (with_published site m tree state)) c) [
+      | true ↦
+          get-with_patch site uploads m files other c ∙ ap (λ v. cond (same_cell c (cell.Draft site m)) None (listed_value site uploads files c v)) same
+          ∙ sym (get-with_patch site uploads m files state c)
+      | false ↦
+          get-published site m tree other c
+          ∙ ap (λ v. cond (is_live_of site c) (option_map value.Live (at_path tree (text_of c)))
+          (cond (same_cell c (cell.Draft site m)) None (cond (same_cell c (cell.Kept site m)) (Some (value.Kept tree)) v))) same
+          ∙ sym (get-published site m tree state c)
+    ]
 
-publish_writes : (site : SiteName) (m : ℕ) (uploads : Contents) (state : State) (draft : Option Draft) (c : Cell) → publish_touches site m draft c ≡ false
-    → map.get (published site m uploads state draft) c ≡ map.get state c
-publish_writes site m uploads state None c h = refl
-publish_writes site m uploads state (Some draft) c h =
-    let both = or_false (same_cell c (cell.Draft site m)) (same_cell c (cell.Kept site m) || is_live_of site c) h in
-    let rest = or_false (same_cell c (cell.Kept site m)) (is_live_of site c) both.1 in
-    get-published site m (tree_of uploads draft.files) state c ∙ rw (rest.1, both.0, rest.0) refl
+publish_writes : (site : SiteName) (m : ℕ) (uploads : Contents) (state : State) (draft : Option Draft) (c : Cell) → same_cell c (cell.Draft site m) ≡ false
+    → publish_touches site m draft c ≡ false → map.get (published site m uploads state draft) c ≡ map.get state c
+publish_writes site m uploads state None c not_draft h = refl
+publish_writes site m uploads state (Some draft) c not_draft h =
+    let files = draft.files.1 in
+    let tree = tree_of uploads files in
+    elim (draft.files.0) as (λ b. cond b (is_listed site files c) (same_cell c (cell.Kept site m) || is_live_of site c) ≡ false
+    → map.get (cond b (with_patch site m uploads files state) (with_published site m tree state)) c ≡ map.get state c) [
+      | true ↦ λ none.
+          get-with_patch site uploads m files state c ∙ ap (λ t. cond t None (listed_value site uploads files c (map.get state c))) not_draft
+          ∙ unlisted site uploads files c (map.get state c) none
+      | false ↦ λ others.
+          let rest = or_false (same_cell c (cell.Kept site m)) (is_live_of site c) others in
+          get-published site m tree state c ∙ rw (rest.1, not_draft, rest.0) refl
+    ] h
 
 -- ---- a restoring, by what it finds
 
-abbrev restore_touches : SiteName → ℕ → Option (Paths (List ℕ)) → Option Draft → Cell → Bool
-restore_touches site m kept draft c =
-    same_cell c (cell.Draft site m) || (same_cell c (cell.Kept site m) || ((is_some kept || is_some draft) && is_live_of site c))
+restore_reads : (site : SiteName) (m : ℕ) (uploads : Contents) (state other : State) (kept : Option (Paths (List ℕ))) (draft : Option Draft) (c : Cell) → map.get other c ≡ map.get state c
+    → map.get (restored site m uploads other kept draft) c ≡ map.get (restored site m uploads state kept draft) c
+restore_reads site m uploads state other (Some tree) draft c same =
+    get-served site tree other c ∙ ap (cond (is_live_of site c) (option_map value.Live (at_path tree (text_of c)))) same ∙ sym (get-served site tree state c)
+restore_reads site m uploads state other None draft c same = publish_reads site m uploads state other draft c same
 
-restore_reads : (site : SiteName) (m : ℕ) (uploads : Contents) (state other : State) (kept : Option (Paths (List ℕ))) (draft : Option Draft)
-    → AgreeOn (restore_touches site m kept draft) state other
-    → AgreeOn (restore_touches site m kept draft) (restored site m uploads state kept draft) (restored site m uploads other kept draft)
-restore_reads site m uploads state other (Some tree) draft agree c h =
-    get-served site tree other c ∙ ap (cond (is_live_of site c) (option_map value.Live (at_path tree (text_of c)))) (agree c h) ∙ sym (get-served site tree state c)
-restore_reads site m uploads state other None None agree c h = agree c h
-restore_reads site m uploads state other None (Some draft) agree c h = publish_reads site m uploads state other (Some draft) agree c h
-
-restore_writes : (site : SiteName) (m : ℕ) (uploads : Contents) (state : State) (kept : Option (Paths (List ℕ))) (draft : Option Draft) (c : Cell)
+restore_writes : (site : SiteName) (m : ℕ) (uploads : Contents) (state : State) (kept : Option (Paths (List ℕ))) (draft : Option Draft) (c : Cell) → same_cell c (cell.Draft site m) ≡ false
     → restore_touches site m kept draft c ≡ false → map.get (restored site m uploads state kept draft) c ≡ map.get state c
-restore_writes site m uploads state (Some tree) draft c h =
-    let rest = or_false (same_cell c (cell.Kept site m)) (is_live_of site c) (or_false (same_cell c (cell.Draft site m)) _ h).1 in
-    get-served site tree state c ∙ rw rest.1 refl
-restore_writes site m uploads state None None c h = refl
-restore_writes site m uploads state None (Some draft) c h = publish_writes site m uploads state (Some draft) c h
+restore_writes site m uploads state (Some tree) draft c not_draft h = get-served site tree state c ∙ rw h refl
+restore_writes site m uploads state None draft c not_draft h = publish_writes site m uploads state draft c not_draft h
 
 -- the draft is touched, so it is the same
 same_draft : (site : SiteName) (m : ℕ) (state other : State) → AgreeOn (touches (Publish site m) 0 state) state other → draft_at other site m ≡ draft_at state site m
@@ -140,8 +147,8 @@ command_reads (Open site files auto) n state uploads other agree = record {
 command_reads (Publish site m) n state uploads other agree =
     let same = same_draft site m state other agree in record {
       answer = ap (publish_refusal uploads) same;
-      touched = λ c. ap (λ draft. publish_touches site m draft c) same;
-      values = λ c h. ap (λ draft. map.get (published site m uploads other draft) c) same ∙ publish_reads site m uploads state other (draft_at state site m) agree c h;
+      touched = λ c. ap (λ draft. same_cell c (cell.Draft site m) || publish_touches site m draft c) same;
+      values = λ c h. ap (λ draft. map.get (published site m uploads other draft) c) same ∙ publish_reads site m uploads state other (draft_at state site m) c (agree c h);
     }
 command_reads (Cancel site m) n state uploads other agree = record {
   answer = ap (λ v. needed NoSuchDraft (as_draft v)) (agree (cell.Draft site m) (same_cell-itself (cell.Draft site m)));
@@ -178,13 +185,13 @@ command_reads (RemoveAlias site name) n state uploads other agree = record {
 command_reads (Restore site m) n state uploads other agree =
     let k = cell.Kept site m in
     let d = cell.Draft site m in
-    let alive = (is_some (kept_at state site m) || is_some (draft_at state site m)) in
-    let same_draft : draft_at other site m ≡ draft_at state site m = ap as_draft (agree d (or_here d (same_cell d k || (alive && is_live_of site d)))) in
-    let same_kept : kept_at other site m ≡ kept_at state site m = ap as_tree (agree k (or_second (same_cell k d) k (alive && is_live_of site k))) in record {
+    let others = restore_touches site m (kept_at state site m) (draft_at state site m) in
+    let same_draft : draft_at other site m ≡ draft_at state site m = ap as_draft (agree d (or_here d (same_cell d k || others d))) in
+    let same_kept : kept_at other site m ≡ kept_at state site m = ap as_tree (agree k (or_second (same_cell k d) k (others k))) in record {
       answer = λ i. restore_refusal uploads (same_kept i) (same_draft i);
-      touched = λ c i. restore_touches site m (same_kept i) (same_draft i) c;
+      touched = λ c i. same_cell c d || (same_cell c k || restore_touches site m (same_kept i) (same_draft i) c);
       values = λ c h. (λ i. map.get (restored site m uploads other (same_kept i) (same_draft i)) c)
-          ∙ restore_reads site m uploads state other (kept_at state site m) (draft_at state site m) agree c h;
+          ∙ restore_reads site m uploads state other (kept_at state site m) (draft_at state site m) c (agree c h);
     }
 command_reads (RemoveDeploy site m) n state uploads other agree =
     let k = cell.Kept site m in
@@ -198,7 +205,9 @@ command_reads (RemoveDeploy site m) n state uploads other agree =
 pub command_writes : (command : Command) (n : ℕ) (state : State) (uploads : Contents) (c : Cell) → touches command n state c ≡ false
     → map.get (applied command n state uploads) c ≡ map.get state c
 command_writes (Open site files auto) n state uploads c h = write_leaves (cell.Draft site n) (Some (value.Draft (record { auto = auto; files = files }))) state c h
-command_writes (Publish site m) n state uploads c h = publish_writes site m uploads state (draft_at state site m) c h
+command_writes (Publish site m) n state uploads c h =
+    let parts = or_false (same_cell c (cell.Draft site m)) (publish_touches site m (draft_at state site m) c) h in
+    publish_writes site m uploads state (draft_at state site m) c parts.0 parts.1
 command_writes (Cancel site m) n state uploads c h = write_leaves (cell.Draft site m) None state c h
 command_writes (Remove site path) n state uploads c h = write_leaves (cell.Live site path) None state c h
 command_writes (Rename site source target) n state uploads c h =
@@ -209,7 +218,10 @@ command_writes (Rename site source target) n state uploads c h =
 command_writes (MoveAlias site name m) n state uploads c h =
     write_leaves (cell.Alias site name) (Some (value.Alias m)) state c (or_false (same_cell c (cell.Kept site m)) (same_cell c (cell.Alias site name)) h).1
 command_writes (RemoveAlias site name) n state uploads c h = write_leaves (cell.Alias site name) None state c h
-command_writes (Restore site m) n state uploads c h = restore_writes site m uploads state (kept_at state site m) (draft_at state site m) c h
+command_writes (Restore site m) n state uploads c h =
+    let others = restore_touches site m (kept_at state site m) (draft_at state site m) c in
+    let parts = or_false (same_cell c (cell.Draft site m)) (same_cell c (cell.Kept site m) || others) h in
+    restore_writes site m uploads state (kept_at state site m) (draft_at state site m) c parts.0 (or_false (same_cell c (cell.Kept site m)) others parts.1).1
 command_writes (RemoveDeploy site m) n state uploads c h = write_leaves (cell.Kept site m) None state c (or_false (same_cell c (cell.Kept site m)) (is_alias_of site c) h).0
 
 command_changes : (command : Command) (n : ℕ) (state : State) (uploads : Contents) (c : Cell) → changes command n state uploads c ≡ true → touches command n state c ≡ true

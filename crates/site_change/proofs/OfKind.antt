@@ -8,6 +8,7 @@ use Rattle.host_names.specs.Cells.{text_of}
 use Rattle.host_names.specs.declared.names.SiteName.{SiteName}
 use Rattle.host_names.specs.declared.cells.Cell.{Cell}
 use Rattle.host_names.specs.declared.cells.Cell.TheVariants as cell
+use Rattle.host_names.specs.declared.digests.Digest.{Digest}
 use Rattle.site_state.specs.Files.{Paths, at_path}
 use Rattle.site_state.specs.States.{State, with_cell, live_at, kept_at, draft_at, is_live_of, may_stand}
 use Rattle.site_state.specs.declared.values.Draft.{Draft}
@@ -20,8 +21,9 @@ use Rattle.site_change.specs.declared.decisions.DecideError.{DecideError}
 use Rattle.site_change.specs.declared.plans.Change.{Change}
 use Rattle.site_change.specs.declared.plans.Plan.{Plan}
 use Rattle.site_change.specs.Decisions.{IsDecision}
-use Rattle.site_change.specs.Changes.{same_cell, tree_of, with_served, with_published, published, restored, applied}
+use Rattle.site_change.specs.Changes.{same_cell, tree_of, with_served, with_published, with_listed, with_patch, published, restored, applied}
 use Rattle.site_change.specs.Plans.{IsChange, IsDifference, WritesOfKind}
+use Rattle.site_change.proofs.Patches.{get-with_listed, listed_fits}
 use Rattle.site_change.proofs.Effects.{one_cell, get-with_cell, live_of, get-served, get-published, published_value}
 
 -- a cell is left as it is, or gets something of its kind
@@ -80,9 +82,25 @@ module _ (site : SiteName) (m : ℕ) (tree : Paths (List ℕ)) (state : State) (
         ] refl
       ] refl
 
+listed_fit : (site : SiteName) (uploads : Contents) (files : Paths (Option Digest)) (state : State) (c : Cell) → IsLeftOrFits state (with_listed site uploads files state) c
+listed_fit site uploads files state c = elim (listed_fits site uploads files c (map.get state c)) [
+  | inl left ↦ inl (get-with_listed site uploads files state c ∙ left)
+  | inr fits ↦ inr (ap (may_stand c) (get-with_listed site uploads files state c) ∙ fits)
+]
+
+patch_fits : (site : SiteName) (m : ℕ) (uploads : Contents) (files : Paths (Option Digest)) (state : State) (c : Cell) → IsLeftOrFits state (with_patch site m uploads files state) c
+patch_fits site m uploads files state c =
+    let served = with_listed site uploads files state in
+    both_fit state served (with_patch site m uploads files state) c (listed_fit site uploads files state c) (write_fits served (cell.Draft site m) None refl c)
+
 publish_fits : (site : SiteName) (m : ℕ) (uploads : Contents) (state : State) (draft : Option Draft) (c : Cell) → IsLeftOrFits state (published site m uploads state draft) c
 publish_fits site m uploads state None c = inl refl
-publish_fits site m uploads state (Some draft) c = published_fits site m (tree_of uploads draft.files) state c
+publish_fits site m uploads state (Some draft) c =
+    let files = draft.files.1 in
+    elim (draft.files.0) as (λ b. IsLeftOrFits state (cond b (with_patch site m uploads files state) (with_published site m (tree_of uploads files) state)) c) [
+      | true ↦ patch_fits site m uploads files state c
+      | false ↦ published_fits site m (tree_of uploads files) state c
+    ]
 
 served_fits : (site : SiteName) (tree : Paths (List ℕ)) (state : State) (c : Cell) → IsLeftOrFits state (with_served site tree state) c
 served_fits site tree state c =

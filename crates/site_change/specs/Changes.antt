@@ -1,6 +1,7 @@
 -- What a command does under the number n, to a state, with these uploads.
-use Rattle.std.specs.Prelude.{◌≡◌, ℕ, List, [], ◌∷◌, Bool, true, false, not, ◌&&◌, ◌||◌, nat_lt, Option, Some, None, is_some, unwrap_or, option_map, map, length, if◌then◌else◌}
+use Rattle.std.specs.Prelude.{◌≡◌, ℕ, List, [], ◌∷◌, Bool, true, false, not, ◌||◌, nat_lt, Option, Some, None, unwrap_or, option_map, map, filter_map, length, if◌then◌else◌}
 use Rattle.std.specs.FinMap as map
+use Rattle.std.specs.List.{list_any}
 use Rattle.std.specs.Ordering.{eq_by_cmp}
 use Rattle.std.specs.Str.{bytes_eq}
 use Rattle.host_names.specs.Blobs.{Contents}
@@ -29,7 +30,7 @@ same_cell = eq_by_cmp cell_cmp
 
 abbrev pub publish_refusal : Contents → Option Draft → Option Refusal
 publish_refusal uploads None = Some NoSuchDraft
-publish_refusal uploads (Some draft) = option_map NotComplete (least_missing_of uploads draft.files)
+publish_refusal uploads (Some draft) = option_map NotComplete (least_missing_of uploads draft.files.1)
 
 -- this reason, unless there is something
 abbrev pub needed : {A : Type 0} → Refusal → Option A → Option Refusal
@@ -56,7 +57,7 @@ removal_refusal (Some tree) alias = option_map DeployInUse alias
 
 -- the first reason to refuse the command, if there is one
 abbrev pub refusal : Command → ℕ → State → Contents → Option Refusal
-refusal (Open site files auto) n state uploads = if nat_lt 10000 (length files) then Some TooManyFiles else None
+refusal (Open site files auto) n state uploads = if nat_lt 10000 (length files.1) then Some TooManyFiles else None
 refusal (Publish site m) n state uploads = publish_refusal uploads (draft_at state site m)
 refusal (Cancel site m) n state uploads = needed NoSuchDraft (draft_at state site m)
 refusal (Remove site path) n state uploads = needed NoSuchFile (live_at state site path)
@@ -68,9 +69,14 @@ refusal (RemoveDeploy site m) n state uploads = removal_refusal (kept_at state s
 
 -- ---- what it leaves
 
+-- what was uploaded under the digest that is listed; nothing where a removal is
+abbrev pub file_at : Contents → Option Digest → Option (List ℕ)
+file_at uploads None = None
+file_at uploads (Some digest) = Some (unwrap_or (map.get uploads digest) [])
+
 -- the listed files, each with what was uploaded under its digest
-abbrev pub tree_of : Contents → Paths Digest → Paths (List ℕ)
-tree_of uploads files = map (λ f. (f.0, unwrap_or (map.get uploads f.1) [])) files
+abbrev pub tree_of : Contents → Paths (Option Digest) → Paths (List ℕ)
+tree_of uploads files = filter_map (λ f. option_map (λ bytes. (f.0, bytes)) (file_at uploads f.1)) files
 
 -- the state in which the site serves nothing
 abbrev pub without_live : SiteName → State → State
@@ -90,9 +96,20 @@ abbrev pub with_published : SiteName → ℕ → Paths (List ℕ) → State → 
 with_published site m tree state =
     with_served site tree (with_cell (with_cell state (cell.Kept site m) (Some (value.Kept tree))) (cell.Draft site m) None)
 
+-- at each listed path the site serves the file that is listed, or none; what it serves elsewhere stays
+abbrev pub with_listed : SiteName → Contents → Paths (Option Digest) → State → State
+with_listed site uploads [] state = state
+with_listed site uploads (f ∷ files) state =
+    with_cell (with_listed site uploads files state) (cell.Live site f.0) (option_map value.Live (file_at uploads f.1))
+
+-- and no draft has that number
+abbrev pub with_patch : SiteName → ℕ → Contents → Paths (Option Digest) → State → State
+with_patch site m uploads files state = with_cell (with_listed site uploads files state) (cell.Draft site m) None
+
 abbrev pub published : SiteName → ℕ → Contents → State → Option Draft → State
 published site m uploads state None = state
-published site m uploads state (Some draft) = with_published site m (tree_of uploads draft.files) state
+published site m uploads state (Some draft) =
+    if draft.files.0 then with_patch site m uploads draft.files.1 state else with_published site m (tree_of uploads draft.files.1) state
 
 -- the site serves a kept deploy again, or else what is open is published
 abbrev pub restored : SiteName → ℕ → Contents → State → Option (Paths (List ℕ)) → Option Draft → State
@@ -129,12 +146,26 @@ site_of_command (RemoveAlias site name) = site
 site_of_command (Restore site m) = site
 site_of_command (RemoveDeploy site m) = site
 
--- whether the command touches the cell. A publish that finds its draft, and a restoring that finds a kept deploy or a draft,
--- touch each path of their site, whether a file is there or not
+-- whether it is one of the listed paths of the site
+abbrev pub is_listed : SiteName → Paths (Option Digest) → Cell → Bool
+is_listed site files c = list_any (same_cell c) (map (λ f. cell.Live site f.0) files)
+
+-- what a publish touches besides the draft, by what it finds there: of a patch the listed paths, of any other deploy the kept
+-- deploy and each path of its site, whether a file is there or not
+abbrev pub publish_touches : SiteName → ℕ → Option Draft → Cell → Bool
+publish_touches site m None c = false
+publish_touches site m (Some draft) c = if draft.files.0 then is_listed site draft.files.1 c else (same_cell c (cell.Kept site m) || is_live_of site c)
+
+-- what a restoring touches besides the draft and the kept deploy: each path of its site where the deploy is kept, and else what
+-- a publish would
+abbrev pub restore_touches : SiteName → ℕ → Option (Paths (List ℕ)) → Option Draft → Cell → Bool
+restore_touches site m (Some tree) draft c = is_live_of site c
+restore_touches site m None draft c = publish_touches site m draft c
+
+-- whether the command touches the cell
 abbrev pub touches : Command → ℕ → State → Cell → Bool
 touches (Open site files auto) n state c = same_cell c (cell.Draft site n)
-touches (Publish site m) n state c =
-    same_cell c (cell.Draft site m) || (is_some (draft_at state site m) && (same_cell c (cell.Kept site m) || is_live_of site c))
+touches (Publish site m) n state c = same_cell c (cell.Draft site m) || publish_touches site m (draft_at state site m) c
 touches (Cancel site m) n state c = same_cell c (cell.Draft site m)
 touches (Remove site path) n state c = same_cell c (cell.Live site path)
 touches (Rename site source target) n state c = same_cell c (cell.Live site source) || same_cell c (cell.Live site target)
@@ -142,7 +173,7 @@ touches (MoveAlias site name m) n state c = same_cell c (cell.Kept site m) || sa
 touches (RemoveAlias site name) n state c = same_cell c (cell.Alias site name)
 touches (Restore site m) n state c =
     same_cell c (cell.Draft site m)
-    || (same_cell c (cell.Kept site m) || ((is_some (kept_at state site m) || is_some (draft_at state site m)) && is_live_of site c))
+    || (same_cell c (cell.Kept site m) || restore_touches site m (kept_at state site m) (draft_at state site m) c)
 touches (RemoveDeploy site m) n state c = same_cell c (cell.Kept site m) || is_alias_of site c
 
 -- whether it changes what stands in the cell; that nothing stands there counts as a value

@@ -1,19 +1,22 @@
 -- What differs between two readings of cells.
 use Rattle.std.specs.Prelude.{◌≡◌, ◌≢◌, ℕ, ◌+◌, ◌<◌, List, ◌++◌, map, length, Bool, true, not, Option, Some, None, option_to_list, if◌then◌else◌}
+use Rattle.std.specs.FinMap as finmap
 use Rattle.std.specs.FinMap.{find}
 use Rattle.std.specs.List.{AllByRecursion, list_all}
 use Rattle.std.specs.List.Sorted.{IsStrictlySortedBy}
+use Rattle.host_names.specs.Blobs.{Contents}
 use Rattle.host_names.specs.Cells.{cell_cmp}
 use Rattle.host_names.specs.declared.names.SiteName.{SiteName}
 use Rattle.host_names.specs.declared.cells.Cell.{Cell}
 use Rattle.host_names.specs.declared.cells.Cell.TheVariants as cell
+use Rattle.host_names.specs.declared.digests.Digest.{Digest}
 use Rattle.site_state.specs.Files.{Paths}
-use Rattle.site_state.specs.States.{is_live_of}
+use Rattle.site_state.specs.States.{State, is_live_of}
 use Rattle.site_state.specs.Values.{same_value}
 use Rattle.site_state.specs.declared.values.Value.{Value}
 use Rattle.site_state.specs.declared.values.Value.TheVariants as value
 use Rattle.site_change.specs.declared.plans.Change.{Change}
-use Rattle.site_change.specs.Changes.{same_cell}
+use Rattle.site_change.specs.Changes.{same_cell, is_listed, with_listed}
 
 -- what stands in each cell
 abbrev pub Reading : Type 0
@@ -58,3 +61,8 @@ pub record IsStep (site : SiteName) (live : List (Cell × Value)) (tree : Paths 
 -- what changes in a cell
 abbrev pub change_at : Cell → Option Value → Option Value → Option Change
 change_at c before after = if same_value before after then None else Some (record { cell = c; before = before; after = after })
+
+-- The changes of the listed paths of a site, where each comes to serve what is listed for it.
+abbrev pub AreListedChanges : SiteName → Contents → Paths (Option Digest) → State → List Change → Type 0
+AreListedChanges site uploads files state =
+    AreChangesIn (is_listed site files) (finmap.get state) (finmap.get (with_listed site uploads files state))

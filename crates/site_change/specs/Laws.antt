@@ -1,10 +1,12 @@
 -- Laws of changes.
-use Rattle.std.specs.Prelude.{◌≡◌, ◌⊎◌, ℕ, List, ◌∷◌, Bool, true, false, Some, if◌then◌else◌}
+use Rattle.std.specs.Prelude.{◌≡◌, ◌⊎◌, ℕ, List, ◌∷◌, map, Contains, Bool, true, false, Option, Some, if◌then◌else◌}
 use Rattle.std.specs.FinMap as map
 use Rattle.host_names.specs.Blobs.{Contents}
+use Rattle.host_names.specs.declared.digests.Digest.{Digest}
 use Rattle.host_names.specs.declared.names.SiteName.{SiteName}
 use Rattle.host_names.specs.declared.cells.Cell.{Cell}
 use Rattle.host_names.specs.declared.cells.Cell.TheVariants as cell
+use Rattle.site_state.specs.Files.{Paths}
 use Rattle.site_state.specs.States.{State}
 use Rattle.site_change.specs.declared.commands.Command.{Command}
 use Rattle.site_change.specs.Changes.{refusal, applied, touches, changes, run_from, AvoidAll, IsWithin}
@@ -12,6 +14,14 @@ use Rattle.site_change.specs.Changes.{refusal, applied, touches, changes, run_fr
 -- The cell is the draft, the kept deploy of the same number, or any path of the site.
 abbrev pub IsPartOfDeploy : SiteName → ℕ → Cell → Type 0
 IsPartOfDeploy site m c = (c ≡ cell.Draft site m) ⊎ (c ≡ cell.Kept site m) ⊎ ((path : List ℕ) × (c ≡ cell.Live site path))
+
+-- The cell is a path of the site at which something is listed.
+abbrev pub IsListedPath : SiteName → Paths (Option Digest) → Cell → Type 0
+IsListedPath site files c = (path : List ℕ) × Contains (map (λ f. f.0) files) path × (c ≡ cell.Live site path)
+
+-- The cell is the draft, or such a path.
+abbrev pub IsPartOfPatch : SiteName → ℕ → Paths (Option Digest) → Cell → Type 0
+IsPartOfPatch site m files c = (c ≡ cell.Draft site m) ⊎ IsListedPath site files c
 
 -- two states have the same in each cell that passes the test
 abbrev pub AgreeOn : (Cell → Bool) → State → State → Type 0

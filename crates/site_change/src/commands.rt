@@ -9,13 +9,14 @@ use thiserror::Error;
 /// A change that is asked for. The number of the entry that it becomes is told beside it.
 #[derive(Drop)]
 pub enum Command {
-    /// Opens a deploy of these files, whose number is the entry's own.
+    /// Opens a deploy of what is listed, whose number is the entry's own.
     Open {
         site: SiteName,
         files: Listing,
         auto: bool,
     },
-    /// Makes the files of an open deploy those that the site serves, and no others.
+    /// Makes the files of an open deploy those that the site serves, and no others; of a patch, serves its files and removes
+    /// those that it lists to be removed, and leaves all others.
     Publish {
         site: SiteName,
         number: u64,

@@ -1,24 +1,21 @@
 //! Deciding a command: whether it is refused, and else what it changes and touches.
 ghost use Rattle.std.specs.Prelude.{◌≡◌, IfOk, OnOk, Some, None, nat_lt, length, if◌then◌else◌};
 ghost use Rattle.host_names.specs.declared.cells.Cell.TheVariants as cell;
-ghost use Rattle.site_state.specs.Missing.{least_missing_of};
-ghost use Rattle.site_state.specs.States.{draft_at, kept_at, with_cell};
+ghost use Rattle.site_state.specs.States.{with_cell};
 ghost use Rattle.site_state.specs.declared.values.Value.TheVariants as value;
 ghost use Rattle.site_change.specs.declared.commands.Refusal.TheVariants.{TooManyFiles};
 ghost use Rattle.site_change.specs.declared.commands.Command.TheVariants as command_of;
-ghost use Rattle.site_change.specs.Changes.{refusal, publish_refusal, applied, published, restore_refusal, restored, site_of_command, touches, tree_of, with_published, with_served};
+ghost use Rattle.site_change.specs.Changes.{applied, refusal, site_of_command, touches};
 ghost use Rattle.site_change.specs.Decisions.{IsDecision, IsRefusedBy};
 ghost use Rattle.site_change.specs.Plans.{IsDifference, WritesOfKind};
-ghost use Rattle.site_change.specs.TouchedCells.{AreTouched, is_of_deploy};
+ghost use Rattle.site_change.specs.TouchedCells.{AreTouched};
 
 use crate::commands::{Command, Refusal};
 use crate::few_cells::{cancel, move_alias, plan_one, remove, remove_alias, remove_deploy, rename};
-use crate::live::live_changes;
-use crate::plans::{Change, Plan, change_in, push_some};
-use crate::touched::Touched;
-use crate::trees::tree_of;
+use crate::plans::Plan;
+use crate::publishing::{publish, restore};
 use host_names::{Cell, SiteName, Uploads};
-use site_state::{Draft, Listing, State, Tree, Value, least_missing};
+use site_state::{Draft, Listing, State, Value};
 use std::alloc::{AllocError, Global};
 use thiserror::Error;
 
@@ -48,14 +45,14 @@ impl From<AllocError> for DecideError {
 }
 
 /// The cell of a kept deploy.
-fn kept_cell(site: &SiteName, number: u64) -> Result<Cell, AllocError>
+pub(crate) fn kept_cell(site: &SiteName, number: u64) -> Result<Cell, AllocError>
     ensures { IfOk result (λ c. c ≡ cell.Kept site.now number) }
 {
     Ok(Cell::Kept(site.clone()?, number))
 }
 
 /// The cell of an open deploy.
-fn draft_cell(site: &SiteName, number: u64) -> Result<Cell, AllocError>
+pub(crate) fn draft_cell(site: &SiteName, number: u64) -> Result<Cell, AllocError>
     ensures { IfOk result (λ c. c ≡ cell.Draft site.now number) }
 {
     Ok(Cell::Draft(site.clone()?, number))
@@ -78,7 +75,7 @@ fn open(
     files: &Listing,
     auto: bool,
 ) -> Result<Plan, DecideError>
-    ensures { IsDecision (if nat_lt 10000 (length files.now) then Some TooManyFiles else None)
+    ensures { IsDecision (if nat_lt 10000 (length files.now.1) then Some TooManyFiles else None)
         site.now (touches (command_of.Open site.now files.now auto) number state.now) state.now
         (with_cell state.now (cell.Draft site.now number)
         (Some (value.Draft (record { auto = auto; files = files.now }))))
@@ -90,108 +87,6 @@ fn open(
     let cell = draft_cell(site, number)?;
     let draft = opened(files, auto)?;
     Ok(plan_one(alloc, state, site, cell, Some(draft))?)
-}
-
-/// What changes where a site comes to serve the files of a draft, of which none is missing.
-fn publish_draft<U: Uploads>(
-    alloc: Global,
-    state: &State,
-    uploads: &U,
-    site: &SiteName,
-    number: u64,
-    draft: &Draft,
-) -> Result<Vec<Change>, AllocError>
-    requires { least_missing_of (U.contents uploads.now) draft.now.files ≡ None }
-    ensures { IfOk result (λ changes. IsDifference state.now
-        (with_published site.now number (tree_of (U.contents uploads.now) draft.now.files) state.now)
-        changes.items) }
-{
-    let tree = tree_of(alloc, uploads, &draft.files)?;
-    let mut changes = live_changes(alloc, site, state.live(site), tree.entries())?;
-    let kept = change_in(state, kept_cell(site, number)?, Some(Value::Kept(tree)))?;
-    push_some(&mut changes, kept)?;
-    let draft = change_in(state, draft_cell(site, number)?, None)?;
-    push_some(&mut changes, draft)?;
-    Ok(changes)
-}
-
-/// What the publishing of this draft changes and touches.
-fn publish_open<U: Uploads>(
-    alloc: Global,
-    state: &State,
-    uploads: &U,
-    site: &SiteName,
-    number: u64,
-    draft: &Draft,
-) -> Result<Plan, DecideError>
-    ensures { IsDecision (publish_refusal (U.contents uploads.now) (Some draft.now))
-        site.now (is_of_deploy site.now number) state.now
-        (with_published site.now number (tree_of (U.contents uploads.now) draft.now.files) state.now)
-        result }
-{
-    if let Some(digest) = least_missing(draft, uploads) {
-        return Err(DecideError::Refused(Refusal::NotComplete(digest)));
-    }
-    let changes = publish_draft(alloc, state, uploads, site, number, draft)?;
-    let touched = Touched::deploy(alloc, site, number)?;
-    Ok(Plan { changes, touched })
-}
-
-/// What the publishing of an open deploy changes and touches.
-fn publish<U: Uploads>(
-    alloc: Global,
-    state: &State,
-    uploads: &U,
-    site: &SiteName,
-    number: u64,
-) -> Result<Plan, DecideError>
-    ensures { IsDecision (publish_refusal (U.contents uploads.now) (draft_at state.now site.now number))
-        site.now (touches (command_of.Publish site.now number) 0 state.now) state.now
-        (published site.now number (U.contents uploads.now) state.now (draft_at state.now site.now number))
-        result }
-{
-    match state.draft(site, number) {
-        Some(draft) => publish_open(alloc, state, uploads, site, number, draft),
-        None => Err(DecideError::Refused(Refusal::NoSuchDraft)),
-    }
-}
-
-/// What changes and is touched where a site comes to serve the files of a kept deploy again.
-fn serve_kept(
-    alloc: Global,
-    state: &State,
-    site: &SiteName,
-    number: u64,
-    tree: &Tree,
-) -> Result<Plan, AllocError>
-    ensures changes { IfOk result (λ plan. IsDifference state.now (with_served site.now tree.now state.now) plan.changes.items) }
-    ensures touched { IfOk result (λ plan. AreTouched site.now (is_of_deploy site.now number) plan.touched) }
-{
-    let changes = live_changes(alloc, site, state.live(site), tree.entries())?;
-    let touched = Touched::deploy(alloc, site, number)?;
-    Ok(Plan { changes, touched })
-}
-
-/// What the restoring of a deploy changes and touches.
-fn restore<U: Uploads>(
-    alloc: Global,
-    state: &State,
-    uploads: &U,
-    site: &SiteName,
-    number: u64,
-) -> Result<Plan, DecideError>
-    ensures { IsDecision (restore_refusal (U.contents uploads.now) (kept_at state.now site.now number) (draft_at state.now site.now number))
-        site.now (touches (command_of.Restore site.now number) 0 state.now) state.now
-        (restored site.now number (U.contents uploads.now) state.now (kept_at state.now site.now number) (draft_at state.now site.now number))
-        result }
-{
-    if let Some(tree) = state.kept(site, number) {
-        return Ok(serve_kept(alloc, state, site, number, tree)?);
-    }
-    match state.draft(site, number) {
-        Some(opened) => publish_open(alloc, state, uploads, site, number, opened),
-        None => Err(DecideError::Refused(Refusal::NoSuchDeploy)),
-    }
 }
 
 /// Decides a command that would become the entry of this number: what it changes in the state, with what was

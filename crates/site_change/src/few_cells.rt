@@ -26,7 +26,7 @@ use std::cmp::Ordering;
 type Write = (Cell, Option<Value>);
 
 /// The cell of a path.
-fn live_cell(site: &SiteName, path: &FilePath) -> Result<Cell, AllocError>
+pub(crate) fn live_cell(site: &SiteName, path: &FilePath) -> Result<Cell, AllocError>
     ensures { IfOk result (λ c. c ≡ cell.Live site.now path.now) }
 {
     Ok(Cell::Live(site.clone()?, path.clone()?))

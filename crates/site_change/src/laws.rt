@@ -1,19 +1,19 @@
 //! Laws of changes, each the contract of a function that does nothing.
-ghost use Rattle.std.specs.Prelude.{◌≡◌, ◌≢◌, ◌↔◌, ◌⊎◌, ℕ, Bool, true, List, None, Some};
+ghost use Rattle.std.specs.Prelude.{◌≡◌, ◌≢◌, ◌↔◌, ◌⊎◌, ℕ, Bool, true, false, List, None, Some};
 ghost use Rattle.std.specs.FinMap as map;
 ghost use Rattle.host_names.specs.Blobs.{Contents};
 ghost use Rattle.host_names.specs.declared.cells.Cell.{Cell};
 ghost use Rattle.host_names.specs.declared.cells.Cell.TheVariants as cell;
-ghost use Rattle.host_names.specs.declared.digests.Digest.{Digest};
 ghost use Rattle.host_names.specs.declared.names.AliasName.{AliasName};
 ghost use Rattle.host_names.specs.declared.names.SiteName.{SiteName};
 ghost use Rattle.site_state.specs.Files.{Paths};
-ghost use Rattle.site_state.specs.States.{State, draft_at};
+ghost use Rattle.site_state.specs.Listings.{Listed};
+ghost use Rattle.site_state.specs.States.{State, draft_at, kept_at};
 ghost use Rattle.site_state.specs.declared.values.Draft.{Draft};
 ghost use Rattle.site_change.specs.declared.commands.Command.{Command};
-ghost use Rattle.site_change.specs.declared.commands.Command.TheVariants.{Open, Publish, Cancel, Remove, Rename, MoveAlias, RemoveAlias};
+ghost use Rattle.site_change.specs.declared.commands.Command.TheVariants.{Open, Publish, Cancel, Remove, Rename, MoveAlias, RemoveAlias, Restore, RemoveDeploy};
 ghost use Rattle.site_change.specs.Changes.{applied, changes, touches};
-ghost use Rattle.site_change.specs.Laws.{IsLocal, IsPartOfDeploy, LeavesOut, KeepsRunning};
+ghost use Rattle.site_change.specs.Laws.{IsLocal, IsPartOfDeploy, IsPartOfPatch, LeavesOut, KeepsRunning};
 
 /// All that a command reads or writes is what it touches. In two states that have the same there, it gets the
 /// same answer, touches the same cells, and leaves the same in them; every other cell stays as it was, and what
@@ -45,17 +45,47 @@ pub fn changes_are_where_the_states_differ()
 
 /// An opening touches the cell of its draft, and no other.
 pub fn an_opening_touches_its_draft_alone()
-    ensures { (site : SiteName) (files : Paths Digest) (auto : Bool) (number : ℕ) (state : State) (c : Cell) →
+    ensures { (site : SiteName) (files : Listed) (auto : Bool) (number : ℕ) (state : State) (c : Cell) →
         (touches (Open site files auto) number state c ≡ true) ↔ (c ≡ cell.Draft site number) }
 {}
 
-/// A publish touches the draft of its number, the kept deploy of that number, and each path of its site, whether a file
-/// is there or not; where there is no such draft, it touches the cell of that draft alone.
+/// A publish touches the draft of its number. Of a full deploy it touches besides the kept deploy of that number and each
+/// path of its site, whether a file is there or not; of a patch the listed paths; where there is no such draft, nothing else.
 pub fn a_publish_touches_its_deploy_alone()
-    ensures opened { (site : SiteName) (m number : ℕ) (state : State) (draft : Draft) (c : Cell) → draft_at state site m ≡ Some draft →
+    ensures opened { (site : SiteName) (m number : ℕ) (state : State) (draft : Draft) (c : Cell) →
+        draft_at state site m ≡ Some draft → draft.files.0 ≡ false →
         (touches (Publish site m) number state c ≡ true) ↔ IsPartOfDeploy site m c }
+    ensures patched { (site : SiteName) (m number : ℕ) (state : State) (draft : Draft) (c : Cell) →
+        draft_at state site m ≡ Some draft → draft.files.0 ≡ true →
+        (touches (Publish site m) number state c ≡ true) ↔ IsPartOfPatch site m draft.files.1 c }
     ensures unknown { (site : SiteName) (m number : ℕ) (state : State) (c : Cell) → draft_at state site m ≡ None →
         (touches (Publish site m) number state c ≡ true) ↔ (c ≡ cell.Draft site m) }
+{}
+
+/// A restoring touches the draft and the kept deploy of its number. Where a deploy is kept, or a full one open, it touches
+/// besides each path of its site, whether a file is there or not; where a patch is open, the listed paths; where there is
+/// neither, nothing else.
+pub fn a_restoring_touches_its_deploy_alone()
+    ensures kept { (site : SiteName) (m number : ℕ) (state : State) (tree : Paths (List ℕ)) (c : Cell) →
+        kept_at state site m ≡ Some tree →
+        (touches (Restore site m) number state c ≡ true) ↔ IsPartOfDeploy site m c }
+    ensures opened { (site : SiteName) (m number : ℕ) (state : State) (draft : Draft) (c : Cell) →
+        kept_at state site m ≡ None → draft_at state site m ≡ Some draft → draft.files.0 ≡ false →
+        (touches (Restore site m) number state c ≡ true) ↔ IsPartOfDeploy site m c }
+    ensures patched { (site : SiteName) (m number : ℕ) (state : State) (draft : Draft) (c : Cell) →
+        kept_at state site m ≡ None → draft_at state site m ≡ Some draft → draft.files.0 ≡ true →
+        (touches (Restore site m) number state c ≡ true)
+        ↔ ((c ≡ cell.Kept site m) ⊎ IsPartOfPatch site m draft.files.1 c) }
+    ensures unknown { (site : SiteName) (m number : ℕ) (state : State) (c : Cell) →
+        kept_at state site m ≡ None → draft_at state site m ≡ None →
+        (touches (Restore site m) number state c ≡ true) ↔ ((c ≡ cell.Draft site m) ⊎ (c ≡ cell.Kept site m)) }
+{}
+
+/// The removal of a deploy touches it and each alias of its site, whether it is there or not.
+pub fn the_removal_of_a_deploy_touches_it_and_the_aliases()
+    ensures { (site : SiteName) (m number : ℕ) (state : State) (c : Cell) →
+        (touches (RemoveDeploy site m) number state c ≡ true)
+        ↔ ((c ≡ cell.Kept site m) ⊎ ((name : AliasName) × (c ≡ cell.Alias site name))) }
 {}
 
 /// What the commands of few cells touch, each those of its row and no others: the giving up of a deploy its draft; a

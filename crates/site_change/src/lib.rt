@@ -11,6 +11,7 @@ mod few_cells_tests;
 mod laws;
 mod live;
 mod plans;
+mod publishing;
 #[cfg(test)]
 mod restore_tests;
 #[cfg(test)]
@@ -23,9 +24,10 @@ mod trees;
 pub use commands::{Command, Refusal};
 pub use decisions::{DecideError, decide};
 pub use laws::{
-    a_change_can_be_left_out, a_publish_touches_its_deploy_alone, accepted_stays_accepted,
+    a_change_can_be_left_out, a_publish_touches_its_deploy_alone,
+    a_restoring_touches_its_deploy_alone, accepted_stays_accepted,
     an_opening_touches_its_draft_alone, changes_are_where_the_states_differ, commands_are_local,
-    commands_of_few_cells_touch_them_alone,
+    commands_of_few_cells_touch_them_alone, the_removal_of_a_deploy_touches_it_and_the_aliases,
 };
 pub use plans::{Change, Plan};
 pub use touched::Touched;

@@ -1,5 +1,5 @@
 //! Listings, states and commands for the tests, and the text of a plan.
-ghost use Rattle.std.specs.Prelude.{◌≡◌, true, [], ◌∷◌, ◌++◌};
+ghost use Rattle.std.specs.Prelude.{◌≡◌, true, Option, [], ◌∷◌, ◌++◌};
 ghost use Rattle.host_names.specs.declared.digests.Digest.{Digest};
 ghost use Rattle.site_state.specs.Files.{IsByPath};
 ghost use Rattle.site_state.specs.States as states;
@@ -19,9 +19,9 @@ pub(crate) const HELLO: &[u8] = b"hello";
 pub(crate) const ABC: &[u8] = b"abc";
 
 /// Whether a path comes behind those of a list.
-fn is_behind(entries: &[(FilePath, Digest)], path: &FilePath) -> bool
-    ensures { result ≡ true → IsByPath entries.now → (digest : Digest) →
-        IsByPath (entries.now ++ (path.now, digest) ∷ []) }
+fn is_behind(entries: &[(FilePath, Option<Digest>)], path: &FilePath) -> bool
+    ensures { result ≡ true → IsByPath entries.now → (listed : Option Digest) →
+        IsByPath (entries.now ++ (path.now, listed) ∷ []) }
 {
     let count = entries.len();
     if count == 0 {
@@ -33,15 +33,15 @@ fn is_behind(entries: &[(FilePath, Digest)], path: &FilePath) -> bool
 /// Adds a path, which has to come behind those that are there.
 fn push_path(
     rt: &impl Abort,
-    entries: &mut Vec<(FilePath, Digest)>,
+    entries: &mut Vec<(FilePath, Option<Digest>)>,
     path: FilePath,
-    digest: Digest,
+    listed: Option<Digest>,
 ) -> Result<(), AllocError>
     requires { IsByPath entries.old.items }
     ensures { IsByPath entries.new.items }
 {
     assert!(rt; is_behind(entries.as_slice(), &path));
-    Ok(entries.push((path, digest))?)
+    Ok(entries.push((path, listed))?)
 }
 
 /// These paths, which have to rise, with the digests of the bytes.
@@ -53,9 +53,28 @@ pub(crate) fn listing(
     let mut entries = Vec::new(alloc);
     for (path, bytes) in files {
         let path = FilePath::read(alloc, path)?;
-        push_path(rt, &mut entries, path, Digest::of_bytes(bytes))?;
+        push_path(rt, &mut entries, path, Some(Digest::of_bytes(bytes)))?;
     }
-    Ok(PathMap::from_sorted(alloc, entries)?)
+    Ok(Listing::new(false, PathMap::from_sorted(alloc, entries)?)?)
+}
+
+/// A patch of these paths, which have to rise, with the digests of the bytes, or with removals.
+pub(crate) fn patch(
+    rt: &impl Abort,
+    alloc: Global,
+    files: &[(&str, Option<&[u8]>)],
+) -> Result<Listing, Fail> {
+    let mut entries = Vec::new(alloc);
+    for (path, bytes) in files {
+        let path = FilePath::read(alloc, path)?;
+        push_path(
+            rt,
+            &mut entries,
+            path,
+            bytes.map(|bytes| Digest::of_bytes(bytes)),
+        )?;
+    }
+    Ok(Listing::new(true, PathMap::from_sorted(alloc, entries)?)?)
 }
 
 /// As many paths, each with the same file.
@@ -63,9 +82,9 @@ pub(crate) fn long_listing(rt: &impl Abort, alloc: Global, count: u32) -> Result
     let mut entries = Vec::new(alloc);
     for number in 0..count {
         let path = FilePath::read(alloc, format!(in alloc; "/{number:05}")?.as_str())?;
-        push_path(rt, &mut entries, path, Digest::of_bytes(ABC))?;
+        push_path(rt, &mut entries, path, Some(Digest::of_bytes(ABC)))?;
     }
-    Ok(PathMap::from_sorted(alloc, entries)?)
+    Ok(Listing::new(false, PathMap::from_sorted(alloc, entries)?)?)
 }
 
 fn may_stand(cell: &Cell, value: &Option<Value>) -> bool

@@ -1,11 +1,14 @@
 //! What a command touches.
-ghost use Rattle.std.specs.Prelude.{◌≡◌, ◌||◌, IfOk};
+ghost use Rattle.std.specs.Prelude.{◌≡◌, ◌||◌, IfOk, OnOk};
+ghost use Rattle.std.specs.List.{list_any};
+ghost use Rattle.host_names.specs.declared.cells.Cell.{Cell};
 ghost use Rattle.site_state.specs.States.{is_alias_of};
 ghost use Rattle.site_change.specs.Changes.{same_cell};
 ghost use Rattle.site_change.specs.TouchedCells as spec;
-ghost use Rattle.site_change.specs.TouchedCells.{AreTouched, is_of_deploy};
+ghost use Rattle.site_change.specs.TouchedCells.{AddsTouched, AreTouched, is_of_deploy, is_of_patch};
 
-use host_names::{Cell, SiteName};
+use crate::few_cells::live_cell;
+use host_names::{Cell, Digest, FilePath, SiteName};
 use site_state::{is_alias_of, is_live_of};
 use std::alloc::{AllocError, Global};
 use std::collections::BTreeSet;
@@ -21,6 +24,22 @@ pub struct Touched {
     pub all_live: bool,
     /// Whether each alias of it is touched as well, whether it is there or not.
     pub all_aliases: bool,
+}
+
+/// The cells of a draft and of the paths that it lists.
+fn patched_cells(
+    alloc: Global,
+    site: &SiteName,
+    number: u64,
+    entries: &[(FilePath, Option<Digest>)],
+) -> Result<BTreeSet<Cell>, AllocError>
+    ensures { IfOk result (λ cells. (c : Cell) → list_any (same_cell c) cells.keys ≡ is_of_patch site.now number entries.now c) }
+{
+    let mut cells = BTreeSet::from_array(alloc, [Cell::Draft(site.clone()?, number)])?;
+    for (path, _) in entries {
+        cells.insert(live_cell(site, path)?)?;
+    }
+    Ok(cells)
 }
 
 impl Touched {
@@ -90,5 +109,30 @@ impl Touched {
             all_live: true,
             all_aliases: false,
         })
+    }
+
+    /// The draft of this number, and the listed paths of the site.
+    pub(crate) fn patch(
+        alloc: Global,
+        site: &SiteName,
+        number: u64,
+        entries: &[(FilePath, Option<Digest>)],
+    ) -> Result<Touched, AllocError>
+        ensures { IfOk result (AreTouched site.now (is_of_patch site.now number entries.now)) }
+    {
+        Ok(Touched {
+            site: site.clone()?,
+            cells: patched_cells(alloc, site, number, entries)?,
+            all_live: false,
+            all_aliases: false,
+        })
+    }
+
+    /// Adds a cell.
+    pub(crate) fn add(&mut self, cell: Cell) -> Result<(), AllocError>
+        ensures { OnOk result (AddsTouched cell self.old self.new) }
+    {
+        self.cells.insert(cell)?;
+        Ok(())
     }
 }

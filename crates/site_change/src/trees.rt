@@ -1,10 +1,10 @@
 //! The files of a deploy, from what was uploaded.
-ghost use Rattle.std.specs.Prelude.{◌≡◌, IfOk, Some, None, true};
+ghost use Rattle.std.specs.Prelude.{◌≡◌, ◌++◌, IfOk, OnOk, Some, None, option_map, option_to_list, true};
 ghost use Rattle.std.specs.FinMap as map;
-ghost use Rattle.site_state.specs.Missing.{least_missing_of};
+ghost use Rattle.site_state.specs.Missing.{if_lacking, least_missing_of};
 ghost use Rattle.site_change.specs.Changes as changes;
 
-use host_names::{Digest, Uploads};
+use host_names::{Digest, FilePath, Uploads};
 use site_state::{File, Listing, PathMap, Tree};
 use std::alloc::{AllocError, Global};
 use std::sync::Arc;
@@ -20,15 +20,44 @@ fn file_of<U: Uploads>(uploads: &U, digest: &Digest) -> Result<File, AllocError>
     }
 }
 
+/// The uploaded file that is listed; none where a removal is.
+pub(crate) fn file_at<U: Uploads>(
+    uploads: &U,
+    listed: &Option<Digest>,
+) -> Result<Option<File>, AllocError>
+    requires { if_lacking (U.contents uploads.now) listed.now ≡ None }
+    ensures { IfOk result (λ file. file ≡ changes.file_at (U.contents uploads.now) listed.now) }
+{
+    match listed {
+        Some(digest) => Ok(Some(file_of(uploads, digest)?)),
+        None => Ok(None),
+    }
+}
+
+/// Adds a file at a path, if there is one, behind the others.
+fn push_file(
+    entries: &mut Vec<(FilePath, File)>,
+    path: &FilePath,
+    file: Option<File>,
+) -> Result<(), AllocError>
+    ensures { OnOk result (entries.new.items
+        ≡ entries.old.items ++ option_to_list (option_map (λ bytes. (path.now, bytes)) file)) }
+{
+    match file {
+        Some(file) => Ok(entries.push((path.clone()?, file))?),
+        None => Ok(()),
+    }
+}
+
 /// The files of a listing, of which none is missing.
 pub fn tree_of<U: Uploads>(alloc: Global, uploads: &U, files: &Listing) -> Result<Tree, AllocError>
-    requires { least_missing_of (U.contents uploads.now) files.now ≡ None }
-    ensures { IfOk result (λ tree. tree ≡ changes.tree_of (U.contents uploads.now) files.now) }
+    requires { least_missing_of (U.contents uploads.now) files.now.1 ≡ None }
+    ensures { IfOk result (λ tree. tree ≡ changes.tree_of (U.contents uploads.now) files.now.1) }
 {
-    let listed = files.entries();
-    let mut entries = Vec::with_capacity(alloc, listed.len())?;
-    for (path, digest) in listed {
-        entries.push((path.clone()?, file_of(uploads, digest)?))?;
+    let entries = files.entries();
+    let mut tree = Vec::with_capacity(alloc, entries.len())?;
+    for (path, listed) in entries {
+        push_file(&mut tree, path, file_at(uploads, listed)?)?;
     }
-    PathMap::from_sorted(alloc, entries)
+    PathMap::from_sorted(alloc, tree)
 }

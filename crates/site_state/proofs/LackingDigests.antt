@@ -1,13 +1,13 @@
 -- The digests that are missing, in order, and the least of them.
-use Rattle.std.proofs.Common.{◌≡◌, ◌⊎◌, inl, inr, ⊎_elim, ℕ, zero, suc, ◌+◌, ◌<◌, Bool, true, false, cond, List, [], ◌∷◌, length, get_or, drop, filter, Option, Some, None, Contains, IsPermutation, Ordering, Less, Equal, Greater, is_gt, refl, sym, ap, subst, ◌∙◌, arith}
-use Rattle.std.specs.List.{dedup, slice_get}
+use Rattle.std.proofs.Common.{◌≡◌, ◌⊎◌, inl, inr, ⊎_elim, ℕ, zero, suc, ◌+◌, ◌<◌, Bool, true, false, cond, List, [], ◌∷◌, length, get_or, drop, take, option_to_list, ◌++◌, filter, filter_map, Option, Some, None, Contains, IsPermutation, Ordering, Less, Equal, Greater, is_gt, refl, sym, ap, subst, ◌∙◌, arith}
+use Rattle.std.specs.List.{dedup, slice_get, cons_option}
 use Rattle.std.specs.List.Sorted.{IsSorted}
 use Rattle.std.specs.Ordering.{ordering_reverse}
 use Rattle.std.specs.Cmp.Lexicographic.{texts_ties}
 use Rattle.std.proofs.lemmas.Bool.{false≢true}
 use Rattle.std.proofs.lemmas.Cmp.{upto, tied_itself}
-use Rattle.std.proofs.lemmas.List.{at_drop_more}
-use Rattle.std.proofs.lemmas.List.Elements.{All-from_recursion, All-contains}
+use Rattle.std.proofs.lemmas.List.{at_drop_more, take_more}
+use Rattle.std.proofs.lemmas.List.Elements.{All-from_recursion, All-contains, filter_map-append}
 use Rattle.std.proofs.lemmas.Map.Keys.{sorted_head}
 use Rattle.std.proofs.lemmas.List.Kept.{IsStrictlySortedBy-dedup, Contains-dedup, Contains-from_dedup}
 use Rattle.std.proofs.lemmas.List.Sorted.{Contains-permutation, IsPermutation-sym}
@@ -51,22 +51,45 @@ module _ {X : Type 0} where
       elim (p x) as (λ b. Contains (cond b (x ∷ filter p xs) (filter p xs)) y) [ true ↦ contains_later x y (filter p xs) kept | false ↦ kept ])
       (contains_cases x y xs h)
 
+-- one item more
+module _ {X Y : Type 0} (h : X → Option Y) where
+  one_option : (o : Option Y) → cons_option o [] ≡ option_to_list o
+  one_option None = refl
+  one_option (Some y) = refl
+
+  pub filter_map_more : (xs : List X) (i : ℕ) (x : X) (ys : List Y) → i < length xs → x ≡ get_or xs i x → ys ≡ filter_map h (take i xs) → ys ++ option_to_list (h x) ≡ filter_map h (take (i + 1) xs)
+  filter_map_more xs i x ys lt at is =
+      ap (λ l. l ++ option_to_list (h x)) is ∙ ap (λ l. filter_map h (take i xs) ++ l) (sym (one_option (h x))) ∙ sym (filter_map-append h (take i xs) (x ∷ []))
+      ∙ ap (λ z. filter_map h (take i xs ++ z ∷ [])) at ∙ ap (filter_map h) (sym (take_more xs i x lt))
+
+-- the lacking among what is listed, in one step or two
+are_filtered : (contents : Contents) (files : Paths (Option Digest)) → filter_map (λ f. if_lacking contents f.1) files ≡ filter (is_lacking contents) (digests_of files)
+are_filtered contents [] = refl
+are_filtered contents ((path, None) ∷ files) = are_filtered contents files
+are_filtered contents ((path, Some digest) ∷ files) =
+    elim (is_lacking contents digest) as (λ t. cons_option (cond t (Some digest) None) (filter_map (λ f. if_lacking contents f.1) files)
+    ≡ cond t (digest ∷ filter (is_lacking contents) (digests_of files)) (filter (is_lacking contents) (digests_of files))) [
+      | true ↦ ap (λ l. digest ∷ l) (are_filtered contents files)
+      | false ↦ are_filtered contents files
+    ]
+
 -- what is left of the lacking digests after a sort and a `dedup`
-pub AreMissing-from_sort : (contents : Contents) (files : Paths Digest) (listed sorted digests : List Digest) → listed ≡ filter (is_lacking contents) (digests_of files) → IsPermutation listed sorted → IsSorted digest_cmp sorted
+pub AreMissing-from_sort : (contents : Contents) (files : Paths (Option Digest)) (listed sorted digests : List Digest) → listed ≡ filter_map (λ f. if_lacking contents f.1) files → IsPermutation listed sorted → IsSorted digest_cmp sorted
     → digests ≡ dedup digest_eq sorted → AreMissing contents files digests
-AreMissing-from_sort contents files listed sorted digests is_listed moved in_order is = record {
-  rising = rw is (IsStrictlySortedBy-dedup digest_cmp_total (λ x y. texts_ties x.0 y.0) sorted in_order);
-  exactly = λ digest. (
-    (λ h.
-        let in_sorted = Contains-from_dedup digest_eq sorted digest (rw is at h) in
-        let in_listed = Contains-permutation sorted listed digest (IsPermutation-sym listed sorted moved) in_sorted in
-        Contains-from_filter (is_lacking contents) (digests_of files) digest (rw is_listed at in_listed)),
-    (λ h.
-        let in_listed = Contains-filter (is_lacking contents) (digests_of files) digest h.0 h.1 in
-        let in_sorted = Contains-permutation listed sorted digest moved (rw is_listed in_listed) in
-        rw is (Contains-dedup digest_eq-equiv (λ x y. (digest_eq-decides x y).0) sorted digest in_sorted)),
-  );
-}
+AreMissing-from_sort contents files listed sorted digests found moved in_order is =
+    let is_listed : listed ≡ filter (is_lacking contents) (digests_of files) = found ∙ are_filtered contents files in record {
+      rising = rw is (IsStrictlySortedBy-dedup digest_cmp_total (λ x y. texts_ties x.0 y.0) sorted in_order);
+      exactly = λ digest. (
+        (λ h.
+            let in_sorted = Contains-from_dedup digest_eq sorted digest (rw is at h) in
+            let in_listed = Contains-permutation sorted listed digest (IsPermutation-sym listed sorted moved) in_sorted in
+            Contains-from_filter (is_lacking contents) (digests_of files) digest (rw is_listed at in_listed)),
+        (λ h.
+            let in_listed = Contains-filter (is_lacking contents) (digests_of files) digest h.0 h.1 in
+            let in_sorted = Contains-permutation listed sorted digest moved (rw is_listed in_listed) in
+            rw is (Contains-dedup digest_eq-equiv (λ x y. (digest_eq-decides x y).0) sorted digest in_sorted)),
+      );
+    }
 
 greater_than : (x y : Digest) → is_gt (digest_cmp x y) ≡ true → digest_cmp y x ≡ Less
 greater_than x y e = digest_cmp_total.antisymm y x ∙ ap ordering_reverse (greater (digest_cmp x y) e)
@@ -102,73 +125,81 @@ lesser_assoc (Some a) (Some b) (Some c) =
     ] refl
 
 -- a step of a loop that keeps the least digest so far
-pub least_step : (contents : Contents) (items files : Paths Digest) (i : ℕ) (item : List ℕ × Digest) (least next : Option Digest) → items ≡ files → i < length items → item ≡ get_or items i item
+pub least_step : (contents : Contents) (items files : Paths (Option Digest)) (i : ℕ) (item : List ℕ × Option Digest) (least next : Option Digest) → items ≡ files → i < length items → item ≡ get_or items i item
     → next ≡ lesser least (if_lacking contents item.1) → lesser next (least_missing_of contents (drop (i + 1) files)) ≡ lesser least (least_missing_of contents (drop i files))
 least_step contents items files i item least next same lt at is =
     let rest = least_missing_of contents (drop (i + 1) files) in
     let within : i < length files = subst (λ l. i < length l) same lt in
     let here : item ≡ get_or files i item = at ∙ ap (λ l. get_or l i item) same in
     ap (λ o. lesser o rest) is ∙ lesser_assoc least (if_lacking contents item.1) rest
-    ∙ sym (ap (lesser least) (at_drop_more (least_missing_of contents) files i item within ∙ ap (λ (e : List ℕ × Digest). lesser (if_lacking contents e.1) rest) (sym here)))
+    ∙ sym (ap (lesser least) (at_drop_more (least_missing_of contents) files i item within ∙ ap (λ (e : List ℕ × Option Digest). lesser (if_lacking contents e.1) rest) (sym here)))
 
 not_gt_itself : (d : Digest) → is_gt (digest_cmp d d) ≡ false
 not_gt_itself d = ap is_gt (tied_itself digest_cmp_total d)
 
--- a digest that is not above another's lesser is above neither
-below_lesser : (contents : Contents) (e : List ℕ × Digest) (files : Paths Digest) (rest : Option Digest) → IsLeastMissing contents files rest → IsLeastMissing contents (e ∷ files) (lesser (if_lacking contents e.1) rest)
-below_lesser contents e files rest least = elim (is_lacking contents e.1) as (λ t. is_lacking contents e.1 ≡ t → IsLeastMissing contents (e ∷ files) (lesser (cond t (Some e.1) None) rest)) [
-  | false ↦ λ known. skip contents e files rest known least
-  | true ↦ λ lacking. take_in contents e files rest lacking least
-] refl
-  where
-    skip : (contents : Contents) (e : List ℕ × Digest) (files : Paths Digest) (rest : Option Digest) → is_lacking contents e.1 ≡ false → IsLeastMissing contents files rest → IsLeastMissing contents (e ∷ files) rest
-    skip contents e files None known least = λ d h lacking. ⊎_elim
-        (λ same. false≢true (sym known ∙ ap (is_lacking contents) same ∙ lacking))
-        (λ later. least d later lacking)
-        (contains_cases e.1 d (digests_of files) h)
-    skip contents e files (Some m) known least = (
-      contains_later e.1 m (digests_of files) least.0,
-      least.1,
-      λ d h lacking. ⊎_elim
-          (λ same. absurd (false≢true (sym known ∙ ap (is_lacking contents) same ∙ lacking)))
-          (λ later. least.2 d later lacking)
-          (contains_cases e.1 d (digests_of files) h),
-    )
+-- a path more in front, where what is listed there is lacking, known, or a removal
+module _ (contents : Contents) (path : List ℕ) (files : Paths (Option Digest)) where
+  past_removal : (rest : Option Digest) → IsLeastMissing contents files rest → IsLeastMissing contents ((path, None) ∷ files) rest
+  past_removal None least = least
+  past_removal (Some m) least = least
 
-    take_in : (contents : Contents) (e : List ℕ × Digest) (files : Paths Digest) (rest : Option Digest) → is_lacking contents e.1 ≡ true → IsLeastMissing contents files rest → IsLeastMissing contents (e ∷ files) (lesser (Some e.1) rest)
-    take_in contents e files None lacking least = (
-      contains_here e.1 e.1 (digests_of files) refl,
+  past_known : (digest : Digest) (rest : Option Digest) → is_lacking contents digest ≡ false → IsLeastMissing contents files rest → IsLeastMissing contents ((path, Some digest) ∷ files) rest
+  past_known digest None known least = λ d h lacking. ⊎_elim
+      (λ same. false≢true (sym known ∙ ap (is_lacking contents) same ∙ lacking))
+      (λ later. least d later lacking)
+      (contains_cases digest d (digests_of files) h)
+  past_known digest (Some m) known least = (
+    contains_later digest m (digests_of files) least.0,
+    least.1,
+    λ d h lacking. ⊎_elim
+        (λ same. absurd (false≢true (sym known ∙ ap (is_lacking contents) same ∙ lacking)))
+        (λ later. least.2 d later lacking)
+        (contains_cases digest d (digests_of files) h),
+  )
+
+  with_lacking : (digest : Digest) (rest : Option Digest) → is_lacking contents digest ≡ true → IsLeastMissing contents files rest
+      → IsLeastMissing contents ((path, Some digest) ∷ files) (lesser (Some digest) rest)
+  with_lacking digest None lacking least = (
+    contains_here digest digest (digests_of files) refl,
+    lacking,
+    λ d h missing. ⊎_elim
+        (λ same. subst (λ x. is_gt (digest_cmp digest x) ≡ false) same (not_gt_itself digest))
+        (λ later. absurd (least d later missing))
+        (contains_cases digest d (digests_of files) h),
+  )
+  with_lacking digest (Some m) lacking least = elim (is_gt (digest_cmp digest m)) as (λ t. is_gt (digest_cmp digest m) ≡ t → IsLeastMissing contents ((path, Some digest) ∷ files) (cond t (Some m) (Some digest))) [
+    | true ↦ λ above. (
+      contains_later digest m (digests_of files) least.0,
+      least.1,
+      λ d h missing. ⊎_elim
+          (λ same. subst (λ x. is_gt (digest_cmp m x) ≡ false) same (ap is_gt (greater_than digest m above)))
+          (λ later. least.2 d later missing)
+          (contains_cases digest d (digests_of files) h),
+    )
+    | false ↦ λ below. (
+      contains_here digest digest (digests_of files) refl,
       lacking,
       λ d h missing. ⊎_elim
-          (λ same. subst (λ x. is_gt (digest_cmp e.1 x) ≡ false) same (not_gt_itself e.1))
-          (λ later. absurd (least d later missing))
-          (contains_cases e.1 d (digests_of files) h),
+          (λ same. subst (λ x. is_gt (digest_cmp digest x) ≡ false) same (not_gt_itself digest))
+          (λ later. upto digest_cmp_total digest m d below (least.2 d later missing))
+          (contains_cases digest d (digests_of files) h),
     )
-    take_in contents e files (Some m) lacking least = elim (is_gt (digest_cmp e.1 m)) as (λ t. is_gt (digest_cmp e.1 m) ≡ t → IsLeastMissing contents (e ∷ files) (cond t (Some m) (Some e.1))) [
-      | true ↦ λ above. (
-        contains_later e.1 m (digests_of files) least.0,
-        least.1,
-        λ d h missing. ⊎_elim
-            (λ same. subst (λ x. is_gt (digest_cmp m x) ≡ false) same (ap is_gt (greater_than e.1 m above)))
-            (λ later. least.2 d later missing)
-            (contains_cases e.1 d (digests_of files) h),
-      )
-      | false ↦ λ below. (
-        contains_here e.1 e.1 (digests_of files) refl,
-        lacking,
-        λ d h missing. ⊎_elim
-            (λ same. subst (λ x. is_gt (digest_cmp e.1 x) ≡ false) same (not_gt_itself e.1))
-            (λ later. upto digest_cmp_total e.1 m d below (least.2 d later missing))
-            (contains_cases e.1 d (digests_of files) h),
-      )
-    ] refl
+  ] refl
 
-pub IsLeast-least_missing_of : (contents : Contents) (files : Paths Digest) → IsLeastMissing contents files (least_missing_of contents files)
+  with_path : (listed rest : Option Digest) → IsLeastMissing contents files rest → IsLeastMissing contents ((path, listed) ∷ files) (lesser (if_lacking contents listed) rest)
+  with_path None rest least = past_removal rest least
+  with_path (Some digest) rest least =
+      elim (is_lacking contents digest) as (λ t. is_lacking contents digest ≡ t → IsLeastMissing contents ((path, Some digest) ∷ files) (lesser (cond t (Some digest) None) rest)) [
+        | false ↦ λ known. past_known digest rest known least
+        | true ↦ λ lacking. with_lacking digest rest lacking least
+      ] refl
+
+pub IsLeast-least_missing_of : (contents : Contents) (files : Paths (Option Digest)) → IsLeastMissing contents files (least_missing_of contents files)
 IsLeast-least_missing_of contents [] = λ d h _. omega (arith, h.1)
-IsLeast-least_missing_of contents (e ∷ files) = below_lesser contents e files (least_missing_of contents files) (IsLeast-least_missing_of contents files)
+IsLeast-least_missing_of contents (e ∷ files) = with_path contents e.0 files e.1 (least_missing_of contents files) (IsLeast-least_missing_of contents files)
 
 -- the first of the missing digests is the least of them
-first_is_least : (contents : Contents) (files : Paths Digest) (digests : List Digest) (least : Option Digest) → IsLeastMissing contents files least → AreMissing contents files digests → slice_get digests 0 ≡ least
+first_is_least : (contents : Contents) (files : Paths (Option Digest)) (digests : List Digest) (least : Option Digest) → IsLeastMissing contents files least → AreMissing contents files digests → slice_get digests 0 ≡ least
 first_is_least contents files [] None least are = refl
 first_is_least contents files [] (Some m) least are = let h = (are.exactly m).1 (least.0, least.1) in absurd (omega (arith, h.1))
 first_is_least contents files (x ∷ xs) None least are =
@@ -184,5 +215,5 @@ first_is_least contents files (x ∷ xs) (Some m) least are =
     absurd (false≢true (sym (least.2 x here.0 here.1) ∙ above)))
     (contains_cases x m xs ((are.exactly m).1 (least.0, least.1)))
 
-pub slice_get-missing : (contents : Contents) (files : Paths Digest) (digests : List Digest) → AreMissing contents files digests → slice_get digests 0 ≡ least_missing_of contents files
+pub slice_get-missing : (contents : Contents) (files : Paths (Option Digest)) (digests : List Digest) → AreMissing contents files digests → slice_get digests 0 ≡ least_missing_of contents files
 slice_get-missing contents files digests are = first_is_least contents files digests (least_missing_of contents files) (IsLeast-least_missing_of contents files) are

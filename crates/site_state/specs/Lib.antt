@@ -1,4 +1,5 @@
 pub mod Files
+pub mod Listings
 pub mod States
 pub mod Items
 pub mod Keys

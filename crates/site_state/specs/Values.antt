@@ -1,5 +1,6 @@
 -- Whether two values are the same.
 use Rattle.std.specs.Prelude.{Bool, true, false, ◌&&◌, ◌==◌, Option, Some, None}
+use Rattle.std.specs.Option.{option_eq}
 use Rattle.std.specs.Cmp.Lexicographic.{pointwise}
 use Rattle.std.specs.Str.{bytes_eq}
 use mathlib.Core.Bool.{beq}
@@ -8,6 +9,7 @@ use Rattle.site_state.specs.declared.values.Draft.{Draft}
 use Rattle.site_state.specs.declared.values.Value.{Value}
 use Rattle.site_state.specs.declared.values.Value.TheVariants as value
 use Rattle.site_state.specs.Files.{Paths}
+use Rattle.site_state.specs.Listings.{Listed}
 
 -- the same paths, with the same at each
 abbrev pub paths_eq : {X : Type 0} → (X → X → Bool) → Paths X → Paths X → Bool
@@ -16,8 +18,11 @@ paths_eq eq = pointwise (λ a b. bytes_eq a.0 b.0 && eq a.1 b.1)
 abbrev pub digest_eq : Digest → Digest → Bool
 digest_eq a b = bytes_eq a.0 b.0
 
+abbrev pub listing_eq : Listed → Listed → Bool
+listing_eq a b = beq a.0 b.0 && paths_eq (option_eq digest_eq) a.1 b.1
+
 abbrev pub draft_eq : Draft → Draft → Bool
-draft_eq a b = beq a.auto b.auto && paths_eq digest_eq a.files b.files
+draft_eq a b = beq a.auto b.auto && listing_eq a.files b.files
 
 abbrev pub value_eq : Value → Value → Bool
 value_eq (value.Live a) (value.Live b) = bytes_eq a b

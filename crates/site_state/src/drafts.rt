@@ -1,7 +1,7 @@
 //! Which files of a deploy have not been uploaded.
-ghost use Rattle.std.specs.Prelude.{◌≡◌, IfOk, filter, slice_get};
+ghost use Rattle.std.specs.Prelude.{◌≡◌, ◌++◌, IfOk, OnOk, filter_map, option_to_list, slice_get};
 ghost use Rattle.site_state.specs.Missing;
-ghost use Rattle.site_state.specs.Missing.{AreMissing, digests_of, least_missing_of};
+ghost use Rattle.site_state.specs.Missing.{AreMissing, least_missing_of};
 
 use crate::values::Draft;
 use host_names::{Digest, FilePath, Uploads};
@@ -13,19 +13,37 @@ fn is_lacking<U: Uploads>(uploads: &U, digest: &Digest) -> bool
     uploads.find(digest).is_none()
 }
 
+/// The digest that is listed, if it is lacking.
+fn if_lacking<U: Uploads>(uploads: &U, listed: &Option<Digest>) -> Option<Digest>
+    ensures { result ≡ Missing.if_lacking (U.contents uploads.now) listed.now }
+{
+    match listed {
+        Some(digest) if is_lacking(uploads, digest) => Some(*digest),
+        _ => None,
+    }
+}
+
+/// Adds a digest, if there is one, behind the others.
+fn push_some(digests: &mut Vec<Digest>, digest: Option<Digest>) -> Result<(), AllocError>
+    ensures { OnOk result (digests.new.items ≡ digests.old.items ++ option_to_list digest) }
+{
+    match digest {
+        Some(digest) => Ok(digests.push(digest)?),
+        None => Ok(()),
+    }
+}
+
 /// The digests that are listed and lacking, as they are listed.
 fn lacking<U: Uploads>(
     alloc: Global,
-    files: &[(FilePath, Digest)],
+    files: &[(FilePath, Option<Digest>)],
     uploads: &U,
 ) -> Result<Vec<Digest>, AllocError>
-    ensures { IfOk result (λ digests. digests.items ≡ filter (Missing.is_lacking (U.contents uploads.now)) (digests_of files.now)) }
+    ensures { IfOk result (λ digests. digests.items ≡ filter_map (λ f. Missing.if_lacking (U.contents uploads.now) f.1) files.now) }
 {
     let mut digests = Vec::new(alloc);
-    for (_, digest) in files {
-        if is_lacking(uploads, digest) {
-            digests.push(*digest)?;
-        }
+    for (_, listed) in files {
+        push_some(&mut digests, if_lacking(uploads, listed))?;
     }
     Ok(digests)
 }
@@ -36,24 +54,13 @@ pub fn missing<U: Uploads>(
     draft: &Draft,
     uploads: &U,
 ) -> Result<Vec<Digest>, AllocError>
-    ensures exactly { IfOk result (λ digests. AreMissing (U.contents uploads.now) draft.now.files digests.items) }
-    ensures least_first { IfOk result (λ digests. slice_get digests.items 0 ≡ least_missing_of (U.contents uploads.now) draft.now.files) }
+    ensures exactly { IfOk result (λ digests. AreMissing (U.contents uploads.now) draft.now.files.1 digests.items) }
+    ensures least_first { IfOk result (λ digests. slice_get digests.items 0 ≡ least_missing_of (U.contents uploads.now) draft.now.files.1) }
 {
     let mut digests = lacking(alloc, draft.files.entries(), uploads)?;
     digests.sort_unstable();
     digests.dedup();
     Ok(digests)
-}
-
-/// A digest, if it is lacking.
-fn if_lacking<U: Uploads>(uploads: &U, digest: &Digest) -> Option<Digest>
-    ensures { result ≡ Missing.if_lacking (U.contents uploads.now) digest.now }
-{
-    if is_lacking(uploads, digest) {
-        Some(*digest)
-    } else {
-        None
-    }
 }
 
 /// The lesser of two digests, where there are two.
@@ -69,11 +76,11 @@ fn lesser(a: Option<Digest>, b: Option<Digest>) -> Option<Digest>
 
 /// The least digest of the files that a deploy lists and that were not uploaded. Takes no memory.
 pub fn least_missing<U: Uploads>(draft: &Draft, uploads: &U) -> Option<Digest>
-    ensures { result ≡ least_missing_of (U.contents uploads.now) draft.now.files }
+    ensures { result ≡ least_missing_of (U.contents uploads.now) draft.now.files.1 }
 {
     let mut least = None;
-    for (_, digest) in draft.files.entries() {
-        least = lesser(least, if_lacking(uploads, digest));
+    for (_, listed) in draft.files.entries() {
+        least = lesser(least, if_lacking(uploads, listed));
     }
     least
 }

@@ -1,5 +1,5 @@
 //! Laws of what is found in a state and a draft, each the contract of a function that does nothing.
-ghost use Rattle.std.specs.Prelude.{ℕ};
+ghost use Rattle.std.specs.Prelude.{ℕ, Option};
 ghost use Rattle.host_names.specs.Blobs.{Contents};
 ghost use Rattle.host_names.specs.declared.digests.Digest.{Digest};
 ghost use Rattle.host_names.specs.declared.names.SiteName.{SiteName};
@@ -11,7 +11,7 @@ ghost use Rattle.site_state.specs.States.{State};
 /// The least missing digest is listed and lacking, and no other such is below it; there is none only where nothing is
 /// missing.
 pub fn the_least_missing_digest_is_least()
-    ensures { (uploads : Contents) (files : Paths Digest) → IsLeastMissing uploads files (least_missing_of uploads files) }
+    ensures { (uploads : Contents) (files : Paths (Option Digest)) → IsLeastMissing uploads files (least_missing_of uploads files) }
 {}
 
 /// The alias that is found for a deploy stands for it, and no alias before it by name does; none is found only where no

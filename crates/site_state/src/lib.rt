@@ -5,6 +5,7 @@ mod drafts;
 mod files;
 mod keys;
 mod laws;
+mod listings;
 mod merge;
 #[cfg(test)]
 mod missing_tests;
@@ -21,6 +22,7 @@ mod values;
 pub use drafts::{least_missing, missing};
 pub use files::File;
 pub use laws::{the_alias_for_a_deploy_is_least, the_least_missing_digest_is_least};
+pub use listings::{Listing, NotAPatch};
 pub use paths::PathMap;
 pub use states::{State, is_alias_of, is_live_of};
-pub use values::{Draft, Listing, Tree, Value};
+pub use values::{Draft, Tree, Value};

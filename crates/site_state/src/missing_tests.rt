@@ -1,6 +1,6 @@
 //! Which listed files are missing.
 use super::*;
-use crate::samples::{draft, no_files};
+use crate::samples::{draft, no_paths, patch};
 use host_names::{Digest, MemoryUploads};
 use std::test::Fail;
 
@@ -41,10 +41,26 @@ fn lists_a_missing_digest_once(rt: HostRuntime) -> Result<(), Fail> {
 
 #[test]
 fn misses_nothing_of_no_files(rt: HostRuntime) -> Result<(), Fail> {
-    let files = no_files(rt.alloc())?;
+    let files = Listing::new(false, no_paths(rt.alloc())?)?;
     let draft = Draft { auto: true, files };
     let uploads = MemoryUploads::new(rt.alloc());
     assert!(rt; missing(rt.alloc(), &draft, &uploads)?.is_empty());
     assert_eq!(rt; least_missing(&draft, &uploads), None);
+    Ok(())
+}
+
+#[test]
+fn misses_no_removal(rt: HostRuntime) -> Result<(), Fail> {
+    let hello = Digest::of_bytes(b"hello");
+    let patch = patch(rt.alloc(), hello)?;
+    let mut uploads = MemoryUploads::new(rt.alloc());
+    assert_eq!(rt;
+        missing(rt.alloc(), &patch, &uploads)?.as_slice(),
+        [hello].as_slice()
+    );
+    assert_eq!(rt; least_missing(&patch, &uploads), Some(hello));
+    uploads.add(rt.alloc(), Vec::from_slice(rt.alloc(), b"hello")?)?;
+    assert!(rt; missing(rt.alloc(), &patch, &uploads)?.is_empty());
+    assert_eq!(rt; least_missing(&patch, &uploads), None);
     Ok(())
 }

@@ -1,6 +1,6 @@
 //! What files, lists of paths and values show, and which are equal.
 use super::*;
-use crate::samples::{draft, file, listing, tree};
+use crate::samples::{a_and_b, draft, file, no_paths, patch, tree};
 use host_names::{Digest, FilePath};
 use std::alloc::AllocError;
 use std::test::Fail;
@@ -54,27 +54,57 @@ fn tells_drafts_apart(rt: HostRuntime) -> Result<(), Fail> {
 }
 
 #[test]
+fn tells_patches_apart(rt: HostRuntime) -> Result<(), Fail> {
+    let alloc = rt.alloc();
+    let x = Digest::of_bytes(b"x");
+    let y = Digest::of_bytes(b"y");
+    let open = patch(alloc, x)?;
+    assert!(rt; open == patch(alloc, x)?);
+    assert!(rt; open == open.clone()?);
+    assert!(rt; open != patch(alloc, y)?);
+    assert!(rt; open != draft(alloc, true, x, x)?);
+    let full = Listing::new(false, a_and_b(alloc, Some(x), Some(y))?)?;
+    let part = Listing::new(true, a_and_b(alloc, Some(x), Some(y))?)?;
+    assert!(rt; full != part);
+    Ok(())
+}
+
+#[test]
+fn takes_removals_in_a_patch_alone(rt: HostRuntime) -> Result<(), Fail> {
+    let alloc = rt.alloc();
+    let x = Digest::of_bytes(b"x");
+    let full = Listing::new(false, a_and_b(alloc, Some(x), None)?);
+    assert_eq!(rt; full.err(), Some(NotAPatch));
+    let part = Listing::new(true, a_and_b(alloc, None, Some(x))?)?;
+    assert!(rt; part.is_patch());
+    let whole = Listing::new(false, no_paths(alloc)?)?;
+    assert!(rt; !whole.is_patch());
+    assert!(rt; whole.entries().is_empty());
+    Ok(())
+}
+
+#[test]
 fn lists_pairs_by_path(rt: HostRuntime) -> Result<(), Fail> {
     let alloc = rt.alloc();
     let a = FilePath::read(alloc, "a")?;
     let b = FilePath::read(alloc, "b")?;
     let x = Digest::of_bytes(b"x");
-    let y = Digest::of_bytes(b"y");
-    let files = listing(alloc, (a.clone()?, x), (b.clone()?, y))?;
+    let files = Listing::new(true, a_and_b(alloc, Some(x), None)?)?;
     let entries = files.entries();
     assert_eq!(rt; entries.len(), 2);
     assert!(rt;
         entries
             .first()
-            .is_some_and(|entry| entry.0 == a && entry.1 == x)
+            .is_some_and(|entry| entry.0 == a && entry.1 == Some(x))
     );
     assert!(rt;
         entries
             .last()
-            .is_some_and(|entry| entry.0 == b && entry.1 == y)
+            .is_some_and(|entry| entry.0 == b && entry.1.is_none())
     );
-    assert!(rt; files.get(&a).is_some_and(|digest| *digest == x));
-    assert!(rt; files.get(&b).is_some_and(|digest| *digest == y));
+    assert_eq!(rt; files.get(&a), Some(&Some(x)));
+    assert_eq!(rt; files.get(&b), Some(&None));
+    assert_eq!(rt; files.get(&FilePath::read(alloc, "c")?), None);
     Ok(())
 }
 

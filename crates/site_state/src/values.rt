@@ -1,21 +1,18 @@
 //! What stands in a cell.
 use crate::files::File;
+use crate::listings::Listing;
 use crate::paths::PathMap;
-use host_names::Digest;
 use std::alloc::AllocError;
 
 /// The files of a deploy.
 pub type Tree = PathMap<File>;
-
-/// The digests of the files that a deploy lists.
-pub type Listing = PathMap<Digest>;
 
 /// An open deploy.
 #[derive(Drop)]
 pub struct Draft {
     /// Whether it is published by itself once nothing is missing.
     pub auto: bool,
-    /// The paths that it lists, with the digests of their files.
+    /// What it lists.
     pub files: Listing,
 }
 

@@ -1,6 +1,6 @@
-use Rattle.std.proofs.Common.{◌≡◌, filter, take}
-use Rattle.site_state.specs.Missing.{is_lacking, digests_of}
+use Rattle.std.proofs.Common.{◌≡◌, filter_map, take}
+use Rattle.site_state.specs.Missing.{if_lacking}
 use Rattle.site_state.proofs.drafts.lacking.Given as goal
 
-abbrev pub invariant-loop-digest : goal.invariant-loop-digest
-invariant-loop-digest g l = l.digests.items ≡ filter (is_lacking (g.U.Uploads.contents l.uploads)) (digests_of (take l.digest-index l.files))
+abbrev pub invariant-loop-listed : goal.invariant-loop-listed
+invariant-loop-listed g l = l.digests.items ≡ filter_map (λ f. if_lacking (g.U.Uploads.contents l.uploads) f.1) (take l.listed-index l.files)

@@ -1,5 +1,5 @@
 use Rattle.site_change.proofs.Deciding.{sides_of, publish_plan}
-use Rattle.site_change.proofs.decisions.publish_draft.Goals as goal
+use Rattle.site_change.proofs.publishing.full_changes.Goals as goal
 
 pub live_changes-requires : goal.live_changes-requires
 live_changes-requires g c =

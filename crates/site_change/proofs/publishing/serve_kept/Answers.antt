@@ -5,7 +5,7 @@ use Rattle.site_state.specs.States.{live_entries}
 use Rattle.site_state.specs.declared.values.Value.{Value}
 use Rattle.site_change.specs.Differences.{AreLiveChanges}
 use Rattle.site_change.proofs.Deciding.{sides_of, served_changes}
-use Rattle.site_change.proofs.decisions.serve_kept.Goals as goal
+use Rattle.site_change.proofs.publishing.serve_kept.Goals as goal
 
 pub live_changes-requires : goal.live_changes-requires
 live_changes-requires c = rw (c.live.ensures, c.entries.ensures.pairs) (sides_of c.args.state.now c.args.site.now c.args.tree.now c.entries.ensures.sorted)

@@ -1,5 +1,5 @@
 use Rattle.std.specs.List.Sorted.{IsStrictlySortedBy}
-use Rattle.site_state.proofs.samples.no_files.Goals as goal
+use Rattle.site_state.proofs.samples.no_paths.Goals as goal
 
 pub from_sorted-requires : goal.from_sorted-requires
 unfolding IsStrictlySortedBy

@@ -1,0 +1,245 @@
+//! Publishing an open deploy: what it changes and touches.
+ghost use Rattle.std.specs.Prelude.{◌≡◌, ◌||◌, IfOk, Some, None, option_map};
+ghost use Rattle.host_names.specs.declared.cells.Cell.TheVariants as cell;
+ghost use Rattle.site_state.specs.Files.{IsByPath};
+ghost use Rattle.site_state.specs.Missing.{if_lacking, least_missing_of};
+ghost use Rattle.site_state.specs.States.{draft_at, kept_at};
+ghost use Rattle.site_state.specs.declared.values.Value.TheVariants as value;
+ghost use Rattle.site_change.specs.declared.commands.Command.TheVariants as command_of;
+ghost use Rattle.site_change.specs.Changes as changes;
+ghost use Rattle.site_change.specs.Changes.{publish_refusal, publish_touches, published, restore_refusal, restored, same_cell, touches, tree_of, with_patch, with_published, with_served};
+ghost use Rattle.site_change.specs.Decisions.{IsDecision};
+ghost use Rattle.site_change.specs.Differences.{AreListedChanges};
+ghost use Rattle.site_change.specs.Plans.{IsDifference};
+ghost use Rattle.site_change.specs.TouchedCells.{AreTouched, is_of_deploy, is_of_patch};
+
+use crate::commands::Refusal;
+use crate::decisions::{DecideError, draft_cell, kept_cell};
+use crate::few_cells::live_cell;
+use crate::live::live_changes;
+use crate::plans::{Change, Plan, change_in, push_some};
+use crate::touched::Touched;
+use crate::trees::{file_at, tree_of};
+use host_names::{Digest, FilePath, SiteName, Uploads};
+use site_state::{Draft, Listing, State, Tree, Value, least_missing};
+use std::alloc::{AllocError, Global};
+
+/// What changes where a site comes to serve these files and no others, of which none is missing.
+fn full_changes<U: Uploads>(
+    alloc: Global,
+    state: &State,
+    uploads: &U,
+    site: &SiteName,
+    number: u64,
+    files: &Listing,
+) -> Result<Vec<Change>, AllocError>
+    requires { least_missing_of (U.contents uploads.now) files.now.1 ≡ None }
+    ensures { IfOk result (λ changes. IsDifference state.now
+        (with_published site.now number (tree_of (U.contents uploads.now) files.now.1) state.now)
+        changes.items) }
+{
+    let tree = tree_of(alloc, uploads, files)?;
+    let mut changes = live_changes(alloc, site, state.live(site), tree.entries())?;
+    let kept = change_in(state, kept_cell(site, number)?, Some(Value::Kept(tree)))?;
+    push_some(&mut changes, kept)?;
+    let draft = change_in(state, draft_cell(site, number)?, None)?;
+    push_some(&mut changes, draft)?;
+    Ok(changes)
+}
+
+/// A file, as what stands in its cell; nothing for none.
+fn served<U: Uploads>(uploads: &U, listed: &Option<Digest>) -> Result<Option<Value>, AllocError>
+    requires { if_lacking (U.contents uploads.now) listed.now ≡ None }
+    ensures { IfOk result (λ v. v ≡ option_map value.Live (changes.file_at (U.contents uploads.now) listed.now)) }
+{
+    match file_at(uploads, listed)? {
+        Some(file) => Ok(Some(Value::Live(file))),
+        None => Ok(None),
+    }
+}
+
+/// What changes at the paths that a patch lists, of which none is missing.
+fn listed_changes<U: Uploads>(
+    alloc: Global,
+    state: &State,
+    uploads: &U,
+    site: &SiteName,
+    entries: &[(FilePath, Option<Digest>)],
+) -> Result<Vec<Change>, AllocError>
+    requires sorted { IsByPath entries.now }
+    requires complete { least_missing_of (U.contents uploads.now) entries.now ≡ None }
+    ensures { IfOk result (λ changes. AreListedChanges site.now (U.contents uploads.now) entries.now state.now changes.items) }
+{
+    let mut changes = Vec::new(alloc);
+    for (path, listed) in entries {
+        let change = change_in(state, live_cell(site, path)?, served(uploads, listed)?)?;
+        push_some(&mut changes, change)?;
+    }
+    Ok(changes)
+}
+
+/// What changes where a patch is published, of which no file is missing.
+fn patch_changes<U: Uploads>(
+    alloc: Global,
+    state: &State,
+    uploads: &U,
+    site: &SiteName,
+    number: u64,
+    files: &Listing,
+) -> Result<Vec<Change>, AllocError>
+    requires { least_missing_of (U.contents uploads.now) files.now.1 ≡ None }
+    ensures { IfOk result (λ changes. IsDifference state.now
+        (with_patch site.now number (U.contents uploads.now) files.now.1 state.now)
+        changes.items) }
+{
+    let mut changes = listed_changes(alloc, state, uploads, site, files.entries())?;
+    let draft = change_in(state, draft_cell(site, number)?, None)?;
+    push_some(&mut changes, draft)?;
+    Ok(changes)
+}
+
+/// The plan of publishing these files, of which none is missing.
+fn plan_full<U: Uploads>(
+    alloc: Global,
+    state: &State,
+    uploads: &U,
+    site: &SiteName,
+    number: u64,
+    files: &Listing,
+) -> Result<Plan, AllocError>
+    requires { least_missing_of (U.contents uploads.now) files.now.1 ≡ None }
+    ensures changes { IfOk result (λ plan. IsDifference state.now
+        (with_published site.now number (tree_of (U.contents uploads.now) files.now.1) state.now)
+        plan.changes.items) }
+    ensures touched { IfOk result (λ plan. AreTouched site.now (is_of_deploy site.now number) plan.touched) }
+{
+    let changes = full_changes(alloc, state, uploads, site, number, files)?;
+    let touched = Touched::deploy(alloc, site, number)?;
+    Ok(Plan { changes, touched })
+}
+
+/// The plan of publishing this patch, of which no file is missing.
+fn plan_patch<U: Uploads>(
+    alloc: Global,
+    state: &State,
+    uploads: &U,
+    site: &SiteName,
+    number: u64,
+    files: &Listing,
+) -> Result<Plan, AllocError>
+    requires { least_missing_of (U.contents uploads.now) files.now.1 ≡ None }
+    ensures changes { IfOk result (λ plan. IsDifference state.now
+        (with_patch site.now number (U.contents uploads.now) files.now.1 state.now)
+        plan.changes.items) }
+    ensures touched { IfOk result (λ plan. AreTouched site.now (is_of_patch site.now number files.now.1) plan.touched) }
+{
+    let changes = patch_changes(alloc, state, uploads, site, number, files)?;
+    let touched = Touched::patch(alloc, site, number, files.entries())?;
+    Ok(Plan { changes, touched })
+}
+
+/// What the publishing of this draft changes and touches.
+fn publish_open<U: Uploads>(
+    alloc: Global,
+    state: &State,
+    uploads: &U,
+    site: &SiteName,
+    number: u64,
+    draft: &Draft,
+) -> Result<Plan, DecideError>
+    ensures { IsDecision (publish_refusal (U.contents uploads.now) (Some draft.now))
+        site.now (λ c. same_cell c (cell.Draft site.now number) || publish_touches site.now number (Some draft.now) c) state.now
+        (published site.now number (U.contents uploads.now) state.now (Some draft.now))
+        result }
+{
+    if let Some(digest) = least_missing(draft, uploads) {
+        return Err(DecideError::Refused(Refusal::NotComplete(digest)));
+    }
+    if draft.files.is_patch() {
+        Ok(plan_patch(alloc, state, uploads, site, number, &draft.files)?)
+    } else {
+        Ok(plan_full(alloc, state, uploads, site, number, &draft.files)?)
+    }
+}
+
+/// What the publishing of an open deploy changes and touches.
+pub(crate) fn publish<U: Uploads>(
+    alloc: Global,
+    state: &State,
+    uploads: &U,
+    site: &SiteName,
+    number: u64,
+) -> Result<Plan, DecideError>
+    ensures { IsDecision (publish_refusal (U.contents uploads.now) (draft_at state.now site.now number))
+        site.now (touches (command_of.Publish site.now number) 0 state.now) state.now
+        (published site.now number (U.contents uploads.now) state.now (draft_at state.now site.now number))
+        result }
+{
+    match state.draft(site, number) {
+        Some(draft) => publish_open(alloc, state, uploads, site, number, draft),
+        None => Err(DecideError::Refused(Refusal::NoSuchDraft)),
+    }
+}
+
+/// What changes and is touched where a site comes to serve the files of a kept deploy again.
+fn serve_kept(
+    alloc: Global,
+    state: &State,
+    site: &SiteName,
+    number: u64,
+    tree: &Tree,
+) -> Result<Plan, AllocError>
+    ensures changes { IfOk result (λ plan. IsDifference state.now (with_served site.now tree.now state.now) plan.changes.items) }
+    ensures touched { IfOk result (λ plan. AreTouched site.now (is_of_deploy site.now number) plan.touched) }
+{
+    let changes = live_changes(alloc, site, state.live(site), tree.entries())?;
+    let touched = Touched::deploy(alloc, site, number)?;
+    Ok(Plan { changes, touched })
+}
+
+/// What the restoring of this draft changes and touches: what its publishing does, and that no such deploy is kept.
+fn restore_open<U: Uploads>(
+    alloc: Global,
+    state: &State,
+    uploads: &U,
+    site: &SiteName,
+    number: u64,
+    draft: &Draft,
+) -> Result<Plan, DecideError>
+    ensures { IsDecision (publish_refusal (U.contents uploads.now) (Some draft.now))
+        site.now
+        (λ c. same_cell c (cell.Draft site.now number)
+        || (same_cell c (cell.Kept site.now number) || publish_touches site.now number (Some draft.now) c))
+        state.now
+        (published site.now number (U.contents uploads.now) state.now (Some draft.now))
+        result }
+{
+    let Plan {
+        changes,
+        mut touched,
+    } = publish_open(alloc, state, uploads, site, number, draft)?;
+    touched.add(kept_cell(site, number)?)?;
+    Ok(Plan { changes, touched })
+}
+
+/// What the restoring of a deploy changes and touches.
+pub(crate) fn restore<U: Uploads>(
+    alloc: Global,
+    state: &State,
+    uploads: &U,
+    site: &SiteName,
+    number: u64,
+) -> Result<Plan, DecideError>
+    ensures { IsDecision (restore_refusal (U.contents uploads.now) (kept_at state.now site.now number) (draft_at state.now site.now number))
+        site.now (touches (command_of.Restore site.now number) 0 state.now) state.now
+        (restored site.now number (U.contents uploads.now) state.now (kept_at state.now site.now number) (draft_at state.now site.now number))
+        result }
+{
+    if let Some(tree) = state.kept(site, number) {
+        return Ok(serve_kept(alloc, state, site, number, tree)?);
+    }
+    match state.draft(site, number) {
+        Some(draft) => restore_open(alloc, state, uploads, site, number, draft),
+        None => Err(DecideError::Refused(Refusal::NoSuchDeploy)),
+    }
+}
