@@ -1,5 +1,5 @@
 -- What was found of the uploads.
-use Rattle.std.proofs.Common.{◌≡◌, ℕ, zero, suc, ◌<◌, ◌⊎◌, inl, inr, Bool, true, false, cond, List, [], ◌∷◌, ◌++◌, length, get_or, Option, Some, None, is_some, Result, Ok, Err, OnOk, OnErr, refl, sym, ap, subst, ◌∙◌, arith}
+use Rattle.std.proofs.Common.{◌≡◌, ℕ, ◌⊎◌, inl, inr, Bool, true, false, cond, List, [], ◌∷◌, ◌++◌, Option, Some, None, is_some, Result, Ok, Err, OnOk, OnErr, refl, sym, ap, subst, ◌∙◌}
 use Rattle.std.specs.FinMap as map
 use Rattle.std.specs.Ordering.{eq_by_cmp, is_eq}
 use Rattle.std.specs.declared.cmp.Ordering.{Ordering}
@@ -9,9 +9,9 @@ use Rattle.host_names.specs.Blobs.{Contents, AreDigested, digest_of, with_file}
 use Rattle.host_names.specs.Digests.{digest_cmp, digest_cmp_total, digest_cmp-IsAntisymmetric}
 use Rattle.host_names.specs.declared.digests.Digest.{Digest}
 use Rattle.site_state.specs.Files.{Paths}
-use Rattle.site_state.specs.Missing.{least_missing_of}
+use Rattle.site_state.specs.Missing.{if_lacking, lesser, least_missing_of}
 use Rattle.site_change.specs.Changes.{IsWithin}
-use Rattle.site_change.proofs.Listings.{none_missing}
+use Rattle.site_change.proofs.Listings.{there}
 
 is_eq-true : (o : Ordering) → is_eq o ≡ true → o ≡ Equal
 is_eq-true Less e = cc e
@@ -77,32 +77,29 @@ known-with_file found bytes =
     tied : (digest : Digest) → eq_by_cmp digest_cmp digest digest ≡ true
     tied digest = (eq_by_cmp_equiv digest_cmp_total).refl digest
 
+-- what is known stays so
+known-grows : (found more : Contents) (listed : Option Digest) → IsWithin found more → if_lacking found listed ≡ None → if_lacking more listed ≡ None
+known-grows found more None within known = refl
+known-grows found more (Some digest) within known =
+    let at = some_at (map.get found digest) (there found digest known) in
+    rw (within digest at.0 at.1) refl
+
 -- each of these files is known
-abbrev pub AreKnown : Contents → Paths Digest → Type 0
+abbrev pub AreKnown : Contents → Paths (Option Digest) → Type 0
 AreKnown found [] = Unit {0}
-AreKnown found (f ∷ files) = (is_some (map.get found f.1) ≡ true) × AreKnown found files
+AreKnown found (f ∷ files) = (if_lacking found f.1 ≡ None) × AreKnown found files
 
-pub AreKnown-grow : (found more : Contents) (files : Paths Digest) → IsWithin found more → AreKnown found files → AreKnown more files
+pub AreKnown-grow : (found more : Contents) (files : Paths (Option Digest)) → IsWithin found more → AreKnown found files → AreKnown more files
 AreKnown-grow found more [] within known = tt
-AreKnown-grow found more (f ∷ files) within known =
-    let there = some_at (map.get found f.1) known.0 in
-    (ap is_some (within f.1 there.0 there.1), AreKnown-grow found more files within known.1)
+AreKnown-grow found more (f ∷ files) within known = (known-grows found more f.1 within known.0, AreKnown-grow found more files within known.1)
 
-pub AreKnown-push : (found : Contents) (files : Paths Digest) (f : List ℕ × Digest) → AreKnown found files → is_some (map.get found f.1) ≡ true → AreKnown found (files ++ f ∷ [])
+pub AreKnown-push : (found : Contents) (files : Paths (Option Digest)) (f : List ℕ × Option Digest) → AreKnown found files → if_lacking found f.1 ≡ None → AreKnown found (files ++ f ∷ [])
 AreKnown-push found [] f known e = (e, tt)
 AreKnown-push found (x ∷ files) f known e = (known.0, AreKnown-push found files f known.1 e)
 
-pub AreKnown-complete : (found : Contents) (files : Paths Digest) → AreKnown found files → least_missing_of found files ≡ None
+pub AreKnown-complete : (found : Contents) (files : Paths (Option Digest)) → AreKnown found files → least_missing_of found files ≡ None
 AreKnown-complete found [] known = refl
-AreKnown-complete found (f ∷ files) known = rw known.0 (AreKnown-complete found files known.1)
-
--- nothing is missing, so each is there
-pub complete-at : (uploads : Contents) (files : Paths Digest) (i : ℕ) (f : List ℕ × Digest) → least_missing_of uploads files ≡ None → i < length files → f ≡ get_or files i f
-    → is_some (map.get uploads f.1) ≡ true
-complete-at uploads [] i f e within at = absurd (omega arith)
-complete-at uploads (x ∷ files) zero f e within at =
-    ap (λ (y : List ℕ × Digest). is_some (map.get uploads y.1)) at ∙ (none_missing uploads x files e).0
-complete-at uploads (x ∷ files) (suc i) f e within at = complete-at uploads files i f (none_missing uploads x files e).1 (omega arith) at
+AreKnown-complete found (f ∷ files) known = λ i. lesser (known.0 i) (AreKnown-complete found files known.1 i)
 
 -- what was found under a digest has that digest
 pub named : (uploads : Contents) (digest : Digest) (bytes : List ℕ) → AreDigested uploads → map.get uploads digest ≡ Some bytes → digest ≡ digest_of bytes

@@ -5,4 +5,5 @@ pub mod Cuts
 pub mod PathTexts
 mod ObjectBodies
 mod ListedFiles
+mod LawfulListings
 pub mod RoutesTaken

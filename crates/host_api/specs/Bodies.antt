@@ -1,5 +1,5 @@
 -- What a body asks for (RFC 8259, as `serde_json` reads it).
-use Rattle.std.specs.Prelude.{ℕ, Bool, false, List, Option, Some, None, Result, Ok, Err, option_map, option_and_then, ok_or, not, nat_le, if◌then◌else◌, codes}
+use Rattle.std.specs.Prelude.{ℕ, Bool, true, false, ◌&&◌, List, Option, Some, None, Result, Ok, Err, option_map, option_and_then, ok_or, not, nat_le, if◌then◌else◌, codes}
 use Rattle.std.specs.FinMap as map
 use Rattle.std.specs.Cmp.Lexicographic.{slice_cmp}
 use Rattle.std.specs.Ordering.{nat_cmp}
@@ -37,13 +37,14 @@ abbrev pub flag_of : Option Data → Option Bool
 flag_of None = Some false
 flag_of (Some value) = as_bool value
 
--- what a body of the right form has: the files, and whether the deploy is to stay open
+-- what a body of the right form has: the files, whether the deploy is to stay open, and whether it is a patch
 pub record Form : Type 0 where
   pub files : Members
   pub draft : Bool
+  pub patch : Bool
 
 abbrev pub form_with : Option Members → Option Bool → Option Bool → Option Form
-form_with (Some files) (Some draft) (Some patch) = if patch then None else Some (record { files = files; draft = draft })
+form_with (Some files) (Some draft) (Some patch) = Some (record { files = files; draft = draft; patch = patch })
 form_with files draft patch = None
 
 abbrev pub form_of : Members → Option Form
@@ -63,30 +64,42 @@ digest_in (string text) = ok_or (digest_from text) BadDigest
 digest_in (array items) = Err BadBody
 digest_in (object ms) = Err BadBody
 
--- files of a deploy, by path
+abbrev pub is_null : Data → Bool
+is_null null = true
+is_null (boolean b) = false
+is_null (number n) = false
+is_null (string text) = false
+is_null (array items) = false
+is_null (object ms) = false
+
+-- what is listed by a value: in a patch `null` lists a removal, and every other value lists a digest
+abbrev pub listed_in : Bool → Data → Result (Option Digest) Refusal
+listed_in patch value = if patch && is_null value then Ok None else then_with (digest_in value) (λ digest. Ok (Some digest))
+
+-- what a deploy lists, by path
 abbrev pub Files : Type 0
-Files = map.FinMap (slice_cmp nat_cmp) Digest
+Files = map.FinMap (slice_cmp nat_cmp) (Option Digest)
 
 -- the files of a list in which each path stands once
-abbrev pub files_in : List (List ℕ × Digest) → Files
+abbrev pub files_in : List (List ℕ × Option Digest) → Files
 files_in files = map.from_entries files
 
--- the files with one more: its path is judged first, then whether the path is listed already, then its digest
-abbrev pub with_one : Files → List ℕ → Data → Result Files Refusal
-with_one files path value =
+-- the files with one more: its path is judged first, then whether the path is listed already, then its value
+abbrev pub with_one : Bool → Files → List ℕ → Data → Result Files Refusal
+with_one patch files path value =
     if not (is_path path) then Err BadPath
     else if map.contains_key files path then Err BadBody
-    else then_with (digest_in value) (λ digest. Ok (map.insert files path digest))
+    else then_with (listed_in patch value) (λ listed. Ok (map.insert files path listed))
 
 -- the files with those that the members list, in the order of the keys' bytes, or the first reason against one
-abbrev pub with_all : Files → Members → Result Files Refusal
-with_all files no_members = Ok files
-with_all files (member key value ms) = then_with (with_one files (with_slash key) value) (λ more. with_all more ms)
+abbrev pub with_all : Bool → Files → Members → Result Files Refusal
+with_all patch files no_members = Ok files
+with_all patch files (member key value ms) = then_with (with_one patch files (with_slash key) value) (λ more. with_all patch more ms)
 
 abbrev pub open_with : SiteName → Option Form → Result Ask Refusal
 open_with name None = Err BadBody
 open_with name (Some form) =
-    then_with (with_all map.empty form.files) (λ files. Ok (ask.Command (Open name (map.entries files) (not form.draft))))
+    then_with (with_all form.patch map.empty form.files) (λ files. Ok (ask.Command (Open name (form.patch, map.entries files) (not form.draft))))
 
 abbrev pub open_ask : SiteName → List ℕ → Result Ask Refusal
 open_ask name body = open_with name (option_and_then form_of (object_of body))

@@ -37,7 +37,7 @@ fn open(alloc: Global, site: SiteName, body: &[u8]) -> Result<Ask, Refusal>
         return Err(Refusal::BadBody);
     };
     let auto = !form.draft;
-    let files = listed(alloc, form.files)?;
+    let files = listed(alloc, form.patch, form.files)?;
     Ok(Ask::Command(Command::Open { site, files, auto }))
 }
 

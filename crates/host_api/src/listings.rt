@@ -1,4 +1,4 @@
-//! What the body of the opening of a deploy says: the files, and whether the deploy stays open.
+//! What the body of the opening of a deploy says: the files, whether the deploy stays open, and whether it is a patch.
 ghost use Rattle.std.specs.Prelude.{◌≡◌, ◌≢◌, true, false, codes, Ok, Err, Option, Some, None, IfOk, IfErr, OnOk, option_map, option_and_then};
 ghost use Rattle.std.specs.BTreeMap.{BTreeMap};
 ghost use Rattle.std.specs.FinMap as map;
@@ -11,7 +11,7 @@ ghost use Rattle.host_api.specs.Bodies as spec;
 use crate::refusals::Refusal;
 use host_names::{Digest, FilePath, PathError};
 use serde_json::{Map, Value};
-use site_state::{Listing, PathMap};
+use site_state::{Listing, NotAPatch, PathMap};
 use std::alloc::{AllocError, Global};
 use std::collections::BTreeMap;
 
@@ -20,6 +20,7 @@ use std::collections::BTreeMap;
 pub(crate) struct Form<'a> {
     pub(crate) files: &'a Map<String, Value>,
     pub(crate) draft: bool,
+    pub(crate) patch: bool,
 }
 
 /// A flag, which is off where it is absent.
@@ -35,16 +36,17 @@ fn flag(body: &Value, name: &str) -> Option<bool>
 /// The parts of a body, if it has the right form.
 pub(crate) fn form_of(body: &Value) -> Option<Form<'_>>
     ensures { option_map
-        (λ form. record { files = members_view form.files.now.entries; draft = form.draft }) result
+        (λ form. record { files = members_view form.files.now.entries; draft = form.draft; patch = form.patch }) result
         ≡ option_and_then spec.form_of (as_object (view body.now)) }
 {
     let files = body.get("files")?.as_object()?;
     let draft = flag(body, "draft")?;
     let patch = flag(body, "patch")?;
-    if patch {
-        return None;
-    }
-    Some(Form { files, draft })
+    Some(Form {
+        files,
+        draft,
+        patch,
+    })
 }
 
 /// The digest that a member spells.
@@ -58,6 +60,16 @@ fn digest_in(value: &Value) -> Result<Digest, Refusal>
         Ok(digest) => Ok(digest),
         Err(_) => Err(Refusal::BadDigest),
     }
+}
+
+/// What a member lists: in a patch `null` lists a removal.
+fn listed_in(is_patch: bool, value: &Value) -> Result<Option<Digest>, Refusal>
+    ensures { result ≡ spec.listed_in is_patch (view value.now) }
+{
+    if is_patch && matches!(value, Value::Null) {
+        return Ok(None);
+    }
+    Ok(Some(digest_in(value)?))
 }
 
 /// The path that a key is.
@@ -74,27 +86,28 @@ fn path_of(alloc: Global, key: &str) -> Result<FilePath, Refusal>
     }
 }
 
-/// Adds the file that a member lists. A path that is listed already is refused.
+/// Adds what a member lists. A path that is listed already is refused.
 #[tactic(auto, using(crate::proofs::ListedFiles::listed_twice, crate::proofs::ListedFiles::listed_badly, crate::proofs::ListedFiles::listed_once))]
 fn list_one(
     alloc: Global,
-    files: &mut BTreeMap<FilePath, Digest>,
+    files: &mut BTreeMap<FilePath, Option<Digest>>,
+    is_patch: bool,
     key: &str,
     value: &Value,
 ) -> Result<(), Refusal>
     ensures ok { OnOk result
-        (spec.with_one (spec.files_in files.old.entries) (with_slash key.now) (view value.now)
+        (spec.with_one is_patch (spec.files_in files.old.entries) (with_slash key.now) (view value.now)
         ≡ Ok (spec.files_in files.new.entries)) }
     ensures refused { IfErr result (λ refusal. refusal ≢ Refusal.OutOfMemory →
-        spec.with_one (spec.files_in files.old.entries) (with_slash key.now) (view value.now) ≡ Err refusal) }
+        spec.with_one is_patch (spec.files_in files.old.entries) (with_slash key.now) (view value.now) ≡ Err refusal) }
 {
     let path = path_of(alloc, key)?;
     if files.contains_key(&path) {
         return Err(Refusal::BadBody);
     }
-    let digest = digest_in(value)?;
+    let listed = listed_in(is_patch, value)?;
     files
-        .insert(path, digest)
+        .insert(path, listed)
         .map_err(|_| Refusal::OutOfMemory)?;
     Ok(())
 }
@@ -102,25 +115,29 @@ fn list_one(
 /// The files that the members list, by path.
 fn files_of(
     alloc: Global,
+    is_patch: bool,
     members: &Map<String, Value>,
-) -> Result<BTreeMap<FilePath, Digest>, Refusal>
+) -> Result<BTreeMap<FilePath, Option<Digest>>, Refusal>
     ensures ok { IfOk result (λ files.
-        spec.with_all map.empty (members_view members.now.entries)
+        spec.with_all is_patch map.empty (members_view members.now.entries)
         ≡ Ok (spec.files_in files.entries)) }
     ensures refused { IfErr result (λ refusal. refusal ≢ Refusal.OutOfMemory →
-        spec.with_all map.empty (members_view members.now.entries) ≡ Err refusal) }
+        spec.with_all is_patch map.empty (members_view members.now.entries) ≡ Err refusal) }
 {
     let mut files = BTreeMap::new(alloc);
     for (key, value) in members {
-        list_one(alloc, &mut files, key.as_str(), value)?;
+        list_one(alloc, &mut files, is_patch, key.as_str(), value)?;
     }
     Ok(files)
 }
 
 /// The files of a map, as a list that can be shared.
-fn listing_of(alloc: Global, files: BTreeMap<FilePath, Digest>) -> Result<Listing, AllocError>
-    ensures pairs { IfOk result (λ listing. listing ≡ files.entries) }
-    ensures sorted { IfOk result (λ listing. IsByPath files.entries) }
+fn paths_of(
+    alloc: Global,
+    files: BTreeMap<FilePath, Option<Digest>>,
+) -> Result<PathMap<Option<Digest>>, AllocError>
+    ensures pairs { IfOk result (λ paths. paths ≡ files.entries) }
+    ensures sorted { IfOk result (λ paths. IsByPath files.entries) }
 {
     let entries = files.into_iter().collect(alloc)?;
     PathMap::from_sorted(alloc, entries)
@@ -128,13 +145,24 @@ fn listing_of(alloc: Global, files: BTreeMap<FilePath, Digest>) -> Result<Listin
 
 /// The listing that the members are.
 #[tactic(auto, using(crate::proofs::ListedFiles::entries_files_in))]
-pub(crate) fn listed(alloc: Global, members: &Map<String, Value>) -> Result<Listing, Refusal>
+pub(crate) fn listed(
+    alloc: Global,
+    is_patch: bool,
+    members: &Map<String, Value>,
+) -> Result<Listing, Refusal>
+    ensures kind { IfOk result (λ listing. listing.0 ≡ is_patch) }
     ensures ok { IfOk result (λ listing.
-        spec.with_all map.empty (members_view members.now.entries) ≡ Ok (spec.files_in listing)) }
-    ensures sorted { IfOk result (λ listing. map.entries (spec.files_in listing) ≡ listing) }
+        spec.with_all is_patch map.empty (members_view members.now.entries) ≡ Ok (spec.files_in listing.1)) }
+    ensures sorted { IfOk result (λ listing. map.entries (spec.files_in listing.1) ≡ listing.1) }
     ensures refused { IfErr result (λ refusal. refusal ≢ Refusal.OutOfMemory →
-        spec.with_all map.empty (members_view members.now.entries) ≡ Err refusal) }
+        spec.with_all is_patch map.empty (members_view members.now.entries) ≡ Err refusal) }
 {
-    let files = files_of(alloc, members)?;
-    listing_of(alloc, files).map_err(|_| Refusal::OutOfMemory)
+    let files = files_of(alloc, is_patch, members)?;
+    let Ok(paths) = paths_of(alloc, files) else {
+        return Err(Refusal::OutOfMemory);
+    };
+    match Listing::new(is_patch, paths) {
+        Ok(listing) => Ok(listing),
+        Err(NotAPatch) => unreachable!(),
+    }
 }
