@@ -1,9 +1,8 @@
 -- Commands that make one entry: all but an opening.
-use Rattle.std.proofs.Common.{◌≡◌, ◌⊎◌, inl, inr, ℕ, Bool, List, [], Option, Some, None, Result, Err, refl, sym, ap, ◌∙◌}
+use Rattle.std.proofs.Common.{◌≡◌, inl, inr, Bool, [], Option, Some, None, Result, refl, sym, ap, ◌∙◌}
 use Rattle.host_names.specs.Blobs.{Contents}
-use Rattle.host_names.specs.declared.digests.Digest.{Digest}
 use Rattle.host_names.specs.declared.names.SiteName.{SiteName}
-use Rattle.site_state.specs.Files.{Paths}
+use Rattle.site_state.specs.Listings.{Listed}
 use Rattle.site_change.specs.declared.commands.Command.{Command}
 use Rattle.site_change.specs.declared.commands.Command.TheVariants as command_of
 use Rattle.host_api.specs.declared.refusals.Refusal.{Refusal}
@@ -13,7 +12,7 @@ use Rattle.host_server.specs.Outcomes.{Outcome, AreRequired, Does, DoesCommit, c
 use Rattle.host_server.specs.Reasons.{commit_refusal}
 
 abbrev pub IsNoOpening : Command → Type 0
-IsNoOpening command = (site : SiteName) (files : Paths Digest) (auto : Bool) → command ≡ command_of.Open site files auto → ⊥
+IsNoOpening command = (site : SiteName) (files : Listed) (auto : Bool) → command ≡ command_of.Open site files auto → ⊥
 
 none_required : (uploads : Contents) (command : Command) → IsNoOpening command → AreRequired uploads command []
 none_required uploads (command_of.Open site files auto) other = absurd (other site files auto refl)

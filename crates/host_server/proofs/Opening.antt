@@ -3,7 +3,7 @@ use Rattle.std.proofs.Common.{◌≡◌, inl, inr, ℕ, List, Option, None, Resu
 use Rattle.host_names.specs.Blobs.{Contents}
 use Rattle.host_names.specs.declared.digests.Digest.{Digest}
 use Rattle.host_names.specs.declared.names.SiteName.{SiteName}
-use Rattle.site_state.specs.Files.{Paths}
+use Rattle.site_state.specs.Listings.{Listed}
 use Rattle.site_state.specs.Missing.{AreMissing}
 use Rattle.site_change.specs.declared.commands.Command.TheVariants.{Open}
 use Rattle.change_undo.specs.declared.entries.Entry.TheVariants.{Change}
@@ -26,8 +26,8 @@ told_by_answer id required (Err reason) = refl
 abbrev outcome : Host → SiteName → ℕ → List Digest → Outcome
 outcome after site id required = then_published (published_if_ready after site id) (λ p. Opened id p required)
 
-pub open_done : (old after next : Host) (lent : Contents) (owner site : SiteName) (files : Paths Digest) (auto : _) (id : ℕ) (required : List Digest) (entry : Result (Option ℕ) Refusal)
-    → lent ≡ old.uploads → AreMissing lent files required → commit_refusal old (Open site files auto) ≡ None → after ≡ with_entry old (Change (Open site files auto)) → id ≡ next_number old
+pub open_done : (old after next : Host) (lent : Contents) (owner site : SiteName) (files : Listed) (auto : _) (id : ℕ) (required : List Digest) (entry : Result (Option ℕ) Refusal)
+    → lent ≡ old.uploads → AreMissing lent files.1 required → commit_refusal old (Open site files auto) ≡ None → after ≡ with_entry old (Change (Open site files auto)) → id ≡ next_number old
     → owner ≡ site → Publishes entry next (published_if_ready after owner id) → DoesCommit (answer id required entry) next old (Open site files auto)
 open_done old after next lent owner site files auto id required entry same lacking ok is at named (inl none) = inl (ap (answer id required) none)
 open_done old after next lent owner site files auto id required entry same lacking ok is at named (inr done) =
@@ -36,7 +36,7 @@ open_done old after next lent owner site files auto id required entry same lacki
     ∙ sym (ap (commit_outcome old (Open site files auto) required) ok) in
     inr (
       required,
-      subst (λ uploads. AreMissing uploads files required) same lacking,
+      subst (λ uploads. AreMissing uploads files.1 required) same lacking,
       told_by_answer id required entry ∙ ap (λ e. told_of e (λ p. Opened id p required)) done.0 ∙ ap (λ (o : Outcome). o.told) there,
       done.1 ∙ ap (λ (o : Outcome). o.host) there,
     )

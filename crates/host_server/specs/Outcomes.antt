@@ -1,5 +1,6 @@
 -- What a host tells of a change, an undo or an upload, and what it has then.
 use Rattle.std.specs.Prelude.{◌≡◌, ◌⊎◌, ℕ, List, [], Bool, false, ◌&&◌, Option, Some, None, Result, Ok, Err, is_none, option_map, if◌then◌else◌}
+use Rattle.std.specs.Option.{option_flatten}
 use Rattle.host_names.specs.Blobs.{Contents, digest_of}
 use Rattle.host_names.specs.declared.digests.Digest.{Digest}
 use Rattle.host_names.specs.declared.names.SiteName.{SiteName}
@@ -33,7 +34,7 @@ refused host reason = record { told = Refused reason; host = host }
 -- such a deploy is open, and nothing that it lists is missing
 abbrev pub is_ready_draft : Contents → Option Draft → Bool
 is_ready_draft uploads None = false
-is_ready_draft uploads (Some draft) = draft.auto && is_none (least_missing_of uploads draft.files)
+is_ready_draft uploads (Some draft) = draft.auto && is_none (least_missing_of uploads draft.files.1)
 
 abbrev pub is_ready : Host → SiteName → ℕ → Bool
 is_ready host site n = is_ready_draft host.uploads (draft_at (state_of host) site n)
@@ -69,7 +70,7 @@ then_published p tell = record { told = told_of p.entry tell; host = p.host }
 
 -- what an opened deploy lists and is not uploaded; of other commands nothing is asked
 abbrev pub AreRequired : Contents → Command → List Digest → Type 0
-AreRequired uploads (Open site files auto) required = AreMissing uploads files required
+AreRequired uploads (Open site files auto) required = AreMissing uploads files.1 required
 AreRequired uploads command required = required ≡ []
 
 -- the command's entry, whose number is told
@@ -103,9 +104,9 @@ abbrev pub site_of_deploy : Option Entry → Option SiteName
 site_of_deploy (Some (Change (Open site files auto))) = Some site
 site_of_deploy entry = None
 
--- the digest at the path, where the deploy is open or kept and lists the path
+-- the digest at the path, where the deploy is open or kept and lists a file there
 abbrev pub listed_at : Option Draft → Option (Paths (List ℕ)) → List ℕ → Option (Option Digest)
-listed_at (Some draft) tree path = Some (at_path draft.files path)
+listed_at (Some draft) tree path = Some (option_flatten (at_path draft.files.1 path))
 listed_at None (Some tree) path = Some (option_map digest_of (at_path tree path))
 listed_at None None path = None
 

@@ -25,14 +25,14 @@ impl SoloHouse {
         }
     }
 
-    /// The digest that a deploy, which is open or kept, lists at a path.
+    /// The digest that a deploy, which is open or kept, lists at a path; none where it removes the file.
     fn listed_at(&self, site: &SiteName, number: u64, path: &FilePath) -> Option<Option<Digest>>
         ensures { result ≡ Outcomes.listed_at (draft_at (state_of self.now) site.now number)
             (kept_at (state_of self.now) site.now number) path.now }
     {
         let state = self.state();
         if let Some(draft) = state.draft(site, number) {
-            return Some(draft.files.get(path).copied());
+            return Some(draft.files.get(path).copied().flatten());
         }
         let tree = state.kept(site, number)?;
         Some(tree.get(path).map(|file| file.digest()))
