@@ -52,16 +52,28 @@ fn is_changed(before: &Site, after: &Site, at: Met) -> bool {
     }
 }
 
-fn has_deploy(site: &Site, number: usize) -> bool {
-    kept(site, number).is_some() || draft(site, number).is_some()
+/// Whether a deploy that is no patch is open.
+fn opens_whole(site: &Site, number: usize) -> bool {
+    match draft(site, number) {
+        Some(deploy) => !deploy.patch,
+        None => false,
+    }
+}
+
+/// Whether a patch is open that lists the path.
+fn opens_patch_of(site: &Site, number: usize, path: usize) -> bool {
+    match draft(site, number) {
+        Some(deploy) => deploy.patch && deploy.contents[path % 4] != 0,
+        None => false,
+    }
 }
 
 /// Whether a publish of this number meets the place.
 fn is_met_by_publish(site: &Site, number: usize, at: Met) -> bool {
     match at {
         Met::Draft(other) => other == number,
-        Met::Kept(other) => other == number && draft(site, number).is_some(),
-        Met::Path(_) => draft(site, number).is_some(),
+        Met::Kept(other) => other == number && opens_whole(site, number),
+        Met::Path(path) => opens_whole(site, number) || opens_patch_of(site, number, path),
         Met::Alias(_) | Met::Elsewhere => false,
     }
 }
@@ -70,7 +82,11 @@ fn is_met_by_publish(site: &Site, number: usize, at: Met) -> bool {
 fn is_met_by_restore(site: &Site, number: usize, at: Met) -> bool {
     match at {
         Met::Draft(other) | Met::Kept(other) => other == number,
-        Met::Path(_) => has_deploy(site, number),
+        Met::Path(path) => {
+            kept(site, number).is_some()
+                || opens_whole(site, number)
+                || opens_patch_of(site, number, path)
+        }
         Met::Alias(_) | Met::Elsewhere => false,
     }
 }

@@ -4,7 +4,9 @@ ghost use Rattle.site_state.specs.Files.{IsByPath};
 use super::*;
 use crate::clash_model::met_at;
 use crate::hosts::{Host, no_entries, push_path};
-use crate::model::{Answer, Deploy, NUMBERS, Step, bytes_of, draft, kept, played, site_of};
+use crate::model::{
+    Answer, Deploy, NUMBERS, REMOVAL, Step, bytes_of, draft, kept, played, site_of,
+};
 use host_names::{AliasName, Digest, FilePath, SiteName};
 use site_change::{Command, Refusal};
 use site_state::{Draft, File, Listing, PathMap, State, Tree};
@@ -67,10 +69,19 @@ impl Names {
     }
 }
 
+/// What is listed for a content, or for a removal.
+fn listed(content: usize) -> Option<Digest> {
+    if content == REMOVAL {
+        None
+    } else {
+        Some(Digest::of_bytes(bytes_of(content)))
+    }
+}
+
 /// Adds a path, unless it isn't listed.
 pub(crate) fn push_content(
     rt: &impl Abort,
-    entries: &mut Vec<(FilePath, Digest)>,
+    entries: &mut Vec<(FilePath, Option<Digest>)>,
     path: &FilePath,
     content: usize,
 ) -> Result<(), AllocError>
@@ -81,21 +92,22 @@ pub(crate) fn push_content(
         return Ok(());
     }
     let path = path.clone()?;
-    push_path(rt, entries, path, Digest::of_bytes(bytes_of(content)))
+    push_path(rt, entries, path, listed(content))
 }
 
 pub(crate) fn listing(
     rt: &impl Abort,
     alloc: Global,
     names: &Names,
-    contents: [usize; 4],
-) -> Result<Listing, AllocError> {
+    deploy: Deploy,
+) -> Result<Listing, Fail> {
+    let contents = deploy.contents;
     let mut entries = no_entries(alloc);
     push_content(rt, &mut entries, &names.paths[0], contents[0])?;
     push_content(rt, &mut entries, &names.paths[1], contents[1])?;
     push_content(rt, &mut entries, &names.paths[2], contents[2])?;
     push_content(rt, &mut entries, &names.paths[3], contents[3])?;
-    PathMap::from_sorted(alloc, entries)
+    Ok(Listing::new(deploy.patch, PathMap::from_sorted(alloc, entries)?)?)
 }
 
 fn answer_of_refusal(names: &Names, reason: &Refusal) -> Answer {
@@ -144,12 +156,12 @@ fn command_of(
     alloc: Global,
     names: &Names,
     step: Step,
-) -> Result<Option<Command>, AllocError> {
+) -> Result<Option<Command>, Fail> {
     let site = names.site(site_of(step)).clone()?;
     let command = match step {
         Step::Open { deploy, .. } => Command::Open {
             site,
-            files: listing(rt, alloc, names, deploy.contents)?,
+            files: listing(rt, alloc, names, deploy)?,
             auto: deploy.auto,
         },
         Step::Publish { number, .. } => Command::Publish {
@@ -197,7 +209,7 @@ pub(crate) fn answer_of_host(
     names: &Names,
     host: &mut Host,
     step: Step,
-) -> Result<Answer, AllocError> {
+) -> Result<Answer, Fail> {
     if let Step::Undo { site, change } = step {
         let undone = host.undo(alloc, names.site(site), change as u64);
         return Ok(answer_of_undo(names, site, undone));
@@ -225,10 +237,10 @@ fn is_file(file: Option<&File>, content: usize) -> bool {
     }
 }
 
-fn is_digest(digest: Option<&Digest>, content: usize) -> bool {
-    match digest {
+fn is_content(found: Option<&Option<Digest>>, content: usize) -> bool {
+    match found {
         None => content == 0,
-        Some(digest) => content != 0 && *digest == Digest::of_bytes(bytes_of(content)),
+        Some(found) => content != 0 && *found == listed(content),
     }
 }
 
@@ -253,20 +265,21 @@ fn is_tree(names: &Names, tree: Option<&Tree>, contents: Option<[usize; 4]>) -> 
     tree.entries().len() == count(contents)
 }
 
-fn is_listing(names: &Names, files: &Listing, contents: [usize; 4]) -> bool {
+fn is_listing(names: &Names, files: &Listing, deploy: Deploy) -> bool {
+    let contents = deploy.contents;
     for place in 0..4 {
-        if !is_digest(files.get(&names.paths[place]), contents[place]) {
+        if !is_content(files.get(&names.paths[place]), contents[place]) {
             return false;
         }
     }
-    files.entries().len() == count(contents)
+    files.is_patch() == deploy.patch && files.entries().len() == count(contents)
 }
 
 fn is_draft(names: &Names, draft: Option<&Draft>, deploy: Option<Deploy>) -> bool {
     match (draft, deploy) {
         (None, None) => true,
         (Some(draft), Some(deploy)) => {
-            draft.auto == deploy.auto && is_listing(names, &draft.files, deploy.contents)
+            draft.auto == deploy.auto && is_listing(names, &draft.files, deploy)
         }
         _ => false,
     }
@@ -304,7 +317,7 @@ pub(crate) fn is_site(names: &Names, state: &State, entries: &[Step], place: usi
 fn is_command(names: &Names, command: &Command, step: Step) -> bool {
     match (command, step) {
         (Command::Open { files, auto, .. }, Step::Open { deploy, .. }) => {
-            *auto == deploy.auto && is_listing(names, files, deploy.contents)
+            *auto == deploy.auto && is_listing(names, files, deploy)
         }
         (Command::Publish { number: told, .. }, Step::Publish { number, .. })
         | (Command::Cancel { number: told, .. }, Step::Cancel { number, .. })

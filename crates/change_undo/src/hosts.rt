@@ -1,5 +1,5 @@
 //! Histories with their uploads, and the commands that are put to them.
-ghost use Rattle.std.specs.Prelude.{◌≡◌, ◌≤◌, true, [], ◌∷◌, ◌++◌};
+ghost use Rattle.std.specs.Prelude.{◌≡◌, ◌≤◌, true, Option, [], ◌∷◌, ◌++◌};
 ghost use Rattle.host_names.specs.declared.digests.Digest.{Digest};
 ghost use Rattle.site_change.specs.Changes.{IsWithin};
 ghost use Rattle.site_state.specs.Files.{IsByPath};
@@ -63,9 +63,9 @@ impl Host {
 }
 
 /// Whether a path comes behind those of a list.
-pub(crate) fn is_behind(entries: &[(FilePath, Digest)], path: &FilePath) -> bool
-    ensures { result ≡ true → IsByPath entries.now → (digest : Digest) →
-        IsByPath (entries.now ++ (path.now, digest) ∷ []) }
+pub(crate) fn is_behind(entries: &[(FilePath, Option<Digest>)], path: &FilePath) -> bool
+    ensures { result ≡ true → IsByPath entries.now → (listed : Option Digest) →
+        IsByPath (entries.now ++ (path.now, listed) ∷ []) }
 {
     let count = entries.len();
     if count == 0 {
@@ -74,7 +74,7 @@ pub(crate) fn is_behind(entries: &[(FilePath, Digest)], path: &FilePath) -> bool
     entries[count - 1].0.cmp(path).is_lt()
 }
 
-pub(crate) fn no_entries(alloc: Global) -> Vec<(FilePath, Digest)>
+pub(crate) fn no_entries(alloc: Global) -> Vec<(FilePath, Option<Digest>)>
     ensures { IsByPath result.items }
 {
     Vec::new(alloc)
@@ -83,15 +83,15 @@ pub(crate) fn no_entries(alloc: Global) -> Vec<(FilePath, Digest)>
 /// Adds a path, which has to come behind those that are there.
 pub(crate) fn push_path(
     rt: &impl Abort,
-    entries: &mut Vec<(FilePath, Digest)>,
+    entries: &mut Vec<(FilePath, Option<Digest>)>,
     path: FilePath,
-    digest: Digest,
+    listed: Option<Digest>,
 ) -> Result<(), AllocError>
     requires { IsByPath entries.old.items }
     ensures { IsByPath entries.new.items }
 {
     assert!(rt; is_behind(entries.as_slice(), &path));
-    Ok(entries.push((path, digest))?)
+    Ok(entries.push((path, listed))?)
 }
 
 /// One path with the digest of these bytes.
@@ -103,8 +103,8 @@ pub(crate) fn listing_of_one(
 ) -> Result<Listing, Fail> {
     let mut entries = no_entries(alloc);
     let path = FilePath::read(alloc, path)?;
-    push_path(rt, &mut entries, path, Digest::of_bytes(bytes))?;
-    Ok(PathMap::from_sorted(alloc, entries)?)
+    push_path(rt, &mut entries, path, Some(Digest::of_bytes(bytes)))?;
+    Ok(Listing::new(false, PathMap::from_sorted(alloc, entries)?)?)
 }
 
 /// These paths, which have to rise, each with the digest of the bytes.
@@ -116,9 +116,28 @@ pub(crate) fn listing_of(
     let mut entries = no_entries(alloc);
     for (path, bytes) in files {
         let path = FilePath::read(alloc, path)?;
-        push_path(rt, &mut entries, path, Digest::of_bytes(bytes))?;
+        push_path(rt, &mut entries, path, Some(Digest::of_bytes(bytes)))?;
     }
-    Ok(PathMap::from_sorted(alloc, entries)?)
+    Ok(Listing::new(false, PathMap::from_sorted(alloc, entries)?)?)
+}
+
+/// A patch that lists these bytes at the second path and removes the file at the first, which has to come before it.
+pub(crate) fn patch_of_two(
+    rt: &impl Abort,
+    alloc: Global,
+    removed: &str,
+    written: (&str, &[u8]),
+) -> Result<Listing, Fail> {
+    let mut entries = no_entries(alloc);
+    push_path(rt, &mut entries, FilePath::read(alloc, removed)?, None)?;
+    let digest = Digest::of_bytes(written.1);
+    push_path(
+        rt,
+        &mut entries,
+        FilePath::read(alloc, written.0)?,
+        Some(digest),
+    )?;
+    Ok(Listing::new(true, PathMap::from_sorted(alloc, entries)?)?)
 }
 
 /// As many paths, each with the same file.
@@ -126,9 +145,9 @@ pub(crate) fn long_listing(rt: &impl Abort, alloc: Global, count: u32) -> Result
     let mut entries = no_entries(alloc);
     for number in 0..count {
         let path = FilePath::read(alloc, format!(in alloc; "/{number:05}")?.as_str())?;
-        push_path(rt, &mut entries, path, Digest::of_bytes(b""))?;
+        push_path(rt, &mut entries, path, Some(Digest::of_bytes(b"")))?;
     }
-    Ok(PathMap::from_sorted(alloc, entries)?)
+    Ok(Listing::new(false, PathMap::from_sorted(alloc, entries)?)?)
 }
 
 pub(crate) fn open(site: &SiteName, files: Listing, auto: bool) -> Result<Command, AllocError> {

@@ -10,10 +10,14 @@ pub(crate) const NUMBERS: usize = 12;
 /// The bytes of the contents 1 to 3.
 pub(crate) const CONTENTS: [&[u8]; 4] = [b"", b"first", b"second", b"third"];
 
+/// What a patch lists for a path whose file it removes.
+pub(crate) const REMOVAL: usize = 4;
+
 /// A deploy of four paths, each with the number of its content, or 0 where it isn't listed.
 #[derive(Clone, Copy)]
 pub(crate) struct Deploy {
     pub(crate) contents: [usize; 4],
+    pub(crate) patch: bool,
     pub(crate) auto: bool,
 }
 
@@ -127,13 +131,30 @@ pub(crate) fn kept(site: &Site, number: usize) -> Option<[usize; 4]> {
     site.kept[number % NUMBERS]
 }
 
-/// The open deploy of a number goes live, and is kept.
+/// What is served where a patch goes live.
+fn patched(live: [usize; 4], contents: [usize; 4]) -> [usize; 4] {
+    let mut served = live;
+    for place in 0..4 {
+        match contents[place] {
+            0 => {}
+            REMOVAL => served[place] = 0,
+            content => served[place] = content,
+        }
+    }
+    served
+}
+
+/// The open deploy of a number goes live. Unless it is a patch, it is kept.
 fn published(before: &Site, number: usize) -> Site {
     let mut site = *before;
     if let Some(deploy) = draft(before, number) {
         let contents = deploy.contents;
-        site.live = contents;
-        site.kept[number % NUMBERS] = Some(contents);
+        if deploy.patch {
+            site.live = patched(before.live, contents);
+        } else {
+            site.live = contents;
+            site.kept[number % NUMBERS] = Some(contents);
+        }
         site.drafts[number % NUMBERS] = None;
     }
     site
@@ -204,7 +225,7 @@ pub(crate) fn played(entries: &[Step], wanted: usize, count: usize) -> Site {
 pub(crate) fn least_missing(deploy: Deploy, uploaded: usize) -> Option<Digest> {
     let mut least: Option<Digest> = None;
     for content in deploy.contents {
-        if uploaded < content {
+        if uploaded < content && content != REMOVAL {
             let digest = Digest::of_bytes(bytes_of(content));
             least = match least {
                 Some(other) if other.cmp(&digest).is_lt() => Some(other),

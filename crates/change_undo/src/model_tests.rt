@@ -4,7 +4,7 @@ ghost use Rattle.std.specs.Prelude.{◌<◌};
 use crate::clash_model::tells_clashes;
 use crate::compared::{Names, answer_of_host, is_entry, is_site};
 use crate::hosts::Host;
-use crate::model::{Answer, Deploy, LIMIT, Step, answer_of_model, bytes_of, site_of};
+use crate::model::{Answer, Deploy, LIMIT, REMOVAL, Step, answer_of_model, bytes_of, site_of};
 use std::alloc::{AllocError, Global};
 use std::process::Abort;
 use std::test::Fail;
@@ -24,9 +24,10 @@ impl Generator {
         ((self.state >> 33) % bound) as usize
     }
 
-    /// Mostly none, or one that is uploaded from the start.
-    fn content(&mut self) -> usize {
+    /// Mostly none, or one that is uploaded from the start; of a patch also a removal.
+    fn content(&mut self, patch: bool) -> usize {
         match self.below(10) {
+            0 if patch => REMOVAL,
             0..=3 => 0,
             4..=6 => 1,
             7 | 8 => 2,
@@ -35,12 +36,14 @@ impl Generator {
     }
 
     fn deploy(&mut self) -> Deploy {
-        let first = self.content();
-        let second = self.content();
-        let third = self.content();
-        let fourth = self.content();
+        let patch = self.below(3) == 0;
+        let first = self.content(patch);
+        let second = self.content(patch);
+        let third = self.content(patch);
+        let fourth = self.content(patch);
         Deploy {
             contents: [first, second, third, fourth],
+            patch,
             auto: self.below(2) == 0,
         }
     }

@@ -1,8 +1,8 @@
 //! Histories with each kind of change, whose answers are known from outside.
 use super::*;
 use crate::hosts::{
-    Host, cancel, listing_of, move_alias, open, publish, remove, remove_alias, remove_deploy,
-    rename, restore,
+    Host, cancel, listing_of, move_alias, open, patch_of_two, publish, remove, remove_alias,
+    remove_deploy, rename, restore,
 };
 use host_names::{FilePath, SiteName};
 use site_change::Command;
@@ -198,6 +198,54 @@ fn undoes_changes_of_aliases_one_by_one(rt: HostRuntime) -> Result<(), Fail> {
     assert_undo(&rt, alloc, &mut host, 3, "8")?;
     assert_undo(&rt, alloc, &mut host, 2, "9")?;
     assert_served(&rt, alloc, &host, "")
+}
+
+/// A patch over a deploy, which removes one of its files and adds another.
+fn patched(rt: &impl Abort, alloc: Global) -> Result<Host, Fail> {
+    let one = SiteName::new("one")?;
+    let mut host = Host::new(alloc, 20);
+    host.upload(alloc, b"hello")?;
+    deploy(rt, alloc, &mut host, &[("/a.txt", b"hello")], 1)?;
+    let files = patch_of_two(rt, alloc, "/a.txt", ("/b.txt", b"hello"))?;
+    assert_commit(rt, alloc, &mut host, open(&one, files, true)?, "3")?;
+    assert_commit(rt, alloc, &mut host, publish(&one, 3)?, "4")?;
+    Ok(host)
+}
+
+#[test]
+fn a_patch_changes_its_paths_alone(rt: HostRuntime) -> Result<(), Fail> {
+    let alloc = rt.alloc();
+    let one = SiteName::new("one")?;
+    let mut host = patched(&rt, alloc)?;
+    assert_served(&rt, alloc, &host, "/b.txt")?;
+    assert!(rt; host.history.state().kept(&one, 3).is_none());
+    assert!(rt; host.history.state().draft(&one, 3).is_none());
+    assert_undo(
+        &rt,
+        alloc,
+        &mut host,
+        2,
+        "change 4 needs it, at live /a.txt",
+    )?;
+    assert_undo(&rt, alloc, &mut host, 4, "5")?;
+    assert_served(&rt, alloc, &host, "/a.txt")?;
+    assert!(rt; host.history.state().draft(&one, 3).is_some());
+    Ok(())
+}
+
+#[test]
+fn a_patch_does_not_meet_what_it_leaves_alone(rt: HostRuntime) -> Result<(), Fail> {
+    let alloc = rt.alloc();
+    let one = SiteName::new("one")?;
+    let mut host = patched(&rt, alloc)?;
+    let moved = rename(alloc, &one, "/b.txt", "/z.txt")?;
+    assert_commit(&rt, alloc, &mut host, moved, "5")?;
+    let files = patch_of_two(&rt, alloc, "/a.txt", ("/c.txt", b"hello"))?;
+    assert_commit(&rt, alloc, &mut host, open(&one, files, true)?, "6")?;
+    assert_commit(&rt, alloc, &mut host, restore(&one, 6)?, "7")?;
+    assert_served(&rt, alloc, &host, "/c.txt/z.txt")?;
+    assert_undo(&rt, alloc, &mut host, 5, "8")?;
+    assert_served(&rt, alloc, &host, "/b.txt/c.txt")
 }
 
 #[test]

@@ -1,6 +1,6 @@
 //! What bodies ask for, and why others are refused.
 use crate::{Ask, Refusal, Route, ask_of};
-use host_names::{FilePath, SiteName};
+use host_names::{Digest, FilePath, SiteName};
 use site_change::Command;
 use std::alloc::{AllocError, Global};
 use std::test::Fail;
@@ -8,16 +8,32 @@ use std::test::Fail;
 /// The SHA-1 of `hello`.
 const HELLO: &str = "aaf4c61ddcc5e8a2dabede0f3b482cd9aea9434d";
 
-/// What a request asks for, in words: the site, and of an opening whether it publishes itself, and its files.
+/// Adds a path, and the digest that is listed for it, or `-` for a removal.
+fn push_listed(
+    text: &mut String,
+    path: &FilePath,
+    listed: &Option<Digest>,
+) -> Result<(), AllocError> {
+    text.push(' ')?;
+    text.push_str(path.as_str())?;
+    text.push('=')?;
+    match listed {
+        Some(digest) => text.push_str(digest.to_hex().as_str()),
+        None => text.push('-'),
+    }
+}
+
+/// What a request asks for, in words: the site, and of an opening whether it publishes itself, whether it is a patch, and
+/// what it lists.
 fn words(alloc: Global, ask: Ask) -> Result<String, AllocError> {
     match ask {
         Ask::Command(Command::Open { site, files, auto }) => {
             let mut text = format!(in alloc; "open {site} auto {auto}")?;
-            for entry in files.entries() {
-                text.push(' ')?;
-                text.push_str(entry.0.as_str())?;
-                text.push('=')?;
-                text.push_str(entry.1.to_hex().as_str())?;
+            if files.is_patch() {
+                text.push_str(" patch")?;
+            }
+            for (path, listed) in files.entries() {
+                push_listed(&mut text, path, listed)?;
             }
             Ok(text)
         }
@@ -53,6 +69,8 @@ open one auto true:  { "files" : { } }
 open one auto false: {"files":{},"draft":true}
 open one auto true: {"files":{},"draft":false}
 open one auto true: {"files":{},"patch":false}
+open one auto true patch: {"files":{},"patch":true}
+open one auto false patch: {"patch":true,"files":{},"draft":true}
 open one auto true: {"files":{},"sites":[null,1.5],"Draft":true}
 open one auto true: {"files":[],"files":{}}
 open one auto false: {"draft":1,"files":{},"draft":true}
@@ -72,7 +90,6 @@ BadBody: {"files":{},"files":[]}
 BadBody: {"files":{},"draft":null}
 BadBody: {"files":{},"draft":1}
 BadBody: {"files":{},"draft":"true"}
-BadBody: {"files":{},"patch":true}
 BadBody: {"files":{},"patch":null}
 BadBody: {"files":{},"patch":0}
 BadBody: {"files":{},"x":1e400}
@@ -80,7 +97,7 @@ BadBody: {"files":{},"x":-1e400}
 BadBody: {"files":{},"x":01}
 BadBody: {"files":{},"x":"\ud800"}
 BadBody: {"files":{"a//b":""},"draft":1}
-BadBody: {"files":{"a//b":""},"patch":true}
+BadPath: {"files":{"a//b":""},"patch":true}
 BadBody: {"files":{"a":"x"},"patch":1}
 "#;
 
@@ -162,6 +179,39 @@ fn reads_listings(rt: HostRuntime) -> Result<(), Fail> {
             let want = filled(rt.alloc(), want, "")?;
             let members = filled(rt.alloc(), row, "\"")?;
             let body = format!(in rt.alloc(); "{{\"files\":{{{members}}}}}")?;
+            assert_eq!(rt; opened(rt.alloc(), body.as_str())?, want, "{row}");
+        }
+    }
+    Ok(())
+}
+
+/// The members of `files` in a patch.
+const PATCHES: &str = r#"
+open one auto true patch /a=-: "a":null
+open one auto true patch /a=H: "a":H
+open one auto true patch /a=H /b=-: "b":null,"a":H
+open one auto true patch /a=- /b=-: "b":null,"/a":null
+open one auto true patch /a=-: "a":H,"a":null
+BadBody: "a":false
+BadBody: "a":7
+BadBody: "a":[null]
+BadBody: "a":{}
+BadBody: "a":null,"/a":H
+BadBody: "a":null,"/a":null
+BadDigest: "a":"null"
+BadDigest: "a":""
+BadDigest: "a":null,"b":""
+BadPath: "a//b":null
+BadPath: "":null
+"#;
+
+#[test]
+fn reads_patches(rt: HostRuntime) -> Result<(), Fail> {
+    for line in PATCHES.lines() {
+        if let Some((want, row)) = line.split_once(": ") {
+            let want = filled(rt.alloc(), want, "")?;
+            let members = filled(rt.alloc(), row, "\"")?;
+            let body = format!(in rt.alloc(); "{{\"files\":{{{members}}},\"patch\":true}}")?;
             assert_eq!(rt; opened(rt.alloc(), body.as_str())?, want, "{row}");
         }
     }
