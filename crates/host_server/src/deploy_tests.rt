@@ -138,6 +138,68 @@ PUT /api/v1/deploys/1/files/a.txt hello
 }
 
 #[test]
+fn publishes_a_patch_over_what_is_served(rt: HostRuntime) -> Result<(), Fail> {
+    assert_script(
+        &rt,
+        rt.alloc(),
+        r#"
+POST /api/v1/sites/one/deploys {"files":{"a.txt":"H"}}
+200 OK {"id":"1","published":null,"required":["H"]}
+PUT /api/v1/deploys/1/files/a.txt hello
+200 OK {"published":2,"sha":"H"}
+POST /api/v1/sites/one/deploys {"files":{"/a.txt":null,"/b.txt":"H"},"patch":true}
+200 OK {"id":"3","published":4,"required":[]}
+GET /s/one/a.txt
+404 Not Found {"error":"NoSuchFile"}
+GET /s/one/b.txt
+200 OK ="H" hello
+PUT /api/v1/deploys/3/files/b.txt hello
+404 Not Found {"error":"NoSuchDeploy"}
+POST /api/v1/sites/one/undo {"change":2}
+409 Conflict {"cell":"live /a.txt","change":4,"error":"Clash"}
+POST /api/v1/sites/one/undo {"change":4}
+200 OK {"entry":5}
+GET /s/one/a.txt
+200 OK ="H" hello
+GET /s/one/b.txt
+404 Not Found {"error":"NoSuchFile"}
+PUT /api/v1/deploys/3/files/b.txt hello
+200 OK {"published":6,"sha":"H"}
+GET /s/one/a.txt
+404 Not Found {"error":"NoSuchFile"}
+"#,
+    )
+}
+
+#[test]
+fn fills_a_patch_but_for_its_removals(rt: HostRuntime) -> Result<(), Fail> {
+    assert_script(
+        &rt,
+        rt.alloc(),
+        r#"
+POST /api/v1/sites/one/deploys {"files":{"a.txt":null,"b.txt":"H","c.txt":"A"},"patch":true}
+200 OK {"id":"1","published":null,"required":["A","H"]}
+PUT /api/v1/deploys/1/files/a.txt hello
+404 Not Found {"error":"NotListed"}
+PUT /api/v1/deploys/1/files/b.txt hello
+200 OK {"published":null,"sha":"H"}
+PUT /api/v1/deploys/1/files/c.txt abc
+200 OK {"published":2,"sha":"A"}
+GET /s/one/c.txt
+200 OK ="A" abc
+POST /api/v1/sites/one/deploys {"files":{"c.txt":null,"d.txt":null},"patch":true}
+200 OK {"id":"3","published":4,"required":[]}
+GET /s/one/c.txt
+404 Not Found {"error":"NoSuchFile"}
+GET /s/one/b.txt
+200 OK ="H" hello
+POST /api/v1/sites/one/undo {"change":2}
+409 Conflict {"cell":"live /c.txt","change":4,"error":"Clash"}
+"#,
+    )
+}
+
+#[test]
 fn gives_back_what_stood_before_a_publish(rt: HostRuntime) -> Result<(), Fail> {
     assert_script(
         &rt,

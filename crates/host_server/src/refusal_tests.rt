@@ -96,7 +96,7 @@ POST /api/v1/sites/one/deploys {"files":{"a":1}}
 400 Bad Request {"error":"BadBody"}
 POST /api/v1/sites/one/deploys {"files":{},"draft":1}
 400 Bad Request {"error":"BadBody"}
-POST /api/v1/sites/one/deploys {"files":{},"patch":true}
+POST /api/v1/sites/one/deploys {"files":{"a":null},"patch":false}
 400 Bad Request {"error":"BadBody"}
 POST /api/v1/sites/one/deploys {"files":{"a//b":"H"}}
 400 Bad Request {"error":"BadPath"}
