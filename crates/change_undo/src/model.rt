@@ -131,17 +131,25 @@ pub(crate) fn kept(site: &Site, number: usize) -> Option<[usize; 4]> {
     site.kept[number % NUMBERS]
 }
 
+/// What is served at a path, where a patch that lists this for it goes live.
+fn patched_path(live: usize, listed: usize) -> usize {
+    if listed == 0 {
+        live
+    } else if listed == REMOVAL {
+        0
+    } else {
+        listed
+    }
+}
+
 /// What is served where a patch goes live.
 fn patched(live: [usize; 4], contents: [usize; 4]) -> [usize; 4] {
-    let mut served = live;
-    for place in 0..4 {
-        match contents[place] {
-            0 => {}
-            REMOVAL => served[place] = 0,
-            content => served[place] = content,
-        }
-    }
-    served
+    [
+        patched_path(live[0], contents[0]),
+        patched_path(live[1], contents[1]),
+        patched_path(live[2], contents[2]),
+        patched_path(live[3], contents[3]),
+    ]
 }
 
 /// The open deploy of a number goes live. Unless it is a patch, it is kept.

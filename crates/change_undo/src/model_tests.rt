@@ -36,7 +36,7 @@ impl Generator {
     }
 
     fn deploy(&mut self) -> Deploy {
-        let patch = self.below(3) == 0;
+        let patch = self.below(4) == 0;
         let first = self.content(patch);
         let second = self.content(patch);
         let third = self.content(patch);
@@ -236,7 +236,7 @@ fn agrees_with_a_plain_model(rt: HostRuntime) -> Result<(), Fail> {
     let names = Names::new(alloc)?;
     let mut generator = Generator { state: 1 };
     let mut tally = Tally { counts: [0; 14] };
-    for _ in 0..1000 {
+    for _ in 0..2000 {
         compare(&rt, alloc, &names, &mut generator, &mut tally)?;
     }
     assert!(rt;
