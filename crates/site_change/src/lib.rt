@@ -10,6 +10,8 @@ mod few_cells;
 mod few_cells_tests;
 mod laws;
 mod live;
+#[cfg(test)]
+mod patch_tests;
 mod plans;
 mod publishing;
 #[cfg(test)]

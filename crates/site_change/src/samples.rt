@@ -87,6 +87,16 @@ pub(crate) fn long_listing(rt: &impl Abort, alloc: Global, count: u32) -> Result
     Ok(Listing::new(false, PathMap::from_sorted(alloc, entries)?)?)
 }
 
+/// As many removals.
+pub(crate) fn long_patch(rt: &impl Abort, alloc: Global, count: u32) -> Result<Listing, Fail> {
+    let mut entries = Vec::new(alloc);
+    for number in 0..count {
+        let path = FilePath::read(alloc, format!(in alloc; "/{number:05}")?.as_str())?;
+        push_path(rt, &mut entries, path, None)?;
+    }
+    Ok(Listing::new(true, PathMap::from_sorted(alloc, entries)?)?)
+}
+
 fn may_stand(cell: &Cell, value: &Option<Value>) -> bool
     ensures { result ≡ states.may_stand cell.now value.now }
 {
