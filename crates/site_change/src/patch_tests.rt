@@ -160,7 +160,13 @@ fn touches_its_draft_and_listed_paths(rt: HostRuntime) -> Result<(), Fail> {
     let alloc = rt.alloc();
     let one = SiteName::new("one")?;
     let state = patched(&rt, alloc)?;
-    let plan = decide(alloc, &state, &uploaded(alloc, &[ABC])?, 4, &publish(&one, 3)?)?;
+    let plan = decide(
+        alloc,
+        &state,
+        &uploaded(alloc, &[ABC])?,
+        4,
+        &publish(&one, 3)?,
+    )?;
     let touched = &plan.touched;
     assert!(rt; has_path(alloc, touched, "one", "/b")?);
     assert!(rt; has_path(alloc, touched, "one", "/c")?);
@@ -178,7 +184,13 @@ fn restoring_touches_the_kept_deploy_too(rt: HostRuntime) -> Result<(), Fail> {
     let alloc = rt.alloc();
     let one = SiteName::new("one")?;
     let state = patched(&rt, alloc)?;
-    let plan = decide(alloc, &state, &uploaded(alloc, &[ABC])?, 4, &restore(&one, 3)?)?;
+    let plan = decide(
+        alloc,
+        &state,
+        &uploaded(alloc, &[ABC])?,
+        4,
+        &restore(&one, 3)?,
+    )?;
     let touched = &plan.touched;
     assert!(rt; touched.contains(&Cell::Kept(one.clone()?, 3)));
     assert!(rt; touched.contains(&Cell::Draft(one.clone()?, 3)));
