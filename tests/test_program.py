@@ -281,6 +281,28 @@ class WithCurl(Program):
             '{"error":"NoSuchFile"} 404',
         ])
 
+    def test_patches_a_site_and_is_told_what_needs_a_change(self):
+        listing = json.dumps({"files": {"/a.txt": HELLO}})
+        patch = json.dumps({"files": {"/a.txt": None, "/b.txt": HELLO}, "patch": True})
+        said = self.converse(
+            ("/api/v1/sites/one/deploys", "--data-binary", listing),
+            ("/api/v1/deploys/1/files/a.txt", "--request", "PUT", "--data-binary", "hello"),
+            ("/api/v1/sites/one/deploys", "--data-binary", patch),
+            ("/s/one/a.txt",),
+            ("/s/one/b.txt",),
+            ("/api/v1/sites/one/undo", "--data-binary", '{"change":2}'),
+            ("/api/v1/sites/one/undo", "--data-binary", '{"change":4}'),
+            ("/s/one/a.txt",),
+        )
+        self.assertEqual(said.splitlines()[2:], [
+            '{"id":"3","published":4,"required":[]} 200',
+            '{"error":"NoSuchFile"} 404',
+            "hello 200",
+            '{"cell":"live /a.txt","change":4,"error":"Clash"} 409',
+            '{"entry":5} 200',
+            "hello 200",
+        ])
+
     def test_uploads_and_reads_a_large_file(self):
         content = bytes(range(256)) * 4096
         digest = hashlib.sha1(content).hexdigest()
