@@ -6,6 +6,7 @@ ghost use Rattle.std.specs.Map.{keys_of};
 ghost use Rattle.host_names.specs.Cells.{cell_cmp};
 ghost use Rattle.site_change.specs.Changes.{applied, refusal, run_from};
 ghost use Rattle.site_change.specs.declared.commands.Refusal.{Refusal as Reason};
+ghost use Rattle.site_state.specs.Named.{AliasesNamed};
 ghost use Rattle.site_state.specs.States.{may_stand, with_cells};
 ghost use Rattle.change_undo.specs.Kept.{IsPlanOf};
 ghost use Rattle.change_undo.specs.Live.{without};
@@ -59,6 +60,7 @@ pub(crate) fn decided<U: Uploads>(
     ensures plan { IfOk result (λ decided. IsPlanOf (U.contents uploads.now) state.now number command.now decided.plan) }
     ensures rising { IfOk result (λ decided. IsStrictlySortedBy cell_cmp (keys_of decided.writes.items)) }
     ensures of_kind { IfOk result (λ decided. All (λ e. IsTrue (may_stand e.0 e.1)) decided.writes.items) }
+    ensures named { IfOk result (λ decided. AliasesNamed (with_cells state.now decided.writes.items)) }
     ensures effect { IfOk result (λ decided. with_cells state.now decided.writes.items ≡ applied command.now number state.now (U.contents uploads.now)) }
 {
     match decide(alloc, state, uploads, number, command) {

@@ -6,6 +6,7 @@ pub mod Deciding
 pub mod Patches
 pub mod Listings
 pub mod OfKind
+pub mod Named
 pub mod PathLists
 pub mod Locality
 pub mod LeftOut

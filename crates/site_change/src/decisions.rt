@@ -1,6 +1,7 @@
 //! Deciding a command: whether it is refused, and else what it changes and touches.
 ghost use Rattle.std.specs.Prelude.{◌≡◌, IfOk, OnOk, Some, None, nat_lt, length, if◌then◌else◌};
 ghost use Rattle.host_names.specs.declared.cells.Cell.TheVariants as cell;
+ghost use Rattle.site_state.specs.Named.{AliasesNamed};
 ghost use Rattle.site_state.specs.States.{with_cell};
 ghost use Rattle.site_state.specs.declared.values.Value.TheVariants as value;
 ghost use Rattle.site_change.specs.declared.commands.Refusal.TheVariants.{TooManyFiles};
@@ -105,7 +106,10 @@ pub fn decide<U: Uploads>(
     ensures touched { IfOk result (λ plan. AreTouched (site_of_command command.now)
         (touches command.now number state.now) plan.touched) }
     ensures of_kind { IfOk result (λ plan. WritesOfKind plan.changes.items) }
+    ensures named { IfOk result (λ plan. AliasesNamed
+        (applied command.now number state.now (U.contents uploads.now))) }
 {
+    state.aliases_are_named();
     match command {
         Command::Open { site, files, auto } => open(alloc, state, number, site, files, *auto),
         Command::Publish { site, number } => publish(alloc, state, uploads, site, *number),

@@ -2,7 +2,6 @@
 ghost use Rattle.std.specs.Prelude.{◌≡◌, true, Option, [], ◌∷◌, ◌++◌};
 ghost use Rattle.host_names.specs.declared.digests.Digest.{Digest};
 ghost use Rattle.site_state.specs.Files.{IsByPath};
-ghost use Rattle.site_state.specs.States as states;
 
 use super::*;
 use host_names::{AliasName, BlobInfo, Cell, Digest, FilePath, MemoryUploads, SiteName};
@@ -97,26 +96,13 @@ pub(crate) fn long_patch(rt: &impl Abort, alloc: Global, count: u32) -> Result<L
     Ok(Listing::new(true, PathMap::from_sorted(alloc, entries)?)?)
 }
 
-fn may_stand(cell: &Cell, value: &Option<Value>) -> bool
-    ensures { result ≡ states.may_stand cell.now value.now }
-{
-    match (cell, value) {
-        (_, None) => true,
-        (Cell::Live(..), Some(Value::Live(_))) => true,
-        (Cell::Kept(..), Some(Value::Kept(_))) => true,
-        (Cell::Alias(..), Some(Value::Alias(_))) => true,
-        (Cell::Draft(..), Some(Value::Draft(_))) => true,
-        _ => false,
-    }
-}
-
 fn write(
     rt: &impl Abort,
     state: &mut State,
     cell: Cell,
     value: Option<Value>,
 ) -> Result<(), AllocError> {
-    assert!(rt; may_stand(&cell, &value));
+    assert!(rt; state.may_write(&cell, &value));
     state.set_cell(cell, value)
 }
 

@@ -10,7 +10,8 @@ use Rattle.host_names.specs.CellOrder.{cell_cmp_total, cell_cmp-IsAntisymmetric}
 use Rattle.site_state.specs.declared.values.Value.{Value}
 use Rattle.site_state.specs.States.{State, is_of_kind, may_stand, with_cell, with_cells}
 use Rattle.site_state.specs.Edits.{listed, edited, edited_by}
-use Rattle.site_state.specs.Items.{AreItems}
+use Rattle.site_state.specs.Items.{AreItems, AreOfState}
+use Rattle.site_state.specs.Named.{AliasesNamed}
 use Rattle.site_state.specs.Places.{IsPlace, IsGap}
 use Rattle.site_state.proofs.Edits.{Rises-edited, find-edited, AllByRecursion-edited}
 use Rattle.site_state.proofs.Entries.{is_sorted-from, find_at, find_in_gap}
@@ -100,3 +101,15 @@ wrote_or_kept (Ok x) old new state cell value are is kind ok err =
     let done = wrote old new state cell value are is kind ok in
     record { items = done.items; ok = done.map; err = tt }
 wrote_or_kept (Err x) old new state cell value are is kind ok err = record { items = subst AreItems (sym err) are; ok = tt; err = ap state_of err ∙ is }
+
+-- the items are those of a state again, where each alias names a kept deploy
+pub named_as : (old : Items) (state : State) → AreOfState old → state_of old ≡ state → AliasesNamed state
+named_as old state are is = subst AliasesNamed is are.named
+
+pub of_state : (items : Items) (state : State) → AreItems items → state_of items ≡ state → AliasesNamed state → AreOfState items
+of_state items state are is named = record { are_items = are; named = subst AliasesNamed (sym is) named }
+
+pub of_state_or_kept : {A E : Type 0} (r : Result A E) (items : Items) (before after : State) → AreItems items → OnOk r (state_of items ≡ after) → OnErr r (state_of items ≡ before)
+    → AliasesNamed before → AliasesNamed after → AreOfState items
+of_state_or_kept (Ok x) items before after are ok err was named = of_state items after are ok named
+of_state_or_kept (Err x) items before after are ok err was named = of_state items before are err was

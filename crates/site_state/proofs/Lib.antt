@@ -7,4 +7,5 @@ pub mod Edits
 pub mod Written
 pub mod LackingDigests
 pub mod LeastAlias
+pub mod Named
 pub mod Two

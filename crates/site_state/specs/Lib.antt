@@ -1,6 +1,7 @@
 pub mod Files
 pub mod Listings
 pub mod States
+pub mod Named
 pub mod Items
 pub mod Keys
 pub mod Places

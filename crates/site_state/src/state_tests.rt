@@ -5,20 +5,47 @@ use host_names::{AliasName, Cell, Digest, FilePath, SiteName};
 use std::alloc::{AllocError, Global};
 use std::test::Fail;
 
+/// Writes into a cell where that is allowed, and tells whether it is.
+fn write(state: &mut State, cell: Cell, value: Option<Value>) -> Result<bool, AllocError> {
+    if !state.may_write(&cell, &value) {
+        return Ok(false);
+    }
+    state.set_cell(cell, value)?;
+    Ok(true)
+}
+
 fn set_file(
     alloc: Global,
     state: &mut State,
     site: &SiteName,
     path: &FilePath,
     bytes: &[u8],
-) -> Result<(), AllocError> {
+) -> Result<bool, AllocError> {
     let cell = Cell::Live(site.clone()?, path.clone()?);
-    state.set_cell(cell, Some(Value::Live(file(alloc, bytes)?)))
+    write(state, cell, Some(Value::Live(file(alloc, bytes)?)))
 }
 
-fn remove_file(state: &mut State, site: &SiteName, path: &FilePath) -> Result<(), AllocError> {
+fn remove_file(state: &mut State, site: &SiteName, path: &FilePath) -> Result<bool, AllocError> {
     let cell = Cell::Live(site.clone()?, path.clone()?);
-    state.set_cell(cell, None)
+    write(state, cell, None)
+}
+
+/// Keeps a deploy of one file.
+fn keep(alloc: Global, state: &mut State, site: &SiteName, number: u64) -> Result<bool, Fail> {
+    let tree = tree(alloc, FilePath::read(alloc, "b")?, b"y")?;
+    let cell = Cell::Kept(site.clone()?, number);
+    Ok(write(state, cell, Some(Value::Kept(tree)))?)
+}
+
+/// Lets an alias stand for a deploy.
+fn set_alias(
+    state: &mut State,
+    site: &SiteName,
+    name: &AliasName,
+    number: u64,
+) -> Result<bool, AllocError> {
+    let cell = Cell::Alias(site.clone()?, name.clone()?);
+    write(state, cell, Some(Value::Alias(number)))
 }
 
 /// Writes two files at once, where their cells rise.
@@ -33,6 +60,7 @@ fn set_two(
     let x = Value::Live(file(alloc, first.2)?);
     let y = Value::Live(file(alloc, second.2)?);
     if a.cmp(&b).is_lt() {
+        state.aliases_are_named();
         let cells = vec![in alloc; (a, Some(x)), (b, Some(y))]?;
         state.set_cells(alloc, cells)?;
     }
@@ -51,6 +79,7 @@ fn set_and_remove(
     let b = Cell::Live(site.clone()?, removed.clone()?);
     let x = Value::Live(file(alloc, first.1)?);
     if a.cmp(&b).is_lt() {
+        state.aliases_are_named();
         let cells = vec![in alloc; (a, Some(x)), (b, None)]?;
         state.set_cells(alloc, cells)?;
     }
@@ -59,6 +88,7 @@ fn set_and_remove(
 
 /// No cells.
 fn no_cells(alloc: Global, state: &mut State) -> Result<(), AllocError> {
+    state.aliases_are_named();
     state.set_cells(alloc, Vec::new(alloc))
 }
 
@@ -109,17 +139,51 @@ fn writes_over_and_removes(rt: HostRuntime) -> Result<(), Fail> {
 fn keeps_aliases(rt: HostRuntime) -> Result<(), Fail> {
     let one = SiteName::new("one")?;
     let next = AliasName::new("next")?;
-    let cell = Cell::Alias(one.clone()?, next.clone()?);
     let mut state = State::new(rt.alloc());
     assert_eq!(rt; state.alias(&one, &next), None);
-    state.set_cell(cell.clone()?, Some(Value::Alias(7)))?;
+    let kept = keep(rt.alloc(), &mut state, &one, 7)?;
+    let written = set_alias(&mut state, &one, &next, 7)?;
+    assert!(rt; kept && written);
     assert_eq!(rt; state.alias(&one, &next), Some(7));
+    let cell = Cell::Alias(one, next);
     assert!(rt;
         state
             .value(&cell)
             .is_some_and(|value| *value == Value::Alias(7))
     );
-    assert!(rt; state.value(&Cell::Kept(one, 7)).is_none());
+    Ok(())
+}
+
+#[test]
+fn an_alias_names_a_kept_deploy(rt: HostRuntime) -> Result<(), Fail> {
+    let one = SiteName::new("one")?;
+    let next = AliasName::new("next")?;
+    let mut state = State::new(rt.alloc());
+    let too_early = set_alias(&mut state, &one, &next, 7)?;
+    assert!(rt; !too_early);
+    assert_eq!(rt; state.alias(&one, &next), None);
+    let kept = keep(rt.alloc(), &mut state, &one, 7)?;
+    let written = set_alias(&mut state, &one, &next, 7)?;
+    let moved = set_alias(&mut state, &one, &next, 8)?;
+    assert!(rt; kept && written && !moved);
+    assert_eq!(rt; state.alias(&one, &next), Some(7));
+    Ok(())
+}
+
+#[test]
+fn a_deploy_that_an_alias_names_stays(rt: HostRuntime) -> Result<(), Fail> {
+    let one = SiteName::new("one")?;
+    let next = AliasName::new("next")?;
+    let mut state = State::new(rt.alloc());
+    let _ = keep(rt.alloc(), &mut state, &one, 7)?;
+    let _ = set_alias(&mut state, &one, &next, 7)?;
+    let removed = write(&mut state, Cell::Kept(one.clone()?, 7), None)?;
+    assert!(rt; !removed);
+    assert!(rt; state.kept(&one, 7).is_some());
+    let free = write(&mut state, Cell::Alias(one.clone()?, next), None)?;
+    let removed = write(&mut state, Cell::Kept(one.clone()?, 7), None)?;
+    assert!(rt; free && removed);
+    assert!(rt; state.kept(&one, 7).is_none());
     Ok(())
 }
 
@@ -129,10 +193,9 @@ fn keeps_trees(rt: HostRuntime) -> Result<(), Fail> {
     let b = FilePath::read(rt.alloc(), "b")?;
     let tree = tree(rt.alloc(), b.clone()?, b"y")?;
     let mut state = State::new(rt.alloc());
-    state.set_cell(
-        Cell::Kept(one.clone()?, 4),
-        Some(Value::Kept(tree.clone()?)),
-    )?;
+    let value = Some(Value::Kept(tree.clone()?));
+    let written = write(&mut state, Cell::Kept(one.clone()?, 4), value)?;
+    assert!(rt; written);
     assert!(rt; state.kept(&one, 4).is_some_and(|kept| *kept == tree));
     assert!(rt; state.kept(&one, 5).is_none());
     assert!(rt; state.draft(&one, 4).is_none());
@@ -151,7 +214,12 @@ fn keeps_drafts(rt: HostRuntime) -> Result<(), Fail> {
     let draft = draft(rt.alloc(), true, digest, digest)?;
     let mut state = State::new(rt.alloc());
     let value = Value::Draft(draft.clone()?);
-    state.set_cell(Cell::Draft(one.clone()?, 5), Some(value.clone()?))?;
+    let written = write(
+        &mut state,
+        Cell::Draft(one.clone()?, 5),
+        Some(value.clone()?),
+    )?;
+    assert!(rt; written);
     assert!(rt; state.draft(&one, 5).is_some_and(|open| *open == draft));
     assert!(rt; state.draft(&one, 4).is_none());
     assert!(rt; state.kept(&one, 5).is_none());

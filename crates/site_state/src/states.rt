@@ -1,5 +1,5 @@
 //! The state: a finite map from cells to values.
-ghost use Rattle.std.specs.Prelude.{◌≡◌, option_copied, All, Ok, IfOk, IfSome, IfErr, IsTrue, OnOk, OnErr};
+ghost use Rattle.std.specs.Prelude.{◌≡◌, true, option_copied, All, Ok, IfOk, IfSome, IfErr, IsTrue, OnOk, OnErr};
 ghost use Rattle.std.specs.FinMap as map;
 ghost use Rattle.std.specs.List.Sorted.{IsStrictlySortedBy};
 ghost use Rattle.std.specs.Map.{keys_of};
@@ -9,6 +9,7 @@ ghost use Rattle.site_state.specs.Aliases;
 ghost use Rattle.site_state.specs.Edits.{edited};
 ghost use Rattle.site_state.specs.Keys.{cell_of};
 ghost use Rattle.site_state.specs.LiveRange;
+ghost use Rattle.site_state.specs.Named.{AliasesNamed};
 ghost use Rattle.site_state.specs.Places.{IsPlace, IsGap};
 ghost use Rattle.site_state.specs.States;
 
@@ -22,7 +23,8 @@ use std::cmp::Ordering;
 use std::marker::Model;
 use std::mem;
 
-/// What stands in each cell. Contracts see a finite map. Each value is of its cell's kind.
+/// What stands in each cell. Contracts see a finite map. Each value is of its cell's kind, and each alias names a
+/// deploy of its site that is kept.
 #[derive(Drop)]
 pub struct State {
     /// By cell; each cell stands once.
@@ -32,7 +34,7 @@ pub struct State {
 impl Model for State {
     ghost use Rattle.std.specs.FinMap as map;
     ghost use Rattle.site_state.specs.States.{State as Cells};
-    ghost use Rattle.site_state.specs.Items.{AreItems};
+    ghost use Rattle.site_state.specs.Items.{AreOfState};
     ghost use Rattle.host_names.specs.contracts.cells.Cell as cell;
     ghost use Rattle.site_state.specs.contracts.values.Value as value;
 
@@ -42,7 +44,7 @@ impl Model for State {
 
     ghost view = { λ s. map.from_sorted s.items.items };
 
-    ghost invariant = { λ s. AreItems s.items.items };
+    ghost invariant = { λ s. AreOfState s.items.items };
 }
 
 /// Where the cell of these parts is among the items, or where it would go.
@@ -249,9 +251,41 @@ impl State {
         }
     }
 
+    /// Each alias names a deploy of its site that is kept.
+    pub fn aliases_are_named(&self)
+        ensures { AliasesNamed self.now }
+    {
+        // The proof knows what the type keeps only where a field is used.
+        let _ = &self.items;
+    }
+
+    /// Whether this may be written into a cell: it is of the cell's kind, or nothing, and each alias names a kept
+    /// deploy afterwards.
+    pub fn may_write(&self, cell: &Cell, value: &Option<Value>) -> bool
+        ensures of_kind { result ≡ true → IsTrue (may_stand cell.now value.now) }
+        ensures named { result ≡ true → AliasesNamed (with_cell self.now cell.now value.now) }
+        ensures all { IsTrue (may_stand cell.now value.now) → AliasesNamed (with_cell self.now cell.now value.now) → result ≡ true }
+    {
+        self.aliases_are_named();
+        match (cell, value) {
+            (Cell::Live(..), Some(Value::Live(_))) => true,
+            (Cell::Live(..), None) => true,
+            (Cell::Draft(..), Some(Value::Draft(_))) => true,
+            (Cell::Draft(..), None) => true,
+            (Cell::Alias(site, _), Some(Value::Alias(number))) => {
+                self.kept(site, *number).is_some()
+            }
+            (Cell::Alias(..), None) => true,
+            (Cell::Kept(..), Some(Value::Kept(_))) => true,
+            (Cell::Kept(site, number), None) => self.alias_for(site, *number).is_none(),
+            _ => false,
+        }
+    }
+
     /// Writes into one cell a value of its kind, or nothing. Without memory nothing changes.
     pub fn set_cell(&mut self, cell: Cell, value: Option<Value>) -> Result<(), AllocError>
-        requires { IsTrue (may_stand cell value) }
+        requires of_kind { IsTrue (may_stand cell value) }
+        requires named { AliasesNamed (with_cell self.old cell value) }
         ensures ok { OnOk result (self.new ≡ with_cell self.old cell value) }
         ensures err { OnErr result (self.new ≡ self.old) }
     {
@@ -267,6 +301,7 @@ impl State {
     ) -> Result<(), AllocError>
         requires rising { IsStrictlySortedBy cell_cmp (keys_of cells.items) }
         requires of_kind { All (λ e. IsTrue (may_stand e.0 e.1)) cells.items }
+        requires named { AliasesNamed (with_cells self.old cells.items) }
         ensures ok { OnOk result (self.new ≡ with_cells self.old cells.items) }
         ensures err { OnErr result (self.new ≡ self.old) }
     {

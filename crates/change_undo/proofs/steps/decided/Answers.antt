@@ -4,6 +4,7 @@ use Rattle.std.specs.List.Sorted.{IsStrictlySortedBy}
 use Rattle.std.specs.Map.{keys_of}
 use Rattle.host_names.specs.Cells.{cell_cmp}
 use Rattle.host_names.specs.declared.cells.Cell.{Cell}
+use Rattle.site_state.specs.Named.{AliasesNamed}
 use Rattle.site_state.specs.States.{may_stand, with_cells}
 use Rattle.site_state.specs.declared.values.Value.{Value}
 use Rattle.change_undo.proofs.Errors.{err_moves}
@@ -24,6 +25,11 @@ returns-in-Ok-writes_of-clause-of_kind g c =
 pub returns-in-Ok-writes_of-clause-effect : goal.returns-in-Ok-writes_of-clause-effect
 returns-in-Ok-writes_of-clause-effect g c =
     ap (with_cells c.args.state.now) (c.in-Ok-writes_of.ensures ∙ ap writes c.as_slice.ensures.value) ∙ with_cells-writes _ _ c.in-Ok.plan.changes.items c.in-Ok.ensures.plan
+
+pub returns-in-Ok-writes_of-clause-named : goal.returns-in-Ok-writes_of-clause-named
+returns-in-Ok-writes_of-clause-named g c =
+    subst AliasesNamed (sym (ap (with_cells c.args.state.now) (c.in-Ok-writes_of.ensures ∙ ap writes c.as_slice.ensures.value) ∙ with_cells-writes _ _ c.in-Ok.plan.changes.items c.in-Ok.ensures.plan))
+    c.in-Ok.ensures.named
 
 pub returns-in-Err-clause-refused : goal.returns-in-Err-clause-refused
 returns-in-Err-clause-refused g c = λ reason. err_moves _ _ (c.in-Err.ensures.refused reason)
