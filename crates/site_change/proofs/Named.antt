@@ -1,5 +1,5 @@
 -- A command that is accepted leaves each alias with a kept deploy.
-use Rattle.std.proofs.Common.{◌≡◌, ℕ, Bool, true, false, cond, List, [], ◌∷◌, Option, Some, None, Result, Ok, Err, IfOk, option_map, refl, sym, ap, ◌∙◌}
+use Rattle.std.proofs.Common.{◌≡◌, ℕ, Bool, true, false, cond, List, [], ◌∷◌, Option, Some, None, Result, Ok, Err, OnOk, option_map, refl, sym, ap, ◌∙◌}
 use Rattle.std.specs.FinMap as map
 use Rattle.std.specs.Option.{is_some}
 use Rattle.host_names.specs.Blobs.{Contents}
@@ -80,7 +80,7 @@ named_applied (Restore site m) n state uploads named accepted = named_restore si
 named_applied (RemoveDeploy site m) n state uploads named accepted =
     named_without_kept state named site m (no_alias (kept_at state site m) (alias_for state site m) accepted)
 
-pub decided_named : (command : Command) (n : ℕ) (state : State) (uploads : Contents) (site : SiteName) (test : Cell → Bool) (result : Result Plan DecideError) → AliasesNamed state
-    → IsDecision (refusal command n state uploads) site test state (applied command n state uploads) result → IfOk result (λ plan. AliasesNamed (applied command n state uploads))
-decided_named command n state uploads site test (Ok plan) named is = named_applied command n state uploads named is.0
-decided_named command n state uploads site test (Err e) named is = tt
+-- what follows of an accepted command holds where there is a plan
+pub on_plan : {T E P Q : Type 0} (result : Result T E) → (P → Q) → OnOk result P → OnOk result Q
+on_plan (Ok plan) follows accepted = follows accepted
+on_plan (Err e) follows accepted = tt

@@ -106,8 +106,7 @@ pub fn decide<U: Uploads>(
     ensures touched { IfOk result (λ plan. AreTouched (site_of_command command.now)
         (touches command.now number state.now) plan.touched) }
     ensures of_kind { IfOk result (λ plan. WritesOfKind plan.changes.items) }
-    ensures named { IfOk result (λ plan. AliasesNamed
-        (applied command.now number state.now (U.contents uploads.now))) }
+    ensures named { OnOk result (AliasesNamed (applied command.now number state.now (U.contents uploads.now))) }
 {
     state.aliases_are_named();
     match command {

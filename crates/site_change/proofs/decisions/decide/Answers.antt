@@ -1,5 +1,6 @@
+use Rattle.std.proofs.Common.{rules}
 use Rattle.site_change.specs.declared.commands.Command.TheVariants.{Open, Publish, Cancel, Remove, Rename, MoveAlias, RemoveAlias, Restore, RemoveDeploy}
-use Rattle.site_change.proofs.Named.{decided_named}
+use Rattle.site_change.proofs.Named.{named_applied, on_plan}
 use Rattle.site_change.proofs.OfKind.{decided_of_kind}
 use Rattle.site_change.proofs.decisions.decide.Goals as goal
 
@@ -42,36 +43,36 @@ returns-in-RemoveDeploy-clause-of_kind g c =
 
 pub returns-in-Open-clause-named : goal.returns-in-Open-clause-named
 returns-in-Open-clause-named g c =
-    decided_named (Open c.in-Open.site c.in-Open.files c.in-Open.auto) c.args.number c.args.state.now (g.U.Uploads.contents c.args.uploads.now) _ _ c.open.result c.aliases_are_named.ensures c.open.ensures
+    on_plan c.open.result (named_applied c.args.command.now c.args.number c.args.state.now (g.U.Uploads.contents c.args.uploads.now) c.aliases_are_named.ensures) (search rules)
 
 pub returns-in-Publish-clause-named : goal.returns-in-Publish-clause-named
 returns-in-Publish-clause-named g c =
-    decided_named (Publish c.in-Publish.site c.in-Publish.number) c.args.number c.args.state.now (g.U.Uploads.contents c.args.uploads.now) _ _ c.publish.result c.aliases_are_named.ensures c.publish.ensures
+    on_plan c.publish.result (named_applied c.args.command.now c.args.number c.args.state.now (g.U.Uploads.contents c.args.uploads.now) c.aliases_are_named.ensures) (search rules)
 
 pub returns-in-Cancel-clause-named : goal.returns-in-Cancel-clause-named
 returns-in-Cancel-clause-named g c =
-    decided_named (Cancel c.in-Cancel.site c.in-Cancel.number) c.args.number c.args.state.now (g.U.Uploads.contents c.args.uploads.now) _ _ c.cancel.result c.aliases_are_named.ensures c.cancel.ensures
+    on_plan c.cancel.result (named_applied c.args.command.now c.args.number c.args.state.now (g.U.Uploads.contents c.args.uploads.now) c.aliases_are_named.ensures) (search rules)
 
 pub returns-in-Remove-clause-named : goal.returns-in-Remove-clause-named
 returns-in-Remove-clause-named g c =
-    decided_named (Remove c.in-Remove.site c.in-Remove.path) c.args.number c.args.state.now (g.U.Uploads.contents c.args.uploads.now) _ _ c.remove.result c.aliases_are_named.ensures c.remove.ensures
+    on_plan c.remove.result (named_applied c.args.command.now c.args.number c.args.state.now (g.U.Uploads.contents c.args.uploads.now) c.aliases_are_named.ensures) (search rules)
 
 pub returns-in-Rename-clause-named : goal.returns-in-Rename-clause-named
 returns-in-Rename-clause-named g c =
-    decided_named (Rename c.in-Rename.site c.in-Rename.source c.in-Rename.target) c.args.number c.args.state.now (g.U.Uploads.contents c.args.uploads.now) _ _ c.rename.result c.aliases_are_named.ensures c.rename.ensures
+    on_plan c.rename.result (named_applied c.args.command.now c.args.number c.args.state.now (g.U.Uploads.contents c.args.uploads.now) c.aliases_are_named.ensures) (search rules)
 
 pub returns-in-MoveAlias-clause-named : goal.returns-in-MoveAlias-clause-named
 returns-in-MoveAlias-clause-named g c =
-    decided_named (MoveAlias c.in-MoveAlias.site c.in-MoveAlias.name c.in-MoveAlias.number) c.args.number c.args.state.now (g.U.Uploads.contents c.args.uploads.now) _ _ c.move_alias.result c.aliases_are_named.ensures c.move_alias.ensures
+    on_plan c.move_alias.result (named_applied c.args.command.now c.args.number c.args.state.now (g.U.Uploads.contents c.args.uploads.now) c.aliases_are_named.ensures) (search rules)
 
 pub returns-in-RemoveAlias-clause-named : goal.returns-in-RemoveAlias-clause-named
 returns-in-RemoveAlias-clause-named g c =
-    decided_named (RemoveAlias c.in-RemoveAlias.site c.in-RemoveAlias.name) c.args.number c.args.state.now (g.U.Uploads.contents c.args.uploads.now) _ _ c.remove_alias.result c.aliases_are_named.ensures c.remove_alias.ensures
+    on_plan c.remove_alias.result (named_applied c.args.command.now c.args.number c.args.state.now (g.U.Uploads.contents c.args.uploads.now) c.aliases_are_named.ensures) (search rules)
 
 pub returns-in-Restore-clause-named : goal.returns-in-Restore-clause-named
 returns-in-Restore-clause-named g c =
-    decided_named (Restore c.in-Restore.site c.in-Restore.number) c.args.number c.args.state.now (g.U.Uploads.contents c.args.uploads.now) _ _ c.restore.result c.aliases_are_named.ensures c.restore.ensures
+    on_plan c.restore.result (named_applied c.args.command.now c.args.number c.args.state.now (g.U.Uploads.contents c.args.uploads.now) c.aliases_are_named.ensures) (search rules)
 
 pub returns-in-RemoveDeploy-clause-named : goal.returns-in-RemoveDeploy-clause-named
 returns-in-RemoveDeploy-clause-named g c =
-    decided_named (RemoveDeploy c.in-RemoveDeploy.site c.in-RemoveDeploy.number) c.args.number c.args.state.now (g.U.Uploads.contents c.args.uploads.now) _ _ c.remove_deploy.result c.aliases_are_named.ensures c.remove_deploy.ensures
+    on_plan c.remove_deploy.result (named_applied c.args.command.now c.args.number c.args.state.now (g.U.Uploads.contents c.args.uploads.now) c.aliases_are_named.ensures) (search rules)
