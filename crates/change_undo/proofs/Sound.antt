@@ -7,8 +7,8 @@ use Rattle.host_names.specs.declared.names.SiteName.{SiteName}
 use Rattle.site_state.specs.States.{State}
 use Rattle.site_change.specs.declared.commands.Command.{Command}
 use Rattle.site_change.specs.declared.commands.Refusal.{Refusal}
-use Rattle.site_change.specs.declared.decisions.DecideError.{DecideError}
-use Rattle.site_change.specs.declared.decisions.DecideError.TheVariants as decide
+use Rattle.site_change.specs.declared.commands.DecideError.{DecideError}
+use Rattle.site_change.specs.declared.commands.DecideError.TheVariants as decide
 use Rattle.site_change.specs.Changes.{IsWithin, applied, refusal, run_from}
 use Rattle.site_change.proofs.Growing.{command_grows}
 use Rattle.change_undo.specs.declared.entries.CommitError.{CommitError}

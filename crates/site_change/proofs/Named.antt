@@ -1,9 +1,7 @@
 -- A command that is accepted leaves each alias with a kept deploy.
-use Rattle.std.proofs.Common.{◌≡◌, ℕ, Bool, true, false, cond, List, [], ◌∷◌, Option, Some, None, Result, Ok, Err, OnOk, option_map, refl, sym, ap, ◌∙◌}
-use Rattle.std.specs.FinMap as map
+use Rattle.std.proofs.Common.{◌≡◌, ℕ, true, false, cond, List, [], ◌∷◌, Option, Some, None, Result, Ok, Err, OnOk, option_map, refl, sym, ap, ◌∙◌}
 use Rattle.std.specs.Option.{is_some}
 use Rattle.host_names.specs.Blobs.{Contents}
-use Rattle.host_names.specs.declared.cells.Cell.{Cell}
 use Rattle.host_names.specs.declared.cells.Cell.TheVariants as cell
 use Rattle.host_names.specs.declared.digests.Digest.{Digest}
 use Rattle.host_names.specs.declared.names.AliasName.{AliasName}
@@ -11,18 +9,14 @@ use Rattle.host_names.specs.declared.names.SiteName.{SiteName}
 use Rattle.site_state.specs.Aliases.{alias_for}
 use Rattle.site_state.specs.Files.{Paths}
 use Rattle.site_state.specs.Named.{AliasesNamed}
-use Rattle.site_state.specs.States.{State, with_cell, as_number, as_tree, live_at, kept_at, draft_at, is_live_of}
+use Rattle.site_state.specs.States.{State, with_cell, as_number, as_tree, live_at, kept_at, draft_at}
 use Rattle.site_state.specs.declared.values.Draft.{Draft}
-use Rattle.site_state.specs.declared.values.Value.{Value}
 use Rattle.site_state.specs.declared.values.Value.TheVariants as value
 use Rattle.site_state.proofs.Named.{named_live, named_draft, named_without_alias, named_with_alias, named_with_kept, named_without_kept}
 use Rattle.site_change.specs.declared.commands.Command.{Command}
 use Rattle.site_change.specs.declared.commands.Command.TheVariants.{Open, Publish, Cancel, Remove, Rename, MoveAlias, RemoveAlias, Restore, RemoveDeploy}
 use Rattle.site_change.specs.declared.commands.Refusal.{Refusal}
-use Rattle.site_change.specs.declared.commands.Refusal.TheVariants.{NoSuchDeploy, DeployInUse}
-use Rattle.site_change.specs.declared.decisions.DecideError.{DecideError}
-use Rattle.site_change.specs.declared.plans.Plan.{Plan}
-use Rattle.site_change.specs.Decisions.{IsDecision}
+use Rattle.site_change.specs.declared.commands.Refusal.TheVariants.{NoSuchDeploy}
 use Rattle.site_change.specs.Changes.{file_at, tree_of, needed, removal_refusal, with_served, with_published, with_listed, with_patch, published, restored, refusal, applied}
 use Rattle.site_change.proofs.Effects.{get-served}
 

@@ -2,8 +2,8 @@
 use Rattle.std.specs.Prelude.{◌≡◌, ◌↔◌, Bool, Option, Some, None, Result, Ok, Err}
 use Rattle.site_state.specs.States.{State}
 use Rattle.site_change.specs.declared.commands.Refusal.{Refusal}
-use Rattle.site_change.specs.declared.decisions.DecideError.{DecideError}
-use Rattle.site_change.specs.declared.decisions.DecideError.TheVariants.{Refused, OutOfMemory}
+use Rattle.site_change.specs.declared.commands.DecideError.{DecideError}
+use Rattle.site_change.specs.declared.commands.DecideError.TheVariants.{Refused, OutOfMemory}
 use Rattle.site_change.specs.declared.plans.Plan.{Plan}
 use Rattle.host_names.specs.declared.cells.Cell.{Cell}
 use Rattle.host_names.specs.declared.names.SiteName.{SiteName}

@@ -1,9 +1,10 @@
-//! Commands, and the reasons to refuse one.
+//! Commands, and the reasons why one is not decided.
 ghost use Rattle.std.specs.Prelude.{◌≡◌};
 ghost use Rattle.site_change.specs.Changes.{site_of_command};
 
 use host_names::{AliasName, Digest, FilePath, SiteName};
 use site_state::Listing;
+use std::alloc::AllocError;
 use thiserror::Error;
 
 /// A change that is asked for. The number of the entry that it becomes is told beside it.
@@ -110,4 +111,26 @@ pub enum Refusal {
     /// The deploy lists more than 10,000 paths.
     #[error("too many files")]
     TooManyFiles,
+}
+
+/// Why a command has no plan.
+#[derive(Debug, Drop, PartialEq, Eq, Error)]
+pub enum DecideError {
+    /// The command is refused.
+    #[error("{0}")]
+    Refused(Refusal),
+    /// There was no memory for the plan. The command isn't refused.
+    #[error("out of memory")]
+    OutOfMemory,
+}
+
+impl From<AllocError> for DecideError {
+    ghost use Rattle.std.specs.Prelude.{◌≡◌};
+    ghost use Rattle.site_change.specs.declared.commands.DecideError.TheVariants.{OutOfMemory};
+
+    ghost from_gives = { λ _ e. e ≡ OutOfMemory };
+
+    fn from(_error: AllocError) -> DecideError {
+        DecideError::OutOfMemory
+    }
 }

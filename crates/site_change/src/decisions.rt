@@ -11,53 +11,17 @@ ghost use Rattle.site_change.specs.Decisions.{IsDecision, IsRefusedBy};
 ghost use Rattle.site_change.specs.Plans.{IsDifference, WritesOfKind};
 ghost use Rattle.site_change.specs.TouchedCells.{AreTouched};
 
-use crate::commands::{Command, Refusal};
+use crate::cells::draft_cell;
+use crate::commands::{Command, DecideError, Refusal};
 use crate::few_cells::{cancel, move_alias, plan_one, remove, remove_alias, remove_deploy, rename};
 use crate::plans::Plan;
 use crate::publishing::{publish, restore};
-use host_names::{Cell, SiteName, Uploads};
+use host_names::{SiteName, Uploads};
 use site_state::{Draft, Listing, State, Value};
 use std::alloc::{AllocError, Global};
-use thiserror::Error;
 
 /// The greatest number of paths that a deploy lists.
 const MOST_FILES: usize = 10_000;
-
-/// Why a command has no plan.
-#[derive(Debug, Drop, PartialEq, Eq, Error)]
-pub enum DecideError {
-    /// The command is refused.
-    #[error("{0}")]
-    Refused(Refusal),
-    /// There was no memory for the plan. The command isn't refused.
-    #[error("out of memory")]
-    OutOfMemory,
-}
-
-impl From<AllocError> for DecideError {
-    ghost use Rattle.std.specs.Prelude.{◌≡◌};
-    ghost use Rattle.site_change.specs.declared.decisions.DecideError.TheVariants.{OutOfMemory};
-
-    ghost from_gives = { λ _ e. e ≡ OutOfMemory };
-
-    fn from(_error: AllocError) -> DecideError {
-        DecideError::OutOfMemory
-    }
-}
-
-/// The cell of a kept deploy.
-pub(crate) fn kept_cell(site: &SiteName, number: u64) -> Result<Cell, AllocError>
-    ensures { IfOk result (λ c. c ≡ cell.Kept site.now number) }
-{
-    Ok(Cell::Kept(site.clone()?, number))
-}
-
-/// The cell of an open deploy.
-pub(crate) fn draft_cell(site: &SiteName, number: u64) -> Result<Cell, AllocError>
-    ensures { IfOk result (λ c. c ≡ cell.Draft site.now number) }
-{
-    Ok(Cell::Draft(site.clone()?, number))
-}
 
 /// An open deploy of these files, as what stands in its cell.
 fn opened(files: &Listing, auto: bool) -> Result<Value, AllocError>

@@ -13,8 +13,8 @@ ghost use Rattle.site_change.specs.Decisions.{IsDecision};
 ghost use Rattle.site_change.specs.Plans.{IsDifference};
 ghost use Rattle.site_change.specs.TouchedCells.{AreTouched};
 
-use crate::commands::Refusal;
-use crate::decisions::DecideError;
+use crate::cells::{alias_cell, draft_cell, kept_cell, live_cell};
+use crate::commands::{DecideError, Refusal};
 use crate::plans::{Change, Plan, change_in, push_some};
 use crate::touched::Touched;
 use host_names::{AliasName, Cell, FilePath, SiteName};
@@ -24,20 +24,6 @@ use std::cmp::Ordering;
 
 /// A cell, and what comes to stand there.
 type Write = (Cell, Option<Value>);
-
-/// The cell of a path.
-pub(crate) fn live_cell(site: &SiteName, path: &FilePath) -> Result<Cell, AllocError>
-    ensures { IfOk result (λ c. c ≡ cell.Live site.now path.now) }
-{
-    Ok(Cell::Live(site.clone()?, path.clone()?))
-}
-
-/// The cell of an alias.
-fn alias_cell(site: &SiteName, name: &AliasName) -> Result<Cell, AllocError>
-    ensures { IfOk result (λ c. c ≡ cell.Alias site.now name.now) }
-{
-    Ok(Cell::Alias(site.clone()?, name.clone()?))
-}
 
 /// What changes where this comes to stand in one cell.
 fn change_one(
@@ -104,7 +90,7 @@ pub(crate) fn cancel(
     if state.draft(site, number).is_none() {
         return Err(DecideError::Refused(Refusal::NoSuchDraft));
     }
-    let draft = Cell::Draft(site.clone()?, number);
+    let draft = draft_cell(site, number)?;
     Ok(plan_one(alloc, state, site, draft, None)?)
 }
 
@@ -190,7 +176,7 @@ pub(crate) fn move_alias(
     if state.kept(site, number).is_none() {
         return Err(DecideError::Refused(Refusal::NoSuchDeploy));
     }
-    let kept = Cell::Kept(site.clone()?, number);
+    let kept = kept_cell(site, number)?;
     let alias = alias_cell(site, name)?;
     let touched = Touched::two(alloc, site, kept, alias.clone()?)?;
     let changes = change_one(alloc, state, alias, Some(Value::Alias(number)))?;
@@ -234,7 +220,7 @@ pub(crate) fn remove_deploy(
     if let Some(name) = state.alias_for(site, number) {
         return Err(DecideError::Refused(Refusal::DeployInUse(name_of(name))));
     }
-    let kept = Cell::Kept(site.clone()?, number);
+    let kept = kept_cell(site, number)?;
     let touched = Touched::one_and_aliases(alloc, site, kept.clone()?)?;
     let changes = change_one(alloc, state, kept, None)?;
     Ok(Plan { changes, touched })

@@ -1,6 +1,7 @@
 //! What a command does to the state, and when it is refused.
 #![tactic(auto)]
 
+mod cells;
 mod commands;
 #[cfg(test)]
 mod decide_tests;
@@ -23,8 +24,8 @@ mod touched;
 mod touched_tests;
 mod trees;
 
-pub use commands::{Command, Refusal};
-pub use decisions::{DecideError, decide};
+pub use commands::{Command, DecideError, Refusal};
+pub use decisions::decide;
 pub use laws::{
     a_change_can_be_left_out, a_publish_touches_its_deploy_alone,
     a_restoring_touches_its_deploy_alone, accepted_stays_accepted,

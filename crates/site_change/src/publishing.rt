@@ -13,9 +13,8 @@ ghost use Rattle.site_change.specs.Differences.{AreListedChanges};
 ghost use Rattle.site_change.specs.Plans.{IsDifference};
 ghost use Rattle.site_change.specs.TouchedCells.{AreTouched, is_of_deploy, is_of_patch};
 
-use crate::commands::Refusal;
-use crate::decisions::{DecideError, draft_cell, kept_cell};
-use crate::few_cells::live_cell;
+use crate::cells::{draft_cell, kept_cell, live_cell};
+use crate::commands::{DecideError, Refusal};
 use crate::live::live_changes;
 use crate::plans::{Change, Plan, change_in, push_some};
 use crate::touched::Touched;

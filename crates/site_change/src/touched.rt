@@ -7,7 +7,7 @@ ghost use Rattle.site_change.specs.Changes.{same_cell};
 ghost use Rattle.site_change.specs.TouchedCells as spec;
 ghost use Rattle.site_change.specs.TouchedCells.{AddsTouched, AreTouched, is_of_deploy, is_of_patch};
 
-use crate::few_cells::live_cell;
+use crate::cells::{draft_cell, kept_cell, live_cell};
 use host_names::{Cell, Digest, FilePath, SiteName};
 use site_state::{is_alias_of, is_live_of};
 use std::alloc::{AllocError, Global};
@@ -35,7 +35,7 @@ fn patched_cells(
 ) -> Result<BTreeSet<Cell>, AllocError>
     ensures { IfOk result (λ cells. (c : Cell) → list_any (same_cell c) cells.keys ≡ is_of_patch site.now number entries.now c) }
 {
-    let mut cells = BTreeSet::from_array(alloc, [Cell::Draft(site.clone()?, number)])?;
+    let mut cells = BTreeSet::from_array(alloc, [draft_cell(site, number)?])?;
     for (path, _) in entries {
         cells.insert(live_cell(site, path)?)?;
     }
@@ -101,8 +101,8 @@ impl Touched {
     pub(crate) fn deploy(alloc: Global, site: &SiteName, number: u64) -> Result<Touched, AllocError>
         ensures { IfOk result (AreTouched site.now (is_of_deploy site.now number)) }
     {
-        let draft = Cell::Draft(site.clone()?, number);
-        let kept = Cell::Kept(site.clone()?, number);
+        let draft = draft_cell(site, number)?;
+        let kept = kept_cell(site, number)?;
         Ok(Touched {
             site: site.clone()?,
             cells: BTreeSet::from_array(alloc, [draft, kept])?,
