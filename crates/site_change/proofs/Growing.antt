@@ -53,7 +53,7 @@ same_listed : (site : SiteName) (uploads more : Contents) (files : Paths (Option
 same_listed site uploads more [] state h = refl
 same_listed site uploads more (f ∷ files) state h = λ i. with_cell (same_listed site uploads more files state h.1 i) (cell.Live site f.0) (option_map value.Live (h.0 i))
 
-no_option : {A B : Type 0} (f : A → B) (o : Option A) → option_map f o ≡ None → o ≡ None
+pub no_option : {A B : Type 0} (f : A → B) (o : Option A) → option_map f o ≡ None → o ≡ None
 no_option f None e = refl
 no_option f (Some x) e = cc e
 

@@ -12,3 +12,4 @@ pub mod Locality
 pub mod LeftOut
 pub mod Growing
 pub mod Touching
+pub mod Leaving

@@ -1,13 +1,14 @@
 -- Laws of changes.
-use Rattle.std.specs.Prelude.{◌≡◌, ◌⊎◌, ℕ, List, ◌∷◌, map, Contains, Bool, true, false, Option, Some, if◌then◌else◌}
+use Rattle.std.specs.Prelude.{◌≡◌, ◌≢◌, ◌⊎◌, ℕ, List, ◌∷◌, map, Contains, Bool, true, false, Option, Some, None, option_map, if◌then◌else◌}
 use Rattle.std.specs.FinMap as map
 use Rattle.host_names.specs.Blobs.{Contents}
 use Rattle.host_names.specs.declared.digests.Digest.{Digest}
 use Rattle.host_names.specs.declared.names.SiteName.{SiteName}
 use Rattle.host_names.specs.declared.cells.Cell.{Cell}
 use Rattle.host_names.specs.declared.cells.Cell.TheVariants as cell
-use Rattle.site_state.specs.Files.{Paths}
-use Rattle.site_state.specs.States.{State}
+use Rattle.site_state.specs.Files.{Paths, at_path}
+use Rattle.site_state.specs.States.{State, is_live_of}
+use Rattle.site_state.specs.declared.values.Value.TheVariants as value
 use Rattle.site_change.specs.declared.commands.Command.{Command}
 use Rattle.site_change.specs.Changes.{refusal, applied, touches, changes, run_from, AvoidAll, IsWithin}
 
@@ -22,6 +23,36 @@ IsListedPath site files c = (path : List ℕ) × Contains (map (λ f. f.0) files
 -- The cell is the draft, or such a path.
 abbrev pub IsPartOfPatch : SiteName → ℕ → Paths (Option Digest) → Cell → Type 0
 IsPartOfPatch site m files c = (c ≡ cell.Draft site m) ⊎ IsListedPath site files c
+
+-- at each path for which a digest is listed the site serves what was uploaded under it
+abbrev pub ServesListed : SiteName → Contents → Paths (Option Digest) → State → Type 0
+ServesListed site uploads files after =
+    (path : List ℕ) (digest : Digest) → at_path files path ≡ Some (Some digest)
+    → (bytes : List ℕ) × (map.get uploads digest ≡ Some bytes) × (map.get after (cell.Live site path) ≡ Some (value.Live bytes))
+
+-- the files that the site serves are kept under the number
+abbrev pub KeepsServed : SiteName → ℕ → State → Type 0
+KeepsServed site m after =
+    (tree : Paths (List ℕ)) × (map.get after (cell.Kept site m) ≡ Some (value.Kept tree))
+    × ((path : List ℕ) → option_map value.Live (at_path tree path) ≡ map.get after (cell.Live site path))
+
+-- Nothing is served where a removal is listed, and what was served before where nothing is. The draft is gone, and each cell that is no
+-- path of the site has else what it had.
+pub record LeavesPatch (site : SiteName) (m : ℕ) (uploads : Contents) (files : Paths (Option Digest)) (before after : State) : Type 0 where
+  pub listed : ServesListed site uploads files after
+  pub removed : (path : List ℕ) → at_path files path ≡ Some None → map.get after (cell.Live site path) ≡ None
+  pub unlisted : (path : List ℕ) → at_path files path ≡ None → map.get after (cell.Live site path) ≡ map.get before (cell.Live site path)
+  pub draft : map.get after (cell.Draft site m) ≡ None
+  pub others : (c : Cell) → is_live_of site c ≡ false → c ≢ cell.Draft site m → map.get after c ≡ map.get before c
+
+-- Nothing is served where nothing is listed. What is served is kept, the draft is gone, and each cell that is no path of the site has else
+-- what it had.
+pub record LeavesDeploy (site : SiteName) (m : ℕ) (uploads : Contents) (files : Paths (Option Digest)) (before after : State) : Type 0 where
+  pub listed : ServesListed site uploads files after
+  pub unlisted : (path : List ℕ) → at_path files path ≡ None → map.get after (cell.Live site path) ≡ None
+  pub kept : KeepsServed site m after
+  pub draft : map.get after (cell.Draft site m) ≡ None
+  pub others : (c : Cell) → is_live_of site c ≡ false → c ≢ cell.Draft site m → c ≢ cell.Kept site m → map.get after c ≡ map.get before c
 
 -- two states have the same in each cell that passes the test
 abbrev pub AgreeOn : (Cell → Bool) → State → State → Type 0

@@ -12,8 +12,8 @@ ghost use Rattle.site_state.specs.States.{State, draft_at, kept_at};
 ghost use Rattle.site_state.specs.declared.values.Draft.{Draft};
 ghost use Rattle.site_change.specs.declared.commands.Command.{Command};
 ghost use Rattle.site_change.specs.declared.commands.Command.TheVariants.{Open, Publish, Cancel, Remove, Rename, MoveAlias, RemoveAlias, Restore, RemoveDeploy};
-ghost use Rattle.site_change.specs.Changes.{applied, changes, touches};
-ghost use Rattle.site_change.specs.Laws.{IsLocal, IsPartOfDeploy, IsPartOfPatch, LeavesOut, KeepsRunning};
+ghost use Rattle.site_change.specs.Changes.{applied, changes, refusal, touches};
+ghost use Rattle.site_change.specs.Laws.{IsLocal, IsPartOfDeploy, IsPartOfPatch, LeavesDeploy, LeavesOut, LeavesPatch, KeepsRunning};
 
 /// All that a command reads or writes is what it touches. In two states that have the same there, it gets the
 /// same answer, touches the same cells, and leaves the same in them; every other cell stays as it was, and what
@@ -60,6 +60,24 @@ pub fn a_publish_touches_its_deploy_alone()
         (touches (Publish site m) number state c ≡ true) ↔ IsPartOfPatch site m draft.files.1 c }
     ensures unknown { (site : SiteName) (m number : ℕ) (state : State) (c : Cell) → draft_at state site m ≡ None →
         (touches (Publish site m) number state c ≡ true) ↔ (c ≡ cell.Draft site m) }
+{}
+
+/// What an accepted publish of a patch leaves. At each path for which the patch lists a digest, the site serves the bytes
+/// that were uploaded under it; where it lists a removal, nothing; and where it lists nothing, what it served before. The
+/// draft is gone. What else there is stays as it was: other sites, kept deploys, aliases and other drafts; no deploy is kept.
+pub fn a_published_patch_changes_what_it_lists()
+    ensures { (site : SiteName) (m number : ℕ) (state : State) (uploads : Contents) (draft : Draft) →
+        draft_at state site m ≡ Some draft → draft.files.0 ≡ true → refusal (Publish site m) number state uploads ≡ None →
+        LeavesPatch site m uploads draft.files.1 state (applied (Publish site m) number state uploads) }
+{}
+
+/// What an accepted publish of a full deploy leaves. At each path that it lists the site serves the bytes that were uploaded
+/// under the listed digest, and at every other path nothing. The files that it serves are kept under the deploy's number, and
+/// the draft is gone. What else there is stays as it was: other sites, other kept deploys, aliases and other drafts.
+pub fn a_published_deploy_is_served_and_kept()
+    ensures { (site : SiteName) (m number : ℕ) (state : State) (uploads : Contents) (draft : Draft) →
+        draft_at state site m ≡ Some draft → draft.files.0 ≡ false → refusal (Publish site m) number state uploads ≡ None →
+        LeavesDeploy site m uploads draft.files.1 state (applied (Publish site m) number state uploads) }
 {}
 
 /// A restoring touches the draft and the kept deploy of its number. Where a deploy is kept, or a full one open, it touches
