@@ -15,7 +15,7 @@ use Rattle.change_undo.specs.declared.entries.Entry.TheVariants.{Change, Undo}
 use Rattle.change_undo.specs.declared.entries.UndoRefusal.TheVariants.{HistoryFull, NoSuchChange, AlreadyUndone, Clash}
 use Rattle.change_undo.specs.Clashes.{clash, clash_in}
 use Rattle.change_undo.specs.declared.logged.Logged.{Logged}
-use Rattle.change_undo.specs.Histories.{undone, is_among, live_from, site_of_entry, same_site, entry_at, refusal_at, undo_refusal}
+use Rattle.change_undo.specs.Histories.{marked as with_mark, undone, is_among, live_from, site_of_entry, same_site, entry_at, marked_entry, refusal_at, undo_refusal}
 use Rattle.change_undo.specs.Live.{without}
 use Rattle.change_undo.proofs.Live.{is_among-push, undone-append}
 use Rattle.change_undo.specs.Logged.{entries_of, AreMarked, marked_live, with_change, command_if, carried_out}
@@ -42,10 +42,20 @@ entry_at_place i [] l within at = absurd (omega arith)
 entry_at_place zero (x ∷ logged) l within at = ap (λ (x : Logged). Some x.entry) (sym at)
 entry_at_place (suc i) (x ∷ logged) l within at = entry_at_place i logged l (omega arith) at
 
--- ---- the first reason to refuse the undo of a change
-
 nonzero : (k : ℕ) → 0 < k → (k == 0) ≡ false
 nonzero k h = elim (k == 0) as (λ t. (k == 0) ≡ t → t ≡ false) [ true ↦ λ e. absurd (omega (arith, eqb-true k 0 e)) | false ↦ λ e. refl ] refl
+
+-- the entry of a number, with its mark
+pub marked_at : (logged : List Logged) (k : ℕ) (l : Logged) → AreMarked (undone (entries_of logged)) 1 logged → 0 < k → k ≤ length logged
+    → l ≡ get_or logged (k - 1) l
+    → Some (l.entry, l.is_undone) ≡ marked_entry (entries_of logged) k
+marked_at logged k l marked some within at =
+    let es = entries_of logged in
+    let mark : l.is_undone ≡ is_among (undone es) k = mark_at (undone es) 1 (k - 1) logged l marked (omega arith) at ∙ ap (is_among (undone es)) (omega arith) in
+    let found : entry_at es k ≡ Some l.entry = ap (λ t. cond t None (slice_get es (k - 1))) (nonzero k some) ∙ entry_at_place (k - 1) logged l (omega arith) at in
+    ap (λ t. Some (l.entry, t)) mark ∙ sym (ap (option_map (with_mark (undone es) k)) found)
+
+-- ---- the first reason to refuse the undo of a change
 
 room : (limit n : ℕ) → n < limit → nat_le limit n ≡ false
 room limit n h = elim (nat_le limit n) as (λ t. nat_le limit n ≡ t → t ≡ false) [ true ↦ λ e. absurd (omega (arith, leb-true limit n e)) | false ↦ λ e. refl ] refl

@@ -27,6 +27,13 @@ same_site a b = bytes_eq a.0 b.0
 abbrev pub entry_at : List Entry → ℕ → Option Entry
 entry_at entries k = if k == 0 then None else slice_get entries (k - 1)
 
+abbrev pub marked : List ℕ → ℕ → Entry → Entry × Bool
+marked gone k entry = (entry, is_among gone k)
+
+-- the entry of this number, and whether a later one undoes it
+abbrev pub marked_entry : List Entry → ℕ → Option (Entry × Bool)
+marked_entry entries k = option_map (marked (undone entries) k) (entry_at entries k)
+
 -- no change after the one of this number lives
 abbrev pub is_newest : List Entry → ℕ → Bool
 is_newest entries k = list_all (λ c. nat_le c.0 k) (live_changes entries)

@@ -93,6 +93,18 @@ impl History {
         Some(&self.logged[number as usize - 1].entry)
     }
 
+    /// The entry of a number, from 1 on, and whether a later one undoes it.
+    pub fn marked_entry(&self, number: u64) -> Option<(&Entry, bool)>
+        ensures { option_map (λ found. (found.0.now, found.1)) result
+            ≡ Histories.marked_entry self.now.entries number }
+    {
+        if number == 0 || (self.logged.len() as u64) < number {
+            return None;
+        }
+        let named = &self.logged[number as usize - 1];
+        Some((&named.entry, named.is_undone))
+    }
+
     /// The clash of the change of a number: the number of the first later change that was not undone and reads or writes
     /// a cell which that change changed; and the first such cell, in the order of cells. None where no later change does
     /// so, and for each number that isn't that of a change, or that of one that was undone. Numbers count over all sites.
