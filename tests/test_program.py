@@ -63,6 +63,13 @@ def cut_after(stream, length_of):
     return ends[1:]
 
 
+def messages(stream):
+    """The messages of a stream: of each its first line in words, and its body."""
+    ends = cut_after(stream, content_length)
+    parts = [stream[start:end].partition(b"\r\n\r\n") for start, end in zip([0, *ends], ends)]
+    return [(head.splitlines()[0].decode().split(" "), body.decode()) for head, _, body in parts]
+
+
 def content_length(head):
     fields = dict(line.split(b": ", 1) for line in head.splitlines()[1:-1])
     return int(fields.get(b"Content-Length", 0))
@@ -171,6 +178,16 @@ class SmallSite(Program):
             self.assertEqual(self.deploy(folder, "small")[0], 0)
             pathlib.Path(folder, "one more.txt").write_text("one more")
             self.assertEqual(self.deploy(folder, "small"), (2, b""))
+
+
+class TwoVersions(Program):
+    """The requests of examples/two-versions.http."""
+
+    given = (EXAMPLES / "two-versions.http").read_bytes()
+    wanted = (EXAMPLES / "two-versions.replies").read_bytes()
+
+    def test_are_switched_and_taken_back_byte_for_byte(self):
+        self.assert_answers(self.given, self.wanted)
 
 
 class Connections(Program):
@@ -302,6 +319,12 @@ class WithCurl(Program):
             '{"entry":5} 200',
             "hello 200",
         ])
+
+    def test_switches_versions_and_takes_a_change_back(self):
+        requests = [(target, "--request", method, *["--data-binary", body] * bool(body))
+                    for (method, target, _), body in messages(TwoVersions.given)]
+        wanted = [f"{body} {status}\n" for (_, status, *_), body in messages(TwoVersions.wanted)]
+        self.assertEqual(self.converse(*requests), "".join(wanted))
 
     def test_uploads_and_reads_a_large_file(self):
         content = bytes(range(256)) * 4096

@@ -1,4 +1,4 @@
-pub mod DigestLists
+pub mod JoinedTexts
 pub mod LastPlaces
 mod NumberTexts
 pub mod Cuts

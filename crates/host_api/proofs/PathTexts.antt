@@ -12,7 +12,7 @@ use Rattle.std.specs.Str.{IsUtf8, IsAscii, is_utf8}
 use Rattle.percent_encoding.specs.Percent.{percent_decode}
 use Rattle.percent_encoding.proofs.PercentLemmas.{percent_decode-nil, percent_decode_not_percent}
 use Rattle.host_names.specs.Path.{is_path, is_relative_path, with_slash}
-use Rattle.host_api.specs.Targets.{if_path, ends_with_slash, with_index, read_path, upload_path}
+use Rattle.host_api.specs.Targets.{if_path, ends_with_slash, with_index, read_path, written_path}
 use Rattle.host_api.specs.Patterns.{is_rest}
 
 -- ---- ends in a slash
@@ -127,7 +127,7 @@ index_rest : (text : List ℕ) → is_rest text ≡ true → is_rest (with_index
 index_rest [] h = refl
 index_rest (b ∷ text) h = led_cases (ends_with_slash (b ∷ text)) b text h
 
--- ---- what is read and uploaded
+-- ---- what is read and written
 
 -- a page that was read as a path
 pub read_ok : (rest page path : List ℕ) → is_rest rest ≡ true → page ≡ with_index (percent_decode rest) → IsUtf8 page
@@ -149,20 +149,20 @@ read_bad rest page led e unlawful =
 pub read_raw : (rest : List ℕ) → is_utf8 (percent_decode rest) ≡ false → read_path rest ≡ None
 read_raw rest h = if_left _ _ (Some (with_index (percent_decode rest))) None (with_index-utf8 (percent_decode rest) _ ∙ h)
 
--- the same of an upload
-pub upload_ok : (rest text path : List ℕ) → text ≡ percent_decode (drop 1 rest) → IsUtf8 text
-    → path ≡ with_slash text → is_path path ≡ true → upload_path rest ≡ Some path
-upload_ok rest text path e utf8 kept lawful =
+-- the same of what is written
+pub written_ok : (rest text path : List ℕ) → text ≡ percent_decode (drop 1 rest) → IsUtf8 text
+    → path ≡ with_slash text → is_path path ≡ true → written_path rest ≡ Some path
+written_ok rest text path e utf8 kept lawful =
     let named : path ≡ with_slash (percent_decode (drop 1 rest)) = kept ∙ ap with_slash e in
     ap if_path (sym named) ∙ if_true _ _ (Some path) None
     (ap is_utf8 kept ∙ with_slash-utf8 text ∙ is_utf8-from_IsUtf8 text utf8) lawful
 
-pub upload_bad : (rest text : List ℕ) → text ≡ percent_decode (drop 1 rest) → is_path (with_slash text) ≡ false → upload_path rest ≡ None
-upload_bad rest text e unlawful =
+pub written_bad : (rest text : List ℕ) → text ≡ percent_decode (drop 1 rest) → is_path (with_slash text) ≡ false → written_path rest ≡ None
+written_bad rest text e unlawful =
     ap (λ t. if_path (with_slash t)) (sym e) ∙ if_right _ _ (Some (with_slash text)) None unlawful
 
-pub upload_raw : (rest : List ℕ) → is_utf8 (percent_decode (drop 1 rest)) ≡ false → upload_path rest ≡ None
-upload_raw rest h =
+pub written_raw : (rest : List ℕ) → is_utf8 (percent_decode (drop 1 rest)) ≡ false → written_path rest ≡ None
+written_raw rest h =
     if_left _ _ (Some (with_slash (percent_decode (drop 1 rest)))) None (with_slash-utf8 (percent_decode (drop 1 rest)) ∙ h)
 
 -- what was decoded, but for its being text
@@ -182,7 +182,7 @@ pub read_oks : {E : Type 0} (rest page : List ℕ) (r : Result (List ℕ) E) →
 read_oks rest page (Ok path) led e utf8 kept lawful = read_ok rest page path led e utf8 kept lawful
 read_oks rest page (Err error) led e utf8 kept lawful = tt
 
-pub upload_oks : {E : Type 0} (rest text : List ℕ) (r : Result (List ℕ) E) → text ≡ percent_decode (drop 1 rest)
-    → IsUtf8 text → IfOk r (λ path. path ≡ with_slash text) → IfOk r (λ path. IsTrue (is_path path)) → IfOk r (λ path. upload_path rest ≡ Some path)
-upload_oks rest text (Ok path) e utf8 kept lawful = upload_ok rest text path e utf8 kept lawful
-upload_oks rest text (Err error) e utf8 kept lawful = tt
+pub written_oks : {E : Type 0} (rest text : List ℕ) (r : Result (List ℕ) E) → text ≡ percent_decode (drop 1 rest)
+    → IsUtf8 text → IfOk r (λ path. path ≡ with_slash text) → IfOk r (λ path. IsTrue (is_path path)) → IfOk r (λ path. written_path rest ≡ Some path)
+written_oks rest text (Ok path) e utf8 kept lawful = written_ok rest text path e utf8 kept lawful
+written_oks rest text (Err error) e utf8 kept lawful = tt

@@ -1,30 +1,48 @@
 -- Which routes read the path of a file.
-use Rattle.std.proofs.Common.{◌≡◌, ℕ, Bool, true, false, cond, List, Option, Some, None, Ok, Err, refl}
+use Rattle.std.proofs.Common.{◌≡◌, ℕ, Bool, true, false, ◌&&◌, not, cond, List, Option, Some, None, Result, Ok, Err, refl}
+use Rattle.host_names.specs.Name.{is_name}
+use Rattle.host_names.specs.declared.names.AliasName.{AliasName}
 use Rattle.host_names.specs.declared.names.SiteName.{SiteName}
-use Rattle.host_api.specs.Patterns.{site_on}
-use Rattle.host_api.specs.Routes.{routed_at, takes_path, to_file}
-use Rattle.host_api.specs.Targets.{Bindings, has_hash}
+use Rattle.host_api.specs.Numbers.{number_of}
+use Rattle.host_api.specs.Patterns.{site_on, alias_on, routed_alike}
+use Rattle.host_api.specs.Routes.{takes_path, to_file, site_in, alias_in}
+use Rattle.host_api.specs.Targets.{Bindings, has_hash, read_path}
+use Rattle.host_api.specs.declared.refusals.Refusal.{Refusal}
 use Rattle.host_api.specs.declared.refusals.Refusal.TheVariants.{BadName, BadPath}
-use Rattle.host_api.specs.declared.routes.Kind.TheVariants as kind
+use Rattle.host_api.specs.declared.resources.Resource.TheVariants as resource
+use Rattle.host_api.specs.declared.routes.Route.{Route}
 use Rattle.host_api.specs.declared.routes.Route.TheVariants as route
+use Rattle.host_api.specs.declared.routes.Version.TheVariants as version
 
-upload_takes : (text : List ℕ) (deploy : ℕ) (path : Option (List ℕ)) (hash : Bool) → has_hash text ≡ hash → hash ≡ false
-    → takes_path text (cond hash (Err BadPath) (to_file (route.Upload deploy) path)) ≡ true
-upload_takes text deploy path true is none = absurd (cc none)
-upload_takes text deploy None false is none = rw is refl
-upload_takes text deploy (Some path) false is none = refl
+-- a path that was to be read, whether it is one or not
+file_takes : (text : List ℕ) (make : List ℕ → Route) (path : Option (List ℕ)) → has_hash text ≡ false
+    → ((file : List ℕ) → takes_path text (Ok (make file)) ≡ true) → takes_path text (to_file make path) ≡ true
+file_takes text make None none read = rw none refl
+file_takes text make (Some file) none read = read file
 
-pub upload_takes_path : (path : List ℕ) (b : Bindings) → has_hash path ≡ false → takes_path path (routed_at path kind.Upload b) ≡ true
-upload_takes_path path b none = upload_takes path _ _ (has_hash path) refl none
+-- the names that a path has, where they are names and the path has no `#`
+abbrev tested : {A : Type 0} → Bool → Bool → A → Result A Refusal
+tested bad hash named = cond bad (Err BadName) (cond hash (Err BadPath) (Ok named))
 
-read_takes : (text : List ℕ) (site named : SiteName) (path : Option (List ℕ)) (bad hash : Bool) → has_hash text ≡ hash
-    → cond bad (Err BadName) (cond hash (Err BadPath) (Ok named)) ≡ Ok site
-    → takes_path text (cond bad (Err BadName) (cond hash (Err BadPath) (to_file (route.Read named) path))) ≡ true
-read_takes text site named path true hash is h = absurd (cc h)
-read_takes text site named path false true is h = absurd (cc h)
-read_takes text site named None false false is h = rw is refl
-read_takes text site named (Some path) false false is h = refl
+-- the same behind the test of names
+named_takes : {A : Type 0} (text : List ℕ) (make : List ℕ → Route) (path : Option (List ℕ)) (bad hash : Bool) (named found : A) → has_hash text ≡ hash
+    → ((file : List ℕ) → takes_path text (Ok (make file)) ≡ true)
+    → tested bad hash named ≡ Ok found
+    → takes_path text (cond bad (Err BadName) (cond hash (Err BadPath) (to_file make path))) ≡ true
+named_takes text make path true hash named found is read h = absurd (cc h)
+named_takes text make path false true named found is read h = absurd (cc h)
+named_takes text make path false false named found is read h = file_takes text make path is read
 
-pub read_takes_path : (path : List ℕ) (b : Bindings) (site : SiteName) → site_on path b.site_text ≡ Ok site
-    → takes_path path (routed_at path kind.Read b) ≡ true
-read_takes_path path b site h = read_takes path site (record { 0 = b.site_text }) _ _ (has_hash path) refl h
+pub live_takes_path : (path : List ℕ) (b : Bindings) (site : SiteName) → site_on path b.site_text ≡ Ok site
+    → takes_path path (routed_alike path resource.LiveFile b) ≡ true
+live_takes_path path b site h = named_takes path (route.Read (site_in b) version.Live) (read_path b.rest) _ (has_hash path) (site_in b) site refl (λ _. refl) h
+
+pub alias_takes_path : (path : List ℕ) (b : Bindings) (both : SiteName × AliasName) → alias_on path b.site_text b.alias_text ≡ Ok both
+    → takes_path path (routed_alike path resource.AliasFile b) ≡ true
+alias_takes_path path b both h =
+    named_takes path (route.Read (site_in b) (version.Alias (alias_in b))) (read_path b.rest) _ (has_hash path) (site_in b, alias_in b) both refl (λ _. refl) h
+
+pub kept_takes_path : (path : List ℕ) (b : Bindings) (site : SiteName) → site_on path b.site_text ≡ Ok site
+    → takes_path path (routed_alike path resource.KeptFile b) ≡ true
+kept_takes_path path b site h =
+    named_takes path (route.Read (site_in b) (version.Kept (number_of b.number_text))) (read_path b.rest) _ (has_hash path) (site_in b) site refl (λ _. refl) h

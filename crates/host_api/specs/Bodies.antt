@@ -11,8 +11,9 @@ use Rattle.serde_json.specs.Find.{get_member, as_object, as_bool}
 use Rattle.serde_json.specs.Read.{read}
 use Rattle.host_names.specs.Path.{is_path, with_slash}
 use Rattle.host_names.specs.declared.digests.Digest.{Digest}
+use Rattle.host_names.specs.declared.names.AliasName.{AliasName}
 use Rattle.host_names.specs.declared.names.SiteName.{SiteName}
-use Rattle.site_change.specs.declared.commands.Command.TheVariants.{Open}
+use Rattle.site_change.specs.declared.commands.Command.TheVariants as command
 use Rattle.host_api.specs.Numbers.{greatest_number, number_of}
 use Rattle.host_api.specs.declared.routes.Route.{Route}
 use Rattle.host_api.specs.declared.routes.Route.TheVariants as route
@@ -99,46 +100,101 @@ with_all patch files (member key value ms) = then_with (with_one patch files (wi
 abbrev pub open_with : SiteName → Option Form → Result Ask Refusal
 open_with name None = Err BadBody
 open_with name (Some form) =
-    then_with (with_all form.patch map.empty form.files) (λ files. Ok (ask.Command (Open name (form.patch, map.entries files) (not form.draft))))
+    then_with (with_all form.patch map.empty form.files) (λ files. Ok (ask.Command (command.Open name (form.patch, map.entries files) (not form.draft))))
 
 abbrev pub open_ask : SiteName → List ℕ → Result Ask Refusal
 open_ask name body = open_with name (option_and_then form_of (object_of body))
 
+-- ---- naming an entry by its number
+
+abbrev pub entry_number : Num → ℕ
+entry_number (unsigned n) = if nat_le n greatest_number then n else 0
+entry_number (negative z) = 0
+entry_number (float x) = 0
+
+-- the number that a value writes, or 0, which no entry has
+abbrev pub number_in : Data → Option ℕ
+number_in null = None
+number_in (boolean b) = None
+number_in (number n) = Some (entry_number n)
+number_in (string text) = Some (number_of text)
+number_in (array items) = None
+number_in (object ms) = None
+
+-- the number that a body has as its member of this name
+abbrev pub number_at : List ℕ → List ℕ → Option ℕ
+number_at name body = option_and_then number_in (option_and_then (get_member name) (object_of body))
+
 -- ---- undoing a change
 
-abbrev pub change_number : Num → ℕ
-change_number (unsigned n) = if nat_le n greatest_number then n else 0
-change_number (negative z) = 0
-change_number (float x) = 0
-
-abbrev pub change_in : Data → Option ℕ
-change_in null = None
-change_in (boolean b) = None
-change_in (number n) = Some (change_number n)
-change_in (string text) = Some (number_of text)
-change_in (array items) = None
-change_in (object ms) = None
-
 abbrev pub undo_with : SiteName → Option ℕ → Result Ask Refusal
-undo_with name None = Err BadBody
-undo_with name (Some change) = Ok (ask.Undo name change)
+undo_with site None = Err BadBody
+undo_with site (Some change) = Ok (ask.Undo site change)
 
 abbrev pub undo_ask : SiteName → List ℕ → Result Ask Refusal
-undo_ask name body =
-    undo_with name (option_and_then change_in (option_and_then (get_member (codes "change")) (object_of body)))
+undo_ask site body = undo_with site (number_at (codes "change") body)
+
+-- ---- letting an alias stand for a deploy
+
+abbrev pub alias_with : SiteName → AliasName → Option ℕ → Result Ask Refusal
+alias_with site name None = Err BadBody
+alias_with site name (Some deploy) = Ok (ask.Command (command.MoveAlias site name deploy))
+
+abbrev pub alias_ask : SiteName → AliasName → List ℕ → Result Ask Refusal
+alias_ask site name body = alias_with site name (number_at (codes "deploy") body)
+
+-- ---- renaming a file
+
+abbrev pub text_in : Data → Option (List ℕ)
+text_in null = None
+text_in (boolean b) = None
+text_in (number n) = None
+text_in (string text) = Some text
+text_in (array items) = None
+text_in (object ms) = None
+
+-- the text that a body has as its member of this name
+abbrev pub text_at : List ℕ → List ℕ → Option (List ℕ)
+text_at name body = option_and_then text_in (option_and_then (get_member name) (object_of body))
+
+-- the path that a text writes, with or without its slash
+abbrev pub path_in : List ℕ → Result (List ℕ) Refusal
+path_in text = if is_path (with_slash text) then Ok (with_slash text) else Err BadPath
+
+-- both members are texts, and both texts are paths
+abbrev pub rename_with : SiteName → Option (List ℕ) → Option (List ℕ) → Result Ask Refusal
+rename_with site (Some source) (Some target) =
+    then_with (path_in source) (λ from. then_with (path_in target) (λ to. Ok (ask.Command (command.Rename site from to))))
+rename_with site source target = Err BadBody
+
+abbrev pub rename_ask : SiteName → List ℕ → Result Ask Refusal
+rename_ask site body = rename_with site (text_at (codes "from") body) (text_at (codes "to") body)
 
 -- ---- any route
 
 -- what the body asks for on this route, or the first reason why it asks for nothing
 abbrev pub asked : Route → List ℕ → Result Ask Refusal
-asked (route.Read name path) body = Ok (ask.Read name path)
-asked (route.Open name) body = open_ask name body
-asked (route.Undo name) body = undo_ask name body
+asked (route.Read site version path) body = Ok (ask.Read site version path)
+asked (route.Open site) body = open_ask site body
+asked (route.Restore site n) body = Ok (ask.Command (command.Restore site n))
+asked (route.MoveAlias site name) body = alias_ask site name body
+asked (route.RemoveAlias site name) body = Ok (ask.Command (command.RemoveAlias site name))
+asked (route.Rename site) body = rename_ask site body
+asked (route.Remove site path) body = Ok (ask.Command (command.Remove site path))
+asked (route.Undo site) body = undo_ask site body
+asked (route.Changes site) body = Ok (ask.Changes site)
+asked (route.Deploy n) body = Ok (ask.Deploy n)
+asked (route.RemoveDeploy n) body = Ok (ask.RemoveDeploy n)
+asked (route.Cancel n) body = Ok (ask.Cancel n)
 asked (route.Upload n path) body = Ok (ask.Upload n path)
 
--- whether the body is parsed, which takes memory: it is text, and that of an opening or an undo
+abbrev pub has_document : Route → Bool
+has_document (route.Open site) = true
+has_document (route.MoveAlias site name) = true
+has_document (route.Rename site) = true
+has_document (route.Undo site) = true
+has_document other = false
+
+-- whether the body is parsed, which takes memory: the route has one that says something, and it is text
 abbrev pub is_parsed : Route → List ℕ → Bool
-is_parsed (route.Read name path) body = false
-is_parsed (route.Open name) body = is_utf8 body
-is_parsed (route.Undo name) body = is_utf8 body
-is_parsed (route.Upload n path) body = false
+is_parsed route body = has_document route && is_utf8 body

@@ -4,6 +4,7 @@ pub mod Patterns
 pub mod Routes
 pub mod Bodies
 pub mod Refusals
+pub mod ChangeLines
 pub mod Texts
 pub mod Types
 pub mod Methods

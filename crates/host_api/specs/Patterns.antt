@@ -1,15 +1,15 @@
 -- What the patterns of the program and what it finds by them stand for.
-use Rattle.std.specs.Prelude.{ℕ, Bool, true, List, [], ◌∷◌, Option, Some, None, Result, Ok, Err, map, not, ◌==◌, if◌then◌else◌}
+use Rattle.std.specs.Prelude.{ℕ, Bool, true, List, [], ◌∷◌, Option, Some, None, Result, Ok, Err, map, not, ◌==◌, ◌&&◌, if◌then◌else◌}
 use Rattle.std.specs.Str.{byte}
-use Rattle.host_api.specs.Targets.{Part, word, site, number, Bindings, before, from_first, has_hash}
+use Rattle.host_api.specs.Targets.{Part, word, site, alias, number, Bindings, before, from_first, has_hash}
 use Rattle.host_names.specs.Name.{is_name}
+use Rattle.host_names.specs.declared.names.AliasName.{AliasName}
 use Rattle.host_names.specs.declared.names.SiteName.{SiteName}
-use Rattle.host_names.specs.declared.paths.PathError.{PathError}
-use Rattle.host_names.specs.declared.paths.PathError.TheVariants as error
-use Rattle.host_api.specs.Routes.{Row}
+use Rattle.host_api.specs.Routes.{Row, routed_at}
 use Rattle.host_api.specs.declared.refusals.Refusal.{Refusal}
-use Rattle.host_api.specs.declared.refusals.Refusal.TheVariants.{BadName, BadPath, OutOfMemory}
-use Rattle.host_api.specs.declared.routes.Kind.{Kind}
+use Rattle.host_api.specs.declared.refusals.Refusal.TheVariants.{BadName, BadPath}
+use Rattle.host_api.specs.declared.resources.Resource.{Resource}
+use Rattle.host_api.specs.declared.routes.Route.{Route}
 use Rattle.host_api.specs.declared.table.Row.{Row as RowWritten}
 use Rattle.host_api.specs.declared.targets.Bindings.{Bindings as BindingsLent}
 use Rattle.host_api.specs.declared.targets.Part.{Part as PartWritten}
@@ -18,15 +18,16 @@ use Rattle.host_api.specs.declared.targets.Part.TheVariants as written
 abbrev pub part_of : PartWritten → Part
 part_of (written.Word w) = word w.now
 part_of written.Site = site
+part_of written.Alias = alias
 part_of written.Number = number
 
 abbrev pub row_of : RowWritten → Row
-row_of row = record { kind_is = row.kind; parts = map part_of row.parts.now; has_rest = row.has_rest }
+row_of row = record { named = row.resource; parts = map part_of row.parts.now; has_rest = row.has_rest }
 
 abbrev pub bindings_of : BindingsLent → Bindings
-bindings_of b = record { site_text = b.site.now; number_text = b.number.now; rest = b.rest.now }
+bindings_of b = record { site_text = b.site.now; alias_text = b.alias.now; number_text = b.number.now; rest = b.rest.now }
 
-abbrev pub found_of : Kind × BindingsLent → Kind × Bindings
+abbrev pub found_of : Resource × BindingsLent → Resource × Bindings
 found_of found = (found.0, bindings_of found.1)
 
 -- the segment behind the leading slash, and what follows it
@@ -46,7 +47,13 @@ site_on path name =
     else if has_hash path then Err BadPath
     else Ok (record { 0 = name })
 
--- why a file has no path
-abbrev pub refusal_at : PathError → Refusal
-refusal_at error.BadPath = BadPath
-refusal_at error.OutOfMemory = OutOfMemory
+-- the site and the alias of two names on a path, or the first reason why there are none
+abbrev pub alias_on : List ℕ → List ℕ → List ℕ → Result (SiteName × AliasName) Refusal
+alias_on path name alias_name =
+    if not (is_name name && is_name alias_name) then Err BadName
+    else if has_hash path then Err BadPath
+    else Ok (record { 0 = name }, record { 0 = alias_name })
+
+-- the route to a resource of which each method that it has does the same
+abbrev pub routed_alike : List ℕ → Resource → Bindings → Result Route Refusal
+routed_alike path r bindings = routed_at [] path r bindings

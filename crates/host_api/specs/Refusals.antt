@@ -1,5 +1,7 @@
 -- The names and the status codes of refusals.
 use Rattle.std.specs.Prelude.{ℕ, List, codes}
+use Rattle.host_names.specs.declared.paths.PathError.{PathError}
+use Rattle.host_names.specs.declared.paths.PathError.TheVariants as path
 use Rattle.host_api.specs.declared.refusals.Refusal.{Refusal}
 use Rattle.host_api.specs.declared.refusals.Refusal.TheVariants.{NoSuchDraft, NotComplete, NoSuchDeploy, NoSuchFile, PathTaken, SamePath, NoSuchAlias, DeployInUse, TooManyFiles, HistoryFull, NoSuchChange, NotAChange, AlreadyUndone, Clash, BadName, BadPath, BadDigest, BadBody, NotListed, WrongDigest, OutOfMemory, NoRoute, BadMethod, BadHead, NotSatisfiable}
 
@@ -26,7 +28,7 @@ name_of NotListed = codes "NotListed"
 name_of WrongDigest = codes "WrongDigest"
 name_of OutOfMemory = codes "OutOfMemory"
 name_of NoRoute = codes "NoRoute"
-name_of (BadMethod k) = codes "BadMethod"
+name_of (BadMethod resource) = codes "BadMethod"
 name_of BadHead = codes "BadHead"
 name_of (NotSatisfiable length) = codes "NotSatisfiable"
 
@@ -54,6 +56,11 @@ status_of NotListed = 404
 status_of WrongDigest = 422
 status_of OutOfMemory = 503
 status_of NoRoute = 404
-status_of (BadMethod k) = 405
+status_of (BadMethod resource) = 405
 status_of BadHead = 400
 status_of (NotSatisfiable length) = 416
+
+-- why a text gives no path
+abbrev pub of_path : PathError → Refusal
+of_path path.BadPath = BadPath
+of_path path.OutOfMemory = OutOfMemory

@@ -23,34 +23,46 @@ has_hash text = list_any (λ b. b == byte "#") text
 
 -- ---- patterns
 
--- what stands between two slashes: a word, or the name of a site, or a number
+-- what stands between two slashes: a word, the name of a site or of an alias, or a number
 pub data Part : Type 0 where
   word : List ℕ → Part
   site : Part
+  alias : Part
   number : Part
 
 -- what a target has in the places that its pattern leaves open; the rest begins with a slash
 pub record Bindings : Type 0 where
   pub site_text : List ℕ
+  pub alias_text : List ℕ
   pub number_text : List ℕ
   pub rest : List ℕ
 
-abbrev pub no_bindings : Bindings
-no_bindings = record { site_text = []; number_text = []; rest = [] }
+-- nothing is found in open places but this rest
+abbrev pub rest_alone : List ℕ → Bindings
+rest_alone text = record { site_text = []; alias_text = []; number_text = []; rest = text }
+
+abbrev pub with_site : List ℕ → Bindings → Bindings
+with_site text b = record { site_text = text; alias_text = b.alias_text; number_text = b.number_text; rest = b.rest }
+
+abbrev pub with_alias : List ℕ → Bindings → Bindings
+with_alias text b = record { site_text = b.site_text; alias_text = text; number_text = b.number_text; rest = b.rest }
+
+abbrev pub with_number : List ℕ → Bindings → Bindings
+with_number text b = record { site_text = b.site_text; alias_text = b.alias_text; number_text = text; rest = b.rest }
 
 -- what the parts after it found, if the segment is of the part
 abbrev pub bound : Part → List ℕ → Option Bindings → Option Bindings
 bound (word w) segment found = if bytes_eq segment w then found else None
-bound site segment found = option_map (λ b. record { site_text = segment; number_text = b.number_text; rest = b.rest }) found
-bound number segment found = option_map (λ b. record { site_text = b.site_text; number_text = segment; rest = b.rest }) found
+bound site segment found = option_map (with_site segment) found
+bound alias segment found = option_map (with_alias segment) found
+bound number segment found = option_map (with_number segment) found
 
 -- the text is segments of these parts, each behind a slash, and behind them nothing, or a rest that begins with a slash
 abbrev pub fit : List Part → Bool → List ℕ → Option Bindings
-fit [] false [] = Some no_bindings
+fit [] false [] = Some (rest_alone [])
 fit [] false (b ∷ text) = None
 fit [] true [] = None
-fit [] true (b ∷ text) =
-    if b == byte "/" then Some (record { site_text = []; number_text = []; rest = b ∷ text }) else None
+fit [] true (b ∷ text) = if b == byte "/" then Some (rest_alone (b ∷ text)) else None
 fit (part ∷ parts) has_rest [] = None
 fit (part ∷ parts) has_rest (b ∷ text) =
     if b == byte "/"
@@ -76,6 +88,6 @@ with_index text = if ends_with_slash text then text ++ codes "index.html" else t
 abbrev pub read_path : List ℕ → Option (List ℕ)
 read_path rest = if_path (with_index (percent_decode rest))
 
--- the path of a file that is uploaded: what follows the slash of the rest, its escapes decoded once
-abbrev pub upload_path : List ℕ → Option (List ℕ)
-upload_path rest = if_path (with_slash (percent_decode (drop 1 rest)))
+-- the path of a file that is written: what follows the slash of the rest, its escapes decoded once
+abbrev pub written_path : List ℕ → Option (List ℕ)
+written_path rest = if_path (with_slash (percent_decode (drop 1 rest)))

@@ -1,17 +1,21 @@
 -- The JSON texts of replies: compact, members in the order of their bytes.
-use Rattle.std.specs.Prelude.{ℕ, List, ◌++◌, map, Option, Some, None, codes, decimal}
+use Rattle.std.specs.Prelude.{ℕ, List, [], ◌++◌, map, Option, Some, None, codes, decimal}
 use Rattle.std.specs.List.{join_with_byte}
 use Rattle.std.specs.Str.{byte}
 use Rattle.hex.specs.Hex.{encode_lower}
 use Rattle.host_names.specs.Cells.{cell_text}
 use Rattle.host_names.specs.declared.digests.Digest.{Digest}
+use Rattle.host_names.specs.declared.names.SiteName.{SiteName}
 use Rattle.serde_json.specs.Data.{string}
 use Rattle.serde_json.specs.Written.{compact_text}
+use Rattle.host_api.specs.ChangeLines.{list_text}
 use Rattle.host_api.specs.Refusals.{name_of}
 use Rattle.host_api.specs.declared.refusals.Refusal.{Refusal}
 use Rattle.host_api.specs.declared.refusals.Refusal.TheVariants.{NotComplete, DeployInUse, Clash}
+use Rattle.host_api.specs.declared.texts.DeployState.{DeployState}
+use Rattle.host_api.specs.declared.texts.DeployState.TheVariants.{Open, Kept}
 use Rattle.host_api.specs.declared.texts.Told.{Told}
-use Rattle.host_api.specs.declared.texts.Told.TheVariants.{Opened, Uploaded, Entered, Refused}
+use Rattle.host_api.specs.declared.texts.Told.TheVariants.{Opened, Uploaded, Entered, Deploy, Changes, Refused}
 
 abbrev pub quoted : List ℕ → List ℕ
 quoted text = codes "\"" ++ text ++ codes "\""
@@ -39,6 +43,20 @@ opened_text id published required =
 abbrev pub uploaded_text : Option ℕ → Digest → List ℕ
 uploaded_text published digest = codes "{\"published\":" ++ number_or_null published ++ codes ",\"sha\":\"" ++ encode_lower digest.0 ++ codes "\"}"
 
+abbrev pub state_name : DeployState → List ℕ
+state_name (Open required) = codes "open"
+state_name Kept = codes "kept"
+
+-- the digests of the deploy's files that are missing
+abbrev pub required_of : DeployState → List Digest
+required_of (Open required) = required
+required_of Kept = []
+
+abbrev pub deploy_text : ℕ → SiteName → List Digest → List ℕ → List ℕ
+deploy_text id site required state =
+    codes "{\"id\":\"" ++ decimal id ++ codes "\",\"required\":[" ++ digest_list required
+    ++ codes "],\"site\":\"" ++ site.0 ++ codes "\",\"state\":\"" ++ state ++ codes "\"}"
+
 abbrev pub refused_text : Refusal → List ℕ
 refused_text refusal = codes "{" ++ detail_of refusal ++ codes "\"error\":\"" ++ name_of refusal ++ codes "\"}"
 
@@ -46,4 +64,6 @@ abbrev pub told_text : Told → List ℕ
 told_text (Opened id published required) = opened_text id published required
 told_text (Uploaded published digest) = uploaded_text published digest
 told_text (Entered number) = codes "{\"entry\":" ++ decimal number ++ codes "}"
+told_text (Deploy id site state) = deploy_text id site (required_of state) (state_name state)
+told_text (Changes lines) = list_text lines
 told_text (Refused refusal) = refused_text refusal

@@ -1,28 +1,55 @@
 //! What the body of a request asks for.
 ghost use Rattle.std.specs.Prelude.{◌≡◌, ◌≢◌, Ok, Err, IsTrue, IfOk, IfErr, IsErrOf};
 ghost use Rattle.std.specs.Str.{is_utf8};
-ghost use Rattle.host_api.specs.Bodies.{asked, open_ask, undo_ask, is_parsed};
+ghost use Rattle.host_api.specs.Bodies.{asked, open_ask, alias_ask, rename_ask, undo_ask, is_parsed};
 
-use crate::changes::change_of;
 use crate::documents::document;
-use crate::listings::{form_of, listed};
+use crate::listings::{form_of, listed, path_of};
+use crate::members::{number_member, text_member};
 use crate::refusals::Refusal;
-use crate::routes::Route;
-use host_names::{FilePath, SiteName};
+use crate::routes::{Route, Version};
+use host_names::{AliasName, FilePath, SiteName};
 use site_change::Command;
 use std::alloc::Global;
 
-/// What a request asks for.
+/// What a request asks for. A number of a deploy or a change is 0, which names nothing, where the request writes none
+/// that an entry can have.
 #[derive(Drop)]
 pub enum Ask {
-    /// The file that a site serves at a path.
-    Read { site: SiteName, path: FilePath },
+    /// The file that a version of a site has at a path.
+    Read {
+        site: SiteName,
+        version: Version,
+        path: FilePath,
+    },
     /// A change.
     Command(Command),
-    /// The undo of the change of this number; 0 where the body writes no number that an entry can have.
-    Undo { site: SiteName, change: u64 },
+    /// The undo of a change.
+    Undo {
+        site: SiteName,
+        change: u64,
+    },
+    /// The list of a site's changes.
+    Changes {
+        site: SiteName,
+    },
+    /// How a deploy stands.
+    Deploy {
+        deploy: u64,
+    },
+    /// That a deploy which was published whole be removed, in the site that has it.
+    RemoveDeploy {
+        deploy: u64,
+    },
+    /// That an open deploy be given up, in the site that has it.
+    Cancel {
+        deploy: u64,
+    },
     /// That the body be the file of this path of a deploy.
-    Upload { deploy: u64, path: FilePath },
+    Upload {
+        deploy: u64,
+        path: FilePath,
+    },
 }
 
 /// The deploy that a body opens.
@@ -49,10 +76,44 @@ fn undo(alloc: Global, site: SiteName, body: &[u8]) -> Result<Ask, Refusal>
     ensures memory { IsErrOf result Refusal.OutOfMemory → IsTrue (is_utf8 body.now) }
 {
     let body = document(alloc, body)?;
-    match change_of(&body) {
+    match number_member(&body, "change") {
         Some(change) => Ok(Ask::Undo { site, change }),
         None => Err(Refusal::BadBody),
     }
+}
+
+/// The deploy that a body lets an alias stand for.
+fn move_alias(alloc: Global, site: SiteName, name: AliasName, body: &[u8]) -> Result<Ask, Refusal>
+    ensures ok { IfOk result (λ ask. alias_ask site name body.now ≡ Ok ask) }
+    ensures refused { IfErr result (λ refusal. refusal ≢ Refusal.OutOfMemory →
+        alias_ask site name body.now ≡ Err refusal) }
+    ensures memory { IsErrOf result Refusal.OutOfMemory → IsTrue (is_utf8 body.now) }
+{
+    let body = document(alloc, body)?;
+    match number_member(&body, "deploy") {
+        Some(number) => Ok(Ask::Command(Command::MoveAlias { site, name, number })),
+        None => Err(Refusal::BadBody),
+    }
+}
+
+/// The file that a body renames.
+fn rename(alloc: Global, site: SiteName, body: &[u8]) -> Result<Ask, Refusal>
+    ensures ok { IfOk result (λ ask. rename_ask site body.now ≡ Ok ask) }
+    ensures refused { IfErr result (λ refusal. refusal ≢ Refusal.OutOfMemory →
+        rename_ask site body.now ≡ Err refusal) }
+    ensures memory { IsErrOf result Refusal.OutOfMemory → IsTrue (is_utf8 body.now) }
+{
+    let body = document(alloc, body)?;
+    let (Some(from), Some(to)) = (text_member(&body, "from"), text_member(&body, "to")) else {
+        return Err(Refusal::BadBody);
+    };
+    let source = path_of(alloc, from)?;
+    let target = path_of(alloc, to)?;
+    Ok(Ask::Command(Command::Rename {
+        site,
+        source,
+        target,
+    }))
 }
 
 /// What a body asks for on a route, or the first reason why it asks for nothing.
@@ -62,9 +123,31 @@ pub fn ask_of(alloc: Global, route: Route, body: &[u8]) -> Result<Ask, Refusal>
     ensures memory { IsErrOf result Refusal.OutOfMemory → IsTrue (is_parsed route body.now) }
 {
     match route {
-        Route::Read { site, path } => Ok(Ask::Read { site, path }),
+        Route::Read {
+            site,
+            version,
+            path,
+        } => Ok(Ask::Read {
+            site,
+            version,
+            path,
+        }),
         Route::Open { site } => open(alloc, site, body),
+        Route::Restore { site, deploy } => Ok(Ask::Command(Command::Restore {
+            site,
+            number: deploy,
+        })),
+        Route::MoveAlias { site, alias } => move_alias(alloc, site, alias, body),
+        Route::RemoveAlias { site, alias } => {
+            Ok(Ask::Command(Command::RemoveAlias { site, name: alias }))
+        }
+        Route::Rename { site } => rename(alloc, site, body),
+        Route::Remove { site, path } => Ok(Ask::Command(Command::Remove { site, path })),
         Route::Undo { site } => undo(alloc, site, body),
+        Route::Changes { site } => Ok(Ask::Changes { site }),
+        Route::Deploy { deploy } => Ok(Ask::Deploy { deploy }),
+        Route::RemoveDeploy { deploy } => Ok(Ask::RemoveDeploy { deploy }),
+        Route::Cancel { deploy } => Ok(Ask::Cancel { deploy }),
         Route::Upload { deploy, path } => Ok(Ask::Upload { deploy, path }),
     }
 }

@@ -1,8 +1,9 @@
 //! What bodies ask for, and why others are refused.
-use crate::{Ask, Refusal, Route, ask_of};
-use host_names::{Digest, FilePath, SiteName};
+use crate::{Ask, Refusal, Route, Version, ask_of};
+use host_names::{AliasName, Digest, FilePath, SiteName};
 use site_change::Command;
 use std::alloc::{AllocError, Global};
+use std::process::Abort;
 use std::test::Fail;
 
 /// The SHA-1 of `hello`.
@@ -23,6 +24,24 @@ fn push_listed(
     }
 }
 
+/// What a change that is no opening is, in words.
+fn command_words(alloc: Global, command: Command) -> Result<String, AllocError> {
+    match command {
+        Command::Restore { site, number } => format!(in alloc; "restore {site} {number}"),
+        Command::MoveAlias { site, name, number } => {
+            format!(in alloc; "alias {site} {name} {number}")
+        }
+        Command::RemoveAlias { site, name } => format!(in alloc; "unalias {site} {name}"),
+        Command::Rename {
+            site,
+            source,
+            target,
+        } => format!(in alloc; "rename {site} {source} {target}"),
+        Command::Remove { site, path } => format!(in alloc; "remove {site} {path}"),
+        _ => String::from_str(alloc, "something else"),
+    }
+}
+
 /// What a request asks for, in words: the site, and of an opening whether it publishes itself, whether it is a patch, and
 /// what it lists.
 fn words(alloc: Global, ask: Ask) -> Result<String, AllocError> {
@@ -37,10 +56,14 @@ fn words(alloc: Global, ask: Ask) -> Result<String, AllocError> {
             }
             Ok(text)
         }
+        Ask::Command(command) => command_words(alloc, command),
         Ask::Undo { site, change } => format!(in alloc; "undo {site} {change}"),
-        Ask::Read { site, path } => format!(in alloc; "read {site} {path}"),
+        Ask::Read { site, path, .. } => format!(in alloc; "read {site} {path}"),
+        Ask::Changes { site } => format!(in alloc; "changes {site}"),
+        Ask::Deploy { deploy } => format!(in alloc; "deploy {deploy}"),
+        Ask::RemoveDeploy { deploy } => format!(in alloc; "delete {deploy}"),
+        Ask::Cancel { deploy } => format!(in alloc; "cancel {deploy}"),
         Ask::Upload { deploy, path } => format!(in alloc; "upload {deploy} {path}"),
-        Ask::Command(_) => String::from_str(alloc, "something else"),
     }
 }
 
@@ -60,6 +83,17 @@ fn opened(alloc: Global, body: &str) -> Result<String, Fail> {
 fn undone(alloc: Global, body: &str) -> Result<String, Fail> {
     let site = SiteName::new("one")?;
     Ok(answer(alloc, Route::Undo { site }, body.as_bytes())?)
+}
+
+fn moved(alloc: Global, body: &str) -> Result<String, Fail> {
+    let site = SiteName::new("one")?;
+    let alias = AliasName::new("next")?;
+    Ok(answer(alloc, Route::MoveAlias { site, alias }, body.as_bytes())?)
+}
+
+fn renamed(alloc: Global, body: &str) -> Result<String, Fail> {
+    let site = SiteName::new("one")?;
+    Ok(answer(alloc, Route::Rename { site }, body.as_bytes())?)
 }
 
 /// Bodies of openings, each behind what it asks for.
@@ -270,16 +304,113 @@ fn reads_undos(rt: HostRuntime) -> Result<(), Fail> {
     Ok(())
 }
 
+/// Bodies of aliases, each behind what it asks for.
+const ALIASES: &str = r#"
+alias one next 1: {"deploy":1}
+alias one next 1: {"deploy":"1","name":"other"}
+alias one next 1000000: {"deploy":1000000}
+alias one next 0: {"deploy":1000001}
+alias one next 0: {"deploy":"01"}
+alias one next 0: {"deploy":1.0}
+alias one next 0: {"deploy":-1}
+alias one next 0: {"deploy":"next"}
+BadBody: {"deploy":null}
+BadBody: {"deploy":true}
+BadBody: {"deploy":[1]}
+BadBody: {"deploy":{}}
+BadBody: {"change":1}
+BadBody: {}
+BadBody: []
+BadBody: 1
+BadBody: deploy
+"#;
+
 #[test]
-fn leaves_other_bodies_alone(rt: HostRuntime) -> Result<(), Fail> {
+fn reads_aliases(rt: HostRuntime) -> Result<(), Fail> {
+    for line in ALIASES.lines() {
+        if let Some((want, body)) = line.split_once(": ") {
+            assert_eq!(rt; moved(rt.alloc(), body)?.as_str(), want, "{body}");
+        }
+    }
+    assert_eq!(rt; moved(rt.alloc(), "")?.as_str(), "BadBody");
+    Ok(())
+}
+
+/// Bodies of renamings, each behind what it asks for.
+const RENAMINGS: &str = r#"
+rename one /a /b: {"from":"/a","to":"/b"}
+rename one /a /b: {"to":"b","from":"a"}
+rename one /a /a: {"from":"a","to":"/a"}
+rename one /b /c: {"from":1,"from":"b","to":"c","and":null}
+BadBody: {"from":"a"}
+BadBody: {"to":"a"}
+BadBody: {"from":"a","to":1}
+BadBody: {"from":null,"to":"a"}
+BadBody: {"from":"a//b","to":["c"]}
+BadBody: {"from":1,"to":"a//b"}
+BadBody: {"from":"a","to":"b"
+BadBody: []
+BadBody: "a"
+BadPath: {"from":"a//b","to":"c"}
+BadPath: {"from":"c","to":"a//b"}
+BadPath: {"from":"","to":"a"}
+BadPath: {"from":"a","to":"b#c"}
+"#;
+
+#[test]
+fn reads_renamings(rt: HostRuntime) -> Result<(), Fail> {
+    for line in RENAMINGS.lines() {
+        if let Some((want, body)) = line.split_once(": ") {
+            assert_eq!(rt; renamed(rt.alloc(), body)?.as_str(), want, "{body}");
+        }
+    }
+    assert_eq!(rt; renamed(rt.alloc(), "")?.as_str(), "BadBody");
+    Ok(())
+}
+
+/// Asserts what a route asks for whose body is ignored.
+fn expect_of(rt: &impl Abort, alloc: Global, route: Route, wanted: &str) -> Result<(), AllocError> {
+    assert_eq!(rt; answer(alloc, route, b"{\xff")?.as_str(), wanted);
+    Ok(())
+}
+
+#[test]
+fn ignores_bodies_of_files(rt: HostRuntime) -> Result<(), Fail> {
     let alloc = rt.alloc();
     let site = SiteName::new("one")?;
+    let version = Version::Live;
     let path = FilePath::read(alloc, "a")?;
-    let read = answer(alloc, Route::Read { site, path }, b"{")?;
-    assert_eq!(rt; read.as_str(), "read one /a");
+    let read = Route::Read {
+        site,
+        version,
+        path,
+    };
+    expect_of(&rt, alloc, read, "read one /a")?;
+    let site = SiteName::new("one")?;
+    let path = FilePath::read(alloc, "a")?;
+    let remove = Route::Remove { site, path };
+    expect_of(&rt, alloc, remove, "remove one /a")?;
     let path = FilePath::read(alloc, "b")?;
-    let upload = answer(alloc, Route::Upload { deploy: 7, path }, b"\xff")?;
-    assert_eq!(rt; upload.as_str(), "upload 7 /b");
+    let upload = Route::Upload { deploy: 7, path };
+    expect_of(&rt, alloc, upload, "upload 7 /b")?;
+    Ok(())
+}
+
+#[test]
+fn ignores_bodies_of_deploys(rt: HostRuntime) -> Result<(), Fail> {
+    let alloc = rt.alloc();
+    let site = SiteName::new("one")?;
+    let restore = Route::Restore { site, deploy: 7 };
+    expect_of(&rt, alloc, restore, "restore one 7")?;
+    let site = SiteName::new("one")?;
+    let alias = AliasName::new("next")?;
+    let remove = Route::RemoveAlias { site, alias };
+    expect_of(&rt, alloc, remove, "unalias one next")?;
+    let site = SiteName::new("one")?;
+    expect_of(&rt, alloc, Route::Changes { site }, "changes one")?;
+    expect_of(&rt, alloc, Route::Deploy { deploy: 7 }, "deploy 7")?;
+    expect_of(&rt, alloc, Route::RemoveDeploy { deploy: 7 }, "delete 7")?;
+    expect_of(&rt, alloc, Route::Cancel { deploy: 7 }, "cancel 7")?;
     Ok(())
 }
 

@@ -4,13 +4,15 @@
 mod bodies;
 #[cfg(test)]
 mod body_tests;
-mod changes;
+mod change_lines;
+mod digest_texts;
 mod documents;
 mod limits;
 mod listings;
-mod methods;
+mod members;
 mod numbers;
 mod refusals;
+mod resources;
 #[cfg(test)]
 mod route_tests;
 mod routes;
@@ -20,11 +22,15 @@ mod targets;
 #[cfg(test)]
 mod text_tests;
 mod texts;
+#[cfg(test)]
+mod told_tests;
 mod types;
 
 pub use bodies::{Ask, ask_of};
+pub use change_lines::{ChangeKind, ChangeLine, ChangeLines};
 pub use limits::body_limit;
 pub use refusals::Refusal;
-pub use routes::{Kind, Route, route_of};
-pub use texts::{Digests, Told, text};
+pub use resources::Resource;
+pub use routes::{Route, Version, route_of};
+pub use texts::{DeployState, Digests, Told, text};
 pub use types::content_type;

@@ -9,7 +9,7 @@ ghost use Rattle.site_state.specs.Files.{IsByPath};
 ghost use Rattle.host_api.specs.Bodies as spec;
 
 use crate::refusals::Refusal;
-use host_names::{Digest, FilePath, PathError};
+use host_names::{Digest, FilePath};
 use serde_json::{Map, Value};
 use site_state::{Listing, NotAPatch, PathMap};
 use std::alloc::{AllocError, Global};
@@ -72,18 +72,14 @@ fn listed_in(is_patch: bool, value: &Value) -> Result<Option<Digest>, Refusal>
     Ok(Some(digest_in(value)?))
 }
 
-/// The path that a key is.
-fn path_of(alloc: Global, key: &str) -> Result<FilePath, Refusal>
+/// The path that a text writes, with or without its slash.
+pub(crate) fn path_of(alloc: Global, key: &str) -> Result<FilePath, Refusal>
     ensures kept { IfOk result (λ path. path ≡ with_slash key.now) }
     ensures lawful { IfOk result (λ path. is_path (with_slash key.now) ≡ true) }
     ensures refused { IfErr result (λ refusal. refusal ≢ Refusal.OutOfMemory →
         (is_path (with_slash key.now) ≡ false) × (refusal ≡ Refusal.BadPath)) }
 {
-    match FilePath::read(alloc, key) {
-        Ok(path) => Ok(path),
-        Err(PathError::BadPath) => Err(Refusal::BadPath),
-        Err(PathError::OutOfMemory) => Err(Refusal::OutOfMemory),
-    }
+    Ok(FilePath::read(alloc, key)?)
 }
 
 /// Adds what a member lists. A path that is listed already is refused.

@@ -1,6 +1,6 @@
 //! Why a request is refused.
-use crate::routes::Kind;
-use host_names::{AliasName, Cell, Digest};
+use crate::resources::Resource;
+use host_names::{AliasName, Cell, Digest, PathError};
 use http::StatusCode;
 use std::alloc::AllocError;
 
@@ -52,8 +52,8 @@ pub enum Refusal {
     OutOfMemory,
     /// The target is on no route.
     NoRoute,
-    /// The route, which is of this kind, does not have the method.
-    BadMethod(Kind),
+    /// The resource does not have the method.
+    BadMethod(Resource),
     /// The head is not one that is answered.
     BadHead,
     /// The file, which has so many bytes, has none of the range.
@@ -139,5 +139,19 @@ impl From<AllocError> for Refusal {
 
     fn from(_error: AllocError) -> Refusal {
         Refusal::OutOfMemory
+    }
+}
+
+impl From<PathError> for Refusal {
+    ghost use Rattle.std.specs.Prelude.{◌≡◌};
+    ghost use Rattle.host_api.specs.Refusals.{of_path};
+
+    ghost from_gives = { λ error reason. reason ≡ of_path error };
+
+    fn from(error: PathError) -> Refusal {
+        match error {
+            PathError::BadPath => Refusal::BadPath,
+            PathError::OutOfMemory => Refusal::OutOfMemory,
+        }
     }
 }

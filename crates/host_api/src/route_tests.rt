@@ -1,16 +1,54 @@
 //! The routes of targets whose answers are known from outside.
 use super::*;
+use host_names::{FilePath, SiteName};
 use std::alloc::{AllocError, Global};
 use std::process::Abort;
 use std::test::Fail;
 
+/// The reading of a file in words: behind the site nothing, an alias, or the number of a deploy.
+fn read_words(
+    alloc: Global,
+    site: SiteName,
+    version: Version,
+    path: FilePath,
+) -> Result<String, AllocError> {
+    match version {
+        Version::Live => format!(in alloc; "read {site} {path}"),
+        Version::Alias(alias) => format!(in alloc; "read {site} as {alias} {path}"),
+        Version::Kept(deploy) => format!(in alloc; "read {site} at {deploy} {path}"),
+    }
+}
+
+/// What a route that has a site and no file asks for, in words.
+fn site_words(alloc: Global, route: Route) -> Result<String, AllocError> {
+    match route {
+        Route::Open { site } => format!(in alloc; "open {site}"),
+        Route::Restore { site, deploy } => format!(in alloc; "restore {site} {deploy}"),
+        Route::MoveAlias { site, alias } => format!(in alloc; "alias {site} {alias}"),
+        Route::RemoveAlias { site, alias } => format!(in alloc; "unalias {site} {alias}"),
+        Route::Rename { site } => format!(in alloc; "rename {site}"),
+        Route::Undo { site } => format!(in alloc; "undo {site}"),
+        Route::Changes { site } => format!(in alloc; "changes {site}"),
+        _ => String::from_str(alloc, "something else"),
+    }
+}
+
 /// What a method and a target ask for, in words, or the name of the refusal.
 fn words(alloc: Global, method: &str, target: &str) -> Result<String, AllocError> {
     match route_of(alloc, method, target) {
-        Ok(Route::Read { site, path }) => format!(in alloc; "read {site} {path}"),
-        Ok(Route::Open { site }) => format!(in alloc; "open {site}"),
-        Ok(Route::Undo { site }) => format!(in alloc; "undo {site}"),
+        Ok(
+            Route::Read {
+                site,
+                version,
+                path,
+            },
+        ) => read_words(alloc, site, version, path),
+        Ok(Route::Remove { site, path }) => format!(in alloc; "remove {site} {path}"),
+        Ok(Route::Deploy { deploy }) => format!(in alloc; "deploy {deploy}"),
+        Ok(Route::RemoveDeploy { deploy }) => format!(in alloc; "delete {deploy}"),
+        Ok(Route::Cancel { deploy }) => format!(in alloc; "cancel {deploy}"),
         Ok(Route::Upload { deploy, path }) => format!(in alloc; "upload {deploy} {path}"),
+        Ok(route) => site_words(alloc, route),
         Err(refusal) => String::from_str(alloc, refusal.name()),
     }
 }
@@ -148,46 +186,170 @@ fn uploads_a_file_of_a_deploy(rt: HostRuntime) -> Result<(), Fail> {
     Ok(())
 }
 
-/// Asserts what a target of each route asks for under a method: what is wanted of it, in the order of the routes.
-fn expect_all(
-    rt: &impl Abort,
-    alloc: Global,
-    method: &str,
-    wanted: [&str; 4],
-) -> Result<(), AllocError> {
-    let [read, open, undo, upload] = wanted;
+#[test]
+fn reads_a_file_of_another_version(rt: HostRuntime) -> Result<(), Fail> {
     let cases = [
-        ("/s/one/a", read),
-        ("/api/v1/sites/one/deploys", open),
-        ("/api/v1/sites/one/undo", undo),
-        ("/api/v1/deploys/7/files/a", upload),
+        ("/a/one/next/a.txt", "read one as next /a.txt"),
+        ("/a/one/next/", "read one as next /index.html"),
+        ("/a/one/next/a%2F?q", "read one as next /a/index.html"),
+        ("/a/one/next", "NoRoute"),
+        ("/a/one", "NoRoute"),
+        ("/a/one//a", "BadName"),
+        ("/a//next/a", "BadName"),
+        ("/a/one/Next/a", "BadName"),
+        ("/a/One/Next/a#", "BadName"),
+        ("/a/one/next/a#", "BadPath"),
+        ("/a/one/next//a", "BadPath"),
+        ("/d/one/7/a.txt", "read one at 7 /a.txt"),
+        ("/d/one/7/", "read one at 7 /index.html"),
+        ("/d/one/07/a.txt", "read one at 0 /a.txt"),
+        ("/d/one/next/a.txt", "read one at 0 /a.txt"),
+        ("/d/one//a.txt", "read one at 0 /a.txt"),
+        ("/d/One/7/a.txt", "BadName"),
+        ("/d/one/7/%ff", "BadPath"),
+        ("/d/one/7", "NoRoute"),
     ];
-    expect_each(rt, alloc, method, &cases)
+    expect_each(&rt, rt.alloc(), "GET", &cases)?;
+    expect_each(&rt, rt.alloc(), "HEAD", &cases)?;
+    Ok(())
 }
 
 #[test]
-fn refuses_methods_that_a_route_lacks(rt: HostRuntime) -> Result<(), Fail> {
-    let none = "BadMethod";
-    expect_all(&rt, rt.alloc(), "GET", ["read one /a", none, none, none])?;
-    expect_all(&rt, rt.alloc(), "HEAD", ["read one /a", none, none, none])?;
-    expect_all(
-        &rt,
-        rt.alloc(),
-        "POST",
-        [none, "open one", "undo one", none],
-    )?;
-    expect_all(&rt, rt.alloc(), "PUT", [none, none, none, "upload 7 /a"])?;
-    for method in ["DELETE", "OPTIONS", "get", "GETS", ""] {
-        expect_all(&rt, rt.alloc(), method, [none; 4])?;
+fn restores_and_renames(rt: HostRuntime) -> Result<(), Fail> {
+    let cases = [
+        ("/api/v1/sites/one/deploys/7/restore", "restore one 7"),
+        ("/api/v1/sites/one/deploys/007/restore", "restore one 0"),
+        ("/api/v1/sites/one/deploys//restore?q", "restore one 0"),
+        ("/api/v1/sites/One/deploys/7/restore", "BadName"),
+        ("/api/v1/sites/one/deploys/7#/restore", "BadPath"),
+        ("/api/v1/sites/one/deploys/7", "NoRoute"),
+        ("/api/v1/sites/one/deploys/7/restore/", "NoRoute"),
+        ("/api/v1/sites/one/rename", "rename one"),
+        ("/api/v1/sites//rename", "BadName"),
+        ("/api/v1/sites/one/rename/a", "NoRoute"),
+        ("/api/v1/deploys/7/cancel", "cancel 7"),
+        ("/api/v1/deploys/1000000/cancel", "cancel 1000000"),
+        ("/api/v1/deploys/1000001/cancel", "cancel 0"),
+        ("/api/v1/deploys//cancel", "cancel 0"),
+        ("/api/v1/deploys/7#/cancel", "BadPath"),
+    ];
+    expect_each(&rt, rt.alloc(), "POST", &cases)?;
+    Ok(())
+}
+
+#[test]
+fn moves_and_removes(rt: HostRuntime) -> Result<(), Fail> {
+    let cases = [
+        ("/api/v1/sites/one/aliases/next", "alias one next"),
+        ("/api/v1/sites/one/aliases/", "BadName"),
+        ("/api/v1/sites/One/aliases/next", "BadName"),
+        ("/api/v1/sites/one/aliases/ne%78t", "BadName"),
+        ("/api/v1/sites/one/aliases/next?#", "alias one next"),
+        ("/api/v1/sites/one/aliases/next#", "BadName"),
+        ("/api/v1/sites/one/aliases", "NoRoute"),
+        ("/api/v1/sites/one/aliases/next/a", "NoRoute"),
+    ];
+    expect_each(&rt, rt.alloc(), "PUT", &cases)?;
+    let cases = [
+        ("/api/v1/sites/one/aliases/next", "unalias one next"),
+        ("/api/v1/sites//aliases/next", "BadName"),
+        ("/api/v1/sites/one/files/a.txt", "remove one /a.txt"),
+        ("/api/v1/sites/one/files//a.txt", "remove one /a.txt"),
+        ("/api/v1/sites/one/files/a%2Fb", "remove one /a/b"),
+        ("/api/v1/sites/one/files/a/", "BadPath"),
+        ("/api/v1/sites/one/files/", "BadPath"),
+        ("/api/v1/sites/one/files/a#", "BadPath"),
+        ("/api/v1/sites/One/files/%ff#", "BadName"),
+        ("/api/v1/sites/one/files", "NoRoute"),
+        ("/api/v1/deploys/7", "delete 7"),
+        ("/api/v1/deploys/", "delete 0"),
+        ("/api/v1/deploys/7#", "BadPath"),
+        ("/api/v1/deploys/7/", "NoRoute"),
+    ];
+    expect_each(&rt, rt.alloc(), "DELETE", &cases)?;
+    Ok(())
+}
+
+#[test]
+fn shows_changes_and_deploys(rt: HostRuntime) -> Result<(), Fail> {
+    let cases = [
+        ("/api/v1/sites/one/changes", "changes one"),
+        ("/api/v1/sites/one/changes?from=1", "changes one"),
+        ("/api/v1/sites//changes", "BadName"),
+        ("/api/v1/sites/one#/changes", "BadName"),
+        ("/api/v1/sites/one/changes#", "NoRoute"),
+        ("/api/v1/deploys/7", "deploy 7"),
+        ("/api/v1/deploys/7?q", "deploy 7"),
+        ("/api/v1/deploys/", "deploy 0"),
+        ("/api/v1/deploys/7#", "BadPath"),
+        ("/api/v1/deploys", "NoRoute"),
+    ];
+    expect_each(&rt, rt.alloc(), "GET", &cases)?;
+    expect_each(&rt, rt.alloc(), "HEAD", &cases)?;
+    Ok(())
+}
+
+/// A target of each resource.
+const TARGETS: [(&str, Resource); 13] = [
+    ("/s/one/a", Resource::LiveFile),
+    ("/a/one/next/a", Resource::AliasFile),
+    ("/d/one/7/a", Resource::KeptFile),
+    ("/api/v1/sites/one/deploys", Resource::Deploys),
+    ("/api/v1/sites/one/deploys/7/restore", Resource::Restore),
+    ("/api/v1/sites/one/aliases/next", Resource::Alias),
+    ("/api/v1/sites/one/rename", Resource::Rename),
+    ("/api/v1/sites/one/files/a", Resource::SiteFile),
+    ("/api/v1/sites/one/undo", Resource::Undo),
+    ("/api/v1/sites/one/changes", Resource::Changes),
+    ("/api/v1/deploys/7", Resource::Deploy),
+    ("/api/v1/deploys/7/cancel", Resource::Cancel),
+    ("/api/v1/deploys/7/files/a", Resource::DeployFile),
+];
+
+/// Asserts that exactly these resources have the method, and that the others are refused by their own name.
+fn expect_method(
+    rt: &impl Abort,
+    alloc: Global,
+    method: &str,
+    having: &[Resource],
+) -> Result<(), AllocError> {
+    for (target, resource) in TARGETS {
+        let refusal = route_of(alloc, method, target).err();
+        let wanted = if having.contains(&resource) {
+            None
+        } else {
+            Some(Refusal::BadMethod(resource))
+        };
+        assert!(rt; refusal == wanted, "{method} {target}");
     }
-    for (target, kind) in [
-        ("/s/one/a", Kind::Read),
-        ("/api/v1/sites/one/deploys", Kind::Open),
-        ("/api/v1/sites/one/undo", Kind::Undo),
-        ("/api/v1/deploys/7/files/a", Kind::Upload),
-    ] {
-        let refusal = route_of(rt.alloc(), "PATCH", target).err();
-        assert!(rt; refusal == Some(Refusal::BadMethod(kind)), "{target}");
+    Ok(())
+}
+
+#[test]
+fn refuses_methods_that_a_resource_lacks(rt: HostRuntime) -> Result<(), Fail> {
+    let read = [
+        Resource::LiveFile,
+        Resource::AliasFile,
+        Resource::KeptFile,
+        Resource::Changes,
+        Resource::Deploy,
+    ];
+    let posted = [
+        Resource::Deploys,
+        Resource::Restore,
+        Resource::Rename,
+        Resource::Undo,
+        Resource::Cancel,
+    ];
+    let put = [Resource::Alias, Resource::DeployFile];
+    let deleted = [Resource::Alias, Resource::SiteFile, Resource::Deploy];
+    expect_method(&rt, rt.alloc(), "GET", &read)?;
+    expect_method(&rt, rt.alloc(), "HEAD", &read)?;
+    expect_method(&rt, rt.alloc(), "POST", &posted)?;
+    expect_method(&rt, rt.alloc(), "PUT", &put)?;
+    expect_method(&rt, rt.alloc(), "DELETE", &deleted)?;
+    for method in ["PATCH", "OPTIONS", "get", "GETS", ""] {
+        expect_method(&rt, rt.alloc(), method, &[])?;
     }
     Ok(())
 }
@@ -245,7 +407,9 @@ fn path_length(
         return Ok(None);
     };
     match &route {
-        Route::Read { path, .. } | Route::Upload { path, .. } => Ok(Some(path.as_str().len())),
+        Route::Read { path, .. } | Route::Remove { path, .. } | Route::Upload { path, .. } => {
+            Ok(Some(path.as_str().len()))
+        }
         _ => Ok(None),
     }
 }
@@ -265,6 +429,8 @@ fn reads_paths_of_up_to_1024_bytes(rt: HostRuntime) -> Result<(), Fail> {
         ("PUT", upload, 1_023, "", Some(1_024)),
         ("PUT", upload, 1_024, "", None),
         ("PUT", "/api/v1/deploys/7/files//", 1_023, "", Some(1_024)),
+        ("DELETE", "/api/v1/sites/one/files/", 1_023, "", Some(1_024)),
+        ("DELETE", "/api/v1/sites/one/files/", 1_024, "", None),
     ] {
         let length = path_length(rt.alloc(), method, front, letters, end)?;
         assert!(rt; length == want, "{method} {front} {letters} {end}");

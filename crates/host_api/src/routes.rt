@@ -3,52 +3,91 @@ ghost use Rattle.std.specs.Prelude.{◌≡◌, ◌≢◌, Ok, Err, IsTrue, IfOk,
 ghost use Rattle.host_api.specs.Routes.{routed, takes_path};
 ghost use Rattle.host_api.specs.Routes as spec;
 ghost use Rattle.host_api.specs.Targets as targets;
-ghost use Rattle.host_api.specs.Patterns.{bindings_of, is_rest, site_on, refusal_at};
+ghost use Rattle.host_api.specs.Patterns.{bindings_of, is_rest, site_on, alias_on, routed_alike};
 
 use crate::numbers::number_of;
 use crate::refusals::Refusal;
+use crate::resources::Resource;
 use crate::table::find;
-use crate::target_paths::{read_path, upload_path};
+use crate::target_paths::{read_path, written_path};
 use crate::targets::{Bindings, path_of};
-use host_names::{FilePath, PathError, SiteName};
+use host_names::{AliasName, FilePath, SiteName};
 use std::alloc::Global;
 
-/// What a route is for.
-#[derive(Clone, Copy, Debug, PartialEq, Eq)]
-pub enum Kind {
-    /// A file that the site serves is read.
-    Read,
-    /// A deploy is opened.
-    Open,
-    /// A change is undone.
-    Undo,
-    /// A file of a deploy is uploaded.
-    Upload,
+/// Which version of a site is read.
+#[derive(Drop)]
+pub enum Version {
+    /// The one that the site serves now.
+    Live,
+    /// The deploy that the alias stands for.
+    Alias(AliasName),
+    /// The deploy of this number, which was published whole; 0, which names nothing, where the target writes none.
+    Kept(u64),
 }
 
-/// The route of a request, with what its target says.
+/// The route of a request, with what its target says. A number of a deploy is 0, which names nothing, where the target
+/// writes none.
 #[derive(Drop)]
 pub enum Route {
-    /// `/s/{site}/{path}`: the file that the site serves.
-    Read { site: SiteName, path: FilePath },
-    /// `/api/v1/sites/{site}/deploys`: opens a deploy.
-    Open { site: SiteName },
-    /// `/api/v1/sites/{site}/undo`: undoes a change.
-    Undo { site: SiteName },
-    /// `/api/v1/deploys/{deploy}/files/{path}`: uploads a file of the deploy. The number is 0, which names nothing,
-    /// where the target writes none.
-    Upload { deploy: u64, path: FilePath },
-}
-
-// Whether the route has the method.
-fn has_method(kind: Kind, method: &str) -> bool
-    ensures { result ≡ spec.has_method kind method.now }
-{
-    match kind {
-        Kind::Read => method == "GET" || method == "HEAD",
-        Kind::Open | Kind::Undo => method == "POST",
-        Kind::Upload => method == "PUT",
-    }
+    /// Reads a file of a site.
+    Read {
+        site: SiteName,
+        version: Version,
+        path: FilePath,
+    },
+    /// Opens a deploy.
+    Open {
+        site: SiteName,
+    },
+    /// Restores a deploy.
+    Restore {
+        site: SiteName,
+        deploy: u64,
+    },
+    /// Lets an alias stand for a deploy.
+    MoveAlias {
+        site: SiteName,
+        alias: AliasName,
+    },
+    /// Removes an alias.
+    RemoveAlias {
+        site: SiteName,
+        alias: AliasName,
+    },
+    /// Renames a file.
+    Rename {
+        site: SiteName,
+    },
+    /// Removes a file.
+    Remove {
+        site: SiteName,
+        path: FilePath,
+    },
+    /// Undoes a change.
+    Undo {
+        site: SiteName,
+    },
+    /// Lists the changes of a site.
+    Changes {
+        site: SiteName,
+    },
+    /// Shows a deploy.
+    Deploy {
+        deploy: u64,
+    },
+    /// Removes a deploy that was published whole.
+    RemoveDeploy {
+        deploy: u64,
+    },
+    /// Gives an open deploy up.
+    Cancel {
+        deploy: u64,
+    },
+    /// Uploads a file of a deploy.
+    Upload {
+        deploy: u64,
+        path: FilePath,
+    },
 }
 
 // Whether a `#` stands in the path, which then is none.
@@ -71,60 +110,190 @@ fn site_of(name: &str, path: &str) -> Result<SiteName, Refusal>
     Ok(site)
 }
 
-// Why a file has no path.
-fn refusal_of(error: PathError) -> Refusal
-    ensures { result ≡ refusal_at error }
+// The site and the alias of two names, where both are names and no `#` stands in the path that has them.
+fn alias_of(name: &str, alias: &str, path: &str) -> Result<(SiteName, AliasName), Refusal>
+    ensures { result ≡ alias_on path.now name.now alias.now }
 {
-    match error {
-        PathError::BadPath => Refusal::BadPath,
-        PathError::OutOfMemory => Refusal::OutOfMemory,
+    let Ok(site) = SiteName::new(name) else {
+        return Err(Refusal::BadName);
+    };
+    let Ok(alias) = AliasName::new(alias) else {
+        return Err(Refusal::BadName);
+    };
+    if has_hash(path) {
+        return Err(Refusal::BadPath);
     }
+    Ok((site, alias))
 }
 
-// The upload of a file, where no `#` stands in its path.
-fn upload(alloc: Global, path: &str, bindings: Bindings<'_>) -> Result<Route, Refusal>
+// The reading of a live file.
+fn live_file(alloc: Global, path: &str, bindings: Bindings<'_>) -> Result<Route, Refusal>
     requires { IsTrue (is_rest bindings.rest.now) }
-    ensures ok { IfOk result (λ route. spec.routed_at path.now Kind.Upload (bindings_of bindings.entry) ≡ Ok route) }
+    ensures ok { IfOk result (λ route. routed_alike path.now Resource.LiveFile (bindings_of bindings.entry) ≡ Ok route) }
     ensures refused { IfErr result (λ refusal. refusal ≢ Refusal.OutOfMemory
-        → spec.routed_at path.now Kind.Upload (bindings_of bindings.entry) ≡ Err refusal) }
+        → routed_alike path.now Resource.LiveFile (bindings_of bindings.entry) ≡ Err refusal) }
     ensures memory { IsErrOf result Refusal.OutOfMemory
-        → IsTrue (takes_path path.now (spec.routed_at path.now Kind.Upload (bindings_of bindings.entry))) }
+        → IsTrue (takes_path path.now (routed_alike path.now Resource.LiveFile (bindings_of bindings.entry))) }
+{
+    let site = site_of(bindings.site, path)?;
+    let path = read_path(alloc, bindings.rest)?;
+    Ok(Route::Read {
+        site,
+        version: Version::Live,
+        path,
+    })
+}
+
+// The reading of a file of the deploy that an alias stands for.
+fn alias_file(alloc: Global, path: &str, bindings: Bindings<'_>) -> Result<Route, Refusal>
+    requires { IsTrue (is_rest bindings.rest.now) }
+    ensures ok { IfOk result (λ route. routed_alike path.now Resource.AliasFile (bindings_of bindings.entry) ≡ Ok route) }
+    ensures refused { IfErr result (λ refusal. refusal ≢ Refusal.OutOfMemory
+        → routed_alike path.now Resource.AliasFile (bindings_of bindings.entry) ≡ Err refusal) }
+    ensures memory { IsErrOf result Refusal.OutOfMemory
+        → IsTrue (takes_path path.now (routed_alike path.now Resource.AliasFile (bindings_of bindings.entry))) }
+{
+    let (site, alias) = alias_of(bindings.site, bindings.alias, path)?;
+    let path = read_path(alloc, bindings.rest)?;
+    Ok(Route::Read {
+        site,
+        version: Version::Alias(alias),
+        path,
+    })
+}
+
+// The reading of a file of a deploy.
+fn kept_file(alloc: Global, path: &str, bindings: Bindings<'_>) -> Result<Route, Refusal>
+    requires { IsTrue (is_rest bindings.rest.now) }
+    ensures ok { IfOk result (λ route. routed_alike path.now Resource.KeptFile (bindings_of bindings.entry) ≡ Ok route) }
+    ensures refused { IfErr result (λ refusal. refusal ≢ Refusal.OutOfMemory
+        → routed_alike path.now Resource.KeptFile (bindings_of bindings.entry) ≡ Err refusal) }
+    ensures memory { IsErrOf result Refusal.OutOfMemory
+        → IsTrue (takes_path path.now (routed_alike path.now Resource.KeptFile (bindings_of bindings.entry))) }
+{
+    let site = site_of(bindings.site, path)?;
+    let path = read_path(alloc, bindings.rest)?;
+    Ok(Route::Read {
+        site,
+        version: Version::Kept(number_of(bindings.number)),
+        path,
+    })
+}
+
+// The removal of a file.
+fn site_file(alloc: Global, path: &str, bindings: Bindings<'_>) -> Result<Route, Refusal>
+    requires { IsTrue (is_rest bindings.rest.now) }
+    ensures ok { IfOk result (λ route. routed_alike path.now Resource.SiteFile (bindings_of bindings.entry) ≡ Ok route) }
+    ensures refused { IfErr result (λ refusal. refusal ≢ Refusal.OutOfMemory
+        → routed_alike path.now Resource.SiteFile (bindings_of bindings.entry) ≡ Err refusal) }
+    ensures memory { IsErrOf result Refusal.OutOfMemory
+        → IsTrue (takes_path path.now (routed_alike path.now Resource.SiteFile (bindings_of bindings.entry))) }
+{
+    let site = site_of(bindings.site, path)?;
+    let path = written_path(alloc, bindings.rest)?;
+    Ok(Route::Remove { site, path })
+}
+
+// The upload of a file.
+fn deploy_file(alloc: Global, path: &str, bindings: Bindings<'_>) -> Result<Route, Refusal>
+    requires { IsTrue (is_rest bindings.rest.now) }
+    ensures ok { IfOk result (λ route. routed_alike path.now Resource.DeployFile (bindings_of bindings.entry) ≡ Ok route) }
+    ensures refused { IfErr result (λ refusal. refusal ≢ Refusal.OutOfMemory
+        → routed_alike path.now Resource.DeployFile (bindings_of bindings.entry) ≡ Err refusal) }
+    ensures memory { IsErrOf result Refusal.OutOfMemory
+        → IsTrue (takes_path path.now (routed_alike path.now Resource.DeployFile (bindings_of bindings.entry))) }
 {
     if has_hash(path) {
         return Err(Refusal::BadPath);
     }
     Ok(Route::Upload {
         deploy: number_of(bindings.number),
-        path: upload_path(alloc, bindings.rest).map_err(refusal_of)?,
+        path: written_path(alloc, bindings.rest)?,
     })
 }
 
-// The route of a kind on a path, or the first reason why there is none.
-fn route_at(alloc: Global, kind: Kind, path: &str, bindings: Bindings<'_>) -> Result<Route, Refusal>
-    requires { IsTrue (is_rest bindings.rest.now) }
-    ensures ok { IfOk result (λ route. spec.routed_at path.now kind (bindings_of bindings.entry) ≡ Ok route) }
-    ensures refused { IfErr result (λ refusal. refusal ≢ Refusal.OutOfMemory
-        → spec.routed_at path.now kind (bindings_of bindings.entry) ≡ Err refusal) }
-    ensures memory { IsErrOf result Refusal.OutOfMemory
-        → IsTrue (takes_path path.now (spec.routed_at path.now kind (bindings_of bindings.entry))) }
+// What is done to an alias.
+fn alias(method: &str, path: &str, bindings: Bindings<'_>) -> Result<Route, Refusal>
+    ensures { result ≡ spec.routed_at method.now path.now Resource.Alias (bindings_of bindings.entry) }
 {
-    match kind {
-        Kind::Read => {
-            let site = site_of(bindings.site, path)?;
-            let path = read_path(alloc, bindings.rest).map_err(refusal_of)?;
-            Ok(Route::Read { site, path })
-        }
-        Kind::Open => Ok(Route::Open {
+    let (site, alias) = alias_of(bindings.site, bindings.alias, path)?;
+    if method == "PUT" {
+        return Ok(Route::MoveAlias { site, alias });
+    }
+    Ok(Route::RemoveAlias { site, alias })
+}
+
+// What is done to a deploy.
+fn deploy(method: &str, path: &str, bindings: Bindings<'_>) -> Result<Route, Refusal>
+    ensures { result ≡ spec.routed_at method.now path.now Resource.Deploy (bindings_of bindings.entry) }
+{
+    if has_hash(path) {
+        return Err(Refusal::BadPath);
+    }
+    let deploy = number_of(bindings.number);
+    if method == "DELETE" {
+        return Ok(Route::RemoveDeploy { deploy });
+    }
+    Ok(Route::Deploy { deploy })
+}
+
+// The giving up of an open deploy.
+fn cancel(path: &str, bindings: Bindings<'_>) -> Result<Route, Refusal>
+    ensures { result ≡ routed_alike path.now Resource.Cancel (bindings_of bindings.entry) }
+{
+    if has_hash(path) {
+        return Err(Refusal::BadPath);
+    }
+    Ok(Route::Cancel {
+        deploy: number_of(bindings.number),
+    })
+}
+
+// The route to a resource on a path, or the first reason why there is none.
+fn route_at(
+    alloc: Global,
+    method: &str,
+    resource: Resource,
+    path: &str,
+    bindings: Bindings<'_>,
+) -> Result<Route, Refusal>
+    requires { IsTrue (is_rest bindings.rest.now) }
+    ensures ok { IfOk result (λ route. spec.routed_at method.now path.now resource (bindings_of bindings.entry) ≡ Ok route) }
+    ensures refused { IfErr result (λ refusal. refusal ≢ Refusal.OutOfMemory
+        → spec.routed_at method.now path.now resource (bindings_of bindings.entry) ≡ Err refusal) }
+    ensures memory { IsErrOf result Refusal.OutOfMemory
+        → IsTrue (takes_path path.now (spec.routed_at method.now path.now resource (bindings_of bindings.entry))) }
+{
+    match resource {
+        Resource::LiveFile => live_file(alloc, path, bindings),
+        Resource::AliasFile => alias_file(alloc, path, bindings),
+        Resource::KeptFile => kept_file(alloc, path, bindings),
+        Resource::SiteFile => site_file(alloc, path, bindings),
+        Resource::DeployFile => deploy_file(alloc, path, bindings),
+        Resource::Alias => alias(method, path, bindings),
+        Resource::Deploy => deploy(method, path, bindings),
+        Resource::Cancel => cancel(path, bindings),
+        Resource::Deploys => Ok(Route::Open {
             site: site_of(bindings.site, path)?,
         }),
-        Kind::Undo => Ok(Route::Undo {
+        Resource::Restore => Ok(Route::Restore {
+            site: site_of(bindings.site, path)?,
+            deploy: number_of(bindings.number),
+        }),
+        Resource::Rename => Ok(Route::Rename {
             site: site_of(bindings.site, path)?,
         }),
-        Kind::Upload => upload(alloc, path, bindings),
+        Resource::Undo => Ok(Route::Undo {
+            site: site_of(bindings.site, path)?,
+        }),
+        Resource::Changes => Ok(Route::Changes {
+            site: site_of(bindings.site, path)?,
+        }),
     }
 }
 
 /// The route of a method and a target, or the first reason why there is none.
+#[tactic(auto, unfolding(crate::specs::Routes::routed))]
 pub fn route_of(alloc: Global, method: &str, target: &str) -> Result<Route, Refusal>
     ensures ok { IfOk result (λ route. routed method.now target.now ≡ Ok route) }
     ensures refused { IfErr result (λ refusal. refusal ≢ Refusal.OutOfMemory → routed method.now target.now ≡ Err refusal) }
@@ -132,11 +301,11 @@ pub fn route_of(alloc: Global, method: &str, target: &str) -> Result<Route, Refu
         → IsTrue (takes_path (targets.path_of target.now) (routed method.now target.now)) }
 {
     let path = path_of(target);
-    let Some((kind, bindings)) = find(path) else {
+    let Some((resource, bindings)) = find(path) else {
         return Err(Refusal::NoRoute);
     };
-    if !has_method(kind, method) {
-        return Err(Refusal::BadMethod(kind));
+    if !resource.has_method(method) {
+        return Err(Refusal::BadMethod(resource));
     }
-    route_at(alloc, kind, path, bindings)
+    route_at(alloc, method, resource, path, bindings)
 }

@@ -62,11 +62,11 @@ fn behind_slash(rest: &str) -> &str
     rest.strip_prefix('/').unwrap_or(rest)
 }
 
-/// The path of a file that is uploaded: what follows the slash of the rest of its target, its escapes decoded once.
-pub fn upload_path(alloc: Global, rest: &str) -> Result<FilePath, PathError>
+/// The path of a file that is written: what follows the slash of the rest of its target, its escapes decoded once.
+pub fn written_path(alloc: Global, rest: &str) -> Result<FilePath, PathError>
     requires { IsTrue (is_rest rest.now) }
-    ensures ok { IfOk result (λ path. spec.upload_path rest.now ≡ Some path) }
-    ensures bad { IsErrOf result PathError.BadPath → spec.upload_path rest.now ≡ None }
+    ensures ok { IfOk result (λ path. spec.written_path rest.now ≡ Some path) }
+    ensures bad { IsErrOf result PathError.BadPath → spec.written_path rest.now ≡ None }
 {
     let text = decode(alloc, behind_slash(rest))?;
     FilePath::read(alloc, text.as_str())

@@ -10,6 +10,8 @@ pub enum Part {
     Word(&'static str),
     /// The name of a site.
     Site,
+    /// The name of an alias.
+    Alias,
     /// The number of a deploy.
     Number,
 }
@@ -18,6 +20,7 @@ pub enum Part {
 #[derive(Clone, Copy)]
 pub struct Bindings<'t> {
     pub site: &'t str,
+    pub alias: &'t str,
     pub number: &'t str,
     /// What follows the pattern, with its leading slash.
     pub rest: &'t str,
@@ -61,6 +64,7 @@ fn fit_rest(has_rest: bool, text: &str) -> Option<Bindings<'_>>
     };
     fits.then_some(Bindings {
         site: "",
+        alias: "",
         number: "",
         rest: text,
     })
@@ -86,6 +90,10 @@ pub fn fit<'t>(parts: &[Part], has_rest: bool, text: &'t str) -> Option<Bindings
         Part::Word(_) => found,
         Part::Site => Bindings {
             site: segment,
+            ..found
+        },
+        Part::Alias => Bindings {
+            alias: segment,
             ..found
         },
         Part::Number => Bindings {

@@ -92,7 +92,7 @@ const REFUSALS: [(Refusal, &str, u16); 22] = [
     (Refusal::WrongDigest, "WrongDigest", 422),
     (Refusal::OutOfMemory, "OutOfMemory", 503),
     (Refusal::NoRoute, "NoRoute", 404),
-    (Refusal::BadMethod(Kind::Read), "BadMethod", 405),
+    (Refusal::BadMethod(Resource::LiveFile), "BadMethod", 405),
     (Refusal::BadHead, "BadHead", 400),
     (Refusal::NotSatisfiable(11), "NotSatisfiable", 416),
 ];
@@ -180,10 +180,19 @@ fn names_the_change_and_the_cell_of_a_clash(rt: HostRuntime) -> Result<(), Fail>
 
 #[test]
 fn lists_methods(rt: HostRuntime) {
-    assert_eq!(rt; Kind::Read.methods_text(), "GET, HEAD");
-    assert_eq!(rt; Kind::Open.methods_text(), "POST");
-    assert_eq!(rt; Kind::Undo.methods_text(), "POST");
-    assert_eq!(rt; Kind::Upload.methods_text(), "PUT");
+    assert_eq!(rt; Resource::LiveFile.methods_text(), "GET, HEAD");
+    assert_eq!(rt; Resource::AliasFile.methods_text(), "GET, HEAD");
+    assert_eq!(rt; Resource::KeptFile.methods_text(), "GET, HEAD");
+    assert_eq!(rt; Resource::Deploys.methods_text(), "POST");
+    assert_eq!(rt; Resource::Restore.methods_text(), "POST");
+    assert_eq!(rt; Resource::Alias.methods_text(), "PUT, DELETE");
+    assert_eq!(rt; Resource::Rename.methods_text(), "POST");
+    assert_eq!(rt; Resource::SiteFile.methods_text(), "DELETE");
+    assert_eq!(rt; Resource::Undo.methods_text(), "POST");
+    assert_eq!(rt; Resource::Changes.methods_text(), "GET, HEAD");
+    assert_eq!(rt; Resource::Deploy.methods_text(), "GET, HEAD, DELETE");
+    assert_eq!(rt; Resource::Cancel.methods_text(), "POST");
+    assert_eq!(rt; Resource::DeployFile.methods_text(), "PUT");
 }
 
 const OTHER: &str = "application/octet-stream";

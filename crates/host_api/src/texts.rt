@@ -1,15 +1,15 @@
 //! The texts of replies.
-ghost use Rattle.std.specs.Prelude.{◌≡◌, ◌++◌, IfOk, OnOk, codes};
-ghost use Rattle.std.specs.List.{flat_map};
-ghost use Rattle.hex.specs.Hex.{encode_lower};
+ghost use Rattle.std.specs.Prelude.{◌≡◌, ◌++◌, [], IfOk, OnOk};
 ghost use Rattle.std.specs.String.{string_bytes};
 ghost use Rattle.host_names.specs.Cells.{cell_text};
 ghost use Rattle.serde_json.specs.Data.{string};
 ghost use Rattle.serde_json.specs.Written.{compact_text};
-ghost use Rattle.host_api.specs.Texts.{quoted, number_or_null, digest_list, detail_of, opened_text, uploaded_text, refused_text, told_text};
+ghost use Rattle.host_api.specs.Texts.{number_or_null, detail_of, state_name, required_of, opened_text, uploaded_text, refused_text, deploy_text, told_text};
 
+use crate::change_lines::{ChangeLines, list_text};
+use crate::digest_texts::{push_digest, push_digests};
 use crate::refusals::Refusal;
-use host_names::{Cell, Digest};
+use host_names::{Cell, Digest, SiteName};
 use serde_json::Value;
 use std::alloc::{AllocError, Global};
 use std::marker::Model;
@@ -46,6 +46,37 @@ impl From<Vec<Digest>> for Digests {
     }
 }
 
+/// How a deploy stands.
+#[derive(Drop)]
+pub enum DeployState {
+    /// It is open, and these of its files were not uploaded.
+    Open { required: Digests },
+    /// It was published whole, and its files are kept.
+    Kept,
+}
+
+impl DeployState {
+    /// Its name.
+    fn name(&self) -> &'static str
+        ensures { result.now ≡ state_name self.now }
+    {
+        match self {
+            DeployState::Open { .. } => "open",
+            DeployState::Kept => "kept",
+        }
+    }
+
+    /// The digests of its files that are missing.
+    fn required(&self) -> &[Digest]
+        ensures { result.now ≡ required_of self.now }
+    {
+        match self {
+            DeployState::Open { required } => required.as_slice(),
+            DeployState::Kept => &[],
+        }
+    }
+}
+
 /// What a reply tells.
 #[derive(Drop)]
 pub enum Told {
@@ -64,15 +95,34 @@ pub enum Told {
     Entered {
         number: u64,
     },
+    /// A deploy: its number, its site, and how it stands.
+    Deploy {
+        id: u64,
+        site: SiteName,
+        state: DeployState,
+    },
+    /// The last entries of a site, oldest first.
+    Changes(ChangeLines),
     /// The request was refused.
     Refused(Refusal),
 }
 
 // So many bytes hold what a text says beside its list of digests.
-const ROOM: usize = 128;
+const ROOM: usize = 132;
 
 // So many bytes hold a digest of a list: its digits, the quotes and a comma.
 const DIGEST_ROOM: usize = 43;
+
+/// An empty text, with room for a list of digests and for what stands around it.
+fn text_around(alloc: Global, digests: &[Digest]) -> Result<String, AllocError>
+    ensures { IfOk result (λ text. string_bytes text ≡ []) }
+{
+    let room = digests
+        .len()
+        .saturating_mul(DIGEST_ROOM)
+        .saturating_add(ROOM);
+    String::with_capacity(alloc, room)
+}
 
 /// Appends a number, or `null` where there is none.
 fn push_number(text: &mut String, number: Option<u64>) -> Result<(), AllocError>
@@ -82,37 +132,6 @@ fn push_number(text: &mut String, number: Option<u64>) -> Result<(), AllocError>
         Some(number) => write!(text, "{number}"),
         None => text.push_str("null"),
     }
-}
-
-/// Appends a digest, in quotes.
-fn push_digest(text: &mut String, digest: &Digest) -> Result<(), AllocError>
-    ensures { OnOk result (string_bytes text.new ≡ string_bytes text.old ++ quoted (encode_lower digest.now.0)) }
-{
-    text.push_str("\"")?;
-    text.push_str(digest.to_hex().as_str())?;
-    text.push_str("\"")
-}
-
-/// Appends digests, each behind a comma.
-fn push_others(text: &mut String, digests: &[Digest]) -> Result<(), AllocError>
-    ensures { OnOk result (string_bytes text.new ≡ string_bytes text.old ++ flat_map (λ d. codes "," ++ quoted (encode_lower d.0)) digests.now) }
-{
-    for digest in digests {
-        text.push_str(",")?;
-        push_digest(text, digest)?;
-    }
-    Ok(())
-}
-
-/// Appends digests, with a comma between each two.
-fn push_digests(text: &mut String, digests: &[Digest]) -> Result<(), AllocError>
-    ensures { OnOk result (string_bytes text.new ≡ string_bytes text.old ++ digest_list digests.now) }
-{
-    let Some((first, others)) = digests.split_first() else {
-        return Ok(());
-    };
-    push_digest(text, first)?;
-    push_others(text, others)
 }
 
 /// The text of a cell as a JSON string. A path may hold what has to be escaped.
@@ -151,11 +170,7 @@ fn opened(
 ) -> Result<String, AllocError>
     ensures { IfOk result (λ text. string_bytes text ≡ opened_text id published required.now) }
 {
-    let room = required
-        .len()
-        .saturating_mul(DIGEST_ROOM)
-        .saturating_add(ROOM);
-    let mut text = String::with_capacity(alloc, room)?;
+    let mut text = text_around(alloc, required)?;
     write!(text, "{{\"id\":\"{id}\",\"published\":")?;
     push_number(&mut text, published)?;
     text.push_str(",\"required\":[")?;
@@ -173,6 +188,24 @@ fn uploaded(alloc: Global, published: Option<u64>, digest: &Digest) -> Result<St
     push_number(&mut text, published)?;
     let sha = digest.to_hex();
     write!(text, ",\"sha\":\"{sha}\"}}")?;
+    Ok(text)
+}
+
+/// The text of a deploy.
+fn deploy(
+    alloc: Global,
+    id: u64,
+    site: &SiteName,
+    required: &[Digest],
+    state: &str,
+) -> Result<String, AllocError>
+    ensures { IfOk result (λ text. string_bytes text ≡ deploy_text id site.now required.now state.now) }
+{
+    let mut text = text_around(alloc, required)?;
+    write!(text, "{{\"id\":\"{id}\",\"required\":[")?;
+    push_digests(&mut text, required)?;
+    write!(text, "],\"site\":\"{site}\"")?;
+    write!(text, ",\"state\":\"{state}\"}}")?;
     Ok(text)
 }
 
@@ -200,6 +233,14 @@ pub fn text(alloc: Global, told: &Told) -> Result<String, AllocError>
         } => opened(alloc, *id, *published, required.as_slice()),
         Told::Uploaded { published, digest } => uploaded(alloc, *published, digest),
         Told::Entered { number } => format!(in alloc; "{{\"entry\":{number}}}"),
+        Told::Deploy { id, site, state } => deploy(
+            alloc,
+            *id,
+            site,
+            state.required(),
+            state.name(),
+        ),
+        Told::Changes(lines) => list_text(alloc, lines.as_slice()),
         Told::Refused(refusal) => refused(alloc, refusal),
     }
 }

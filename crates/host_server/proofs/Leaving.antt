@@ -23,9 +23,13 @@ use Rattle.host_server.specs.declared.replies.Reply.{Reply}
 
 ask_leaves_nothing : (host : Host) (body : List ℕ) (asking : Result Ask Refusal) → AskMayLeave host body asking host
 ask_leaves_nothing host body (Err refusal) = refl
-ask_leaves_nothing host body (Ok (ask.Read site path)) = refl
+ask_leaves_nothing host body (Ok (ask.Read site version path)) = refl
 ask_leaves_nothing host body (Ok (ask.Command change)) = inl refl
 ask_leaves_nothing host body (Ok (ask.Undo site change)) = inl refl
+ask_leaves_nothing host body (Ok (ask.Changes site)) = refl
+ask_leaves_nothing host body (Ok (ask.Deploy deploy)) = refl
+ask_leaves_nothing host body (Ok (ask.RemoveDeploy deploy)) = inl refl
+ask_leaves_nothing host body (Ok (ask.Cancel deploy)) = inl refl
 ask_leaves_nothing host body (Ok (ask.Upload deploy path)) = inl refl
 
 route_leaves_nothing : (host : Host) (body : List ℕ) (route : Result Route Refusal) → RouteMayLeave host body route host
@@ -53,10 +57,14 @@ same_host host (command.RemoveDeploy site m) required None = refl
 ask_leaves_all : (close : Bool) (host next : Host) (parts : RequestParts) (body : List ℕ) (answer : Answer) (asking : Result Ask Refusal)
     → IsReplyToAsk close host parts body asking answer next → AskMayLeave host body asking next
 ask_leaves_all close host next parts body answer (Err refusal) reply = reply.1
-ask_leaves_all close host next parts body answer (Ok (ask.Read site path)) reply = reply.3
+ask_leaves_all close host next parts body answer (Ok (ask.Read site version path)) reply = reply.3
 ask_leaves_all close host next parts body answer (Ok (ask.Command change)) reply =
     inr (inr (reply.2.1 ∙ same_host host change reply.0 (commit_refusal host change)))
 ask_leaves_all close host next parts body answer (Ok (ask.Undo site change)) reply = inr reply.1
+ask_leaves_all close host next parts body answer (Ok (ask.Changes site)) reply = reply.1
+ask_leaves_all close host next parts body answer (Ok (ask.Deploy deploy)) reply = reply.3
+ask_leaves_all close host next parts body answer (Ok (ask.RemoveDeploy deploy)) reply = inr reply.1
+ask_leaves_all close host next parts body answer (Ok (ask.Cancel deploy)) reply = inr reply.1
 ask_leaves_all close host next parts body answer (Ok (ask.Upload deploy path)) reply = inr (inr reply.1)
 
 route_leaves_all : (close : Bool) (host next : Host) (parts : RequestParts) (body : List ℕ) (answer : Answer) (route : Result Route Refusal)

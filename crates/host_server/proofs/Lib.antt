@@ -6,3 +6,4 @@ pub mod Entering
 pub mod Growing
 pub mod Turns
 pub mod Served
+pub mod Lines

@@ -3,15 +3,16 @@ use Rattle.std.specs.Prelude.{◌≡◌, ◌⊎◌, ℕ, List, ◌++◌, Bool, R
 use Rattle.host_names.specs.declared.names.SiteName.{SiteName}
 use Rattle.http_wire.specs.Requests.{RequestParts}
 use Rattle.range_spec.specs.declared.grammar.Asked.{Asked}
-use Rattle.site_state.specs.States.{live_at}
 use Rattle.site_change.specs.Changes.{IsWithin}
 use Rattle.change_undo.specs.declared.entries.Entry.{Entry}
 use Rattle.host_api.specs.declared.refusals.Refusal.{Refusal}
 use Rattle.host_api.specs.declared.refusals.Refusal.TheVariants.{OutOfMemory}
+use Rattle.host_api.specs.declared.routes.Version.{Version}
 use Rattle.host_server.specs.declared.replies.Reply.{Reply}
 use Rattle.host_server.specs.Bodies.{answer_of}
 use Rattle.host_server.specs.Hosts.{Host, state_of}
 use Rattle.host_server.specs.Replies.{Answer, refused_answer, read_answer, AsksRange, IsReply, MayLeave}
+use Rattle.host_server.specs.Versions.{file_of}
 
 -- the answer where a call gives this reply, or this reason to refuse
 abbrev pub answer_by : Bool → Result Reply Refusal → Answer
@@ -22,10 +23,11 @@ answer_by close (Err refusal) = refused_answer close refusal
 abbrev pub Gives : Bool → Result Reply Refusal → Answer → Type 0
 Gives close result answer = (result ≡ Err OutOfMemory) ⊎ (answer_by close result ≡ answer)
 
-abbrev pub Reads : Bool → Host → RequestParts → SiteName → List ℕ → Result Reply Refusal → Type 0
-Reads close host parts site path result =
+abbrev pub Reads : Bool → Host → RequestParts → SiteName → Version → List ℕ → Result Reply Refusal → Type 0
+Reads close host parts site version path result =
     (result ≡ Err OutOfMemory)
-    ⊎ ((range : Asked) × AsksRange parts range × (answer_by close result ≡ read_answer close path range (live_at (state_of host) site path)))
+    ⊎ ((range : Asked) × AsksRange parts range
+    × (answer_by close result ≡ read_answer close path range (file_of (state_of host) site version path)))
 
 -- the call gives a reply to the request, unless there was no memory
 abbrev pub RepliesBy : Bool → Host → RequestParts → List ℕ → Result Reply Refusal → Host → Type 0

@@ -6,3 +6,5 @@ pub mod Bodies
 pub mod Answers
 pub mod Serving
 pub mod Solo
+pub mod Versions
+pub mod Shown

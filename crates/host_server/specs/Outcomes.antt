@@ -91,6 +91,20 @@ abbrev pub commit_outcome : Host → Command → List Digest → Option Refusal 
 commit_outcome host command required (Some reason) = refused host reason
 commit_outcome host command required None = committed host command required
 
+-- ---- commands on a deploy whose site the request does not name
+
+-- the site of a deploy is that of the entry which opened it
+abbrev pub site_of_deploy : Option Entry → Option SiteName
+site_of_deploy (Some (Change (Open site files auto))) = Some site
+site_of_deploy entry = None
+
+abbrev pub outcome_on : Host → (SiteName → Command) → Option SiteName → Outcome
+outcome_on host command None = refused host NoSuchDeploy
+outcome_on host command (Some site) = enter_outcome host (command site) (commit_refusal host (command site))
+
+abbrev pub deploy_outcome : Host → ℕ → (SiteName → Command) → Outcome
+deploy_outcome host n command = outcome_on host command (site_of_deploy (entry_at host.entries n))
+
 -- ---- undos
 
 abbrev pub undone : Host → SiteName → ℕ → Option Refusal → Outcome
@@ -98,11 +112,6 @@ undone host site k (Some reason) = refused host reason
 undone host site k None = record { told = Entered (next_number host); host = with_entry host (Undo site k) }
 
 -- ---- uploads
-
--- the site of a deploy is that of the entry which opened it
-abbrev pub site_of_deploy : Option Entry → Option SiteName
-site_of_deploy (Some (Change (Open site files auto))) = Some site
-site_of_deploy entry = None
 
 -- the digest at the path, where the deploy is open or kept and lists a file there
 abbrev pub listed_at : Option Draft → Option (Paths (List ℕ)) → List ℕ → Option (Option Digest)
@@ -159,6 +168,9 @@ CommandMayLeave host command next =
 
 abbrev pub UndoMayLeave : Host → SiteName → ℕ → Host → Type 0
 UndoMayLeave host site k next = (next ≡ host) ⊎ (next ≡ (undone host site k (undo_refusal host site k)).host)
+
+abbrev pub DeployMayLeave : Host → ℕ → (SiteName → Command) → Host → Type 0
+DeployMayLeave host n command next = (next ≡ host) ⊎ (next ≡ (deploy_outcome host n command).host)
 
 -- An upload may leave what was there, or its bytes alone, or all that it does.
 abbrev pub UploadMayLeave : Host → ℕ → List ℕ → List ℕ → Host → Type 0

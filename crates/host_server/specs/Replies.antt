@@ -16,8 +16,8 @@ use Rattle.http_wire.specs.Replies.{HeadFields, reply_text}
 use Rattle.http_wire.specs.Requests.{RequestParts}
 use Rattle.http_wire.specs.declared.replies.ContentRange.{ContentRange}
 use Rattle.http_wire.specs.declared.replies.ContentRange.TheVariants.{Of, Unsatisfied}
-use Rattle.site_state.specs.States.{live_at}
 use Rattle.site_change.specs.declared.commands.Command.{Command}
+use Rattle.site_change.specs.declared.commands.Command.TheVariants.{Cancel, RemoveDeploy}
 use Rattle.host_api.specs.Bodies.{asked}
 use Rattle.host_api.specs.Methods.{allow_text}
 use Rattle.host_api.specs.Refusals.{status_of}
@@ -27,13 +27,15 @@ use Rattle.host_api.specs.Types.{type_of}
 use Rattle.host_api.specs.declared.bodies.Ask.{Ask}
 use Rattle.host_api.specs.declared.bodies.Ask.TheVariants as ask
 use Rattle.host_api.specs.declared.refusals.Refusal.{Refusal}
-use Rattle.host_api.specs.declared.refusals.Refusal.TheVariants.{NoSuchFile, BadMethod, NotSatisfiable, OutOfMemory}
+use Rattle.host_api.specs.declared.refusals.Refusal.TheVariants.{BadMethod, NotSatisfiable, OutOfMemory}
 use Rattle.host_api.specs.declared.routes.Route.{Route}
 use Rattle.host_api.specs.declared.texts.Told.{Told}
-use Rattle.host_api.specs.declared.texts.Told.TheVariants.{Opened, Uploaded, Entered, Refused}
+use Rattle.host_api.specs.declared.texts.Told.TheVariants.{Opened, Uploaded, Entered, Deploy, Changes, Refused}
 use Rattle.host_server.specs.Hosts.{Host, state_of}
-use Rattle.host_server.specs.Outcomes.{Outcome, AreRequired, CommandMayLeave, UndoMayLeave, UploadMayLeave, commit_outcome, undone, upload_outcome}
+use Rattle.host_server.specs.Outcomes.{Outcome, AreRequired, CommandMayLeave, DeployMayLeave, UndoMayLeave, UploadMayLeave, commit_outcome, deploy_outcome, undone, upload_outcome}
 use Rattle.host_server.specs.Reasons.{commit_refusal, undo_refusal}
+use Rattle.host_server.specs.Shown.{ShowsDeploy, shown_lines}
+use Rattle.host_server.specs.Versions.{file_of}
 
 -- the fields of a reply, and its body as GET has it
 pub record Answer : Type 0 where
@@ -46,6 +48,8 @@ abbrev pub status_told : Told → ℕ
 status_told (Opened id published required) = 200
 status_told (Uploaded published digest) = 200
 status_told (Entered number) = 200
+status_told (Deploy id site state) = 200
+status_told (Changes lines) = 200
 status_told (Refused refusal) = status_of refusal
 
 -- which bytes of the file there are, where none of the range are
@@ -59,7 +63,7 @@ range_told told = None
 
 -- the methods that the route has, where it hasn't that of the request
 abbrev pub allow_refused : Refusal → Option (List ℕ)
-allow_refused (BadMethod kind) = Some (allow_text kind)
+allow_refused (BadMethod resource) = Some (allow_text resource)
 allow_refused refusal = None
 
 abbrev pub allow_told : Told → Option (List ℕ)
@@ -118,9 +122,9 @@ abbrev pub choice_in : Asked → ℕ → Choice
 choice_in Ignore size = Whole
 choice_in (Specs specs) size = chosen specs size
 
-abbrev pub read_answer : Bool → List ℕ → Asked → Option (List ℕ) → Answer
-read_answer close path range None = refused_answer close NoSuchFile
-read_answer close path range (Some file) = file_answer close path file (choice_in range (length file))
+abbrev pub read_answer : Bool → List ℕ → Asked → Result (List ℕ) Refusal → Answer
+read_answer close path range (Err refusal) = refused_answer close refusal
+read_answer close path range (Ok file) = file_answer close path file (choice_in range (length file))
 
 -- what these values of Range and If-Range ask for: a lone Range of a GET, without an If-Range, which is not read yet
 abbrev pub AskedBy : Bool → List (List ℕ) → List (List ℕ) → Asked → Type 0
@@ -147,11 +151,19 @@ IsCommitTold close host command answer next =
 
 abbrev pub IsReplyToAsk : Bool → Host → RequestParts → List ℕ → Result Ask Refusal → Answer → Host → Type 0
 IsReplyToAsk close host parts body (Err refusal) answer next = (answer ≡ refused_answer close refusal) × (next ≡ host)
-IsReplyToAsk close host parts body (Ok (ask.Read site path)) answer next =
-    (range : Asked) × AsksRange parts range × (answer ≡ read_answer close path range (live_at (state_of host) site path)) × (next ≡ host)
+IsReplyToAsk close host parts body (Ok (ask.Read site version path)) answer next =
+    (range : Asked) × AsksRange parts range × (answer ≡ read_answer close path range (file_of (state_of host) site version path)) × (next ≡ host)
 IsReplyToAsk close host parts body (Ok (ask.Command command)) answer next = IsCommitTold close host command answer next
 IsReplyToAsk close host parts body (Ok (ask.Undo site change)) answer next =
     IsTold close (undone host site change (undo_refusal host site change)) answer next
+IsReplyToAsk close host parts body (Ok (ask.Changes site)) answer next =
+    (answer ≡ told_answer close (Changes (shown_lines host site))) × (next ≡ host)
+IsReplyToAsk close host parts body (Ok (ask.Deploy deploy)) answer next =
+    (told : Told) × ShowsDeploy host deploy told × (answer ≡ told_answer close told) × (next ≡ host)
+IsReplyToAsk close host parts body (Ok (ask.RemoveDeploy deploy)) answer next =
+    IsTold close (deploy_outcome host deploy (λ site. RemoveDeploy site deploy)) answer next
+IsReplyToAsk close host parts body (Ok (ask.Cancel deploy)) answer next =
+    IsTold close (deploy_outcome host deploy (λ site. Cancel site deploy)) answer next
 IsReplyToAsk close host parts body (Ok (ask.Upload deploy path)) answer next =
     IsTold close (upload_outcome host deploy path body) answer next
 
@@ -167,9 +179,13 @@ IsReply close host parts body answer next = IsReplyOnRoute close host parts body
 
 abbrev pub AskMayLeave : Host → List ℕ → Result Ask Refusal → Host → Type 0
 AskMayLeave host body (Err refusal) next = next ≡ host
-AskMayLeave host body (Ok (ask.Read site path)) next = next ≡ host
+AskMayLeave host body (Ok (ask.Read site version path)) next = next ≡ host
 AskMayLeave host body (Ok (ask.Command command)) next = CommandMayLeave host command next
 AskMayLeave host body (Ok (ask.Undo site change)) next = UndoMayLeave host site change next
+AskMayLeave host body (Ok (ask.Changes site)) next = next ≡ host
+AskMayLeave host body (Ok (ask.Deploy deploy)) next = next ≡ host
+AskMayLeave host body (Ok (ask.RemoveDeploy deploy)) next = DeployMayLeave host deploy (λ site. RemoveDeploy site deploy) next
+AskMayLeave host body (Ok (ask.Cancel deploy)) next = DeployMayLeave host deploy (λ site. Cancel site deploy) next
 AskMayLeave host body (Ok (ask.Upload deploy path)) next = UploadMayLeave host deploy path body next
 
 abbrev pub RouteMayLeave : Host → List ℕ → Result Route Refusal → Host → Type 0

@@ -13,7 +13,7 @@ ghost use Rattle.host_server.specs.Replies.{AsksRange, IsAnswer, told_answer};
 
 use crate::houses::SoloHouse;
 use crate::replies::Reply;
-use host_api::{Ask, Refusal, Told, ask_of, route_of};
+use host_api::{Ask, Refusal, Told, Version, ask_of, route_of};
 use host_names::{FilePath, SiteName};
 use http_wire::Head;
 use range_spec::{Asked, Choice, parse, select};
@@ -69,15 +69,14 @@ fn read(
     house: &SoloHouse,
     head: &Head,
     site: &SiteName,
+    version: &Version,
     path: &FilePath,
     close: bool,
 ) -> Result<Reply, Refusal>
-    ensures { Reads close house.now head.now site.now path.now result }
+    ensures { Reads close house.now head.now site.now version.now path.now result }
 {
     let range = range_asked(head);
-    let Some(file) = house.state().file(site, path) else {
-        return Err(Refusal::NoSuchFile);
-    };
+    let file = house.file(site, version, path)?;
     let choice = choice_in(&range, file.bytes().len() as u64);
     Reply::of_file(path, file, &choice, close)
 }
@@ -102,9 +101,17 @@ fn respond(
 {
     let route = route_of(alloc, head.method().as_str(), head.target())?;
     match ask_of(alloc, route, body.as_slice())? {
-        Ask::Read { site, path } => read(house, head, &site, &path, close),
+        Ask::Read {
+            site,
+            version,
+            path,
+        } => read(house, head, &site, &version, &path, close),
         Ask::Command(command) => tell(alloc, house.change(alloc, command)?, close),
         Ask::Undo { site, change } => tell(alloc, house.take_back(alloc, &site, change)?, close),
+        Ask::Changes { site } => tell(alloc, Told::Changes(house.changes(alloc, &site)?), close),
+        Ask::Deploy { deploy } => tell(alloc, house.deploy(alloc, deploy)?, close),
+        Ask::RemoveDeploy { deploy } => tell(alloc, house.remove_deploy(alloc, deploy)?, close),
+        Ask::Cancel { deploy } => tell(alloc, house.cancel(alloc, deploy)?, close),
         Ask::Upload { deploy, path } => {
             tell(alloc, house.upload(alloc, deploy, &path, body)?, close)
         }

@@ -1,11 +1,12 @@
 //! What a host tells of changes and undos.
-ghost use Rattle.std.specs.Prelude.{◌≡◌, ◌⊎◌, true, OnErr, Err, IsErrOf};
+ghost use Rattle.std.specs.Prelude.{◌≡◌, ◌⊎◌, true, Some, None, IsSome, OnErr, IfOk, IfErr, Err, IsErrOf};
 ghost use Rattle.site_change.specs.declared.commands.Command.TheVariants as command;
+ghost use Rattle.change_undo.specs.Histories.{entry_at};
 ghost use Rattle.change_undo.specs.declared.entries.Entry.TheVariants as entry;
 ghost use Rattle.host_server.specs.Answers.{Grows};
 ghost use Rattle.host_server.specs.Hosts.{with_entry, with_upload};
 ghost use Rattle.host_server.specs.Outcomes;
-ghost use Rattle.host_server.specs.Outcomes.{enter_outcome, entered, published_if_ready, undone, Publishes, Does, DoesCommit};
+ghost use Rattle.host_server.specs.Outcomes.{deploy_outcome, enter_outcome, entered, published_if_ready, undone, Publishes, Does, DoesCommit};
 ghost use Rattle.host_server.specs.Reasons;
 ghost use Rattle.host_server.specs.Reasons.{commit_refusal, may_take_memory};
 
@@ -109,5 +110,39 @@ impl SoloHouse {
     {
         let number = self.undo(alloc, site, change)?;
         Ok(Told::Entered { number })
+    }
+
+    /// The site of a deploy, as one that a command can have.
+    fn owner(&self, number: u64) -> Result<SiteName, Refusal>
+        ensures found { IfOk result (λ site. Outcomes.site_of_deploy (entry_at self.now.entries number) ≡ Some site) }
+        ensures refused { IfErr result (λ reason. ((Outcomes.site_of_deploy (entry_at self.now.entries number) ≡ None) × (reason ≡ Refusal.NoSuchDeploy))
+            ⊎ (IsSome (Outcomes.site_of_deploy (entry_at self.now.entries number)) × (reason ≡ Refusal.OutOfMemory))) }
+    {
+        match self.site_of_deploy(number) {
+            Some(site) => Ok(site.clone()?),
+            None => Err(Refusal::NoSuchDeploy),
+        }
+    }
+
+    /// Gives an open deploy up, in the site that has it. On an error nothing changes.
+    pub fn cancel(&mut self, alloc: Global, number: u64) -> Result<Told, Refusal>
+        ensures done { Does result self.new (deploy_outcome self.old number (λ site. command.Cancel site number)) }
+        ensures memory { IsErrOf result Refusal.OutOfMemory → IsSome (Outcomes.site_of_deploy (entry_at self.old.entries number)) }
+        ensures err { OnErr result (self.new ≡ self.old) }
+        ensures grows { Grows self.old self.new }
+    {
+        let site = self.owner(number)?;
+        self.enter(alloc, Command::Cancel { site, number })
+    }
+
+    /// Removes a deploy that was published whole, in the site that has it. On an error nothing changes.
+    pub fn remove_deploy(&mut self, alloc: Global, number: u64) -> Result<Told, Refusal>
+        ensures done { Does result self.new (deploy_outcome self.old number (λ site. command.RemoveDeploy site number)) }
+        ensures memory { IsErrOf result Refusal.OutOfMemory → IsSome (Outcomes.site_of_deploy (entry_at self.old.entries number)) }
+        ensures err { OnErr result (self.new ≡ self.old) }
+        ensures grows { Grows self.old self.new }
+    {
+        let site = self.owner(number)?;
+        self.enter(alloc, Command::RemoveDeploy { site, number })
     }
 }

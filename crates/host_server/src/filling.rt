@@ -16,7 +16,7 @@ use std::alloc::Global;
 
 impl SoloHouse {
     /// The site of the deploy of a number, which is that of the entry that opened it.
-    fn site_of_deploy(&self, number: u64) -> Option<&SiteName>
+    pub(crate) fn site_of_deploy(&self, number: u64) -> Option<&SiteName>
         ensures { option_copied result ≡ Outcomes.site_of_deploy (entry_at self.now.entries number) }
     {
         match self.entry(number) {

@@ -1,7 +1,7 @@
 //! A host on one thread, with its history and its uploads in memory.
-ghost use Rattle.std.specs.Prelude.{◌≡◌, ◌≢◌, ◌≤◌, ◌⊎◌, Option, ℕ, [], Some, None, Ok, Err, IfOk, IfErr, OnOk, OnErr, option_copied};
+ghost use Rattle.std.specs.Prelude.{◌≡◌, ◌≢◌, ◌≤◌, ◌⊎◌, Option, ℕ, [], Some, None, Ok, Err, IfOk, IfErr, OnOk, OnErr, length, option_copied, option_map};
 ghost use Rattle.std.specs.FinMap as map;
-ghost use Rattle.change_undo.specs.Histories.{run, entry_at};
+ghost use Rattle.change_undo.specs.Histories.{run, entry_at, marked_entry};
 ghost use Rattle.change_undo.specs.declared.entries.Entry.TheVariants as entry;
 ghost use Rattle.host_server.specs.Answers.{Grows};
 ghost use Rattle.host_server.specs.Hosts.{Host, state_of, next_number, with_entry, with_upload, IsLawful};
@@ -75,6 +75,20 @@ impl SoloHouse {
         ensures { option_copied result ≡ entry_at self.now.entries number }
     {
         self.history.entry(number)
+    }
+
+    /// The number of entries.
+    pub(crate) fn len(&self) -> u64
+        ensures { result ≡ length self.now.entries }
+    {
+        self.history.len()
+    }
+
+    /// The entry of a number, from 1 on, and whether a later one undoes it.
+    pub(crate) fn marked_entry(&self, number: u64) -> Option<(&Entry, bool)>
+        ensures { option_map (λ found. (found.0.now, found.1)) result ≡ marked_entry self.now.entries number }
+    {
+        self.history.marked_entry(number)
     }
 
     /// What was uploaded.

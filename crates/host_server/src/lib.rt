@@ -13,6 +13,8 @@ mod fakes;
 #[cfg(test)]
 mod fault_tests;
 mod filling;
+#[cfg(test)]
+mod history_tests;
 mod houses;
 #[cfg(test)]
 mod reading_tests;
@@ -22,6 +24,9 @@ mod refusal_tests;
 mod replies;
 #[cfg(test)]
 mod run_tests;
+mod shown;
+#[cfg(test)]
+mod shown_tests;
 mod solo;
 #[cfg(test)]
 mod solo_tests;
@@ -29,6 +34,7 @@ mod solo_tests;
 mod talks;
 #[cfg(test)]
 mod upload_tests;
+mod versions;
 
 pub use answers::{Request, answer};
 pub use connections::{ConnectionFault, serve_connection};

@@ -27,6 +27,33 @@ POST /api/v1/deploys/1/files/a.txt hello
 DELETE /s/One/a//b
 + Allow: GET, HEAD
 405 Method Not Allowed {"error":"BadMethod"}
+POST /a/one/next/a.txt
++ Allow: GET, HEAD
+405 Method Not Allowed {"error":"BadMethod"}
+PUT /d/one/1/a.txt hello
++ Allow: GET, HEAD
+405 Method Not Allowed {"error":"BadMethod"}
+DELETE /api/v1/sites/one/deploys/1/restore
++ Allow: POST
+405 Method Not Allowed {"error":"BadMethod"}
+GET /api/v1/sites/one/aliases/next
++ Allow: PUT, DELETE
+405 Method Not Allowed {"error":"BadMethod"}
+PUT /api/v1/sites/one/rename {"from":"a","to":"b"}
++ Allow: POST
+405 Method Not Allowed {"error":"BadMethod"}
+GET /api/v1/sites/one/files/a.txt
++ Allow: DELETE
+405 Method Not Allowed {"error":"BadMethod"}
+POST /api/v1/sites/one/changes {}
++ Allow: GET, HEAD
+405 Method Not Allowed {"error":"BadMethod"}
+PUT /api/v1/deploys/1 {}
++ Allow: GET, HEAD, DELETE
+405 Method Not Allowed {"error":"BadMethod"}
+DELETE /api/v1/deploys/1/cancel
++ Allow: POST
+405 Method Not Allowed {"error":"BadMethod"}
 + Connection: close
 PUT /s/one/a.txt hello
 + Allow: GET, HEAD
@@ -72,6 +99,16 @@ PUT /api/v1/deploys/1/files/a%00 hello
 400 Bad Request {"error":"BadPath"}
 PUT /api/v1/deploys/1/files/ hello
 400 Bad Request {"error":"BadPath"}
+GET /a/one/Next/a.txt
+400 Bad Request {"error":"BadName"}
+GET /d/one/1/a#
+400 Bad Request {"error":"BadPath"}
+DELETE /api/v1/sites/one/files//
+400 Bad Request {"error":"BadPath"}
+DELETE /api/v1/sites/one/aliases/n%78
+400 Bad Request {"error":"BadName"}
+GET /api/v1/deploys/1/
+404 Not Found {"error":"NoRoute"}
 "#,
     )
 }
@@ -108,6 +145,14 @@ POST /api/v1/sites/one/undo {"change":true}
 400 Bad Request {"error":"BadBody"}
 POST /api/v1/sites/one/undo {"changes":1}
 400 Bad Request {"error":"BadBody"}
+PUT /api/v1/sites/one/aliases/next
+400 Bad Request {"error":"BadBody"}
+PUT /api/v1/sites/one/aliases/next {"deploy":[1]}
+400 Bad Request {"error":"BadBody"}
+POST /api/v1/sites/one/rename {"from":"a"}
+400 Bad Request {"error":"BadBody"}
+POST /api/v1/sites/one/rename {"from":"a","to":"b//c"}
+400 Bad Request {"error":"BadPath"}
 POST /api/v1/sites/one/deploys {"files":{}}
 200 OK {"id":"1","published":2,"required":[]}
 "#,

@@ -3,7 +3,7 @@ use Rattle.std.specs.List.{flat_map}
 use Rattle.hex.specs.Hex.{encode_lower}
 use Rattle.std.specs.String.{string_bytes}
 use Rattle.host_api.specs.Texts.{quoted}
-use Rattle.host_api.proofs.texts.push_others.Given as goal
+use Rattle.host_api.proofs.digest_texts.push_others.Given as goal
 
 abbrev pub invariant-loop-digest : goal.invariant-loop-digest
 invariant-loop-digest l =

@@ -1,0 +1,178 @@
+//! The list of the changes of a site, and its text.
+ghost use Rattle.std.specs.Prelude.{◌≡◌, ◌++◌, IfOk, OnOk, codes};
+ghost use Rattle.std.specs.List.{flat_map};
+ghost use Rattle.std.specs.String.{string_bytes};
+ghost use Rattle.host_api.specs.ChangeLines as spec;
+
+use site_change::Command;
+use std::alloc::{AllocError, Global};
+use std::marker::Model;
+
+/// What a change does.
+#[derive(Clone, Copy, Debug, PartialEq, Eq)]
+pub enum ChangeKind {
+    /// It opens a deploy.
+    Open,
+    /// It publishes a deploy.
+    Publish,
+    /// It gives an open deploy up.
+    Cancel,
+    /// It makes an alias stand for a deploy.
+    Alias,
+    /// It gives an alias up.
+    Unalias,
+    /// It serves the file of one path at another.
+    Rename,
+    /// It serves nothing at a path any more.
+    Remove,
+    /// It serves the files of a kept deploy again.
+    Restore,
+    /// It keeps a deploy no longer.
+    Delete,
+}
+
+impl ChangeKind {
+    /// What a command does.
+    pub fn of(command: &Command) -> ChangeKind
+        ensures { result ≡ spec.kind_of command.now }
+    {
+        match command {
+            Command::Open { .. } => ChangeKind::Open,
+            Command::Publish { .. } => ChangeKind::Publish,
+            Command::Cancel { .. } => ChangeKind::Cancel,
+            Command::Remove { .. } => ChangeKind::Remove,
+            Command::Rename { .. } => ChangeKind::Rename,
+            Command::MoveAlias { .. } => ChangeKind::Alias,
+            Command::RemoveAlias { .. } => ChangeKind::Unalias,
+            Command::Restore { .. } => ChangeKind::Restore,
+            Command::RemoveDeploy { .. } => ChangeKind::Delete,
+        }
+    }
+
+    /// The word that a list of changes has for it.
+    pub fn name(self) -> &'static str
+        ensures { result.now ≡ spec.kind_name self }
+    {
+        match self {
+            ChangeKind::Open => "open",
+            ChangeKind::Publish => "publish",
+            ChangeKind::Cancel => "cancel",
+            ChangeKind::Alias => "alias",
+            ChangeKind::Unalias => "unalias",
+            ChangeKind::Rename => "rename",
+            ChangeKind::Remove => "remove",
+            ChangeKind::Restore => "restore",
+            ChangeKind::Delete => "delete",
+        }
+    }
+}
+
+/// An entry, as the list of changes shows it.
+#[derive(Clone, Copy, Debug, PartialEq, Eq)]
+pub enum ChangeLine {
+    /// A change, which is live where no undo names it.
+    Change {
+        entry: u64,
+        kind: ChangeKind,
+        is_live: bool,
+    },
+    /// An undo of the change of that number.
+    Undo {
+        entry: u64,
+        of: u64,
+    },
+}
+
+/// Some entries of a site. Contracts see the list of them.
+#[derive(Drop)]
+pub struct ChangeLines {
+    lines: Vec<ChangeLine>,
+}
+
+impl Model for ChangeLines {
+    ghost use Rattle.std.specs.Prelude.{List};
+    ghost use Rattle.host_api.specs.declared.change_lines.ChangeLine.{ChangeLine};
+
+    ghost Value = { List ChangeLine };
+
+    ghost view = { λ l. l.lines.items };
+}
+
+impl ChangeLines {
+    /// The lines, in order.
+    pub fn as_slice(&self) -> &[ChangeLine]
+        ensures { result.now ≡ self.now }
+    {
+        self.lines.as_slice()
+    }
+}
+
+impl From<Vec<ChangeLine>> for ChangeLines {
+    ghost from_gives = { λ lines list. list ≡ lines.items };
+
+    fn from(lines: Vec<ChangeLine>) -> ChangeLines {
+        ChangeLines { lines }
+    }
+}
+
+// So many bytes hold what stands around the lines of a list.
+const ROOM: usize = 14;
+
+// So many bytes hold a line and a comma, whatever its numbers are.
+const LINE_ROOM: usize = 71;
+
+/// Appends a line.
+fn push_line(text: &mut String, line: &ChangeLine) -> Result<(), AllocError>
+    ensures { OnOk result (string_bytes text.new ≡ string_bytes text.old ++ spec.line_text line.now) }
+{
+    match *line {
+        ChangeLine::Change {
+            entry,
+            kind,
+            is_live,
+        } => {
+            let kind = kind.name();
+            write!(
+                text,
+                "{{\"entry\":{entry},\"kind\":\"{kind}\",\"live\":{is_live}}}"
+            )
+        }
+        ChangeLine::Undo { entry, of } => {
+            write!(text, "{{\"entry\":{entry},\"kind\":\"undo\",\"of\":{of}}}")
+        }
+    }
+}
+
+/// Appends lines, each behind a comma.
+fn push_others(text: &mut String, lines: &[ChangeLine]) -> Result<(), AllocError>
+    ensures { OnOk result (string_bytes text.new ≡ string_bytes text.old ++ flat_map (λ line. codes "," ++ spec.line_text line) lines.now) }
+{
+    for line in lines {
+        text.push_str(",")?;
+        push_line(text, line)?;
+    }
+    Ok(())
+}
+
+/// Appends lines, with a comma between each two.
+fn push_lines(text: &mut String, lines: &[ChangeLine]) -> Result<(), AllocError>
+    ensures { OnOk result (string_bytes text.new ≡ string_bytes text.old ++ spec.line_list lines.now) }
+{
+    let Some((first, others)) = lines.split_first() else {
+        return Ok(());
+    };
+    push_line(text, first)?;
+    push_others(text, others)
+}
+
+/// The text of a list of changes.
+pub(crate) fn list_text(alloc: Global, lines: &[ChangeLine]) -> Result<String, AllocError>
+    ensures { IfOk result (λ text. string_bytes text ≡ spec.list_text lines.now) }
+{
+    let room = lines.len().saturating_mul(LINE_ROOM).saturating_add(ROOM);
+    let mut text = String::with_capacity(alloc, room)?;
+    text.push_str("{\"changes\":[")?;
+    push_lines(&mut text, lines)?;
+    text.push_str("]}")?;
+    Ok(text)
+}
