@@ -20,7 +20,7 @@ fn read_words(
 }
 
 /// What a route that has a site and no file asks for, in words.
-fn site_words(alloc: Global, route: Route) -> Result<String, AllocError> {
+fn site_words(alloc: Global, route: &Route) -> Result<String, AllocError> {
     match route {
         Route::Open { site } => format!(in alloc; "open {site}"),
         Route::Restore { site, deploy } => format!(in alloc; "restore {site} {deploy}"),
@@ -48,7 +48,7 @@ fn words(alloc: Global, method: &str, target: &str) -> Result<String, AllocError
         Ok(Route::RemoveDeploy { deploy }) => format!(in alloc; "delete {deploy}"),
         Ok(Route::Cancel { deploy }) => format!(in alloc; "cancel {deploy}"),
         Ok(Route::Upload { deploy, path }) => format!(in alloc; "upload {deploy} {path}"),
-        Ok(route) => site_words(alloc, route),
+        Ok(route) => site_words(alloc, &route),
         Err(refusal) => String::from_str(alloc, refusal.name()),
     }
 }
