@@ -30,7 +30,7 @@ entry_at entries k = if k == 0 then None else slice_get entries (k - 1)
 abbrev pub marked : List ℕ → ℕ → Entry → Entry × Bool
 marked gone k entry = (entry, is_among gone k)
 
--- the entry of this number, and whether a later one undoes it
+-- the entry of this number, and whether an undo names it
 abbrev pub marked_entry : List Entry → ℕ → Option (Entry × Bool)
 marked_entry entries k = option_map (marked (undone entries) k) (entry_at entries k)
 

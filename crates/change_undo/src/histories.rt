@@ -93,7 +93,7 @@ impl History {
         Some(&self.logged[number as usize - 1].entry)
     }
 
-    /// The entry of a number, from 1 on, and whether a later one undoes it.
+    /// The entry of a number, from 1 on, and whether an undo names it.
     pub fn marked_entry(&self, number: u64) -> Option<(&Entry, bool)>
         ensures { option_map (λ found. (found.0.now, found.1)) result
             ≡ Histories.marked_entry self.now.entries number }

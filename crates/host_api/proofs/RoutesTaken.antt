@@ -12,7 +12,7 @@ use Rattle.host_api.specs.declared.refusals.Refusal.TheVariants.{BadName, BadPat
 use Rattle.host_api.specs.declared.resources.Resource.TheVariants as resource
 use Rattle.host_api.specs.declared.routes.Route.{Route}
 use Rattle.host_api.specs.declared.routes.Route.TheVariants as route
-use Rattle.host_api.specs.declared.routes.Version.TheVariants as version
+use Rattle.host_api.specs.declared.versions.Version.TheVariants as version
 
 -- a path that was to be read, whether it is one or not
 file_takes : (text : List ℕ) (make : List ℕ → Route) (path : Option (List ℕ)) → has_hash text ≡ false

@@ -161,7 +161,7 @@ text_at name body = option_and_then text_in (option_and_then (get_member name) (
 abbrev pub path_in : List ℕ → Result (List ℕ) Refusal
 path_in text = if is_path (with_slash text) then Ok (with_slash text) else Err BadPath
 
--- both members are texts, and both texts are paths
+-- the renaming from one path to the other, where both members are texts and both texts are paths
 abbrev pub rename_with : SiteName → Option (List ℕ) → Option (List ℕ) → Result Ask Refusal
 rename_with site (Some source) (Some target) =
     then_with (path_in source) (λ from. then_with (path_in target) (λ to. Ok (ask.Command (command.Rename site from to))))

@@ -11,7 +11,7 @@ use Rattle.host_api.specs.declared.resources.Resource.{Resource}
 use Rattle.host_api.specs.declared.resources.Resource.TheVariants as resource
 use Rattle.host_api.specs.declared.routes.Route.{Route}
 use Rattle.host_api.specs.declared.routes.Route.TheVariants as route
-use Rattle.host_api.specs.declared.routes.Version.TheVariants as version
+use Rattle.host_api.specs.declared.versions.Version.TheVariants as version
 use Rattle.host_api.specs.declared.refusals.Refusal.{Refusal}
 use Rattle.host_api.specs.declared.refusals.Refusal.TheVariants.{NoRoute, BadMethod, BadName, BadPath}
 

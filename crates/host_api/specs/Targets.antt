@@ -30,7 +30,7 @@ pub data Part : Type 0 where
   alias : Part
   number : Part
 
--- what a target has in the places that its pattern leaves open; the rest begins with a slash
+-- what a target has in the places that its pattern leaves open; a rest that is there begins with a slash
 pub record Bindings : Type 0 where
   pub site_text : List ℕ
   pub alias_text : List ℕ
@@ -80,7 +80,7 @@ ends_with_slash [] = false
 ends_with_slash (b ∷ []) = b == byte "/"
 ends_with_slash (b ∷ c ∷ text) = ends_with_slash (c ∷ text)
 
--- a path that ends in a slash stands for the page of that name in it
+-- a path that ends in a slash stands for the page index.html in it
 abbrev pub with_index : List ℕ → List ℕ
 with_index text = if ends_with_slash text then text ++ codes "index.html" else text
 

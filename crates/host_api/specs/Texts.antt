@@ -20,7 +20,7 @@ use Rattle.host_api.specs.declared.texts.Told.TheVariants.{Opened, Uploaded, Ent
 abbrev pub quoted : List ℕ → List ℕ
 quoted text = codes "\"" ++ text ++ codes "\""
 
--- a number, or nothing
+-- a number, or `null`
 abbrev pub number_or_null : Option ℕ → List ℕ
 number_or_null None = codes "null"
 number_or_null (Some n) = decimal n

@@ -25,7 +25,7 @@ pub enum ChangeKind {
     Rename,
     /// It serves nothing at a path any more.
     Remove,
-    /// It serves the files of a kept deploy again.
+    /// It serves the files of a kept deploy again, or publishes an open one.
     Restore,
     /// It keeps a deploy no longer.
     Delete,

@@ -25,12 +25,14 @@ mod texts;
 #[cfg(test)]
 mod told_tests;
 mod types;
+mod versions;
 
 pub use bodies::{Ask, ask_of};
 pub use change_lines::{ChangeKind, ChangeLine, ChangeLines};
 pub use limits::body_limit;
 pub use refusals::Refusal;
 pub use resources::Resource;
-pub use routes::{Route, Version, route_of};
+pub use routes::{Route, route_of};
 pub use texts::{DeployState, Digests, Told, text};
 pub use types::content_type;
+pub use versions::Version;

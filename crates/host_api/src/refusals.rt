@@ -11,7 +11,7 @@ pub enum Refusal {
     NoSuchDraft,
     /// A file of the deploy was not uploaded; of several the one of the least digest is named.
     NotComplete(Digest),
-    /// There is no deploy of that number.
+    /// There is no deploy of that number, open or kept, as it is needed.
     NoSuchDeploy,
     /// There is no file at that path.
     NoSuchFile,
@@ -36,7 +36,7 @@ pub enum Refusal {
     /// A later change that was not undone reads or writes what the change changed: the first such change, and its first
     /// such cell.
     Clash { change: u64, cell: Cell },
-    /// The text is no name of a site.
+    /// The text is no name of a site or an alias.
     BadName,
     /// The text is no path.
     BadPath,
@@ -44,7 +44,7 @@ pub enum Refusal {
     BadDigest,
     /// The body is not what the route takes.
     BadBody,
-    /// The deploy does not list the path.
+    /// The deploy does not list the path, or removes its file.
     NotListed,
     /// The deploy lists another digest at the path.
     WrongDigest,

@@ -10,20 +10,10 @@ use crate::refusals::Refusal;
 use crate::resources::Resource;
 use crate::table::find;
 use crate::target_paths::{read_path, written_path};
-use crate::targets::{Bindings, path_of};
+use crate::targets::{Bindings, has_hash, path_of};
+use crate::versions::Version;
 use host_names::{AliasName, FilePath, SiteName};
 use std::alloc::Global;
-
-/// Which version of a site is read.
-#[derive(Drop)]
-pub enum Version {
-    /// The one that the site serves now.
-    Live,
-    /// The deploy that the alias stands for.
-    Alias(AliasName),
-    /// The deploy of this number, which was published whole; 0, which names nothing, where the target writes none.
-    Kept(u64),
-}
 
 /// The route of a request, with what its target says. A number of a deploy is 0, which names nothing, where the target
 /// writes none.
@@ -88,13 +78,6 @@ pub enum Route {
         deploy: u64,
         path: FilePath,
     },
-}
-
-// Whether a `#` stands in the path, which then is none.
-fn has_hash(path: &str) -> bool
-    ensures { result ≡ targets.has_hash path.now }
-{
-    path.as_bytes().contains(&b'#')
 }
 
 // The site of a name, where it is one and no `#` stands in the path that names it.

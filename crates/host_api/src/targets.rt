@@ -45,6 +45,13 @@ pub fn path_of(target: &str) -> &str
     cut_at(target, '?').0
 }
 
+/// Whether a `#` stands in the path, which then is none.
+pub fn has_hash(path: &str) -> bool
+    ensures { result ≡ spec.has_hash path.now }
+{
+    path.as_bytes().contains(&b'#')
+}
+
 // The segment behind the slash that the text begins with, and what follows it.
 fn take_segment(text: &str) -> Option<(&str, &str)>
     ensures { option_map (λ s. (s.0.now, s.1.now)) result ≡ next_segment text.now }

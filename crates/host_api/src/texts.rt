@@ -107,7 +107,7 @@ pub enum Told {
     Refused(Refusal),
 }
 
-// So many bytes hold what a text says beside its list of digests.
+// So many bytes hold what a text says beside its list of digests, but for the path of a clash.
 const ROOM: usize = 132;
 
 // So many bytes hold a digest of a list: its digits, the quotes and a comma.

@@ -1,5 +1,5 @@
 -- What a host tells of a change, an undo or an upload, and what it has then.
-use Rattle.std.specs.Prelude.{◌≡◌, ◌⊎◌, ℕ, List, [], Bool, false, ◌&&◌, Option, Some, None, Result, Ok, Err, is_none, option_map, if◌then◌else◌}
+use Rattle.std.specs.Prelude.{◌≡◌, ◌⊎◌, ℕ, List, [], Bool, true, false, ◌&&◌, Option, Some, None, Result, Ok, Err, is_none, option_map, if◌then◌else◌}
 use Rattle.std.specs.Option.{option_flatten}
 use Rattle.host_names.specs.Blobs.{Contents, digest_of}
 use Rattle.host_names.specs.declared.digests.Digest.{Digest}
@@ -180,6 +180,14 @@ UploadMayLeave host n path bytes next =
     ⊎ (next ≡ (upload_outcome host n path bytes).host)
 
 -- ---- answers of calls
+
+abbrev pub is_refusal : Told → Bool
+is_refusal (Refused reason) = true
+is_refusal told = false
+
+abbrev pub is_opening : Command → Bool
+is_opening (Open site files auto) = true
+is_opening command = false
 
 -- what is told where a call answers so
 abbrev pub told_by : Result Told Refusal → Told

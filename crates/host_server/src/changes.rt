@@ -1,5 +1,5 @@
 //! What a host tells of changes and undos.
-ghost use Rattle.std.specs.Prelude.{◌≡◌, ◌⊎◌, true, Some, None, IsSome, OnErr, IfOk, IfErr, Err, IsErrOf};
+ghost use Rattle.std.specs.Prelude.{◌≡◌, ◌⊎◌, true, false, Some, None, IsSome, OnErr, IfOk, IfErr, Err, IsErrOf};
 ghost use Rattle.site_change.specs.declared.commands.Command.TheVariants as command;
 ghost use Rattle.change_undo.specs.Histories.{entry_at};
 ghost use Rattle.change_undo.specs.declared.entries.Entry.TheVariants as entry;
@@ -56,6 +56,7 @@ impl SoloHouse {
         auto: bool,
     ) -> Result<Told, Refusal>
         ensures done { DoesCommit result self.new self.old (command.Open site files auto) }
+        ensures told { IfOk result (λ told. Outcomes.is_refusal told ≡ false) }
         ensures stands { let opening = command.Open site files auto in
             OnErr result ((self.new ≡ self.old) ⊎ (self.new ≡ entered self.old opening (commit_refusal self.old opening))) }
         ensures grows { Grows self.old self.new }
@@ -76,6 +77,8 @@ impl SoloHouse {
     /// Commits a command, and tells its entry's number. On an error nothing changes.
     fn enter(&mut self, alloc: Global, command: Command) -> Result<Told, Refusal>
         ensures done { Does result self.new (enter_outcome self.old command (commit_refusal self.old command)) }
+        ensures told { IfOk result (λ told. Outcomes.is_refusal told ≡ false) }
+        ensures memory { IsErrOf result Refusal.OutOfMemory → commit_refusal self.old command ≡ None }
         ensures err { OnErr result (self.new ≡ self.old) }
         ensures grows { Grows self.old self.new }
     {
@@ -83,10 +86,12 @@ impl SoloHouse {
         Ok(Told::Entered { number })
     }
 
-    /// Commits a command, and publishes a deploy that it leaves ready. Where that fails for want of memory, the
-    /// command may stand.
+    /// Commits a command, and publishes a deploy that it leaves ready. Where that publishing fails, for want of memory or
+    /// because the history is full, the command stands.
     pub fn change(&mut self, alloc: Global, command: Command) -> Result<Told, Refusal>
         ensures done { DoesCommit result self.new self.old command }
+        ensures told { IfOk result (λ told. Outcomes.is_refusal told ≡ false) }
+        ensures memory { IsErrOf result Refusal.OutOfMemory → Outcomes.is_opening command ≡ false → commit_refusal self.old command ≡ None }
         ensures stands { OnErr result ((self.new ≡ self.old) ⊎ (self.new ≡ entered self.old command (commit_refusal self.old command))) }
         ensures grows { Grows self.old self.new }
     {
@@ -104,6 +109,7 @@ impl SoloHouse {
         change: u64,
     ) -> Result<Told, Refusal>
         ensures done { Does result self.new (undone self.old site.now change (Reasons.undo_refusal self.old site.now change)) }
+        ensures told { IfOk result (λ told. Outcomes.is_refusal told ≡ false) }
         ensures memory { IsErrOf result Refusal.OutOfMemory → may_take_memory (Reasons.undo_refusal self.old site.now change) ≡ true }
         ensures err { OnErr result (self.new ≡ self.old) }
         ensures grows { Grows self.old self.new }
@@ -127,6 +133,7 @@ impl SoloHouse {
     /// Gives an open deploy up, in the site that has it. On an error nothing changes.
     pub fn cancel(&mut self, alloc: Global, number: u64) -> Result<Told, Refusal>
         ensures done { Does result self.new (deploy_outcome self.old number (λ site. command.Cancel site number)) }
+        ensures told { IfOk result (λ told. Outcomes.is_refusal told ≡ false) }
         ensures memory { IsErrOf result Refusal.OutOfMemory → IsSome (Outcomes.site_of_deploy (entry_at self.old.entries number)) }
         ensures err { OnErr result (self.new ≡ self.old) }
         ensures grows { Grows self.old self.new }
@@ -138,6 +145,7 @@ impl SoloHouse {
     /// Removes a deploy that was published whole, in the site that has it. On an error nothing changes.
     pub fn remove_deploy(&mut self, alloc: Global, number: u64) -> Result<Told, Refusal>
         ensures done { Does result self.new (deploy_outcome self.old number (λ site. command.RemoveDeploy site number)) }
+        ensures told { IfOk result (λ told. Outcomes.is_refusal told ≡ false) }
         ensures memory { IsErrOf result Refusal.OutOfMemory → IsSome (Outcomes.site_of_deploy (entry_at self.old.entries number)) }
         ensures err { OnErr result (self.new ≡ self.old) }
         ensures grows { Grows self.old self.new }

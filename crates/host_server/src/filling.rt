@@ -1,5 +1,5 @@
 //! Uploads to deploys.
-ghost use Rattle.std.specs.Prelude.{◌≡◌, ◌⊎◌, Ok, Err, OnErr, IfOk, IfErr, IsOk, IsErrOf, option_copied};
+ghost use Rattle.std.specs.Prelude.{◌≡◌, ◌⊎◌, false, Ok, Err, OnErr, IfOk, IfErr, IsOk, IsErrOf, option_copied};
 ghost use Rattle.change_undo.specs.Histories.{entry_at};
 ghost use Rattle.host_server.specs.Answers.{Grows};
 ghost use Rattle.host_server.specs.Hosts.{state_of, with_upload};
@@ -75,6 +75,7 @@ impl SoloHouse {
         bytes: Vec<u8>,
     ) -> Result<Told, Refusal>
         ensures done { Does result self.new (upload_outcome self.old number path.now bytes.items) }
+        ensures told { IfOk result (λ told. Outcomes.is_refusal told ≡ false) }
         ensures memory { IsErrOf result Refusal.OutOfMemory → IsOk (Outcomes.judge_upload self.old number path.now bytes.items) }
         ensures stands { OnErr result ((self.new ≡ self.old)
             ⊎ (self.new ≡ kept self.old bytes.items (Outcomes.judge_upload self.old number path.now bytes.items))) }

@@ -84,7 +84,7 @@ impl SoloHouse {
         self.history.len()
     }
 
-    /// The entry of a number, from 1 on, and whether a later one undoes it.
+    /// The entry of a number, from 1 on, and whether an undo names it.
     pub(crate) fn marked_entry(&self, number: u64) -> Option<(&Entry, bool)>
         ensures { option_map (λ found. (found.0.now, found.1)) result ≡ marked_entry self.now.entries number }
     {

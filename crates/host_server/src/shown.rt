@@ -1,7 +1,7 @@
 //! What a host shows of its deploys and its changes.
-ghost use Rattle.std.specs.Prelude.{◌≡◌, ◌⊎◌, true, IfOk, Err, IsErrOf};
+ghost use Rattle.std.specs.Prelude.{◌≡◌, ◌⊎◌, true, false, IfOk, Err, IsErrOf};
 ghost use Rattle.host_server.specs.Hosts.{state_of};
-ghost use Rattle.host_server.specs.Outcomes.{told_by};
+ghost use Rattle.host_server.specs.Outcomes.{is_refusal, told_by};
 ghost use Rattle.host_server.specs.Shown as spec;
 ghost use Rattle.site_state.specs.States.{draft_at, kept_at};
 
@@ -41,6 +41,7 @@ impl SoloHouse {
     /// Tells how a deploy stands.
     pub fn deploy(&self, alloc: Global, number: u64) -> Result<Told, Refusal>
         ensures shown { (result ≡ Err Refusal.OutOfMemory) ⊎ spec.ShowsDeploy self.now number (told_by result) }
+        ensures told { IfOk result (λ told. is_refusal told ≡ false) }
         ensures memory { IsErrOf result Refusal.OutOfMemory → spec.is_shown self.now number ≡ true }
     {
         let Some(site) = self.site_of_deploy(number) else {
