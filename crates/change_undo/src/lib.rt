@@ -11,6 +11,8 @@ mod clashes;
 mod compared;
 mod entries;
 mod founds;
+#[cfg(test)]
+mod growth_tests;
 mod histories;
 #[cfg(test)]
 mod history_tests;
