@@ -79,6 +79,24 @@ class Gate(unittest.TestCase):
         self.sandbox.calls()
         self.assertEqual(self.launch(), ["low", "filehost"])
 
+    def test_says_first_what_it_will_do_and_then_how_long_each_part_took(self):
+        self.sandbox.add_crates("low:\nfilehost: low\n")
+        self.sandbox.write("crates/low/src/lib.rt", "first\nsecond\n")
+        self.sandbox.write("crates/low/must-fail/wrong.edit")
+        environment = {"CI_SAYS": "1 passed, 0 failed\n", "CI_STATUS": "0", "RUN_SAYS": "1 passed, 0 failed", "RUN_STATUS": "0"}
+        _, _, err = self.sandbox.run(str(self.sandbox.top / "test"), **environment)
+        lines = err.splitlines()
+        self.assertIn("rt ci proves 2 lines, with their tests, and tries 1 must-fail edits", lines[0])
+        self.assertIn("tests/run", lines[1])
+        self.assertEqual(lines[2:], ["test: rt ci took 0 minutes", "test: python3 tests/run took 0 minutes"])
+
+    def test_builds_the_program_for_the_tests_where_the_gate_left_none(self):
+        self.sandbox.add_crates("low:\nfilehost: low\n")
+        answer = self.gate(ci="1 passed, 1 failed", ci_status=1, NO_PROGRAM="yes")
+        self.assert_ends(answer, 1, "3 passed, 1 failed")
+        calls = [call.partition(" --jobs ")[0] for call in self.sandbox.calls()]
+        self.assertEqual(calls, ["repository: ci", "low: lib", "filehost: run -- --version"])
+
     def test_says_that_the_toolchain_is_missing(self):
         self.assert_ends(self.gate(has_toolchain=False), 1, "0 passed, 1 failed")
 

@@ -17,6 +17,8 @@ low: sha1
 middle: low
 """
 IN_ORDER = ["low: lib", "middle: lib", "upper: lib", "filehost: run -- --version"]
+# Two crates that don't stand on each other, and one that stands on both.
+SIDE_BY_SIDE = "filehost: upper\nupper: left right\nleft: low\nright: low\nlow:\n"
 OWN_STATUS = 7
 
 
@@ -28,6 +30,10 @@ class Launcher(unittest.TestCase):
 
     def call(self, *words, **how):
         return self.sandbox.run(self.launcher, *words, **how)
+
+    def calls(self):
+        """The calls of rt since this was last asked, without the number of its jobs."""
+        return [call.partition(" --jobs ")[0] for call in self.sandbox.calls()]
 
     def add_built_program(self):
         self.sandbox.add_crates(CRATES)
@@ -61,15 +67,36 @@ class Launcher(unittest.TestCase):
     def test_proves_what_the_program_stands_on_lowest_first(self):
         self.sandbox.add_crates(CRATES)
         self.call()
-        self.assertEqual(self.sandbox.calls(), IN_ORDER)
+        self.assertEqual(self.calls(), IN_ORDER)
+
+    def test_proves_crates_that_do_not_stand_on_each_other_side_by_side(self):
+        self.sandbox.add_crates(SIDE_BY_SIDE)
+        self.assertEqual(self.call(SECONDS_A_CRATE="0.5")[0], OWN_STATUS)
+        calls = self.calls()
+        self.assertEqual((calls[0], sorted(calls[1:3]), calls[3:]), ("low: lib", ["left: lib", "right: lib"], IN_ORDER[2:]))
+        beside = set((self.sandbox.folder / "calls.beside").read_text().splitlines())
+        self.assertTrue(beside and beside <= {"left beside right", "right beside left"}, beside)
 
     def test_shows_on_standard_error_how_far_a_build_is(self):
         self.sandbox.add_crates(CRATES)
         _, out, err = self.call()
         self.assertNotIn("proving", out)
         progress = [line for line in err.splitlines() if line.startswith("[")]
-        crates = ["low (3 left)", "middle (2 left)", "upper (1 left)", "filehost (0 left)"]
-        self.assertEqual(progress, [f"[{place}/4] proving {crate}" for place, crate in enumerate(crates, 1)])
+        crates = ["low", "middle", "upper", "filehost"]
+        self.assertEqual(progress, [f"[{place}/4] proving {crate}" for place, crate in enumerate(crates)])
+
+    def test_shows_how_many_functions_of_a_crate_are_done(self):
+        self.sandbox.add_crates("filehost: low\nlow:\n")
+        _, _, err = self.call(SECONDS_A_CRATE="1.5", SECONDS_TO_PROGRESS="0.2")
+        self.assertIn("[0/2] low 3 of 8 functions", err.splitlines())
+
+    def test_stops_the_other_proofs_where_one_fails(self):
+        self.sandbox.add_crates(SIDE_BY_SIDE)
+        self.sandbox.write("crates/left/src/broken")
+        began = time.monotonic()
+        _, _, err = self.call(SECONDS_OF_right="50")
+        self.assertIn("the build failed at left", err.splitlines()[-1])
+        self.assertLess(time.monotonic() - began, 20)
 
     def test_gives_the_program_its_arguments_input_and_status(self):
         self.sandbox.add_crates(CRATES)
@@ -94,7 +121,7 @@ class Launcher(unittest.TestCase):
         self.launcher = "./serve"
         status, out, _ = self.call("solo", at=elsewhere)
         self.assertEqual((status, out), (OWN_STATUS, f"<solo> in {elsewhere}\n"))
-        self.assertEqual(self.sandbox.calls(), IN_ORDER)
+        self.assertEqual(self.calls(), IN_ORDER)
 
     def test_builds_again_where_a_source_is_newer(self):
         self.sandbox.add_crates(CRATES)
@@ -104,7 +131,7 @@ class Launcher(unittest.TestCase):
                 self.add_built_program()
                 self.sandbox.write(path, CRATES if path == "crates.txt" else "second")
                 self.assertEqual(self.call()[0], OWN_STATUS)
-                self.assertEqual(self.sandbox.calls(), IN_ORDER)
+                self.assertEqual(self.calls(), IN_ORDER)
 
     def test_builds_again_where_a_source_was_removed(self):
         self.sandbox.add_crates(CRATES)
@@ -112,11 +139,11 @@ class Launcher(unittest.TestCase):
         self.add_built_program()
         source.unlink()
         self.assertEqual(self.call()[0], OWN_STATUS)
-        self.assertEqual(self.sandbox.calls(), IN_ORDER)
+        self.assertEqual(self.calls(), IN_ORDER)
 
     def test_builds_nothing_where_other_files_are_newer(self):
         self.add_built_program()
-        for path in ("README.md", "docs/PROOFS.md", "crates/low/must-fail/wrong.edit"):
+        for path in ("README.md", "docs/PROOFS.md", "crates/low/must-fail/wrong.edit", "crates/other/src/lib.rt"):
             self.sandbox.write(path)
         self.call()
         self.assertEqual(self.sandbox.calls(), [])
@@ -128,12 +155,12 @@ class Launcher(unittest.TestCase):
         self.call(EDIT_MEANWHILE=str(edited), SECONDS_A_CRATE="0.1")
         self.sandbox.calls()
         self.call()
-        self.assertEqual(self.sandbox.calls(), IN_ORDER)
+        self.assertEqual(self.calls(), IN_ORDER)
 
     def test_says_where_a_build_failed_and_runs_no_older_program(self):
-        log = self.sandbox.top / "crates/filehost/out/build.log"
         for crate in ("low", "filehost"):
             with self.subTest(crate):
+                log = self.sandbox.top / f"crates/{crate}/out/build.log"
                 self.add_built_program()
                 broken = self.sandbox.write(f"crates/{crate}/src/broken")
                 for what in ("the first call", "the next call"):
@@ -146,7 +173,7 @@ class Launcher(unittest.TestCase):
 
     def test_builds_again_after_a_build_that_was_cut_off(self):
         program = self.sandbox.top / "crates/filehost/out/filehost"
-        busy = self.sandbox.folder / "calls.busy"
+        busy = self.sandbox.folder / "calls.busy.low"
         for moment, cut_at, why in (
             ("in its first crate", busy, {"SECONDS_A_CRATE": "60"}),
             ("with the program made", program, {"SECONDS_AFTER_BUILD": "60"}),
@@ -159,7 +186,7 @@ class Launcher(unittest.TestCase):
                     busy.rmdir()
                 self.sandbox.calls()
                 self.assertEqual(self.call()[0], OWN_STATUS)
-                self.assertEqual(self.sandbox.calls(), IN_ORDER)
+                self.assertEqual(self.calls(), IN_ORDER)
 
     def cut_off(self, file, why):
         """Starts a build, and kills it with all that it started as soon as the file is there."""
@@ -185,7 +212,7 @@ class Launcher(unittest.TestCase):
         said = [caller.communicate(timeout=60) for caller in callers]
         self.assertEqual([caller.returncode for caller in callers], [OWN_STATUS] * 2)
         self.assertEqual([out.startswith(b"<solo> in ") for out, _ in said], [True] * 2)
-        self.assertEqual(self.sandbox.calls(), IN_ORDER)
+        self.assertEqual(self.calls(), IN_ORDER)
         self.assertEqual(sum(b"another call is building" in err for _, err in said), 1)
 
 

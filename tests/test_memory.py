@@ -9,10 +9,8 @@ import subprocess
 import tempfile
 import unittest
 
-import test_program
-from test_program import EXAMPLES, PROGRAM, SECONDS, content_length, cut_after, told
+from client import EXAMPLES, HERE, PROGRAM, SECONDS, Program, content_length, cut_after, told
 
-HERE = pathlib.Path(__file__).resolve().parent
 SOURCE = HERE / "refuse_allocation.c"
 NO_MEMORY = b"filehost: out of memory\n"
 
@@ -59,7 +57,7 @@ def is_right(replies):
     return replies[place + 1:] in TAILS[place]
 
 
-class RefusedAllocations(test_program.Program):
+class RefusedAllocations(Program):
     def setUp(self):
         super().setUp()
         folder = tempfile.TemporaryDirectory()

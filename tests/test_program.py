@@ -12,76 +12,12 @@ import sys
 import tempfile
 import unittest
 
-HERE = pathlib.Path(__file__).resolve().parent
-TOP = HERE.parent
-CRATE = TOP / "crates/filehost"
-PROGRAM = CRATE / "out/filehost"
-EXAMPLES = TOP / "examples"
+from client import (
+    CRATE, EXAMPLES, HELLO, HERE, LARGEST_FILE, PROGRAM, REQUESTS, SECONDS, Program, content_length, cut_after, messages,
+    opening, reply, request, run, told,
+)
 
-REQUESTS = 100
-LARGEST_FILE = 16_777_216
-HELLO = hashlib.sha1(b"hello").hexdigest()
 OUTPUT_FAULT = b"filehost: output fault\n"
-SECONDS = 60
-
-
-def run(*words, given=b"", **how):
-    """Runs the program to its end, and returns its status, its output and what it wrote on standard error."""
-    how = {"stdout": subprocess.PIPE, "stderr": subprocess.PIPE, "timeout": SECONDS, **how}
-    ran = subprocess.run([PROGRAM, *words], input=given, **how)
-    return ran.returncode, ran.stdout, ran.stderr
-
-
-def request(method, target, *fields, body=None):
-    """A request, as bytes."""
-    lengths = [] if body is None else [f"Content-Length: {len(body)}"]
-    return "\r\n".join([f"{method} {target} HTTP/1.1", *fields, *lengths, "", ""]).encode() + (body or b"")
-
-
-def reply(status, kind, body, *fields):
-    """A reply, as bytes; the fields are those behind Content-Length."""
-    head = [f"HTTP/1.1 {status}", f"Content-Type: {kind}", f"Content-Length: {len(body)}", *fields, "", ""]
-    return "\r\n".join(head).encode() + body
-
-
-def told(status, value, *fields):
-    """A reply in JSON: compact, its members in the order of their bytes."""
-    return reply(status, "application/json", json.dumps(value, separators=(",", ":"), sort_keys=True).encode(), *fields)
-
-
-def opening(files):
-    """The request that opens a deploy of these files, given by their digests, for the site `one`."""
-    return request("POST", "/api/v1/sites/one/deploys", body=json.dumps({"files": files}).encode())
-
-
-def cut_after(stream, length_of):
-    """The places in a stream of messages where each ends; a head's field tells the length of what is behind it."""
-    ends = [0]
-    while ends[-1] < len(stream):
-        end = stream.index(b"\r\n\r\n", ends[-1]) + 4
-        ends.append(end + length_of(stream[ends[-1]:end]))
-    return ends[1:]
-
-
-def messages(stream):
-    """The messages of a stream: of each its first line in words, and its body."""
-    ends = cut_after(stream, content_length)
-    parts = [stream[start:end].partition(b"\r\n\r\n") for start, end in zip([0, *ends], ends)]
-    return [(head.splitlines()[0].decode().split(" "), body.decode()) for head, _, body in parts]
-
-
-def content_length(head):
-    fields = dict(line.split(b": ", 1) for line in head.splitlines()[1:-1])
-    return int(fields.get(b"Content-Length", 0))
-
-
-class Program(unittest.TestCase):
-    def setUp(self):
-        self.assertTrue(PROGRAM.is_file(), "there is no program to test: ./filehost builds it")
-
-    def assert_answers(self, given, wanted, message=None):
-        """It answers these requests with exactly these replies, and ends well."""
-        self.assertEqual(run("solo", given=given), (0, wanted, b""), message)
 
 
 class FirstRun(Program):
@@ -187,6 +123,16 @@ class TwoVersions(Program):
     wanted = (EXAMPLES / "two-versions.replies").read_bytes()
 
     def test_are_switched_and_taken_back_byte_for_byte(self):
+        self.assert_answers(self.given, self.wanted)
+
+
+class TakeBack(Program):
+    """The requests of examples/take-back.http, which README.md shows."""
+
+    given = (EXAMPLES / "take-back.http").read_bytes()
+    wanted = (EXAMPLES / "take-back.replies").read_bytes()
+
+    def test_undoes_a_renaming_and_keeps_a_later_page_byte_for_byte(self):
         self.assert_answers(self.given, self.wanted)
 
 

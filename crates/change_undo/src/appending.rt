@@ -1,5 +1,5 @@
 //! One change more.
-ghost use Rattle.std.specs.Prelude.{◌≡◌, ◌↔◌, ◌+◌, [], ◌∷◌, ◌++◌, length, false, Some, None, Err, OnOk, OnErr};
+ghost use Rattle.std.specs.Prelude.{◌≡◌, ◌↔◌, ◌<◌, [], ◌∷◌, ◌++◌, false, Some, None, Err, IfOk, OnOk, OnErr, vec_len, vec_capacity};
 ghost use Rattle.site_change.specs.Changes.{IsWithin, applied, publish_refusal, refusal};
 ghost use Rattle.site_state.specs.States.{draft_at};
 ghost use Rattle.site_change.specs.declared.commands.Refusal.{Refusal as Reason};
@@ -12,7 +12,7 @@ use crate::founds::keep_all;
 use crate::logged::Logged;
 use crate::steps::{Decision, decided};
 use host_names::{MemoryUploads, SiteName, Uploads};
-use site_change::{Command, DecideError};
+use site_change::{Command, DecideError, Plan};
 use site_state::State;
 use std::alloc::{AllocError, Global};
 
@@ -65,6 +65,43 @@ fn keep_found<U: Uploads>(
     }
 }
 
+/// Carries out a command that is accepted, and makes room for its entry. Answers its plan. Where it is refused nothing
+/// changes; without memory the entries and the state stay.
+fn apply_command<U: Uploads>(
+    alloc: Global,
+    logged: &mut Vec<Logged>,
+    found: &mut MemoryUploads,
+    state: &mut State,
+    uploads: &U,
+    number: u64,
+    command: &Command,
+) -> Result<Plan, DecideError>
+    requires within { IsWithin found.old (U.contents uploads.now) }
+    ensures refused { (reason : Reason) → (result ≡ Err (DecideError.Refused reason))
+        ↔ (refusal command.now number state.old (U.contents uploads.now) ≡ Some reason) }
+    ensures plan { IfOk result (λ plan. IsPlanOf (U.contents uploads.now) state.old number command.now plan) }
+    ensures entries { logged.new.items ≡ logged.old.items }
+    ensures room { OnOk result (vec_len logged.new < vec_capacity logged.new) }
+    ensures effect { OnOk result (state.new ≡ applied command.now number state.old (U.contents uploads.now)) }
+    ensures accepted { OnOk result (refusal command.now number state.old found.new ≡ None) }
+    ensures err { OnErr result (state.new ≡ state.old) }
+    ensures unchanged { (reason : Reason) → result ≡ Err (DecideError.Refused reason) → found.new ≡ found.old }
+    ensures kept { IsWithin found.old found.new }
+    ensures within { IsWithin found.new (U.contents uploads.now) }
+{
+    let Decision { plan, writes } = match decided(alloc, state, uploads, number, command) {
+        Ok(decided) => decided,
+        Err(error) => return Err(error),
+    };
+    if keep_found(found, state, uploads, command).is_err() || logged.reserve(1).is_err() {
+        return Err(DecideError::OutOfMemory);
+    }
+    match state.set_cells(alloc, writes) {
+        Ok(()) => Ok(plan),
+        Err(_) => Err(DecideError::OutOfMemory),
+    }
+}
+
 /// Appends a command that is accepted, and carries it out. Where it is refused nothing changes; without memory the
 /// entries and the state stay.
 pub(crate) fn append<U: Uploads>(
@@ -87,15 +124,8 @@ pub(crate) fn append<U: Uploads>(
     ensures kept { IsWithin found.old found.new }
     ensures within { IsWithin found.new (U.contents uploads.now) }
 {
-    let Decision { plan, writes } = match decided(alloc, state, uploads, number, &command) {
-        Ok(decided) => decided,
-        Err(error) => return Err(error),
-    };
-    if keep_found(found, state, uploads, &command).is_err() || logged.reserve(1).is_err() {
-        return Err(DecideError::OutOfMemory);
-    }
-    match state.set_cells(alloc, writes) {
-        Ok(()) => {
+    match apply_command(alloc, logged, found, state, uploads, number, &command) {
+        Ok(plan) => {
             logged.push_reserved(Logged {
                 entry: Entry::Change(command),
                 is_undone: false,
@@ -103,6 +133,6 @@ pub(crate) fn append<U: Uploads>(
             });
             Ok(())
         }
-        Err(_) => Err(DecideError::OutOfMemory),
+        Err(error) => Err(error),
     }
 }

@@ -2,32 +2,14 @@
 #![tactic(auto)]
 
 mod appending;
-#[cfg(test)]
-mod clash_model;
-#[cfg(test)]
-mod clash_tests;
 mod clashes;
-#[cfg(test)]
-mod compared;
 mod entries;
 mod founds;
-#[cfg(test)]
-mod growth_tests;
 mod histories;
-#[cfg(test)]
-mod history_tests;
-#[cfg(test)]
-mod hosts;
 mod laws;
 mod logged;
-#[cfg(test)]
-mod model;
-#[cfg(test)]
-mod model_tests;
 mod steps;
 mod undoing;
-#[cfg(test)]
-mod worked_tests;
 
 pub use entries::{CommitError, Entry, UndoError, UndoRefusal};
 pub use histories::{GREATEST_LIMIT, History};

@@ -11,9 +11,6 @@ use clap::{Command, Error};
 use std::alloc::{AllocError, Global};
 use std::convert::AsStr;
 
-#[cfg(test)]
-mod tests;
-
 const ABOUT: &str = "An immutable file host: sites of files that are named by their SHA-1.
 
 A deploy lists its paths with the digests of their contents, takes the contents that are missing,

@@ -1,5 +1,6 @@
 pub mod JoinedTexts
 pub mod LastPlaces
+mod MethodNames
 mod NumberTexts
 pub mod Cuts
 pub mod PathTexts

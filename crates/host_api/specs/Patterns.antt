@@ -1,13 +1,13 @@
 -- What the patterns of the program and what it finds by them stand for.
-use Rattle.std.specs.Prelude.{ℕ, Bool, true, List, [], ◌∷◌, Option, Some, None, Result, Ok, Err, map, not, ◌==◌, ◌&&◌, if◌then◌else◌}
-use Rattle.std.specs.Str.{byte}
-use Rattle.host_api.specs.Targets.{Part, word, site, alias, number, Bindings, before, from_first, has_hash}
+use Rattle.std.specs.Prelude.{◌≡◌, ◌⊎◌, ℕ, Bool, true, List, [], ◌∷◌, Option, Some, None, Result, Ok, Err, IsTrue, map, not, ◌==◌, ◌&&◌, if◌then◌else◌}
+use Rattle.std.specs.Str.{byte, bytes_eq}
+use Rattle.host_api.specs.Targets.{Part, word, site, alias, number, Bindings, with_site, with_alias, with_number, before, from_first, has_hash}
 use Rattle.host_names.specs.Name.{is_name}
 use Rattle.host_names.specs.declared.names.AliasName.{AliasName}
 use Rattle.host_names.specs.declared.names.SiteName.{SiteName}
-use Rattle.host_api.specs.Routes.{Row, routed_at}
+use Rattle.host_api.specs.Routes.{Row, routed_at, takes_path}
 use Rattle.host_api.specs.declared.refusals.Refusal.{Refusal}
-use Rattle.host_api.specs.declared.refusals.Refusal.TheVariants.{BadName, BadPath}
+use Rattle.host_api.specs.declared.refusals.Refusal.TheVariants.{BadName, BadPath, OutOfMemory}
 use Rattle.host_api.specs.declared.resources.Resource.{Resource}
 use Rattle.host_api.specs.declared.routes.Route.{Route}
 use Rattle.host_api.specs.declared.table.Row.{Row as RowWritten}
@@ -29,6 +29,20 @@ bindings_of b = record { site_text = b.site.now; alias_text = b.alias.now; numbe
 
 abbrev pub found_of : Resource × BindingsLent → Resource × Bindings
 found_of found = (found.0, bindings_of found.1)
+
+-- whether a segment may stand in the place of a part
+abbrev pub may_bind : Part → List ℕ → Bool
+may_bind (word w) segment = bytes_eq segment w
+may_bind site segment = true
+may_bind alias segment = true
+may_bind number segment = true
+
+-- what is found with the segment that stands in the place of a part
+abbrev pub with_part : Part → List ℕ → Bindings → Bindings
+with_part (word w) segment b = b
+with_part site segment b = with_site segment b
+with_part alias segment b = with_alias segment b
+with_part number segment b = with_number segment b
 
 -- the segment behind the leading slash, and what follows it
 abbrev pub next_segment : List ℕ → Option (List ℕ × List ℕ)
@@ -57,3 +71,7 @@ alias_on path name alias_name =
 -- the route to a resource of which each method that it has does the same
 abbrev pub routed_alike : List ℕ → Resource → Bindings → Result Route Refusal
 routed_alike path r bindings = routed_at [] path r bindings
+
+-- the route is that one, or the first reason why there is none; or there was no memory for the path of a file
+abbrev pub GivesRoute : List ℕ → Result Route Refusal → Result Route Refusal → Type 0
+GivesRoute path result routed = (result ≡ routed) ⊎ ((result ≡ Err OutOfMemory) × IsTrue (takes_path path routed))

@@ -2,8 +2,6 @@
 #![tactic(auto)]
 
 mod bodies;
-#[cfg(test)]
-mod body_tests;
 mod change_lines;
 mod digest_texts;
 mod documents;
@@ -13,17 +11,11 @@ mod members;
 mod numbers;
 mod refusals;
 mod resources;
-#[cfg(test)]
-mod route_tests;
 mod routes;
 mod table;
 mod target_paths;
 mod targets;
-#[cfg(test)]
-mod text_tests;
 mod texts;
-#[cfg(test)]
-mod told_tests;
 mod types;
 mod versions;
 

@@ -1,5 +1,41 @@
 //! What targets name, and the methods that each has.
 
+/// Methods by their names, and the text that lists them.
+struct Methods {
+    names: &'static [&'static str],
+    text: &'static str,
+}
+
+const READ: Methods = Methods {
+    names: &["GET", "HEAD"],
+    text: "GET, HEAD",
+};
+
+const READ_OR_DELETE: Methods = Methods {
+    names: &["GET", "HEAD", "DELETE"],
+    text: "GET, HEAD, DELETE",
+};
+
+const PUT_OR_DELETE: Methods = Methods {
+    names: &["PUT", "DELETE"],
+    text: "PUT, DELETE",
+};
+
+const PUT: Methods = Methods {
+    names: &["PUT"],
+    text: "PUT",
+};
+
+const DELETE: Methods = Methods {
+    names: &["DELETE"],
+    text: "DELETE",
+};
+
+const POST: Methods = Methods {
+    names: &["POST"],
+    text: "POST",
+};
+
 /// What a target names (RFC 9110, section 3.1).
 #[derive(Clone, Copy, Debug, PartialEq, Eq)]
 pub enum Resource {
@@ -32,47 +68,42 @@ pub enum Resource {
 }
 
 impl Resource {
-    ghost use Rattle.std.specs.Prelude.{◌≡◌};
+    ghost use Rattle.std.specs.Prelude.{◌≡◌, map};
     ghost use Rattle.host_api.specs.Methods.{allow_text};
     ghost use Rattle.host_api.specs.Routes as spec;
+
+    /// Its methods.
+    fn methods(self) -> &'static Methods
+        ensures names { map (λ name. name.now) result.now.names.now ≡ spec.methods_of self }
+        ensures text { result.now.text.now ≡ allow_text self }
+    {
+        match self {
+            Resource::LiveFile | Resource::AliasFile | Resource::KeptFile | Resource::Changes => {
+                &READ
+            }
+            Resource::Deploy => &READ_OR_DELETE,
+            Resource::Alias => &PUT_OR_DELETE,
+            Resource::DeployFile => &PUT,
+            Resource::SiteFile => &DELETE,
+            Resource::Deploys
+            | Resource::Restore
+            | Resource::Rename
+            | Resource::Undo
+            | Resource::Cancel => &POST,
+        }
+    }
 
     /// Its methods, parted by commas: the value of `Allow` (RFC 9110, section 10.2.1).
     pub fn methods_text(self) -> &'static str
         ensures { result.now ≡ allow_text self }
     {
-        match self {
-            Resource::LiveFile | Resource::AliasFile | Resource::KeptFile | Resource::Changes => {
-                "GET, HEAD"
-            }
-            Resource::Deploy => "GET, HEAD, DELETE",
-            Resource::Alias => "PUT, DELETE",
-            Resource::DeployFile => "PUT",
-            Resource::SiteFile => "DELETE",
-            Resource::Deploys
-            | Resource::Restore
-            | Resource::Rename
-            | Resource::Undo
-            | Resource::Cancel => "POST",
-        }
+        self.methods().text
     }
 
     /// Whether it has the method.
     pub(crate) fn has_method(self, method: &str) -> bool
         ensures { result ≡ spec.has_method self method.now }
     {
-        match self {
-            Resource::LiveFile | Resource::AliasFile | Resource::KeptFile | Resource::Changes => {
-                method == "GET" || method == "HEAD"
-            }
-            Resource::Deploy => method == "GET" || method == "HEAD" || method == "DELETE",
-            Resource::Alias => method == "PUT" || method == "DELETE",
-            Resource::DeployFile => method == "PUT",
-            Resource::SiteFile => method == "DELETE",
-            Resource::Deploys
-            | Resource::Restore
-            | Resource::Rename
-            | Resource::Undo
-            | Resource::Cancel => method == "POST",
-        }
+        self.methods().names.contains(&method)
     }
 }

@@ -3,7 +3,7 @@ ghost use Rattle.std.specs.Prelude.{◌≡◌, ◌≢◌, Ok, Err, IsTrue, IfOk,
 ghost use Rattle.host_api.specs.Routes.{routed, takes_path};
 ghost use Rattle.host_api.specs.Routes as spec;
 ghost use Rattle.host_api.specs.Targets as targets;
-ghost use Rattle.host_api.specs.Patterns.{bindings_of, is_rest, site_on, alias_on, routed_alike};
+ghost use Rattle.host_api.specs.Patterns.{bindings_of, is_rest, site_on, alias_on, routed_alike, GivesRoute};
 
 use crate::numbers::number_of;
 use crate::refusals::Refusal;
@@ -112,11 +112,7 @@ fn alias_of(name: &str, alias: &str, path: &str) -> Result<(SiteName, AliasName)
 // The reading of a live file.
 fn live_file(alloc: Global, path: &str, bindings: Bindings<'_>) -> Result<Route, Refusal>
     requires { IsTrue (is_rest bindings.rest.now) }
-    ensures ok { IfOk result (λ route. routed_alike path.now Resource.LiveFile (bindings_of bindings.entry) ≡ Ok route) }
-    ensures refused { IfErr result (λ refusal. refusal ≢ Refusal.OutOfMemory
-        → routed_alike path.now Resource.LiveFile (bindings_of bindings.entry) ≡ Err refusal) }
-    ensures memory { IsErrOf result Refusal.OutOfMemory
-        → IsTrue (takes_path path.now (routed_alike path.now Resource.LiveFile (bindings_of bindings.entry))) }
+    ensures { GivesRoute path.now result (routed_alike path.now Resource.LiveFile (bindings_of bindings.entry)) }
 {
     let site = site_of(bindings.site, path)?;
     let path = read_path(alloc, bindings.rest)?;
@@ -130,11 +126,7 @@ fn live_file(alloc: Global, path: &str, bindings: Bindings<'_>) -> Result<Route,
 // The reading of a file of the deploy that an alias stands for.
 fn alias_file(alloc: Global, path: &str, bindings: Bindings<'_>) -> Result<Route, Refusal>
     requires { IsTrue (is_rest bindings.rest.now) }
-    ensures ok { IfOk result (λ route. routed_alike path.now Resource.AliasFile (bindings_of bindings.entry) ≡ Ok route) }
-    ensures refused { IfErr result (λ refusal. refusal ≢ Refusal.OutOfMemory
-        → routed_alike path.now Resource.AliasFile (bindings_of bindings.entry) ≡ Err refusal) }
-    ensures memory { IsErrOf result Refusal.OutOfMemory
-        → IsTrue (takes_path path.now (routed_alike path.now Resource.AliasFile (bindings_of bindings.entry))) }
+    ensures { GivesRoute path.now result (routed_alike path.now Resource.AliasFile (bindings_of bindings.entry)) }
 {
     let (site, alias) = alias_of(bindings.site, bindings.alias, path)?;
     let path = read_path(alloc, bindings.rest)?;
@@ -148,11 +140,7 @@ fn alias_file(alloc: Global, path: &str, bindings: Bindings<'_>) -> Result<Route
 // The reading of a file of a deploy.
 fn kept_file(alloc: Global, path: &str, bindings: Bindings<'_>) -> Result<Route, Refusal>
     requires { IsTrue (is_rest bindings.rest.now) }
-    ensures ok { IfOk result (λ route. routed_alike path.now Resource.KeptFile (bindings_of bindings.entry) ≡ Ok route) }
-    ensures refused { IfErr result (λ refusal. refusal ≢ Refusal.OutOfMemory
-        → routed_alike path.now Resource.KeptFile (bindings_of bindings.entry) ≡ Err refusal) }
-    ensures memory { IsErrOf result Refusal.OutOfMemory
-        → IsTrue (takes_path path.now (routed_alike path.now Resource.KeptFile (bindings_of bindings.entry))) }
+    ensures { GivesRoute path.now result (routed_alike path.now Resource.KeptFile (bindings_of bindings.entry)) }
 {
     let site = site_of(bindings.site, path)?;
     let path = read_path(alloc, bindings.rest)?;
@@ -166,11 +154,7 @@ fn kept_file(alloc: Global, path: &str, bindings: Bindings<'_>) -> Result<Route,
 // The removal of a file.
 fn site_file(alloc: Global, path: &str, bindings: Bindings<'_>) -> Result<Route, Refusal>
     requires { IsTrue (is_rest bindings.rest.now) }
-    ensures ok { IfOk result (λ route. routed_alike path.now Resource.SiteFile (bindings_of bindings.entry) ≡ Ok route) }
-    ensures refused { IfErr result (λ refusal. refusal ≢ Refusal.OutOfMemory
-        → routed_alike path.now Resource.SiteFile (bindings_of bindings.entry) ≡ Err refusal) }
-    ensures memory { IsErrOf result Refusal.OutOfMemory
-        → IsTrue (takes_path path.now (routed_alike path.now Resource.SiteFile (bindings_of bindings.entry))) }
+    ensures { GivesRoute path.now result (routed_alike path.now Resource.SiteFile (bindings_of bindings.entry)) }
 {
     let site = site_of(bindings.site, path)?;
     let path = written_path(alloc, bindings.rest)?;
@@ -180,11 +164,7 @@ fn site_file(alloc: Global, path: &str, bindings: Bindings<'_>) -> Result<Route,
 // The upload of a file.
 fn deploy_file(alloc: Global, path: &str, bindings: Bindings<'_>) -> Result<Route, Refusal>
     requires { IsTrue (is_rest bindings.rest.now) }
-    ensures ok { IfOk result (λ route. routed_alike path.now Resource.DeployFile (bindings_of bindings.entry) ≡ Ok route) }
-    ensures refused { IfErr result (λ refusal. refusal ≢ Refusal.OutOfMemory
-        → routed_alike path.now Resource.DeployFile (bindings_of bindings.entry) ≡ Err refusal) }
-    ensures memory { IsErrOf result Refusal.OutOfMemory
-        → IsTrue (takes_path path.now (routed_alike path.now Resource.DeployFile (bindings_of bindings.entry))) }
+    ensures { GivesRoute path.now result (routed_alike path.now Resource.DeployFile (bindings_of bindings.entry)) }
 {
     if has_hash(path) {
         return Err(Refusal::BadPath);
@@ -241,11 +221,7 @@ fn route_at(
     bindings: Bindings<'_>,
 ) -> Result<Route, Refusal>
     requires { IsTrue (is_rest bindings.rest.now) }
-    ensures ok { IfOk result (λ route. spec.routed_at method.now path.now resource (bindings_of bindings.entry) ≡ Ok route) }
-    ensures refused { IfErr result (λ refusal. refusal ≢ Refusal.OutOfMemory
-        → spec.routed_at method.now path.now resource (bindings_of bindings.entry) ≡ Err refusal) }
-    ensures memory { IsErrOf result Refusal.OutOfMemory
-        → IsTrue (takes_path path.now (spec.routed_at method.now path.now resource (bindings_of bindings.entry))) }
+    ensures { GivesRoute path.now result (spec.routed_at method.now path.now resource (bindings_of bindings.entry)) }
 {
     match resource {
         Resource::LiveFile => live_file(alloc, path, bindings),

@@ -1,7 +1,7 @@
 //! The target of a request, in its parts.
 ghost use Rattle.std.specs.Prelude.{◌≡◌, ◌<◌, [], IsTrue, IfSome, map, option_map};
 ghost use Rattle.host_api.specs.Targets as spec;
-ghost use Rattle.host_api.specs.Patterns.{part_of, bindings_of, next_segment, is_rest};
+ghost use Rattle.host_api.specs.Patterns.{part_of, bindings_of, may_bind, with_part, next_segment, is_rest};
 
 /// What stands between two slashes of a target.
 #[derive(Clone, Copy)]
@@ -77,23 +77,22 @@ fn fit_rest(has_rest: bool, text: &str) -> Option<Bindings<'_>>
     })
 }
 
-/// What stands in the open places of a pattern, where the text fits it: segments of these parts, each behind a
-/// slash, and then nothing, or a rest that begins with a slash.
-pub fn fit<'t>(parts: &[Part], has_rest: bool, text: &'t str) -> Option<Bindings<'t>>
-    ensures value { option_map bindings_of result ≡ spec.fit (map part_of parts.now) has_rest text.now }
-    ensures led { IfSome result (λ b. IsTrue (is_rest b.rest.now)) }
+// Whether a segment may stand in the place of a part.
+fn may_stand(part: &Part, segment: &str) -> bool
+    ensures { result ≡ may_bind (part_of part.now) segment.now }
 {
-    let Some((part, others)) = parts.split_first() else {
-        return fit_rest(has_rest, text);
-    };
-    let (segment, behind) = take_segment(text)?;
-    if let Part::Word(word) = part
-        && segment != *word
-    {
-        return None;
+    match part {
+        Part::Word(word) => segment == *word,
+        Part::Site | Part::Alias | Part::Number => true,
     }
-    let found = fit(others, has_rest, behind)?;
-    Some(match part {
+}
+
+// What is found with the segment that stands in the place of a part.
+fn with_segment<'t>(part: &Part, segment: &'t str, found: Bindings<'t>) -> Bindings<'t>
+    ensures value { bindings_of result ≡ with_part (part_of part.now) segment.now (bindings_of found.entry) }
+    ensures rest { result.rest.now ≡ found.entry.rest.now }
+{
+    match part {
         Part::Word(_) => found,
         Part::Site => Bindings {
             site: segment,
@@ -107,5 +106,22 @@ pub fn fit<'t>(parts: &[Part], has_rest: bool, text: &'t str) -> Option<Bindings
             number: segment,
             ..found
         },
-    })
+    }
+}
+
+/// What stands in the open places of a pattern, where the text fits it: segments of these parts, each behind a
+/// slash, and then nothing, or a rest that begins with a slash.
+pub fn fit<'t>(parts: &[Part], has_rest: bool, text: &'t str) -> Option<Bindings<'t>>
+    ensures value { option_map bindings_of result ≡ spec.fit (map part_of parts.now) has_rest text.now }
+    ensures led { IfSome result (λ b. IsTrue (is_rest b.rest.now)) }
+{
+    let Some((part, others)) = parts.split_first() else {
+        return fit_rest(has_rest, text);
+    };
+    let (segment, behind) = take_segment(text)?;
+    if !may_stand(part, segment) {
+        return None;
+    }
+    let found = fit(others, has_rest, behind)?;
+    Some(with_segment(part, segment, found))
 }

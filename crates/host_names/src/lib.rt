@@ -8,8 +8,6 @@ mod digests;
 mod laws;
 mod names;
 mod paths;
-#[cfg(test)]
-mod tests;
 mod uploads;
 
 pub use blobs::{BlobInfo, Uploads};

@@ -1,4 +1,5 @@
 pub mod Leaving
+mod Memory
 pub mod Kept
 pub mod Refusing
 pub mod Opening

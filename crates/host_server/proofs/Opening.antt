@@ -1,5 +1,5 @@
 -- A deploy that was opened, and published if it was ready.
-use Rattle.std.proofs.Common.{◌≡◌, inl, inr, ℕ, List, Option, None, Result, Ok, Err, refl, sym, ap, subst, ◌∙◌}
+use Rattle.std.proofs.Common.{◌≡◌, inl, inr, ℕ, List, Option, None, Result, Ok, Err, OnErr, refl, sym, ap, subst, ◌∙◌}
 use Rattle.host_names.specs.Blobs.{Contents}
 use Rattle.host_names.specs.declared.digests.Digest.{Digest}
 use Rattle.host_names.specs.declared.names.SiteName.{SiteName}
@@ -13,6 +13,11 @@ use Rattle.host_api.specs.declared.texts.Told.TheVariants.{Opened}
 use Rattle.host_server.specs.Hosts.{Host, next_number, with_entry}
 use Rattle.host_server.specs.Outcomes.{Outcome, Publishes, DoesCommit, published_if_ready, then_published, told_of, told_by, commit_outcome}
 use Rattle.host_server.specs.Reasons.{commit_refusal}
+
+-- what is known whatever is answered is known on an error
+pub on_err : {A E P : Type 0} (result : Result A E) → P → OnErr result P
+on_err (Ok x) known = tt
+on_err (Err e) known = known
 
 -- what the call answers when the publishing answered so
 abbrev pub answer : ℕ → List Digest → Result (Option ℕ) Refusal → Result Told Refusal

@@ -1,16 +1,22 @@
 -- One exchange, put together from its parts.
 use Rattle.std.proofs.Common.{◌≡◌, ◌<◌, inl, inr, ℕ, List, [], ◌++◌, length, Bool, true, false, Some, None, Result, Ok, Err, codes, refl, sym, ap, subst, ◌∙◌}
-use Rattle.std.specs.Io.KnownBytes.{Appends}
+use Rattle.std.specs.Io.KnownBytes.{Appends, Consumes}
+use Rattle.std.proofs.KnownBytes.{Consumes-trans}
 use Rattle.std.specs.Str.{bytes_eq}
 use Rattle.std.proofs.lemmas.List.{append-nil}
+use Rattle.http_wire.specs.Fields.{AnnouncesBody}
 use Rattle.http_wire.specs.Requests.{RequestParts}
+use Rattle.http_wire.specs.Wires.{ServesHead}
+use Rattle.host_api.specs.declared.refusals.Refusal.TheVariants.{BadHead, OutOfMemory}
 use Rattle.host_server.specs.Hosts.{Host}
-use Rattle.host_server.specs.Replies.{Answer, IsAnswer, closes, sent_text}
-use Rattle.host_server.specs.Serving.{Stream, TakesRequest, IsAnswered, IsNotRead, IsCut, IsFrontSent, IsSent, Exchanges, Turns}
+use Rattle.host_server.specs.Replies.{Answer, IsAnswer, closes, refused_answer, sent_text}
+use Rattle.host_server.specs.Serving.{Stream, limit_of, TakesRequest, IsAnswered, IsNotRead, IsFrontSent, IsSent, HeadStops, BodyStops, Stops, Sends, Refuses, Exchanges, Turns}
 use Rattle.host_server.specs.declared.connections.ConnectionFault.{ConnectionFault}
 use Rattle.host_server.specs.declared.connections.ConnectionFault.TheVariants as fault
 use Rattle.host_server.specs.declared.connections.Next.{Next}
 use Rattle.host_server.specs.declared.connections.Next.TheVariants as next_is
+use Rattle.host_server.specs.declared.connections.Stop.{Stop}
+use Rattle.host_server.specs.declared.connections.Stop.TheVariants as stop
 
 -- the text of an answer is sent
 pub is_sent : (close head_only : Bool) (host next : Host) (parts : RequestParts) (body : List ℕ) (answer : Answer)
@@ -18,15 +24,25 @@ pub is_sent : (close head_only : Bool) (host next : Host) (parts : RequestParts)
 is_sent close head_only host next parts body answer named right =
     record { answer = answer; is_answer = right; sent_is = ap (λ h. sent_text h answer) named }
 
--- a front of what was to be sent
-abbrev pub IsFront : List ℕ → Stream → Stream → Type 0
-IsFront text held new_held = (sent : List ℕ) × (rest : List ℕ) × (0 < length rest) × (text ≡ sent ++ rest) × Appends held new_held sent
+-- whether the connection ends next
+abbrev is_end : Next → Bool
+is_end next_is.Exchange = false
+is_end next_is.End = true
 
-pub cut_exchange : (write_fails : Type 0) (close : Bool) (host next : Host) (parts : RequestParts) (body text : List ℕ) (held new_held : Stream)
-    → IsSent close host parts body text next → IsFront text held new_held → write_fails
-    → Exchanges write_fails (Err fault.OutputFault) close host parts body held new_held next
-cut_exchange write_fails close host next parts body text held new_held sent front fails =
-    (fails, (front.0, front.1, front.2, subst (λ t. IsSent close host parts body t next) front.3 sent, front.4))
+pub exchange_sent : (write_fails : Type 0) (next_turn : Next) (close : Bool) (host next : Host) (parts : RequestParts) (body text : List ℕ) (held new_held : Stream)
+    → close ≡ is_end next_turn → IsSent close host parts body text next → Sends write_fails (Ok tt) text held new_held
+    → Exchanges write_fails (Ok next_turn) close host parts body held new_held next
+exchange_sent write_fails next_is.Exchange close host next parts body text held new_held closing sent appended = (closing, (text, sent, appended))
+exchange_sent write_fails next_is.End close host next parts body text held new_held closing sent appended = (closing, (text, sent, appended))
+
+pub exchange_cut : (write_fails : Type 0) (why : ConnectionFault) (close : Bool) (host next : Host) (parts : RequestParts) (body text : List ℕ) (held new_held : Stream)
+    → IsSent close host parts body text next → Sends write_fails (Err why) text held new_held
+    → Exchanges write_fails (Err why) close host parts body held new_held next
+exchange_cut write_fails fault.InputFault close host next parts body text held new_held sent cut = absurd cut
+exchange_cut write_fails fault.OutputFault close host next parts body text held new_held sent cut =
+    let front = cut.1 in
+    (cut.0, (front.0, front.1, front.2, subst (λ t. IsSent close host parts body t next) front.3 sent, front.4))
+exchange_cut write_fails fault.OutOfMemory close host next parts body text held new_held sent cut = absurd cut
 
 -- ---- with the request that was read
 
@@ -69,15 +85,92 @@ pub appends_nothing : (held : Stream) → Appends held held []
 appends_nothing None = tt
 appends_nothing (Some bytes) = sym (append-nil bytes)
 
-pub ended : (read_fails write_fails : Type 0) (is_last : Bool) (host : Host) (old new held : Stream) → IsCut old
-    → Turns read_fails write_fails (Ok next_is.End) is_last host old new held held host
-ended read_fails write_fails is_last host old new held is_cut = ([], inl (refl, is_cut, refl), appends_nothing held)
+-- nothing was sent
+sent_nothing : (held new_held : Stream) → new_held ≡ held → Appends held new_held []
+sent_nothing held new_held same = subst (λ h. Appends held h []) (sym same) (appends_nothing held)
 
-pub not_read : (read_fails write_fails : Type 0) (is_last : Bool) (host : Host) (old new held new_held : Stream) (sent : List ℕ) → IsNotRead old sent → Appends held new_held sent
-    → Turns read_fails write_fails (Ok next_is.End) is_last host old new held new_held host
-not_read read_fails write_fails is_last host old new held new_held sent why appended = (sent, inr (inr (why, refl)), appended)
+not_read : (read_fails write_fails : Type 0) (is_last : Bool) (host : Host) (old new held new_held : Stream) (text : List ℕ) → IsNotRead old text
+    → Sends write_fails (Ok tt) text held new_held → Turns read_fails write_fails (Ok next_is.End) is_last host old new held new_held host
+not_read read_fails write_fails is_last host old new held new_held text why appended = (text, inr (inr (why, refl)), appended)
 
-pub not_read_cut : (read_fails write_fails : Type 0) (is_last : Bool) (host : Host) (old new held new_held : Stream) (text : List ℕ) → IsNotRead old text → IsFront text held new_held
-    → write_fails → Turns read_fails write_fails (Err fault.OutputFault) is_last host old new held new_held host
-not_read_cut read_fails write_fails is_last host old new held new_held text why front fails =
-    (fails, (front.0, record { rest = front.1; some = front.2; whole = inr (inr (subst (IsNotRead old) front.3 why, refl)) }, front.4))
+pub refused : (read_fails write_fails : Type 0) (why : Stop) (is_last : Bool) (host : Host) (old new held new_held : Stream) → Stops read_fails old why
+    → Refuses write_fails (Ok tt) why held new_held → Turns read_fails write_fails (Ok next_is.End) is_last host old new held new_held host
+refused read_fails write_fails stop.Ended is_last host old new held new_held is_cut same = ([], inl (refl, is_cut, refl), sent_nothing held new_held same.1)
+refused read_fails write_fails stop.ReadFault is_last host old new held new_held fails same = absurd (cc (same.0))
+refused read_fails write_fails (stop.BadHead head_only) is_last host old new held new_held why sends = not_read read_fails write_fails is_last host old new held new_held _ why sends
+refused read_fails write_fails (stop.OutOfMemory head_only) is_last host old new held new_held why sends = not_read read_fails write_fails is_last host old new held new_held _ why sends
+
+not_read_cut : (read_fails write_fails : Type 0) (fails : ConnectionFault) (is_last : Bool) (host : Host) (old new held new_held : Stream) (text : List ℕ) → IsNotRead old text
+    → Sends write_fails (Err fails) text held new_held → Turns read_fails write_fails (Err fails) is_last host old new held new_held host
+not_read_cut read_fails write_fails fault.InputFault is_last host old new held new_held text why cut = absurd cut
+not_read_cut read_fails write_fails fault.OutputFault is_last host old new held new_held text why cut =
+    let front = cut.1 in
+    (cut.0, (front.0, record { rest = front.1; some = front.2; whole = inr (inr (subst (IsNotRead old) front.3 why, refl)) }, front.4))
+not_read_cut read_fails write_fails fault.OutOfMemory is_last host old new held new_held text why cut = absurd cut
+
+abbrev fault_of : Result (Unit {0}) ConnectionFault → ConnectionFault
+fault_of (Ok done) = fault.InputFault
+fault_of (Err fails) = fails
+
+pub refused_cut : (read_fails write_fails : Type 0) (why : Stop) (fails : ConnectionFault) (is_last : Bool) (host : Host) (old new held new_held : Stream) → Stops read_fails old why
+    → Refuses write_fails (Err fails) why held new_held → Turns read_fails write_fails (Err fails) is_last host old new held new_held host
+refused_cut read_fails write_fails stop.Ended fails is_last host old new held new_held is_cut same = absurd (cc (same.0))
+refused_cut read_fails write_fails stop.ReadFault fails is_last host old new held new_held read same =
+    let is : fault.InputFault ≡ fails = sym (ap fault_of same.0) in
+    subst (λ f. Turns read_fails write_fails (Err f) is_last host old new held new_held host) is (read, refl, sent_nothing held new_held same.1)
+refused_cut read_fails write_fails (stop.BadHead head_only) fails is_last host old new held new_held why sends =
+    not_read_cut read_fails write_fails fails is_last host old new held new_held _ why sends
+refused_cut read_fails write_fails (stop.OutOfMemory head_only) fails is_last host old new held new_held why sends =
+    not_read_cut read_fails write_fails fails is_last host old new held new_held _ why sends
+
+-- ---- what is read of a request
+
+pub head_stopped : (read_fails : Type 0) (old : Stream) (why : Stop) → HeadStops read_fails old why → Stops read_fails old why
+head_stopped read_fails old stop.Ended is_cut = inl is_cut
+head_stopped read_fails old stop.ReadFault fails = fails
+head_stopped read_fails old (stop.BadHead head_only) refuses = inl refuses
+head_stopped read_fails old (stop.OutOfMemory head_only) none = inr (inr (inl none))
+
+pub body_stopped : (read_fails : Type 0) (old mid : Stream) (parts : RequestParts) (why : Stop) → ServesHead old mid parts → BodyStops read_fails mid parts why
+    → Stops read_fails old why
+body_stopped read_fails old mid parts stop.Ended head is_cut = inr (record {
+  parts = parts;
+  text = head.0;
+  new = mid;
+  head = head.1;
+  says = head.2;
+  size = is_cut.0;
+  announced = is_cut.1;
+  short = is_cut.2;
+})
+body_stopped read_fails old mid parts stop.ReadFault head fails = fails
+body_stopped read_fails old mid parts (stop.BadHead head_only) head none = inr (inl (record {
+  parts = parts;
+  text = head.0;
+  new = mid;
+  head = head.1;
+  says = head.2;
+  none = none.1;
+  sent_is = ap (λ h. sent_text h (refused_answer true BadHead)) none.0;
+}))
+body_stopped read_fails old mid parts (stop.OutOfMemory head_only) head none = inr (inr (inr (record {
+  parts = parts;
+  text = head.0;
+  new = mid;
+  head = head.1;
+  says = head.2;
+  size = none.1.0;
+  announced = none.1.1;
+  sent_is = ap (λ h. sent_text h (refused_answer true OutOfMemory)) none.0;
+})))
+
+pub taken : (old mid new : Stream) (parts : RequestParts) (body : List ℕ) (size : ℕ) → size ≡ length body → ServesHead old mid parts
+    → AnnouncesBody parts.fields (limit_of parts) size → Consumes mid new body → TakesRequest old new parts body
+taken old mid new parts body size is head announced consumed = record {
+  text = head.0;
+  head = head.1.head;
+  short = head.1.short;
+  says = head.2;
+  announced = subst (AnnouncesBody parts.fields (limit_of parts)) is announced;
+  taken = Consumes-trans old mid new head.0 body head.1.taken consumed;
+}

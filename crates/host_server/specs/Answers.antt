@@ -5,6 +5,9 @@ use Rattle.http_wire.specs.Requests.{RequestParts}
 use Rattle.range_spec.specs.declared.grammar.Asked.{Asked}
 use Rattle.site_change.specs.Changes.{IsWithin}
 use Rattle.change_undo.specs.declared.entries.Entry.{Entry}
+use Rattle.host_api.specs.Bodies.{asked, then_with}
+use Rattle.host_api.specs.Routes.{routed}
+use Rattle.host_api.specs.declared.bodies.Ask.{Ask}
 use Rattle.host_api.specs.declared.refusals.Refusal.{Refusal}
 use Rattle.host_api.specs.declared.refusals.Refusal.TheVariants.{OutOfMemory}
 use Rattle.host_api.specs.declared.versions.Version.{Version}
@@ -13,6 +16,10 @@ use Rattle.host_server.specs.Bodies.{answer_of}
 use Rattle.host_server.specs.Hosts.{Host, state_of}
 use Rattle.host_server.specs.Replies.{Answer, refused_answer, read_answer, AsksRange, IsReply, MayLeave}
 use Rattle.host_server.specs.Versions.{file_of}
+
+-- what a request of these parts and this body asks for, or the first reason why it asks for nothing
+abbrev pub asked_for : RequestParts → List ℕ → Result Ask Refusal
+asked_for parts body = then_with (routed parts.method parts.target) (λ route. asked route body)
 
 -- the answer where a call gives this reply, or this reason to refuse
 abbrev pub answer_by : Bool → Result Reply Refusal → Answer

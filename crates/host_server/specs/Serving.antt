@@ -1,7 +1,8 @@
 -- One connection: requests in, and a reply to each.
-use Rattle.std.specs.Prelude.{◌≡◌, ◌⊎◌, ℕ, ◌+◌, ◌<◌, ◌≤◌, ◌==◌, List, [], ◌∷◌, ◌++◌, length, Bool, true, false, Option, Result, Ok, Err, IfSome}
+use Rattle.std.specs.Prelude.{◌≡◌, ◌⊎◌, ℕ, ◌+◌, ◌<◌, ◌≤◌, ◌==◌, List, [], ◌∷◌, ◌++◌, length, Bool, true, false, Option, Result, Ok, Err, IfSome, codes}
 use Rattle.std.specs.Io.KnownBytes.{Consumes, Appends}
 use Rattle.std.specs.List.{concat}
+use Rattle.std.specs.Str.{bytes_eq}
 use Rattle.http_wire.specs.Fields.{AnnouncesBody}
 use Rattle.http_wire.specs.HeadText.{IsHeadText, CutShort, head_limit}
 use Rattle.http_wire.specs.Requests.{RequestParts, Says}
@@ -12,6 +13,8 @@ use Rattle.host_server.specs.declared.connections.ConnectionFault.{ConnectionFau
 use Rattle.host_server.specs.declared.connections.ConnectionFault.TheVariants as fault
 use Rattle.host_server.specs.declared.connections.Next.{Next}
 use Rattle.host_server.specs.declared.connections.Next.TheVariants as next_is
+use Rattle.host_server.specs.declared.connections.Stop.{Stop}
+use Rattle.host_server.specs.declared.connections.Stop.TheVariants as stop
 use Rattle.host_server.specs.Hosts.{Host}
 use Rattle.host_server.specs.Replies.{Answer, IsAnswer, closes, refused_answer, sent_for, sent_text}
 
@@ -141,6 +144,53 @@ pub record Serves (read_fails write_fails : Type 0) (result : Result (Unit {0}) 
   pub sent : List ℕ
   pub ends : Ends read_fails write_fails result (length replies + 1) mid left sent next
   pub written : Appends held new_held (concat replies ++ sent)
+
+-- ---- why no request is read
+
+-- why a stream gives no head
+abbrev pub HeadStops : (read_fails : Type 0) → Stream → Stop → Type 0
+HeadStops read_fails old stop.Ended = IfSome old CutShort
+HeadStops read_fails old stop.ReadFault = read_fails
+HeadStops read_fails old (stop.BadHead head_only) = IsHeadRefused old (sent_text head_only (refused_answer true BadHead))
+HeadStops read_fails old (stop.OutOfMemory head_only) = IsHeadWithoutMemory old (sent_text head_only (refused_answer true OutOfMemory))
+
+-- why it gives no body that the head announces
+abbrev pub BodyStops : (read_fails : Type 0) → Stream → RequestParts → Stop → Type 0
+BodyStops read_fails old parts stop.Ended = (size : ℕ) × AnnouncesBody parts.fields (limit_of parts) size × IfSome old (λ left. length left < size)
+BodyStops read_fails old parts stop.ReadFault = read_fails
+BodyStops read_fails old parts (stop.BadHead head_only) =
+    (head_only ≡ bytes_eq parts.method (codes "HEAD")) × ((n : ℕ) → ¬ (AnnouncesBody parts.fields (limit_of parts) n))
+BodyStops read_fails old parts (stop.OutOfMemory head_only) =
+    (head_only ≡ bytes_eq parts.method (codes "HEAD")) × ((size : ℕ) × AnnouncesBody parts.fields (limit_of parts) size)
+
+-- why it gives no request
+abbrev pub Stops : (read_fails : Type 0) → Stream → Stop → Type 0
+Stops read_fails old stop.Ended = IsCut old
+Stops read_fails old stop.ReadFault = read_fails
+Stops read_fails old (stop.BadHead head_only) = IsNotRead old (sent_text head_only (refused_answer true BadHead))
+Stops read_fails old (stop.OutOfMemory head_only) = IsNotRead old (sent_text head_only (refused_answer true OutOfMemory))
+
+-- ---- what is sent of a text
+
+-- a front of the text is sent, and some of it is not
+abbrev pub SendsFront : List ℕ → Stream → Stream → Type 0
+SendsFront text held new_held = (sent : List ℕ) × (rest : List ℕ) × (0 < length rest) × (text ≡ sent ++ rest) × Appends held new_held sent
+
+-- the text is sent, unless a write fails
+abbrev pub Sends : (write_fails : Type 0) → Result (Unit {0}) ConnectionFault → List ℕ → Stream → Stream → Type 0
+Sends write_fails (Ok done) text held new_held = Appends held new_held text
+Sends write_fails (Err fault.InputFault) text held new_held = ⊥
+Sends write_fails (Err fault.OutputFault) text held new_held = write_fails × SendsFront text held new_held
+Sends write_fails (Err fault.OutOfMemory) text held new_held = ⊥
+
+-- what is sent where no request is read
+abbrev pub Refuses : (write_fails : Type 0) → Result (Unit {0}) ConnectionFault → Stop → Stream → Stream → Type 0
+Refuses write_fails result stop.Ended held new_held = (result ≡ Ok tt) × (new_held ≡ held)
+Refuses write_fails result stop.ReadFault held new_held = (result ≡ Err fault.InputFault) × (new_held ≡ held)
+Refuses write_fails result (stop.BadHead head_only) held new_held =
+    Sends write_fails result (sent_text head_only (refused_answer true BadHead)) held new_held
+Refuses write_fails result (stop.OutOfMemory head_only) held new_held =
+    Sends write_fails result (sent_text head_only (refused_answer true OutOfMemory)) held new_held
 
 -- ---- the parts of an exchange
 

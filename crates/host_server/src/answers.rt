@@ -1,5 +1,5 @@
 //! What a request is answered.
-ghost use Rattle.std.specs.Prelude.{◌≡◌, ◌+◌, All, List, [], ◌∷◌, ◌++◌, length};
+ghost use Rattle.std.specs.Prelude.{◌≡◌, ◌⊎◌, ◌+◌, All, List, [], ◌∷◌, ◌++◌, Ok, Err, IfOk, IfErr, length};
 ghost use Rattle.change_undo.specs.declared.entries.Entry.{Entry as Line};
 ghost use Rattle.change_undo.specs.declared.entries.Entry.TheVariants as entry;
 ghost use Rattle.host_names.specs.declared.names.SiteName.{SiteName as Site};
@@ -8,6 +8,8 @@ ghost use Rattle.host_server.specs.Bodies.{answer_of};
 ghost use Rattle.host_server.specs.Hosts.{state_of, with_entries};
 ghost use Rattle.range_spec.specs.Chosen.{LiesWithin, intervals_in};
 ghost use Rattle.host_server.specs.Answers.{Grows, Gives, Reads, RepliesBy};
+ghost use Rattle.host_server.specs.Answers as asks;
+ghost use Rattle.host_server.specs.Outcomes.{told_by};
 ghost use Rattle.host_server.specs.Replies as spec;
 ghost use Rattle.host_server.specs.Replies.{AsksRange, IsAnswer, told_answer};
 
@@ -81,11 +83,21 @@ fn read(
     Reply::of_file(path, file, &choice, close)
 }
 
-/// The reply that tells something, or that refuses it.
-fn tell(alloc: Global, told: Told, close: bool) -> Result<Reply, Refusal>
-    ensures { Gives close result (told_answer close told) }
+/// The reply that tells what a call told, or the call's reason to refuse.
+fn tell(alloc: Global, told: Result<Told, Refusal>, close: bool) -> Result<Reply, Refusal>
+    ensures gives { Gives close result (told_answer close (told_by told)) }
+    ensures refused { IfErr told (λ reason. result ≡ Err reason) }
 {
-    Ok(Reply::of_told(alloc, &told, close)?)
+    Ok(Reply::of_told(alloc, &told?, close)?)
+}
+
+/// What a request asks for, or the first reason why it asks for nothing.
+fn asked_for(alloc: Global, head: &Head, body: &[u8]) -> Result<Ask, Refusal>
+    ensures ok { IfOk result (λ ask. asks.asked_for head.now body.now ≡ Ok ask) }
+    ensures refused { IfErr result (λ reason. (reason ≡ Refusal.OutOfMemory) ⊎ (asks.asked_for head.now body.now ≡ Err reason)) }
+{
+    let route = route_of(alloc, head.method().as_str(), head.target())?;
+    ask_of(alloc, route, body)
 }
 
 /// The reply to a request, and what it does to the host.
@@ -99,21 +111,24 @@ fn respond(
     ensures replied { RepliesBy close house.old head.now body.items result house.new }
     ensures grows { Grows house.old house.new }
 {
-    let route = route_of(alloc, head.method().as_str(), head.target())?;
-    match ask_of(alloc, route, body.as_slice())? {
+    let ask = asked_for(alloc, head, body.as_slice())?;
+    match ask {
         Ask::Read {
             site,
             version,
             path,
         } => read(house, head, &site, &version, &path, close),
-        Ask::Command(command) => tell(alloc, house.change(alloc, command)?, close),
-        Ask::Undo { site, change } => tell(alloc, house.take_back(alloc, &site, change)?, close),
-        Ask::Changes { site } => tell(alloc, Told::Changes(house.changes(alloc, &site)?), close),
-        Ask::Deploy { deploy } => tell(alloc, house.deploy(alloc, deploy)?, close),
-        Ask::RemoveDeploy { deploy } => tell(alloc, house.remove_deploy(alloc, deploy)?, close),
-        Ask::Cancel { deploy } => tell(alloc, house.cancel(alloc, deploy)?, close),
+        Ask::Command(command) => tell(alloc, house.change(alloc, command), close),
+        Ask::Undo { site, change } => tell(alloc, house.take_back(alloc, &site, change), close),
+        Ask::Changes { site } => {
+            let lines = house.changes(alloc, &site)?;
+            tell(alloc, Ok(Told::Changes(lines)), close)
+        }
+        Ask::Deploy { deploy } => tell(alloc, house.deploy(alloc, deploy), close),
+        Ask::RemoveDeploy { deploy } => tell(alloc, house.remove_deploy(alloc, deploy), close),
+        Ask::Cancel { deploy } => tell(alloc, house.cancel(alloc, deploy), close),
         Ask::Upload { deploy, path } => {
-            tell(alloc, house.upload(alloc, deploy, &path, body)?, close)
+            tell(alloc, house.upload(alloc, deploy, &path, body), close)
         }
     }
 }

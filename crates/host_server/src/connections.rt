@@ -1,15 +1,13 @@
 //! One connection: requests in, and a reply to each.
-ghost use Rattle.std.specs.Prelude.{◌≡◌, ◌<◌, ◌++◌, ℕ, List, Bool, true, length, vec_len, codes, IfOk, IfErr, IfSome, IsErrOf, OnOk, OnErr};
-ghost use Rattle.std.specs.Io.KnownBytes.{Appends, Consumes};
+ghost use Rattle.std.specs.Prelude.{◌≡◌, vec_len, codes, IfOk, IfErr};
+ghost use Rattle.std.specs.Io.KnownBytes.{Consumes};
 ghost use Rattle.std.specs.Str.{bytes_eq};
 ghost use Rattle.http_wire.specs.Fields.{AnnouncesBody};
-ghost use Rattle.http_wire.specs.HeadText.{CutShort};
 ghost use Rattle.http_wire.specs.Wires.{ServesHead};
-ghost use Rattle.host_api.specs.declared.refusals.Refusal.TheVariants.{BadHead, OutOfMemory};
 ghost use Rattle.host_server.specs.Answers.{Grows};
 ghost use Rattle.host_server.specs.Bodies.{answer_of};
-ghost use Rattle.host_server.specs.Replies.{closes, refused_answer, sent_text};
-ghost use Rattle.host_server.specs.Serving.{limit_of, TakesRequest, IsCut, IsHeadRefused, IsHeadWithoutMemory, IsNotRead, Exchanges, Turns, Serves};
+ghost use Rattle.host_server.specs.Replies.{closes, sent_text};
+ghost use Rattle.host_server.specs.Serving.{limit_of, TakesRequest, HeadStops, BodyStops, Stops, Sends, Refuses, Exchanges, Turns, Serves};
 
 use crate::answers::{Request, answer};
 use crate::houses::SoloHouse;
@@ -59,12 +57,7 @@ enum Next {
 /// Reads a head.
 fn read_head<S: Source>(alloc: Global, wire: &mut Wire<S>) -> Result<Head, Stop>
     ensures ok { IfOk result (ServesHead wire.old wire.new) }
-    ensures ended { IsErrOf result Stop.Ended → IfSome wire.old CutShort }
-    ensures failed { IsErrOf result Stop.ReadFault → S.may_fail }
-    ensures bad { (head_only : Bool) → IsErrOf result (Stop.BadHead head_only)
-        → IsHeadRefused wire.old (sent_text head_only (refused_answer true BadHead)) }
-    ensures memory { (head_only : Bool) → IsErrOf result (Stop.OutOfMemory head_only)
-        → IsHeadWithoutMemory wire.old (sent_text head_only (refused_answer true OutOfMemory)) }
+    ensures stopped { IfErr result (HeadStops S.may_fail wire.old) }
 {
     match wire.read_head(alloc) {
         Ok(head) => Ok(head),
@@ -86,15 +79,7 @@ fn is_head_only(head: &Head) -> bool
 fn read_body<S: Source>(alloc: Global, wire: &mut Wire<S>, head: &Head) -> Result<Vec<u8>, Stop>
     ensures ok { IfOk result (λ body. AnnouncesBody head.now.fields (limit_of head.now) (vec_len body)
         × Consumes wire.old wire.new body.items) }
-    ensures ended { IsErrOf result Stop.Ended → (size : ℕ) × AnnouncesBody head.now.fields (limit_of head.now) size
-        × IfSome wire.old (λ left. length left < size) }
-    ensures failed { IsErrOf result Stop.ReadFault → S.may_fail }
-    ensures bad { (head_only : Bool) → IsErrOf result (Stop.BadHead head_only)
-        → (head_only ≡ bytes_eq head.now.method (codes "HEAD"))
-        × ((n : ℕ) → ¬ (AnnouncesBody head.now.fields (limit_of head.now) n)) }
-    ensures memory { (head_only : Bool) → IsErrOf result (Stop.OutOfMemory head_only)
-        → (head_only ≡ bytes_eq head.now.method (codes "HEAD"))
-        × ((size : ℕ) × AnnouncesBody head.now.fields (limit_of head.now) size) }
+    ensures stopped { IfErr result (BodyStops S.may_fail wire.old head.now) }
 {
     let limit = body_limit(head.method().as_str(), head.target());
     let Ok(size) = check_body(head, limit) else {
@@ -120,12 +105,7 @@ fn read_request<S: Source>(
 ) -> Result<Request, Stop>
     ensures ok { IfOk result (λ request. TakesRequest wire.old wire.new request.head request.body.items
         × (request.is_last ≡ is_last)) }
-    ensures ended { IsErrOf result Stop.Ended → IsCut wire.old }
-    ensures failed { IsErrOf result Stop.ReadFault → S.may_fail }
-    ensures bad { (head_only : Bool) → IsErrOf result (Stop.BadHead head_only)
-        → IsNotRead wire.old (sent_text head_only (refused_answer true BadHead)) }
-    ensures memory { (head_only : Bool) → IsErrOf result (Stop.OutOfMemory head_only)
-        → IsNotRead wire.old (sent_text head_only (refused_answer true OutOfMemory)) }
+    ensures stopped { IfErr result (Stops S.may_fail wire.old) }
 {
     let head = read_head(alloc, wire)?;
     let body = read_body(alloc, wire, &head)?;
@@ -137,16 +117,24 @@ fn read_request<S: Source>(
 }
 
 /// Sends a reply.
-fn send<W: Sink>(sink: &mut W, reply: &Reply, head_only: bool) -> Result<(), ConnectionFault>
-    ensures ok { OnOk result (Appends (W.held sink.old) (W.held sink.new) (sent_text head_only (answer_of reply.now))) }
-    ensures fault { OnErr result ((sent : List ℕ) × (rest : List ℕ) × (0 < length rest) × (sent_text head_only (answer_of reply.now) ≡ sent ++ rest)
-        × Appends (W.held sink.old) (W.held sink.new) sent) }
-    ensures cause { OnErr result W.may_fail }
-    ensures only { IfErr result (λ fault. fault ≡ ConnectionFault.OutputFault) }
+fn send<W: Sink>(sink: &mut W, reply: Reply, head_only: bool) -> Result<(), ConnectionFault>
+    ensures { Sends W.may_fail result (sent_text head_only (answer_of reply)) (W.held sink.old) (W.held sink.new) }
 {
     match reply.send(sink, head_only) {
         Ok(()) => Ok(()),
         Err(_) => Err(ConnectionFault::OutputFault),
+    }
+}
+
+/// Sends the reply where no request was read, if one is sent. The connection ends behind it.
+fn refuse<W: Sink>(sink: &mut W, stop: Stop) -> Result<(), ConnectionFault>
+    ensures { Refuses W.may_fail result stop (W.held sink.old) (W.held sink.new) }
+{
+    match stop {
+        Stop::Ended => Ok(()),
+        Stop::ReadFault => Err(ConnectionFault::InputFault),
+        Stop::BadHead { head_only } => send(sink, Reply::bad_head(), head_only),
+        Stop::OutOfMemory { head_only } => send(sink, Reply::out_of_memory(true), head_only),
     }
 }
 
@@ -164,7 +152,7 @@ fn exchange<W: Sink>(
     let head_only = is_head_only(&request.head);
     let close = request.closes();
     let reply = answer(alloc, request, house);
-    send(sink, &reply, head_only)?;
+    send(sink, reply, head_only)?;
     if close {
         Ok(Next::End)
     } else {
@@ -186,14 +174,8 @@ fn serve_next<S: Source, W: Sink>(
 {
     match read_request(alloc, wire, is_last) {
         Ok(request) => exchange(alloc, sink, house, request),
-        Err(Stop::Ended) => Ok(Next::End),
-        Err(Stop::ReadFault) => Err(ConnectionFault::InputFault),
-        Err(Stop::BadHead { head_only }) => {
-            send(sink, &Reply::bad_head(), head_only)?;
-            Ok(Next::End)
-        }
-        Err(Stop::OutOfMemory { head_only }) => {
-            send(sink, &Reply::out_of_memory(true), head_only)?;
+        Err(stop) => {
+            refuse(sink, stop)?;
             Ok(Next::End)
         }
     }

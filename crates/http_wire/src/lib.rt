@@ -2,21 +2,13 @@
 #![tactic(auto)]
 
 mod bodies;
-#[cfg(test)]
-mod body_tests;
 mod buffers;
 mod connections;
-#[cfg(test)]
-mod fakes;
 mod faults;
 mod fields;
-#[cfg(test)]
-mod head_tests;
 mod heads;
 mod lengths;
 mod replies;
-#[cfg(test)]
-mod reply_tests;
 mod scans;
 mod sends;
 mod sinks;

@@ -5,8 +5,6 @@
 mod grammar;
 mod laws;
 mod selection;
-#[cfg(test)]
-mod tests;
 
 pub use grammar::{Asked, Spec, Specs, parse};
 pub use laws::{interval_is_what_is_asked_for, one_reading};

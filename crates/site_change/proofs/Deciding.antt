@@ -204,21 +204,18 @@ swapped state a b v w apart = finmap.same_map cell_cmp_total cell_cmp-IsAntisymm
 
 -- ---- the same, as the code puts it together
 
-pub publish_plan : (site : SiteName) (m : ℕ) (tree made_tree : Paths (List ℕ)) (state : State) (live : List (Cell × Value)) (listed : Paths (List ℕ)) (kept_at draft_at : Cell)
-    (kept_change draft_change : Option Change) (first second third : List Change) → made_tree ≡ tree → live ≡ live_entries state site → listed ≡ made_tree
-    → AreLiveChanges site live listed first
-    → kept_at ≡ cell.Kept site m → kept_change ≡ change_at kept_at (finmap.get state kept_at) (Some (value.Kept made_tree)) → second ≡ first ++ option_to_list kept_change
-    → draft_at ≡ cell.Draft site m → draft_change ≡ change_at draft_at (finmap.get state draft_at) None → third ≡ second ++ option_to_list draft_change
+pub publish_plan : (site : SiteName) (m : ℕ) (tree : Paths (List ℕ)) (state : State) (live : List (Cell × Value)) (listed : Paths (List ℕ)) (kept_at draft_at : Cell)
+    (first second third : List Change) → live ≡ live_entries state site → listed ≡ tree → AreLiveChanges site live listed first
+    → kept_at ≡ cell.Kept site m → second ≡ first ++ option_to_list (change_at kept_at (finmap.get state kept_at) (Some (value.Kept tree)))
+    → draft_at ≡ cell.Draft site m → third ≡ second ++ option_to_list (change_at draft_at (finmap.get state draft_at) None)
     → IsDifference state (with_published site m tree state) third
-publish_plan site m tree made_tree state live listed kept_at draft_at kept_change draft_change first second third is_tree is_live is_listed are is_kept_at is_kept is_second is_draft_at is_draft is_third =
+publish_plan site m tree state live listed kept_at draft_at first second third is_live is_listed are is_kept_at is_second is_draft_at is_third =
     let P : List (Cell × Value) → Type 0 = λ l. AreLiveChanges site l listed first in
     let Q : Paths (List ℕ) → Type 0 = λ t. AreLiveChanges site (live_entries state site) t first in
-    let kept_is : kept_change ≡ change_at (cell.Kept site m) (finmap.get state (cell.Kept site m)) (Some (value.Kept tree)) =
-    is_kept ∙ (λ i. change_at (is_kept_at i) (finmap.get state (is_kept_at i)) (Some (value.Kept (is_tree i)))) in
-    let draft_is : draft_change ≡ change_at (cell.Draft site m) (finmap.get state (cell.Draft site m)) None =
-    is_draft ∙ (λ i. change_at (is_draft_at i) (finmap.get state (is_draft_at i)) None) in
-    let all : third ≡ (first ++ option_to_list (change_at (cell.Kept site m) (finmap.get state (cell.Kept site m)) (Some (value.Kept tree))))
-    ++ option_to_list (change_at (cell.Draft site m) (finmap.get state (cell.Draft site m)) None) =
-    is_third ∙ (λ i. (is_second ∙ ap (λ (o : Option Change). first ++ option_to_list o) kept_is) i ++ option_to_list (draft_is i)) in
+    let f : Reading = finmap.get state in
+    let all : third ≡ (first ++ option_to_list (change_at (cell.Kept site m) (f (cell.Kept site m)) (Some (value.Kept tree))))
+    ++ option_to_list (change_at (cell.Draft site m) (f (cell.Draft site m)) None) =
+    is_third ∙ (λ i. (is_second ∙ (λ j. first ++ option_to_list (change_at (is_kept_at j) (f (is_kept_at j)) (Some (value.Kept tree))))) i
+    ++ option_to_list (change_at (is_draft_at i) (f (is_draft_at i)) None)) in
     let R : List Change → Type 0 = IsDifference state (with_published site m tree state) in
-    subst R (sym all) (published_changes site m tree state first (subst Q (is_listed ∙ is_tree) (subst P is_live are)))
+    subst R (sym all) (published_changes site m tree state first (subst Q is_listed (subst P is_live are)))

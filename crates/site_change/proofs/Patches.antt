@@ -170,10 +170,10 @@ module _ (site : SiteName) (uploads : Contents) (files : Listings) (state : Stat
   all_changed i changes end are = let P : Listings → Type 0 = λ l. AreChangesIn (is_listed site l) f g changes in subst P (take_all i files end) are
 
   -- the next path
-  pub one_changed : (i : ℕ) (d : List ℕ × Option Digest) (changes next : List Change) (at : Cell) (v : Option Value) (change : Option Change) → IsByPath files → i < length files
-      → d ≡ get_or files i d → Changed i changes → at ≡ cell.Live site d.0 → v ≡ option_map value.Live (file_at uploads d.1) → change ≡ change_at at (finmap.get state at) v
-      → next ≡ changes ++ option_to_list change → Changed (i + 1) next
-  one_changed i d changes next at v change by_path lt is are is_at is_v is_change is_next =
+  pub one_changed : (i : ℕ) (d : List ℕ × Option Digest) (changes next : List Change) (at : Cell) (v : Option Value) → IsByPath files → i < length files
+      → d ≡ get_or files i d → Changed i changes → at ≡ cell.Live site d.0 → v ≡ option_map value.Live (file_at uploads d.1)
+      → next ≡ changes ++ option_to_list (change_at at (finmap.get state at) v) → Changed (i + 1) next
+  one_changed i d changes next at v by_path lt is are is_at is_v is_next =
       let here = cell.Live site d.0 in
       let there : g here ≡ option_map value.Live (file_at uploads d.1) =
       ap (λ (e : List ℕ × Option Digest). g (cell.Live site e.0)) is ∙ get-with_listed site uploads files state (cell.Live site (get_or files i d).0)
@@ -189,13 +189,12 @@ module _ (site : SiteName) (uploads : Contents) (files : Listings) (state : Stat
       let same_test : (c : Cell) → (is_listed site (take i files) c || is_cell here c) ≡ is_listed site (take (i + 1) files) c = λ c.
       sym (ap (λ l. is_listed site l c) more ∙ listed_more site (take i files) d c) in
       let P : List Change → Type 0 = Changed (i + 1) in
-      let is_one : change ≡ change_at here (f here) (option_map value.Live (file_at uploads d.1)) = is_change ∙ (λ k. change_at (is_at k) (f (is_at k)) (is_v k)) in
-      subst P (sym (is_next ∙ ap (λ o. changes ++ option_to_list o) is_one)) (retest _ _ f g _ same_test both)
+      subst P (sym (is_next ∙ (λ k. changes ++ option_to_list (change_at (is_at k) (f (is_at k)) (is_v k))))) (retest _ _ f g _ same_test both)
 
   -- and the draft, which is open no longer
-  pub patch_plan : (m : ℕ) (at : Cell) (change : Option Change) (changes all : List Change) → AreListedChanges site uploads files state changes → at ≡ cell.Draft site m
-      → change ≡ change_at at (finmap.get state at) None → all ≡ changes ++ option_to_list change → IsDifference state (with_patch site m uploads files state) all
-  patch_plan m at change changes all are is_at is_change is_all =
+  pub patch_plan : (m : ℕ) (at : Cell) (changes all : List Change) → AreListedChanges site uploads files state changes → at ≡ cell.Draft site m
+      → all ≡ changes ++ option_to_list (change_at at (finmap.get state at) None) → IsDifference state (with_patch site m uploads files state) all
+  patch_plan m at changes all are is_at is_all =
       let draft = cell.Draft site m in
       let after : Reading = finmap.get (with_patch site m uploads files state) in
       let not_draft : (c : Cell) → is_listed site files c ≡ true → same_cell c draft ≡ false = λ c in_list. ap is_eq (listed_before_draft site m files c in_list) in
@@ -212,5 +211,4 @@ module _ (site : SiteName) (uploads : Contents) (files : Listings) (state : Stat
       let whole_changes = whole (λ c. is_listed site files c || is_cell draft c) state (with_patch site m uploads files state) elsewhere _
       (joined (is_listed site files) (is_cell draft) f after parted changes _ listed one) in
       let P : List Change → Type 0 = IsDifference state (with_patch site m uploads files state) in
-      let is_one : change ≡ change_at draft (f draft) None = is_change ∙ (λ k. change_at (is_at k) (f (is_at k)) None) in
-      subst P (sym (is_all ∙ ap (λ o. changes ++ option_to_list o) is_one)) whole_changes
+      subst P (sym (is_all ∙ (λ k. changes ++ option_to_list (change_at (is_at k) (f (is_at k)) None)))) whole_changes

@@ -15,10 +15,10 @@ ghost use Rattle.site_change.specs.TouchedCells.{AreTouched};
 
 use crate::cells::{alias_cell, draft_cell, kept_cell, live_cell};
 use crate::commands::{DecideError, Refusal};
-use crate::plans::{Change, Plan, change_in, push_some};
+use crate::plans::{Change, Plan, push_change};
 use crate::touched::Touched;
 use host_names::{AliasName, Cell, FilePath, SiteName};
-use site_state::{State, Value};
+use site_state::{File, State, Value};
 use std::alloc::{AllocError, Global};
 use std::cmp::Ordering;
 
@@ -34,9 +34,8 @@ fn change_one(
 ) -> Result<Vec<Change>, AllocError>
     ensures { IfOk result (λ changes. IsDifference state.now (with_cell state.now cell after) changes.items) }
 {
-    let change = change_in(state, cell, after)?;
     let mut changes = Vec::new(alloc);
-    push_some(&mut changes, change)?;
+    push_change(&mut changes, state, cell, after)?;
     Ok(changes)
 }
 
@@ -51,11 +50,9 @@ fn change_two(
     ensures { IfOk result (λ changes. IsDifference state.now
         (with_cell (with_cell state.now first.0 first.1) second.0 second.1) changes.items) }
 {
-    let first_change = change_in(state, first.0, first.1)?;
-    let second_change = change_in(state, second.0, second.1)?;
     let mut changes = Vec::new(alloc);
-    push_some(&mut changes, first_change)?;
-    push_some(&mut changes, second_change)?;
+    push_change(&mut changes, state, first.0, first.1)?;
+    push_change(&mut changes, state, second.0, second.1)?;
     Ok(changes)
 }
 
@@ -130,6 +127,40 @@ fn change_both(
     }
 }
 
+/// What changes where this file stands at one path no longer, but at another.
+fn change_paths(
+    alloc: Global,
+    state: &State,
+    site: &SiteName,
+    source: &FilePath,
+    target: &FilePath,
+    file: &File,
+) -> Result<Vec<Change>, AllocError>
+    requires { same_cell (cell.Live site.now source.now) (cell.Live site.now target.now) ≡ false }
+    ensures { IfOk result (λ changes. IsDifference state.now
+        (renamed site.now source.now target.now state.now (Some file.now)) changes.items) }
+{
+    let left = live_cell(site, source)?;
+    let reached = live_cell(site, target)?;
+    let file = Value::Live(file.clone()?);
+    change_both(alloc, state, (left, None), (reached, Some(file)))
+}
+
+/// Two paths, as what a command touches.
+fn touched_paths(
+    alloc: Global,
+    site: &SiteName,
+    one: &FilePath,
+    other: &FilePath,
+) -> Result<Touched, AllocError>
+    ensures { IfOk result (AreTouched site.now
+        (λ c. same_cell c (cell.Live site.now one.now) || same_cell c (cell.Live site.now other.now))) }
+{
+    let one = live_cell(site, one)?;
+    let other = live_cell(site, other)?;
+    Touched::two(alloc, site, one, other)
+}
+
 /// What the renaming of a file changes and touches.
 pub(crate) fn rename(
     alloc: Global,
@@ -152,11 +183,8 @@ pub(crate) fn rename(
     if state.file(site, target).is_some() {
         return Err(DecideError::Refused(Refusal::PathTaken));
     }
-    let file = Value::Live(file.clone()?);
-    let left = live_cell(site, source)?;
-    let reached = live_cell(site, target)?;
-    let touched = Touched::two(alloc, site, left.clone()?, reached.clone()?)?;
-    let changes = change_both(alloc, state, (left, None), (reached, Some(file)))?;
+    let touched = touched_paths(alloc, site, source, target)?;
+    let changes = change_paths(alloc, state, site, source, target, file)?;
     Ok(Plan { changes, touched })
 }
 
@@ -177,8 +205,8 @@ pub(crate) fn move_alias(
         return Err(DecideError::Refused(Refusal::NoSuchDeploy));
     }
     let kept = kept_cell(site, number)?;
+    let touched = Touched::two(alloc, site, kept, alias_cell(site, name)?)?;
     let alias = alias_cell(site, name)?;
-    let touched = Touched::two(alloc, site, kept, alias.clone()?)?;
     let changes = change_one(alloc, state, alias, Some(Value::Alias(number)))?;
     Ok(Plan { changes, touched })
 }
@@ -220,9 +248,8 @@ pub(crate) fn remove_deploy(
     if let Some(name) = state.alias_for(site, number) {
         return Err(DecideError::Refused(Refusal::DeployInUse(name_of(name))));
     }
-    let kept = kept_cell(site, number)?;
-    let touched = Touched::one_and_aliases(alloc, site, kept.clone()?)?;
-    let changes = change_one(alloc, state, kept, None)?;
+    let touched = Touched::one_and_aliases(alloc, site, kept_cell(site, number)?)?;
+    let changes = change_one(alloc, state, kept_cell(site, number)?, None)?;
     Ok(Plan { changes, touched })
 }
 

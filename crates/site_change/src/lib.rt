@@ -3,25 +3,13 @@
 
 mod cells;
 mod commands;
-#[cfg(test)]
-mod decide_tests;
 mod decisions;
 mod few_cells;
-#[cfg(test)]
-mod few_cells_tests;
 mod laws;
 mod live;
-#[cfg(test)]
-mod patch_tests;
 mod plans;
 mod publishing;
-#[cfg(test)]
-mod restore_tests;
-#[cfg(test)]
-mod samples;
 mod touched;
-#[cfg(test)]
-mod touched_tests;
 mod trees;
 
 pub use commands::{Command, DecideError, Refusal};

@@ -79,3 +79,16 @@ pub fn change_in(
         after,
     }))
 }
+
+/// Adds what changes where this comes to stand in a cell, if anything does, behind the others.
+pub fn push_change(
+    changes: &mut Vec<Change>,
+    state: &State,
+    cell: Cell,
+    after: Option<Value>,
+) -> Result<(), AllocError>
+    ensures { OnOk result (changes.new.items
+        ≡ changes.old.items ++ option_to_list (change_at cell (map.get state.now cell) after)) }
+{
+    push_some(changes, change_in(state, cell, after)?)
+}

@@ -16,33 +16,28 @@ ghost use Rattle.site_change.specs.TouchedCells.{AreTouched, is_of_deploy, is_of
 use crate::cells::{draft_cell, kept_cell, live_cell};
 use crate::commands::{DecideError, Refusal};
 use crate::live::live_changes;
-use crate::plans::{Change, Plan, change_in, push_some};
+use crate::plans::{Change, Plan, push_change};
 use crate::touched::Touched;
 use crate::trees::{file_at, tree_of};
 use host_names::{Digest, FilePath, SiteName, Uploads};
 use site_state::{Draft, Listing, State, Tree, Value, least_missing};
 use std::alloc::{AllocError, Global};
 
-/// What changes where a site comes to serve these files and no others, of which none is missing.
-fn full_changes<U: Uploads>(
+/// What changes where a site comes to serve the files of this tree, and no others, as the deploy of this number.
+fn full_changes(
     alloc: Global,
     state: &State,
-    uploads: &U,
     site: &SiteName,
     number: u64,
-    files: &Listing,
+    tree: Tree,
 ) -> Result<Vec<Change>, AllocError>
-    requires { least_missing_of (U.contents uploads.now) files.now.1 ≡ None }
     ensures { IfOk result (λ changes. IsDifference state.now
-        (with_published site.now number (tree_of (U.contents uploads.now) files.now.1) state.now)
-        changes.items) }
+        (with_published site.now number tree state.now) changes.items) }
 {
-    let tree = tree_of(alloc, uploads, files)?;
     let mut changes = live_changes(alloc, site, state.live(site), tree.entries())?;
-    let kept = change_in(state, kept_cell(site, number)?, Some(Value::Kept(tree)))?;
-    push_some(&mut changes, kept)?;
-    let draft = change_in(state, draft_cell(site, number)?, None)?;
-    push_some(&mut changes, draft)?;
+    let kept = kept_cell(site, number)?;
+    push_change(&mut changes, state, kept, Some(Value::Kept(tree)))?;
+    push_change(&mut changes, state, draft_cell(site, number)?, None)?;
     Ok(changes)
 }
 
@@ -71,8 +66,8 @@ fn listed_changes<U: Uploads>(
 {
     let mut changes = Vec::new(alloc);
     for (path, listed) in entries {
-        let change = change_in(state, live_cell(site, path)?, served(uploads, listed)?)?;
-        push_some(&mut changes, change)?;
+        let live = live_cell(site, path)?;
+        push_change(&mut changes, state, live, served(uploads, listed)?)?;
     }
     Ok(changes)
 }
@@ -92,8 +87,7 @@ fn patch_changes<U: Uploads>(
         changes.items) }
 {
     let mut changes = listed_changes(alloc, state, uploads, site, files.entries())?;
-    let draft = change_in(state, draft_cell(site, number)?, None)?;
-    push_some(&mut changes, draft)?;
+    push_change(&mut changes, state, draft_cell(site, number)?, None)?;
     Ok(changes)
 }
 
@@ -112,7 +106,8 @@ fn plan_full<U: Uploads>(
         plan.changes.items) }
     ensures touched { IfOk result (λ plan. AreTouched site.now (is_of_deploy site.now number) plan.touched) }
 {
-    let changes = full_changes(alloc, state, uploads, site, number, files)?;
+    let tree = tree_of(alloc, uploads, files)?;
+    let changes = full_changes(alloc, state, site, number, tree)?;
     let touched = Touched::deploy(alloc, site, number)?;
     Ok(Plan { changes, touched })
 }

@@ -7,16 +7,8 @@ mod keys;
 mod laws;
 mod listings;
 mod merge;
-#[cfg(test)]
-mod missing_tests;
 mod paths;
-#[cfg(test)]
-mod samples;
-#[cfg(test)]
-mod state_tests;
 mod states;
-#[cfg(test)]
-mod value_tests;
 mod values;
 
 pub use drafts::{least_missing, missing};

@@ -1,7 +1,23 @@
-use Rattle.std.proofs.Common.{sym, ◌∙◌}
-use Rattle.host_api.specs.Patterns.{bindings_of}
-use Rattle.host_api.proofs.RoutesTaken.{live_takes_path}
+use Rattle.std.proofs.Common.{rules, ◌≡◌, [], Ok, Err, inl, refl, sym, subst, ◌∙◌}
+use Rattle.host_api.specs.Patterns.{bindings_of, routed_alike, GivesRoute}
+use Rattle.host_api.specs.Refusals.{of_path}
+use Rattle.host_api.specs.declared.resources.Resource.TheVariants.{LiveFile}
+use Rattle.host_api.proofs.RoutesTaken.{without_site, live_read}
 use Rattle.host_api.proofs.routes.live_file.Goals as goal
 
-pub returns-in_err-path-clause-memory : goal.returns-in_err-path-clause-memory
-returns-in_err-path-clause-memory c = λ _. live_takes_path c.args.path.now (bindings_of c.args.bindings) c.in_ok-site.site (sym c.site_of.ensures ∙ c.in_ok-site.was)
+pub returns-in_err-site : goal.returns-in_err-site
+returns-in_err-site c =
+    let reason = c.in_err-site.field-0.0 in
+    let is : c.from_residual.result ≡ Err reason = search rules in
+    inl (is ∙ sym (without_site [] c.args.path.now LiveFile (bindings_of c.args.bindings) reason refl (sym c.site_of.ensures ∙ c.in_err-site.was)))
+
+pub returns-in_err-path : goal.returns-in_err-path
+returns-in_err-path c =
+    let error = c.in_err-path.field-0.0 in
+    let is : c.from_residual-in_err-path.result ≡ Err (of_path error) = search rules in
+    subst (λ r. GivesRoute c.args.path.now r (routed_alike c.args.path.now LiveFile (bindings_of c.args.bindings))) (sym is)
+    (live_read c.args.path.now (bindings_of c.args.bindings) c.in_ok-site.site (Err error) (sym c.site_of.ensures ∙ c.in_ok-site.was) tt c.in_err-path.ensures.bad)
+
+pub returns : goal.returns
+returns c =
+    live_read c.args.path.now (bindings_of c.args.bindings) c.in_ok-site.site (Ok c.in_ok-path.path) (sym c.site_of.ensures ∙ c.in_ok-site.was) c.in_ok-path.ensures.ok (λ e. absurd (cc e))

@@ -12,8 +12,8 @@ served-requires g c =
 pub loop-path-preserved : goal.loop-path-preserved
 loop-path-preserved g c =
     one_changed c.args.site.now (g.U.Uploads.contents c.args.uploads.now) c.args.entries.now c.args.state.now c.loop-path.path-index c.loop-path-item.result c.loop-path.changes.items _
-    c.in_ok-live_cell.field-0 c.in_ok-served.field-0 c.in_ok-change.change c.requires.sorted c.loop-path-test.true c.loop-path-item.is c.loop-path.invariant c.in_ok-live_cell.ensures
-    c.in_ok-served.ensures c.in_ok-change.ensures c.in_ok-push_some.ensures
+    c.in_ok-live.live c.in_ok-served.field-0 c.requires.sorted c.loop-path-test.true c.loop-path-item.is c.loop-path.invariant c.in_ok-live.ensures
+    c.in_ok-served.ensures c.in_ok-push_change.ensures
 
 pub returns : goal.returns
 returns g c =

@@ -10,5 +10,5 @@ pub returns : goal.returns
 returns g c =
     let contents = g.U.Uploads.contents c.args.uploads.now in
     let P : Listings → Type 0 = λ l. AreListedChanges c.args.site.now contents l c.args.state.now c.in_ok-changes.changes.items in
-    patch_plan c.args.site.now contents c.args.files.now.1 c.args.state.now c.args.number c.in_ok-draft_cell.field-0 c.in_ok-draft.draft c.in_ok-changes.changes.items _
-    (subst P c.entries.ensures.pairs c.in_ok-changes.ensures) c.in_ok-draft_cell.ensures c.in_ok-draft.ensures c.in_ok-push_some.ensures
+    patch_plan c.args.site.now contents c.args.files.now.1 c.args.state.now c.args.number c.in_ok-draft_cell.field-0 c.in_ok-changes.changes.items _
+    (subst P c.entries.ensures.pairs c.in_ok-changes.ensures) c.in_ok-draft_cell.ensures c.in_ok-push_change.ensures

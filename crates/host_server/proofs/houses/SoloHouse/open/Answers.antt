@@ -1,11 +1,12 @@
-use Rattle.std.proofs.Common.{rules, ◌≡◌, List, Result, Ok, Err, subst, sym, ap, ◌∙◌}
+use Rattle.std.proofs.Common.{rules, ◌≡◌, inr, List, Result, Ok, Err, subst, sym, ap, ◌∙◌}
 use Rattle.host_names.specs.declared.digests.Digest.{Digest}
 use Rattle.host_api.specs.declared.refusals.Refusal.{Refusal}
 use Rattle.host_api.specs.declared.texts.Told.{Told}
 use Rattle.host_api.specs.declared.texts.Told.TheVariants.{Opened}
 use Rattle.site_change.specs.declared.commands.Command.TheVariants.{Open}
-use Rattle.host_server.specs.Outcomes.{DoesCommit}
-use Rattle.host_server.proofs.Opening.{answer, open_done}
+use Rattle.host_server.specs.Outcomes.{DoesCommit, entered}
+use Rattle.host_server.proofs.Growing.{grows_then}
+use Rattle.host_server.proofs.Opening.{answer, on_err, open_done}
 use Rattle.host_server.proofs.houses.SoloHouse.open.Goals as goal
 
 pub returns-in_err-published-clause-done : goal.returns-in_err-published-clause-done
@@ -25,3 +26,16 @@ returns-clause-done c =
     let P : Result Told Refusal → Type 0 = λ r. DoesCommit r c.publish_if_ready.new.self c.args.self.now (Open c.args.site c.args.files c.args.auto) in
     subst P (ap (answer c.in_ok-id.id c.in_ok-required.required.items) c.in_ok-published.was
     ∙ ap (λ (d : List Digest). Ok (Opened c.in_ok-id.id c.in_ok-published.published d)) (sym c.from.ensures)) done
+
+pub returns-in_err-published-clause-stands : goal.returns-in_err-published-clause-stands
+returns-in_err-published-clause-stands c =
+    on_err c.from_residual-in_err-published.result (inr (c.in_err-published.ensures.err ∙ c.in_ok-id.ensures.entries
+    ∙ sym (ap (entered c.args.self.now (Open c.args.site c.args.files c.args.auto)) c.in_ok-id.ensures.accepted)))
+
+pub returns-in_err-published-clause-grows : goal.returns-in_err-published-clause-grows
+returns-in_err-published-clause-grows c =
+    grows_then c.args.self.now c.commit.new.self c.publish_if_ready.new.self c.commit.ensures.grows c.publish_if_ready.ensures.grows
+
+pub returns-clause-grows : goal.returns-clause-grows
+returns-clause-grows c =
+    grows_then c.args.self.now c.commit.new.self c.publish_if_ready.new.self c.commit.ensures.grows c.publish_if_ready.ensures.grows

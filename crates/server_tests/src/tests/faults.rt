@@ -1,0 +1,99 @@
+//! Reads and writes that fail at each place of a run.
+
+use super::asserts::{assert_number, assert_text};
+use super::fakes::{Narrow, Trickle};
+use super::talks::{
+    REPLIES, REQUESTS, assert_answers, assert_ended, assert_history, assert_serves, count_whole,
+    joined, new_house,
+};
+use host_server::{ConnectionFault, SoloHouse, serve_connection};
+use http_wire::{Reading, Source, Writing};
+use std::alloc::Global;
+use std::process::Abort;
+use std::test::Fail;
+
+/// Asserts that a connection whose input fails answers so many requests of the run, and no more.
+fn assert_front_answered<S: Source + Drop>(
+    rt: &impl Abort,
+    alloc: Global,
+    house: &mut SoloHouse,
+    source: S,
+    count: usize,
+) -> Result<(), Fail> {
+    let wanted = joined(alloc, REPLIES.get(..count).ok_or("no such reply")?)?;
+    let fault = Err(ConnectionFault::InputFault);
+    assert_serves(rt, alloc, house, source, wanted.as_str(), fault);
+    assert_history(rt, alloc, house, count)
+}
+
+/// Asserts what comes of the run where this read fails: each before it gave a byte, and nothing is read behind it.
+fn assert_read_fails(rt: &impl Abort, alloc: Global, asked: &str, call: usize) -> Result<(), Fail> {
+    let whole = count_whole(&REQUESTS, call);
+    let mut house = new_house(alloc);
+    let mut source = Trickle::new(asked.as_bytes(), call);
+    let answered = assert_front_answered(rt, alloc, &mut house, Reading(&mut source), whole);
+    assert_number(rt, source.calls, call.saturating_add(1));
+    answered
+}
+
+#[test]
+fn a_read_fails_at_each_call(rt: HostRuntime) -> Result<(), Fail> {
+    let alloc = rt.alloc();
+    let asked = joined(alloc, &REQUESTS)?;
+    for call in 0..=asked.len() {
+        assert_read_fails(&rt, alloc, asked.as_str(), call)?;
+    }
+    Ok(())
+}
+
+/// Asserts what comes of the run where the write behind so many bytes fails, or takes none: nothing is written behind
+/// it, and the request stands whose reply is cut.
+fn assert_cut(
+    rt: &impl Abort,
+    alloc: Global,
+    asked: &str,
+    replies: &str,
+    count: usize,
+    fails: bool,
+) -> Result<(), Fail> {
+    let front = replies.get(..count).ok_or("no such front")?;
+    let mut house = new_house(alloc);
+    let mut out = Narrow::new(alloc, 1, count, fails);
+    let ended = serve_connection(alloc, asked.as_bytes(), &mut Writing(&mut out), &mut house);
+    assert_ended(rt, ended, Err(ConnectionFault::OutputFault));
+    assert_text(rt, out.held.as_slice(), front);
+    assert_number(rt, out.calls, count.saturating_add(1));
+    let answered = count_whole(&REPLIES, count).saturating_add(1);
+    assert_history(rt, alloc, &house, answered)
+}
+
+#[test]
+fn a_write_fails_after_each_count_of_bytes(rt: HostRuntime) -> Result<(), Fail> {
+    let alloc = rt.alloc();
+    let asked = joined(alloc, &REQUESTS)?;
+    let replies = joined(alloc, &REPLIES)?;
+    for count in 0..replies.len() {
+        assert_cut(&rt, alloc, asked.as_str(), replies.as_str(), count, true)?;
+        assert_cut(&rt, alloc, asked.as_str(), replies.as_str(), count, false)?;
+    }
+    Ok(())
+}
+
+/// Asserts that each request has its reply over a connection of its own.
+fn assert_answers_one_by_one(
+    rt: &impl Abort,
+    alloc: Global,
+    house: &mut SoloHouse,
+) -> Result<(), Fail> {
+    for at in 0..5usize {
+        assert_answers(rt, alloc, house, &REQUESTS[at..=at], &REPLIES[at..=at])?;
+    }
+    Ok(())
+}
+
+#[test]
+fn answers_requests_of_separate_connections_alike(rt: HostRuntime) -> Result<(), Fail> {
+    let alloc = rt.alloc();
+    let mut house = new_house(alloc);
+    assert_answers_one_by_one(&rt, alloc, &mut house)
+}

@@ -1,0 +1,149 @@
+//! Histories that are full, and long ones.
+
+use super::asserts::assert_number;
+use super::talks::{
+    ONE, OPEN, OPENED, READ, SENT, UPLOAD, assert_answers, assert_ended, assert_has, entries,
+    joined, new_house,
+};
+use host_server::{SoloHouse, serve_connection};
+use http_wire::Writing;
+use std::alloc::Global;
+use std::process::Abort;
+use std::test::Fail;
+
+const OPENING: &str =
+    "POST /api/v1/sites/one/deploys HTTP/1.1\r\nContent-Length: 12\r\n\r\n{\"files\":{}}";
+
+const UNDO: &str =
+    "POST /api/v1/sites/one/undo HTTP/1.1\r\nContent-Length: 12\r\n\r\n{\"change\":1}";
+
+const FULL: &str =
+    "HTTP/1.1 507 Insufficient Storage\r\nContent-Type: application/json\r\nContent-Length: 23\r\n\r\n\
+     {\"error\":\"HistoryFull\"}";
+
+/// Asserts the replies of a host to these requests, and what it has then.
+fn assert_talk(
+    rt: &impl Abort,
+    alloc: Global,
+    house: &mut SoloHouse,
+    requests: &[&str],
+    replies: &[&str],
+    wanted: (&str, bool),
+) -> Result<(), Fail> {
+    assert_answers(rt, alloc, house, requests, replies)?;
+    assert_has(rt, alloc, house, wanted)
+}
+
+const OPENINGS: [&str; 3] = [OPENING, OPENING, UNDO];
+
+#[test]
+fn an_opening_stands_whose_publishing_finds_the_history_full(rt: HostRuntime) -> Result<(), Fail> {
+    let alloc = rt.alloc();
+    let mut house = SoloHouse::new(alloc, 1);
+    assert_talk(&rt, alloc, &mut house, &OPENINGS, &[FULL; 3], (ONE, false))
+}
+
+/// An upload of what the deploy doesn't list.
+const WRONG: &str = "PUT /api/v1/deploys/1/files/a.txt HTTP/1.1\r\nContent-Length: 3\r\n\r\nabc";
+
+const WRONG_DIGEST: &str =
+    "HTTP/1.1 422 Unprocessable Entity\r\nContent-Type: application/json\r\nContent-Length: 23\r\n\r\n\
+     {\"error\":\"WrongDigest\"}";
+
+const UPLOADS: [&str; 4] = [OPEN, UPLOAD, UPLOAD, WRONG];
+
+const UPLOADED: [&str; 4] = [OPENED, FULL, FULL, WRONG_DIGEST];
+
+#[test]
+fn an_upload_stands_whose_publishing_finds_the_history_full(rt: HostRuntime) -> Result<(), Fail> {
+    let alloc = rt.alloc();
+    let mut house = SoloHouse::new(alloc, 1);
+    assert_talk(&rt, alloc, &mut house, &UPLOADS, &UPLOADED, (ONE, true))
+}
+
+/// A request of each kind that makes an entry.
+const ENTRIES: [&str; 10] = [
+    OPENING,
+    "PUT /api/v1/deploys/6/files/b.txt HTTP/1.1\r\nContent-Length: 3\r\n\r\nabc",
+    "POST /api/v1/deploys/6/cancel HTTP/1.1\r\n\r\n",
+    "PUT /api/v1/sites/one/aliases/next HTTP/1.1\r\nContent-Length: 12\r\n\r\n{\"deploy\":1}",
+    "DELETE /api/v1/sites/one/aliases/next HTTP/1.1\r\n\r\n",
+    "POST /api/v1/sites/one/rename HTTP/1.1\r\nContent-Length: 31\r\n\r\n\
+     {\"from\":\"/a.txt\",\"to\":\"/c.txt\"}",
+    "DELETE /api/v1/sites/one/files/a.txt HTTP/1.1\r\n\r\n",
+    "POST /api/v1/sites/one/deploys/1/restore HTTP/1.1\r\n\r\n",
+    "DELETE /api/v1/deploys/1 HTTP/1.1\r\n\r\n",
+    "POST /api/v1/sites/one/undo HTTP/1.1\r\nContent-Length: 12\r\n\r\n{\"change\":5}",
+];
+
+/// Six entries, behind which each of these could be the next.
+const FILLING: [&str; 5] = [
+    OPENING,
+    "POST /api/v1/sites/one/deploys HTTP/1.1\r\nContent-Length: 62\r\n\r\n\
+     {\"files\":{\"a.txt\":\"aaf4c61ddcc5e8a2dabede0f3b482cd9aea9434d\"}}",
+    "PUT /api/v1/deploys/3/files/a.txt HTTP/1.1\r\nContent-Length: 5\r\n\r\nhello",
+    "PUT /api/v1/sites/one/aliases/next HTTP/1.1\r\nContent-Length: 12\r\n\r\n{\"deploy\":3}",
+    "POST /api/v1/sites/one/deploys HTTP/1.1\r\nContent-Length: 62\r\n\r\n\
+     {\"files\":{\"b.txt\":\"a9993e364706816aba3e25717850c26c9cd0d89d\"}}",
+];
+
+const SIX: &str = "{\"changes\":[{\"entry\":1,\"kind\":\"open\",\"live\":true},\
+    {\"entry\":2,\"kind\":\"publish\",\"live\":true},{\"entry\":3,\"kind\":\"open\",\"live\":true},\
+    {\"entry\":4,\"kind\":\"publish\",\"live\":true},{\"entry\":5,\"kind\":\"alias\",\"live\":true},\
+    {\"entry\":6,\"kind\":\"open\",\"live\":true}]}";
+
+/// Makes entries by a connection, and asserts that it ends well.
+fn enter(
+    rt: &impl Abort,
+    alloc: Global,
+    house: &mut SoloHouse,
+    requests: &[&str],
+) -> Result<(), Fail> {
+    let stream = joined(alloc, requests)?;
+    let mut out = Vec::new(alloc);
+    let ended = serve_connection(alloc, stream.as_bytes(), &mut Writing(&mut out), house);
+    assert_ended(rt, ended, Ok(()));
+    Ok(())
+}
+
+/// Asserts that a host of six entries takes these and no other, and still serves what they published.
+fn assert_takes_six(rt: &impl Abort, alloc: Global, house: &mut SoloHouse) -> Result<(), Fail> {
+    enter(rt, alloc, house, &FILLING)?;
+    assert_has(rt, alloc, house, (SIX, true))?;
+    assert_talk(rt, alloc, house, &ENTRIES, &[FULL; 10], (SIX, true))?;
+    assert_answers(rt, alloc, house, &[READ], &[SENT])
+}
+
+#[test]
+fn a_full_history_takes_no_change_and_no_undo(rt: HostRuntime) -> Result<(), Fail> {
+    let alloc = rt.alloc();
+    let mut house = SoloHouse::new(alloc, 6);
+    assert_takes_six(&rt, alloc, &mut house)
+}
+
+/// Asserts that of 1,200 entries the last 1,000 are listed.
+fn assert_lists(rt: &impl Abort, listed: &str) {
+    assert_number(rt, listed.split("},{").count(), 1_000);
+    assert!(rt; listed.starts_with(r#"{"changes":[{"entry":201,"kind":"open","live":true},"#));
+    assert!(rt; listed.ends_with(r#",{"entry":1200,"kind":"publish","live":true}]}"#));
+}
+
+/// Makes them, two by each opening, and asserts so. A connection answers no more than a hundred requests.
+fn assert_makes_and_lists(
+    rt: &impl Abort,
+    alloc: Global,
+    house: &mut SoloHouse,
+) -> Result<(), Fail> {
+    for _ in 0..6u8 {
+        enter(rt, alloc, house, &[OPENING; 100])?;
+    }
+    assert_lists(rt, entries(alloc, house)?.as_str());
+    Ok(())
+}
+
+#[test]
+fn lists_the_last_thousand_entries(rt: HostRuntime) -> Result<(), Fail> {
+    let alloc = rt.alloc();
+    let mut house = new_house(alloc);
+    assert_makes_and_lists(&rt, alloc, &mut house)
+}

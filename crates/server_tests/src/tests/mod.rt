@@ -1,0 +1,11 @@
+mod asserts;
+mod bodies;
+mod fakes;
+mod faults;
+mod heads;
+mod limits;
+mod replies;
+mod statuses;
+mod talks;
+mod texts;
+mod wires;

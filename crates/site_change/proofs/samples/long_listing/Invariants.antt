@@ -1,5 +1,0 @@
-use Rattle.site_state.specs.Files.{IsByPath}
-use Rattle.site_change.proofs.samples.long_listing.Given as goal
-
-abbrev pub invariant-loop-number : goal.invariant-loop-number
-invariant-loop-number g l = IsByPath l.entries.items

@@ -1,0 +1,210 @@
+"""What a client of the program says and reads: requests and replies as bytes, and runs of the program over them."""
+
+import fcntl
+import hashlib
+import json
+import pathlib
+import struct
+import subprocess
+import termios
+import threading
+import time
+import unittest
+
+HERE = pathlib.Path(__file__).resolve().parent
+TOP = HERE.parent
+CRATE = TOP / "crates/filehost"
+PROGRAM = CRATE / "out/filehost"
+EXAMPLES = TOP / "examples"
+
+REQUESTS = 100
+LARGEST_FILE = 16_777_216
+HELLO = hashlib.sha1(b"hello").hexdigest()
+ABC = hashlib.sha1(b"abc").hexdigest()
+SECONDS = 60
+PATIENCE = 20
+
+# The status of each refusal that a short connection can meet.
+STATUSES = {
+    "400 Bad Request": "BadHead BadName BadPath BadDigest BadBody",
+    "404 Not Found": "NoRoute NoSuchFile NoSuchDeploy NoSuchDraft NotListed NoSuchAlias NoSuchChange",
+    "405 Method Not Allowed": "BadMethod",
+    "409 Conflict": "NotComplete PathTaken SamePath DeployInUse NotAChange AlreadyUndone Clash",
+    "413 Payload Too Large": "TooManyFiles",
+    "416 Range Not Satisfiable": "NotSatisfiable",
+    "422 Unprocessable Entity": "WrongDigest",
+}
+STATUS_OF = {name: status for status, names in STATUSES.items() for name in names.split()}
+
+
+def run(*words, given=b"", **how):
+    """Runs the program to its end, and returns its status, its output and what it wrote on standard error."""
+    how = {"stdout": subprocess.PIPE, "stderr": subprocess.PIPE, "timeout": SECONDS, **how}
+    ran = subprocess.run([PROGRAM, *words], input=given, **how)
+    return ran.returncode, ran.stdout, ran.stderr
+
+
+def request(method, target, *fields, body=None):
+    """A request, as bytes."""
+    lengths = [] if body is None else [f"Content-Length: {len(body)}"]
+    return "\r\n".join([f"{method} {target} HTTP/1.1", *fields, *lengths, "", ""]).encode() + (body or b"")
+
+
+def reply(status, kind, body, *fields):
+    """A reply, as bytes; the fields are those after Content-Length."""
+    head = [f"HTTP/1.1 {status}", f"Content-Type: {kind}", f"Content-Length: {len(body)}", *fields, "", ""]
+    return "\r\n".join(head).encode() + body
+
+
+def told(status, value, *fields):
+    """A reply in JSON: compact, its members in the order of their bytes."""
+    return reply(status, "application/json", json.dumps(value, separators=(",", ":"), sort_keys=True).encode(), *fields)
+
+
+def done(**members):
+    """The reply to a request that is carried out, in JSON."""
+    return told("200 OK", members)
+
+
+def refused(name, *fields, **members):
+    """The reply that refuses a request for this reason."""
+    return told(STATUS_OF[name], {"error": name, **members}, *fields)
+
+
+def sent(content, *fields, kind="text/plain; charset=utf-8", whole=None):
+    """The reply with a file, or with a part of the whole file that is given."""
+    status, tag = ("200 OK", content) if whole is None else ("206 Partial Content", whole)
+    return reply(status, kind, content, f'ETag: "{digest_of(tag)}"', "Accept-Ranges: bytes", *fields)
+
+
+def to_head(message):
+    """The reply without its body, as HEAD gets it."""
+    return message.partition(b"\r\n\r\n")[0] + b"\r\n\r\n"
+
+
+def closing(message):
+    """The request or the reply with `Connection: close` after its other fields."""
+    return message.replace(b"\r\n\r\n", b"\r\nConnection: close\r\n\r\n", 1)
+
+
+def digest_of(content):
+    return hashlib.sha1(content).hexdigest()
+
+
+def asking(method, target, **members):
+    """The request with a JSON object as its body."""
+    return request(method, target, body=json.dumps(members).encode())
+
+
+def opening(files, site="one", **members):
+    """The request that opens a deploy of these files, given by their digests."""
+    return asking("POST", f"/api/v1/sites/{site}/deploys", files=files, **members)
+
+
+def opened(number, *required, published=None):
+    """The reply to it, with the digests that are missing."""
+    return done(id=str(number), published=published, required=list(required))
+
+
+def upload(number, path, content):
+    """The request that uploads a file of a deploy; the path has no leading slash."""
+    return request("PUT", f"/api/v1/deploys/{number}/files/{path}", body=content)
+
+
+def uploaded(content, published=None):
+    """The reply to it."""
+    return done(sha=digest_of(content), published=published)
+
+
+# The exchanges after which the site `one` serves `hello` at /a.txt.
+PUBLISHED = [(opening({"/a.txt": HELLO}), opened(1, HELLO)), (upload(1, "a.txt", b"hello"), uploaded(b"hello", 2))]
+
+
+def cut_after(stream, length_of):
+    """The places in a stream of messages where each ends; a head's field tells the length of what is after it."""
+    ends = [0]
+    while ends[-1] < len(stream):
+        end = stream.index(b"\r\n\r\n", ends[-1]) + 4
+        ends.append(end + length_of(stream[ends[-1]:end]))
+    return ends[1:]
+
+
+def messages(stream):
+    """The messages of a stream: of each its first line in words, and its body."""
+    ends = cut_after(stream, content_length)
+    parts = [stream[start:end].partition(b"\r\n\r\n") for start, end in zip([0, *ends], ends)]
+    return [(head.splitlines()[0].decode().split(" "), body.decode()) for head, _, body in parts]
+
+
+def content_length(head):
+    fields = dict(line.split(b": ", 1) for line in head.splitlines()[1:-1])
+    return int(fields.get(b"Content-Length", 0))
+
+
+class Client:
+    """One that sends bytes to a program of its own and waits for its replies; what takes too long ends the program."""
+
+    def __init__(self, test):
+        pipes = dict.fromkeys(("stdin", "stdout", "stderr"), subprocess.PIPE)
+        self.program = subprocess.Popen([PROGRAM, "solo"], bufsize=0, **pipes)
+        self.watch = threading.Timer(PATIENCE, self.program.kill)
+        self.watch.start()
+        test.addCleanup(self.leave)
+
+    def send(self, piece):
+        """Sends these bytes, and waits until the program has taken them all, or has ended."""
+        self.program.stdin.write(piece)
+        left = bytearray(4)
+        while fcntl.ioctl(self.program.stdin, termios.FIONREAD, left) == 0 and struct.unpack("i", left) != (0,):
+            if self.program.poll() is not None:
+                return
+            time.sleep(0)
+
+    def receive(self, count):
+        """That many bytes of replies, or fewer where there are no more."""
+        got = b""
+        while len(got) < count and (piece := self.program.stdout.read(count - len(got))):
+            got += piece
+        return got
+
+    def end(self):
+        """What the program ends with, though its input may still be open: its status, its last replies and words."""
+        out = self.program.stdout.read()
+        return self.program.wait(), out, self.program.stderr.read()
+
+    def leave(self):
+        self.watch.cancel()
+        self.program.kill()
+        self.program.wait()
+        for pipe in (self.program.stdin, self.program.stdout, self.program.stderr):
+            pipe.close()
+
+
+class Program(unittest.TestCase):
+    def setUp(self):
+        self.assertTrue(PROGRAM.is_file(), "there is no program to test: ./filehost builds it")
+
+    def assert_answers(self, given, wanted, message=None):
+        """It answers these requests with exactly these replies, and ends well."""
+        self.assertEqual(run("solo", given=given), (0, wanted, b""), message)
+
+    def assert_converses(self, exchanges, unread=b""):
+        """It answers the request of each exchange with the reply beside it, nothing after them, and ends well."""
+        given = b"".join(asked for asked, _ in exchanges)
+        status, out, errors = run("solo", given=given + unread)
+        place = 0
+        for number, (asked, wanted) in enumerate(exchanges, 1):
+            got = out[place:place + len(wanted)]
+            self.assertEqual(got, wanted, f"exchange {number}: {asked[:200]}")
+            place += len(wanted)
+        self.assertEqual((status, out[place:], errors), (0, b"", b""), f"after exchange {len(exchanges)}")
+
+    def assert_converses_in_turns(self, exchanges):
+        """It answers each request before the next one is sent, and ends with its input or where a reply says so."""
+        client = Client(self)
+        for number, (asked, wanted) in enumerate(exchanges, 1):
+            client.send(asked)
+            self.assertEqual(client.receive(len(wanted)), wanted, f"exchange {number}: {asked[:200]}")
+        if b"Connection: close" not in exchanges[-1][1]:
+            client.program.stdin.close()
+        self.assertEqual(client.end(), (0, b"", b""))

@@ -1,0 +1,138 @@
+"""The documents against what they speak of: names of edits, clauses, functions, files and crates, and the first run."""
+
+import pathlib
+import re
+import unittest
+
+TOP = pathlib.Path(__file__).resolve().parent.parent
+PAGES = [TOP / "README.md", TOP / "CONTRIBUTING.md", *sorted((TOP / "docs").glob("*.md"))]
+
+
+def read(*path):
+    return TOP.joinpath(*path).read_text()
+
+
+def crates():
+    """The crates of crates.txt, each with what it stands on."""
+    lines = (line.partition("#")[0].partition(":") for line in read("crates.txt").splitlines())
+    return {name.strip(): set(rest.split()) for name, _, rest in lines if name.strip()}
+
+
+def edits(crate, folder):
+    return {file.stem for file in (TOP / "crates" / crate / folder).glob("*.edit")}
+
+
+def sections(text):
+    """The sections of docs/PROOFS.md that are named after a crate, by its name."""
+    parts = re.split(r"(?m)^## ", text)
+    found = ((re.match(r"`(\w+)`", part), part) for part in parts)
+    return {named[1]: part for named, part in found if named}
+
+
+def rows(section):
+    """The rows of a section's tables of promises: promise, function, clause, edits."""
+    lines = [line for line in section.splitlines() if line.startswith("| ") and not line.startswith(("| Promise", "|---"))]
+    cells = [line.strip().strip("|").split(" | ") for line in lines]
+    return [[cell.strip() for cell in row] for row in cells if len(row) == 4]
+
+
+def code_of(crate):
+    return "\n".join(file.read_text() for file in sorted((TOP / "crates" / crate / "src").rglob("*.rt")))
+
+
+class Proofs(unittest.TestCase):
+    """docs/PROOFS.md."""
+
+    sections = sections(read("docs", "PROOFS.md"))
+
+    def test_has_a_section_for_each_crate_with_a_promise(self):
+        for crate in crates():
+            if edits(crate, "must-fail"):
+                self.assertIn(crate, self.sections)
+
+    def test_names_each_edit_of_a_crate_and_no_other(self):
+        for crate, section in self.sections.items():
+            named = {word for row in rows(section) for word in re.findall(r"(?<![\w-])[a-z0-9]+(?:-[a-z0-9]+)+\*?", row[3])}
+            wanted = edits(crate, "must-fail") | {f"{name}*" for name in edits(crate, "wrong-bodies")}
+            if rows(section):
+                with self.subTest(crate=crate):
+                    self.assertEqual(named ^ wanted, set())
+
+    def test_names_functions_and_clauses_that_are_there(self):
+        for crate, section in self.sections.items():
+            code = code_of(crate)
+            for _, functions, clauses, _ in rows(section):
+                for name in re.findall(r"`([\w:]+)`", functions):
+                    with self.subTest(crate=crate, function=name):
+                        self.assertTrue(re.search(rf"\b{name.rpartition('::')[2]}\b", code))
+                for name in re.findall(r"`(\w+)`", clauses):
+                    with self.subTest(crate=crate, functions=functions, clause=name):
+                        clause = r"ensures \{" if name == "ensures" else rf"ensures {name}\b|ghost {name} =|fn {name}\b"
+                        self.assertTrue(re.search(rf"\b{clause}", code))
+
+
+class Architecture(unittest.TestCase):
+    """docs/ARCHITECTURE.md."""
+
+    text = read("docs", "ARCHITECTURE.md")
+
+    def test_has_each_crate_with_what_it_stands_on(self):
+        table = re.findall(r"(?m)^\| `(\w+)` \| [^|]* \| ([^|]*) \|$", self.text.partition("```")[0])
+        self.assertEqual({name: set(re.findall(r"`(\w+)`", rest)) for name, rest in table}, crates())
+
+    def test_says_where_each_definition_is(self):
+        rows = re.findall(r"(?m)^\| [^|`]* \| ([^|]*\.antt\)[^|]*) \| ([^|]*) \| ([^|]*) \|$", self.text)
+        self.assertGreater(len(rows), 24)
+        for definitions, functions, files in rows:
+            specs = [read("crates", crate, "specs", file) for crate, file in re.findall(r"(\w+)/(\w+\.antt)", definitions)]
+            code = "\n".join(map(code_of, {file.partition("/")[0] for file in files.split(", ")} | {"host_server"}))
+            for name in re.findall(r"`(\w+)`", definitions):
+                with self.subTest(definition=name):
+                    self.assertTrue(re.search(rf"(?m)^(?:\w+ )*{name}\b[^=\n]*:", "\n".join(specs)))
+            for name in re.findall(r"`(?:\w+::)?(\w+)`", functions):
+                with self.subTest(function=name):
+                    self.assertTrue(re.search(rf"\b(fn|ensures|ghost|for|impl) {name}\b", code))
+
+    def test_names_files_of_crates_that_are_there(self):
+        named = set(re.findall(r"(?<![\w/])([a-z_]+/[a-z_]+\.rt)\b", self.text)) - {"src/lib.rt"}
+        self.assertGreater(len(named), 20)
+        for name in sorted(named):
+            crate, _, file = name.partition("/")
+            with self.subTest(name):
+                self.assertTrue((TOP / "crates" / crate / "src" / file).is_file())
+
+
+class Pages(unittest.TestCase):
+    """Every page."""
+
+    def test_name_files_of_the_repository_that_are_there(self):
+        for page in PAGES:
+            for name in re.findall(r"(?<![\w/.<-])((?:docs|tests|scripts|examples|bench|crates)/[\w./-]*\w)", page.read_text()):
+                if "NAME" not in name and "CRATE" not in name and "/out" not in name and "/test_" not in name.removesuffix(".py"):
+                    with self.subTest(page=page.name, name=name):
+                        self.assertTrue((TOP / name).exists())
+
+    def test_show_the_first_run_as_it_is(self):
+        replies = read("examples", "first-run.replies").replace("\r\n", "\n")
+        shown = re.sub(r"(?m)^    ", "", read("README.md"))
+        for body in re.split(r"(?m)(?=^HTTP/1\.1 )|(?<=[^\n])(?=HTTP/1\.1 )", replies):
+            self.assertIn(body.strip(), shown)
+
+
+    def test_show_an_undo_as_it_is(self):
+        shown = read("README.md").partition("## Take back one change")[2].partition("\n## ")[0]
+        replies = read("examples", "take-back.replies")
+        requests = read("examples", "take-back.http")
+        for line in re.findall(r"(?m)^    (POST|PUT|GET) +(\S+)(?: +(\{\S*\}|<.*?>))?", shown):
+            method, target, body = (part.strip() for part in line)
+            with self.subTest(line):
+                self.assertIn(f"{method} {target} HTTP/1.1", requests)
+                pattern = re.sub(r'([0-9a-f]{4})\\.\\.', r"\1[0-9a-f]{36}", re.escape(body))
+                self.assertTrue(re.search(pattern, replies if method == "GET" else requests))
+        for told in re.findall(r"(\{[^{}]*\})$", shown, re.M):
+            pattern = re.escape(told).replace(r",\.\.", ",.*")
+            self.assertTrue(re.search(pattern, replies + requests), told)
+
+
+if __name__ == "__main__":
+    unittest.main()

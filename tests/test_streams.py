@@ -1,0 +1,136 @@
+"""A connection as a stream: the pieces in which bytes come, where they end, and reads and writes that fail.
+
+What is expected follows from docs/HTTP.md and docs/DECISIONS.md.
+"""
+
+import os
+import resource
+import socket
+import tempfile
+import unittest
+
+from client import (
+    PUBLISHED, Client, Program, closing, digest_of, opened, opening, refused, run, sent, to_head, upload, uploaded,
+)
+
+LINE = b"GET /s/one/a.txt HTTP/1.1"
+END = b"\r\n\r\n"
+NEXT = LINE + END
+NO_FILE = refused("NoSuchFile")
+BAD_METHOD = refused("BadMethod", "Allow: GET, HEAD")
+
+# Several requests, with bodies, both ends of lines, and empty lines before heads.
+TALK = [
+    (b"\r\n\nPUT /s/one/a HTTP/1.1\nHost: x\ncontent-LENGTH: 3\n\nabc", BAD_METHOD),
+    (b"GET /s/one/b?q HTTP/1.1\r\nAccept: */*\n\r\n", NO_FILE),
+    *PUBLISHED,
+    (b"\nHEAD /s/one/a.txt HTTP/1.1\n\r\n", to_head(sent(b"hello"))),
+    (closing(NEXT), closing(sent(b"hello"))),
+]
+ASKED = b"".join(asked for asked, _ in TALK)
+WANTED = b"".join(wanted for _, wanted in TALK)
+
+
+def replies_within(length):
+    """The replies to the requests that are whole within so many bytes of the stream."""
+    ends = [sum(len(asked) for asked, _ in TALK[:count]) for count in range(1, len(TALK) + 1)]
+    return b"".join(wanted for end, (_, wanted) in zip(ends, TALK) if end <= length)
+
+
+class Pieces(Program):
+    """In whatever pieces a stream comes, and wherever it is cut."""
+
+    def assert_hears(self, pieces, message):
+        client = Client(self)
+        for piece in pieces:
+            client.send(piece)
+        self.assertEqual(client.end(), (0, WANTED, b""), message)
+        client.leave()
+
+    def test_of_a_few_bytes_make_no_difference(self):
+        for size in (1, 2, 7, 50):
+            self.assert_hears([ASKED[start:start + size] for start in range(0, len(ASKED), size)], f"{size} bytes")
+
+    def test_separated_anywhere_make_no_difference(self):
+        for place in range(len(ASKED) + 1):
+            self.assert_hears([ASKED[:place], ASKED[place:]], f"separated after {place} bytes")
+
+    def test_are_answered_as_far_as_requests_are_whole(self):
+        for length in range(len(ASKED) + 1):
+            self.assert_answers(ASKED[:length], replies_within(length), f"cut after {length} bytes")
+
+    def test_of_a_long_head_and_a_long_body_make_no_difference(self):
+        content = bytes(range(256)) * 160
+        digest = digest_of(content)
+        long = upload(1, "a.txt", content).replace(b"\r\n", b"\r\nLong: " + b"a" * 16_000 + b"\r\n", 1)
+        talk = [(opening({"/a.txt": digest}), opened(1, digest)), (long, uploaded(content, 2)), (NEXT, sent(content))]
+        for size in (100, 1_024, 16_383, 16_384, 16_385):
+            client = Client(self)
+            for asked, wanted in talk:
+                for start in range(0, len(asked), size):
+                    client.send(asked[start:start + size])
+                self.assertEqual(client.receive(len(wanted)), wanted, f"{size} bytes")
+
+
+class Faults(Program):
+    """Reads and writes that fail."""
+
+    input_fault = b"filehost: input fault\n"
+    output_fault = b"filehost: output fault\n"
+
+    def run_within(self, room, **how):
+        """Runs the program where no file may have more than so many bytes."""
+        limits = resource.getrlimit(resource.RLIMIT_FSIZE)
+        resource.setrlimit(resource.RLIMIT_FSIZE, (room, limits[1]))
+        try:
+            return run("solo", restore_signals=False, **how)
+        finally:
+            resource.setrlimit(resource.RLIMIT_FSIZE, limits)
+
+    def test_of_a_write_after_each_byte_leave_a_front_of_the_replies(self):
+        for room in range(len(WANTED) + 1):
+            with tempfile.TemporaryFile() as out:
+                status, _, errors = self.run_within(room, given=ASKED, stdout=out)
+                out.seek(0)
+                ended = (2, self.output_fault) if room < len(WANTED) else (0, b"")
+                self.assertEqual((out.read(), status, errors), (WANTED[:room], *ended), f"after {room} bytes")
+
+    def test_of_a_write_come_where_the_reader_goes(self):
+        content = bytes(range(256)) * 4_096
+        digest = digest_of(content)
+        front = opened(1, digest) + uploaded(content, 2)
+        for count in (0, 1, 100, 70_000):
+            client = Client(self)
+            client.send(opening({"/a.txt": digest}) + upload(1, "a.txt", content) + NEXT)
+            self.assertEqual(client.receive(len(front)), front)
+            self.assertEqual(client.receive(count), sent(content)[:count])
+            client.program.stdout.close()
+            self.assertEqual((client.program.wait(), client.program.stderr.read()), (2, self.output_fault), count)
+
+    def test_of_a_read_after_each_byte_leave_the_replies_to_whole_requests(self):
+        stream = ASKED[:-len(closing(NEXT))]
+        for length in range(len(stream) + 1):
+            near, far = socket.socketpair()
+            with near, far:
+                # Who closes with something unread resets the connection, after what was sent.
+                far.send(b"unread")
+                near.sendall(stream[:length])
+                near.close()
+                ended = run("solo", given=None, stdin=far)
+            self.assertEqual(ended, (2, replies_within(length), self.input_fault), f"after {length} bytes")
+
+    def test_have_the_same_status_where_nobody_listens(self):
+        folder = os.open("/", os.O_RDONLY)
+        self.addCleanup(os.close, folder)
+        self.assertEqual(run("solo", given=None, stdin=folder), (2, b"", self.input_fault))
+        with tempfile.TemporaryFile() as errors:
+            self.assertEqual(self.run_within(3, given=None, stdin=folder, stderr=errors), (2, b"", None))
+            errors.seek(0)
+            self.assertEqual(errors.read(), self.input_fault[:3])
+
+    def test_are_none_where_the_options_end_behind_the_command(self):
+        self.assertEqual(run("solo", "--", given=ASKED), (0, WANTED, b""))
+
+
+if __name__ == "__main__":
+    unittest.main()
