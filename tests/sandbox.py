@@ -14,7 +14,7 @@ TOP = pathlib.Path(__file__).resolve().parent.parent
 FAKE_RT = pathlib.Path(__file__).resolve().parent / "fake_rt"
 
 # What the scripts may call beside rt. A PATH of these alone has no toolchain on it, wherever that is installed.
-TOOLS = "bash cat chmod dirname env find flock mkdir mktemp nproc readlink rm rmdir sleep tail tee touch wc".split()
+TOOLS = "bash cat chmod dirname env find flock mkdir mktemp nice nproc readlink rm rmdir sleep sort tail tee touch wc".split()
 
 
 class Sandbox:

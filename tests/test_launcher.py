@@ -31,10 +31,6 @@ class Launcher(unittest.TestCase):
     def call(self, *words, **how):
         return self.sandbox.run(self.launcher, *words, **how)
 
-    def calls(self):
-        """The calls of rt since this was last asked, without the number of its jobs."""
-        return [call.partition(" --jobs ")[0] for call in self.sandbox.calls()]
-
     def add_built_program(self):
         self.sandbox.add_crates(CRATES)
         self.assertEqual(self.call()[0], OWN_STATUS)
@@ -67,12 +63,12 @@ class Launcher(unittest.TestCase):
     def test_proves_what_the_program_stands_on_lowest_first(self):
         self.sandbox.add_crates(CRATES)
         self.call()
-        self.assertEqual(self.calls(), IN_ORDER)
+        self.assertEqual(self.sandbox.calls(), IN_ORDER)
 
     def test_proves_crates_that_do_not_stand_on_each_other_side_by_side(self):
         self.sandbox.add_crates(SIDE_BY_SIDE)
         self.assertEqual(self.call(SECONDS_A_CRATE="0.5")[0], OWN_STATUS)
-        calls = self.calls()
+        calls = self.sandbox.calls()
         self.assertEqual((calls[0], sorted(calls[1:3]), calls[3:]), ("low: lib", ["left: lib", "right: lib"], IN_ORDER[2:]))
         beside = set((self.sandbox.folder / "calls.beside").read_text().splitlines())
         self.assertTrue(beside and beside <= {"left beside right", "right beside left"}, beside)
@@ -121,7 +117,7 @@ class Launcher(unittest.TestCase):
         self.launcher = "./serve"
         status, out, _ = self.call("solo", at=elsewhere)
         self.assertEqual((status, out), (OWN_STATUS, f"<solo> in {elsewhere}\n"))
-        self.assertEqual(self.calls(), IN_ORDER)
+        self.assertEqual(self.sandbox.calls(), IN_ORDER)
 
     def test_builds_again_where_a_source_is_newer(self):
         self.sandbox.add_crates(CRATES)
@@ -131,7 +127,7 @@ class Launcher(unittest.TestCase):
                 self.add_built_program()
                 self.sandbox.write(path, CRATES if path == "crates.txt" else "second")
                 self.assertEqual(self.call()[0], OWN_STATUS)
-                self.assertEqual(self.calls(), IN_ORDER)
+                self.assertEqual(self.sandbox.calls(), IN_ORDER)
 
     def test_builds_again_where_a_source_was_removed(self):
         self.sandbox.add_crates(CRATES)
@@ -139,7 +135,7 @@ class Launcher(unittest.TestCase):
         self.add_built_program()
         source.unlink()
         self.assertEqual(self.call()[0], OWN_STATUS)
-        self.assertEqual(self.calls(), IN_ORDER)
+        self.assertEqual(self.sandbox.calls(), IN_ORDER)
 
     def test_builds_nothing_where_other_files_are_newer(self):
         self.add_built_program()
@@ -155,7 +151,7 @@ class Launcher(unittest.TestCase):
         self.call(EDIT_MEANWHILE=str(edited), SECONDS_A_CRATE="0.1")
         self.sandbox.calls()
         self.call()
-        self.assertEqual(self.calls(), IN_ORDER)
+        self.assertEqual(self.sandbox.calls(), IN_ORDER)
 
     def test_says_where_a_build_failed_and_runs_no_older_program(self):
         for crate in ("low", "filehost"):
@@ -186,7 +182,7 @@ class Launcher(unittest.TestCase):
                     busy.rmdir()
                 self.sandbox.calls()
                 self.assertEqual(self.call()[0], OWN_STATUS)
-                self.assertEqual(self.calls(), IN_ORDER)
+                self.assertEqual(self.sandbox.calls(), IN_ORDER)
 
     def cut_off(self, file, why):
         """Starts a build, and kills it with all that it started as soon as the file is there."""
@@ -212,7 +208,7 @@ class Launcher(unittest.TestCase):
         said = [caller.communicate(timeout=60) for caller in callers]
         self.assertEqual([caller.returncode for caller in callers], [OWN_STATUS] * 2)
         self.assertEqual([out.startswith(b"<solo> in ") for out, _ in said], [True] * 2)
-        self.assertEqual(self.calls(), IN_ORDER)
+        self.assertEqual(self.sandbox.calls(), IN_ORDER)
         self.assertEqual(sum(b"another call is building" in err for _, err in said), 1)
 
 
