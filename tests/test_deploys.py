@@ -9,12 +9,11 @@ from client import (
     ABC, HELLO, PUBLISHED, REQUESTS, Program, asking, closing, digest_of, done, opened, opening, refused, reply,
     request, sent, to_head, upload, uploaded,
 )
+from worked import (
+    EMPTY, NO_ALIAS, NO_CHANGE, NO_DEPLOY, NO_FILE, aliasing, cancelling, clash, deleting, entry, renaming, restoring,
+    showing, stands, undoing,
+)
 
-EMPTY = digest_of(b"")
-NO_FILE = refused("NoSuchFile")
-NO_DEPLOY = refused("NoSuchDeploy")
-NO_CHANGE = refused("NoSuchChange")
-NO_ALIAS = refused("NoSuchAlias")
 NOT_LISTED = refused("NotListed")
 WRONG_DIGEST = refused("WrongDigest")
 HELLO_FILE = sent(b"hello")
@@ -38,40 +37,6 @@ def change(words, site="one", **members):
     return asking(method, target, **members) if members else request(method, target)
 
 
-def undo(number, site="one"):
-    return change("POST undo", site, change=number)
-
-
-def restore(number, site="one"):
-    return change(f"POST deploys/{number}/restore", site)
-
-
-def rename(source, target):
-    return change("POST rename", **{"from": source, "to": target})
-
-
-def alias(name, number):
-    return change(f"PUT aliases/{name}", deploy=number)
-
-
-def deploy(words):
-    """A request on a deploy, as `GET 1`."""
-    method, target = words.split(" ")
-    return request(method, f"/api/v1/deploys/{target}")
-
-
-def entry(number):
-    return done(entry=number)
-
-
-def clash(cell, number):
-    return refused("Clash", cell=cell, change=number)
-
-
-def standing(number, state, *required):
-    return done(id=str(number), required=list(required), site="one", state=state)
-
-
 def listed(*lines):
     """The list of changes: of each its number and its kind, and `gone` if it is undone, or which change it undid."""
     changes = []
@@ -87,7 +52,7 @@ class Deploys(Program):
             (opening({"/a.txt": HELLO, "b.txt": ABC}), opened(1, ABC, HELLO)),
             (A_HELLO, uploaded(b"hello")), (A, NO_FILE), (upload(1, "b.txt", b"hello"), WRONG_DIGEST),
             (B_ABC, uploaded(b"abc", 2)), (B_ABC, uploaded(b"abc")), (upload(1, "b.txt", b"hello"), WRONG_DIGEST),
-            (A, HELLO_FILE), (B, ABC_FILE), (undo(2), entry(3)),
+            (A, HELLO_FILE), (B, ABC_FILE), (undoing(2), entry(3)),
         ])
 
     def test_name_each_missing_digest_once_in_order(self):
@@ -116,21 +81,21 @@ class Deploys(Program):
         self.assert_converses([
             (opening({"a.txt": HELLO}, draft=True), opened(1, HELLO)), (A_HELLO, uploaded(b"hello")), (A, NO_FILE),
             (opening({"a.txt": HELLO}, draft=True), opened(2)), (upload(2, "a.txt", b"hello"), uploaded(b"hello")),
-            (opening({}, draft=True), opened(3)), (A, NO_FILE), (deploy("GET 2"), standing(2, "open")),
-            (restore(2), entry(4)), (A, HELLO_FILE), (deploy("GET 2"), standing(2, "kept")),
-            (deploy("GET 1"), standing(1, "open")),
+            (opening({}, draft=True), opened(3)), (A, NO_FILE), (showing(2), stands(2, "open")),
+            (restoring(2), entry(4)), (A, HELLO_FILE), (showing(2), stands(2, "kept")),
+            (showing(1), stands(1, "open")),
         ])
 
     def test_are_published_again_where_an_undo_opened_them_again(self):
         self.assert_converses([
-            *PUBLISHED, (undo("2"), entry(3)), (A, NO_FILE), (A_HELLO, uploaded(b"hello", 4)), (A, HELLO_FILE),
-            (undo(4), entry(5)), (undo(1), entry(6)), (A_HELLO, NO_DEPLOY),
+            *PUBLISHED, (undoing("2"), entry(3)), (A, NO_FILE), (A_HELLO, uploaded(b"hello", 4)), (A, HELLO_FILE),
+            (undoing(4), entry(5)), (undoing(1), entry(6)), (A_HELLO, NO_DEPLOY),
         ])
 
     def test_are_not_published_by_uploads_to_others(self):
         self.assert_converses([
             (opening({"a.txt": HELLO}), opened(1, HELLO)), (opening({"b.txt": HELLO}), opened(2, HELLO)),
-            (upload(2, "b.txt", b"hello"), uploaded(b"hello", 3)), (deploy("GET 1"), standing(1, "open")), (A, NO_FILE),
+            (upload(2, "b.txt", b"hello"), uploaded(b"hello", 3)), (showing(1), stands(1, "open")), (A, NO_FILE),
             (A_HELLO, uploaded(b"hello", 4)), (A, HELLO_FILE), (B, NO_FILE),
         ])
 
@@ -167,7 +132,7 @@ class Patches(Program):
         self.assert_converses([
             *PUBLISHED, (opening({"/a.txt": None, "/b.txt": HELLO}, patch=True), opened(3, published=4)),
             (A, NO_FILE), (B, HELLO_FILE), (upload(3, "b.txt", b"hello"), NO_DEPLOY),
-            (undo(2), clash("live /a.txt", 4)), (undo(4), entry(5)), (A, HELLO_FILE), (B, NO_FILE),
+            (undoing(2), clash(4, "live /a.txt")), (undoing(4), entry(5)), (A, HELLO_FILE), (B, NO_FILE),
             (upload(3, "b.txt", b"hello"), uploaded(b"hello", 6)), (A, NO_FILE), (B, HELLO_FILE),
         ])
 
@@ -177,15 +142,15 @@ class Patches(Program):
             (A_HELLO, NOT_LISTED), (upload(1, "b.txt", b"hello"), uploaded(b"hello")),
             (upload(1, "c.txt", b"abc"), uploaded(b"abc", 2)), (C, ABC_FILE),
             (opening({"c.txt": None, "d.txt": None}, patch=True), opened(3, published=4)), (C, NO_FILE),
-            (B, HELLO_FILE), (undo(2), clash("live /c.txt", 4)),
+            (B, HELLO_FILE), (undoing(2), clash(4, "live /c.txt")),
         ])
 
     def test_are_neither_kept_nor_restored_once_they_are_published(self):
-        asked = [deploy("GET 1"), restore(1), alias("x", 1), read("/d/one/1/x"), deploy("DELETE 1")]
+        asked = [showing(1), restoring(1), aliasing("x", 1), read("/d/one/1/x"), deleting(1)]
         self.assert_converses([
             (opening({"x": None}, patch=True), opened(1, published=2)), *((each, NO_DEPLOY) for each in asked),
-            (opening({"x": None}, patch=True, draft=True), opened(3)), (deploy("GET 3"), standing(3, "open")),
-            (restore(3), entry(4)), (deploy("GET 3"), NO_DEPLOY),
+            (opening({"x": None}, patch=True, draft=True), opened(3)), (showing(3), stands(3, "open")),
+            (restoring(3), entry(4)), (showing(3), NO_DEPLOY),
         ])
 
 
@@ -194,24 +159,24 @@ class Undos(Program):
         self.assert_converses([
             (opening({"a.txt": HELLO, "b.txt": HELLO}), opened(1, HELLO)), (A_HELLO, uploaded(b"hello", 2)),
             (opening({"a.txt": ABC}), opened(3, ABC)), (upload(3, "a.txt", b"abc"), uploaded(b"abc", 4)),
-            (A, ABC_FILE), (B, NO_FILE), (undo(4), entry(5)), (A, HELLO_FILE), (B, HELLO_FILE),
+            (A, ABC_FILE), (B, NO_FILE), (undoing(4), entry(5)), (A, HELLO_FILE), (B, HELLO_FILE),
         ])
 
     def test_of_the_first_run_reach_its_opening(self):
-        self.assert_converses([*PUBLISHED, (undo(1), clash("draft 1", 2)), (undo(2), entry(3)), (undo(1), entry(4))])
+        self.assert_converses([*PUBLISHED, (undoing(1), clash(2, "draft 1")), (undoing(2), entry(3)), (undoing(1), entry(4))])
 
     def test_are_refused(self):
         self.assert_converses([
-            (undo(1), NO_CHANGE), (opening({}), opened(1, published=2)),
-            *((undo(number), NO_CHANGE) for number in (0, 99, "002", -2, "", 1_000_001)), (undo(2, "two"), NO_CHANGE),
-            (undo(1), clash("draft 1", 2)), (undo(2), entry(3)), (undo(2), refused("AlreadyUndone")),
-            (undo(3), refused("NotAChange")), (undo(1), entry(4)), (undo(1), refused("AlreadyUndone")),
+            (undoing(1), NO_CHANGE), (opening({}), opened(1, published=2)),
+            *((undoing(number), NO_CHANGE) for number in (0, 99, "002", -2, "", 1_000_001)), (undoing(2, "two"), NO_CHANGE),
+            (undoing(1), clash(2, "draft 1")), (undoing(2), entry(3)), (undoing(2), refused("AlreadyUndone")),
+            (undoing(3), refused("NotAChange")), (undoing(1), entry(4)), (undoing(1), refused("AlreadyUndone")),
         ])
 
     def test_pass_over_changes_that_need_nothing_of_theirs(self):
         self.assert_converses([
-            (opening({}), opened(1, published=2)), (opening({}, "two", draft=True), opened(3)), (undo(3), NO_CHANGE),
-            (undo(2), entry(4)), (undo(1), entry(5)), (undo(3, "two"), entry(6)),
+            (opening({}), opened(1, published=2)), (opening({}, "two", draft=True), opened(3)), (undoing(3), NO_CHANGE),
+            (undoing(2), entry(4)), (undoing(1), entry(5)), (undoing(3, "two"), entry(6)),
         ])
 
     def test_name_the_change_and_the_place_in_their_way(self):
@@ -220,8 +185,8 @@ class Undos(Program):
             (opening({'b "ä".txt': HELLO}), opened(1, HELLO)),
             (upload(1, "b%20%22%C3%A4%22.txt", b"hello"), uploaded(b"hello", 2)),
             (opening({"a.txt": HELLO}), opened(3, published=4)),
-            (undo(2), reply("409 Conflict", "application/json", place)), (A, HELLO_FILE),
-            (undo(4), entry(5)), (undo(2), entry(6)), (read("b%20%22ä%22.txt"), NO_FILE),
+            (undoing(2), reply("409 Conflict", "application/json", place)), (A, HELLO_FILE),
+            (undoing(4), entry(5)), (undoing(2), entry(6)), (read("b%20%22ä%22.txt"), NO_FILE),
         ])
 
 
@@ -229,17 +194,17 @@ class Changes(Program):
     one_taken_back = [
         (opening({"/a.txt": HELLO, "b.txt": ABC}), opened(1, ABC, HELLO)), (A_HELLO, uploaded(b"hello")),
         (B_ABC, uploaded(b"abc", 2)), (B_ABC, uploaded(b"abc")), (upload(1, "b.txt", b"hello"), WRONG_DIGEST),
-        (rename("/a.txt", "/c.txt"), entry(3)), (change("DELETE files/b.txt"), entry(4)), (undo(3), entry(5)),
-        (A, HELLO_FILE), (B, NO_FILE), (C, NO_FILE), (undo(2), clash("live /b.txt", 4)), (undo(99), NO_CHANGE),
-        (undo(3), refused("AlreadyUndone")), (undo(5), refused("NotAChange")), (undo(0), NO_CHANGE),
+        (renaming("/a.txt", "/c.txt"), entry(3)), (change("DELETE files/b.txt"), entry(4)), (undoing(3), entry(5)),
+        (A, HELLO_FILE), (B, NO_FILE), (C, NO_FILE), (undoing(2), clash(4, "live /b.txt")), (undoing(99), NO_CHANGE),
+        (undoing(3), refused("AlreadyUndone")), (undoing(5), refused("NotAChange")), (undoing(0), NO_CHANGE),
         (change("GET changes"), listed("1 open", "2 publish", "3 rename gone", "4 remove", "5 undo 3")),
-        (undo(4), entry(6)), (undo(2), entry(7)), (A, NO_FILE), (B, NO_FILE), (deploy("GET 1"), standing(1, "open")),
-        (restore(1), entry(8)), (A, HELLO_FILE), (B, ABC_FILE), (deploy("GET 1"), standing(1, "kept")),
-        (alias("next", 1), entry(9)), (read("/a/one/next/a.txt"), HELLO_FILE), (undo(8), clash("kept 1", 9)),
-        (deploy("DELETE 1"), refused("DeployInUse", alias="next")), (rename("/a.txt", "/z.txt"), entry(10)),
-        (opening({"/z.txt": HELLO}), opened(11, published=12)), (undo(10), clash("live /a.txt", 12)), (B, NO_FILE),
-        (alias("last", 1), entry(13)), (deploy("DELETE 1"), refused("DeployInUse", alias="last")),
-        (change("DELETE aliases/last"), entry(14)), (deploy("DELETE 1"), refused("DeployInUse", alias="next")),
+        (undoing(4), entry(6)), (undoing(2), entry(7)), (A, NO_FILE), (B, NO_FILE), (showing(1), stands(1, "open")),
+        (restoring(1), entry(8)), (A, HELLO_FILE), (B, ABC_FILE), (showing(1), stands(1, "kept")),
+        (aliasing("next", 1), entry(9)), (read("/a/one/next/a.txt"), HELLO_FILE), (undoing(8), clash(9, "kept 1")),
+        (deleting(1), refused("DeployInUse", alias="next")), (renaming("/a.txt", "/z.txt"), entry(10)),
+        (opening({"/z.txt": HELLO}), opened(11, published=12)), (undoing(10), clash(12, "live /a.txt")), (B, NO_FILE),
+        (aliasing("last", 1), entry(13)), (deleting(1), refused("DeployInUse", alias="last")),
+        (change("DELETE aliases/last"), entry(14)), (deleting(1), refused("DeployInUse", alias="next")),
     ]
 
     def test_are_taken_back_one_by_one_while_the_others_stay(self):
@@ -247,18 +212,18 @@ class Changes(Program):
         self.assert_converses_in_turns(self.one_taken_back)
 
     def test_are_refused(self):
-        no_draft = (deploy("POST 1/cancel"), refused("NoSuchDraft"))
+        no_draft = (cancelling(1), refused("NoSuchDraft"))
         self.assert_converses([
             (opening({"a.txt": HELLO, "b.txt": HELLO}), opened(1, HELLO)),
-            (restore(1), refused("NotComplete", digest=HELLO)),
-            *((asked, NO_DEPLOY) for asked in (restore(1, "two"), restore(2), alias("next", 1), deploy("DELETE 1"))),
-            (A_HELLO, uploaded(b"hello", 2)), (rename("/a.txt", "a.txt"), refused("SamePath")),
-            (rename("/c.txt", "c.txt"), refused("SamePath")), (rename("/a.txt", "/b.txt"), refused("PathTaken")),
-            (rename("/c.txt", "/b.txt"), NO_FILE), (change("DELETE files/c.txt"), NO_FILE),
+            (restoring(1), refused("NotComplete", digest=HELLO)),
+            *((asked, NO_DEPLOY) for asked in (restoring(1, "two"), restoring(2), aliasing("next", 1), deleting(1))),
+            (A_HELLO, uploaded(b"hello", 2)), (renaming("/a.txt", "a.txt"), refused("SamePath")),
+            (renaming("/c.txt", "c.txt"), refused("SamePath")), (renaming("/a.txt", "/b.txt"), refused("PathTaken")),
+            (renaming("/c.txt", "/b.txt"), NO_FILE), (change("DELETE files/c.txt"), NO_FILE),
             (change("DELETE aliases/next"), NO_ALIAS), no_draft,
-            *((deploy(words), NO_DEPLOY) for words in ("POST 2/cancel", "DELETE 0", "DELETE 2", "POST x/cancel")),
-            (undo(2, "two"), NO_CHANGE), (undo(2), entry(3)), (undo(1), entry(4)), (A_HELLO, NO_DEPLOY),
-            (deploy("GET 1"), NO_DEPLOY), no_draft,
+            *((asked, NO_DEPLOY) for asked in (cancelling(2), deleting(0), deleting(2), cancelling("x"))),
+            (undoing(2, "two"), NO_CHANGE), (undoing(2), entry(3)), (undoing(1), entry(4)), (A_HELLO, NO_DEPLOY),
+            (showing(1), NO_DEPLOY), no_draft,
         ])
 
     def test_make_versions_each_of_which_is_read(self):
@@ -266,40 +231,40 @@ class Changes(Program):
         part = sent(b"ell", "Content-Range: bytes 1-3/5", whole=b"hello")
         self.assert_converses([
             *PUBLISHED, (opening({"a.txt": ABC}), opened(3, ABC)), (third, NO_DEPLOY),
-            (upload(3, "a.txt", b"abc"), uploaded(b"abc", 4)), (alias("old", "1"), entry(5)),
+            (upload(3, "a.txt", b"abc"), uploaded(b"abc", 4)), (aliasing("old", "1"), entry(5)),
             (A, ABC_FILE), (old, HELLO_FILE), (first, HELLO_FILE), (third, ABC_FILE),
             (read("/d/one/1/a.txt", "Range: bytes=1-3"), part),
             (read("/a/one/old/a.txt", method="HEAD"), to_head(HELLO_FILE)),
             *((read(f"/{version}/b.txt"), NO_FILE) for version in ("d/one/1", "a/one/old")),
             *((read(f"/{version}/a.txt"), NO_ALIAS) for version in ("a/one/new", "a/two/old")),
             *((read(f"/{version}/a.txt"), NO_DEPLOY) for version in ("d/two/1", "d/one/2", "d/one/01")),
-            (alias("old", 3), entry(6)), (old, ABC_FILE), (undo(6), entry(7)), (old, HELLO_FILE),
-            (change("DELETE aliases/old"), entry(8)), (old, NO_ALIAS), (deploy("DELETE 1"), entry(9)),
-            (first, NO_DEPLOY), (undo(5), clash("alias old", 8)), (undo(9), entry(10)),
+            (aliasing("old", 3), entry(6)), (old, ABC_FILE), (undoing(6), entry(7)), (old, HELLO_FILE),
+            (change("DELETE aliases/old"), entry(8)), (old, NO_ALIAS), (deleting(1), entry(9)),
+            (first, NO_DEPLOY), (undoing(5), clash(8, "alias old")), (undoing(9), entry(10)),
             (request("POST", "/api/v1/sites/one/deploys/1/restore", body=b"ignored"), entry(11)), (A, HELLO_FILE),
         ])
 
     def test_and_deploys_are_shown(self):
         cancelled = listed("1 open", "4 cancel gone", "5 undo 4")
         self.assert_converses([
-            (change("GET changes"), listed()), (deploy("GET 1"), NO_DEPLOY),
+            (change("GET changes"), listed()), (showing(1), NO_DEPLOY),
             (opening({"a": HELLO, "b": ABC, "c": HELLO}, draft=True), opened(1, ABC, HELLO)),
-            (deploy("GET 1"), standing(1, "open", ABC, HELLO)), (upload(1, "c", b"hello"), uploaded(b"hello")),
-            (deploy("HEAD 1"), to_head(standing(1, "open", ABC))),
+            (showing(1), stands(1, "open", ABC, HELLO)), (upload(1, "c", b"hello"), uploaded(b"hello")),
+            (request("HEAD", "/api/v1/deploys/1"), to_head(stands(1, "open", ABC))),
             (opening({"x": None}, "two", patch=True), opened(2, published=3)),
-            (deploy("GET 2"), NO_DEPLOY), (deploy("GET 3"), NO_DEPLOY), (deploy("POST 1/cancel"), entry(4)),
-            (deploy("GET 1"), NO_DEPLOY), (undo(4), entry(5)), (deploy("GET 1"), standing(1, "open", ABC)),
+            (showing(2), NO_DEPLOY), (showing(3), NO_DEPLOY), (cancelling(1), entry(4)),
+            (showing(1), NO_DEPLOY), (undoing(4), entry(5)), (showing(1), stands(1, "open", ABC)),
             (change("GET changes", "two"), listed("2 open", "3 publish")), (change("GET changes"), cancelled),
             (change("HEAD changes"), to_head(cancelled)), (change("GET changes", "three"), listed()),
         ])
 
     def test_are_listed_with_their_kinds(self):
         self.assert_converses([
-            (opening({"a": EMPTY}), opened(1, EMPTY)), (deploy("POST 1/cancel"), entry(2)),
-            (opening({}), opened(3, published=4)), (alias("x", 3), entry(5)), (change("DELETE aliases/x"), entry(6)),
-            (restore(3), entry(7)), (deploy("DELETE 3"), entry(8)), (opening({"a": EMPTY}), opened(9, EMPTY)),
-            (upload(9, "a", b""), uploaded(b"", 10)), (rename("a", "b"), entry(11)),
-            (change("DELETE files/b"), entry(12)), (undo(12), entry(13)), (change("GET changes"), listed(
+            (opening({"a": EMPTY}), opened(1, EMPTY)), (cancelling(1), entry(2)),
+            (opening({}), opened(3, published=4)), (aliasing("x", 3), entry(5)), (change("DELETE aliases/x"), entry(6)),
+            (restoring(3), entry(7)), (deleting(3), entry(8)), (opening({"a": EMPTY}), opened(9, EMPTY)),
+            (upload(9, "a", b""), uploaded(b"", 10)), (renaming("a", "b"), entry(11)),
+            (change("DELETE files/b"), entry(12)), (undoing(12), entry(13)), (change("GET changes"), listed(
                 "1 open", "2 cancel", "3 open", "4 publish", "5 alias", "6 unalias", "7 restore", "8 delete", "9 open",
                 "10 publish", "11 rename", "12 remove gone", "13 undo 12",
             )),
