@@ -52,12 +52,15 @@ class Sandbox:
         return file
 
     def add_crates(self, listing):
-        """Writes crates.txt, and a source, a definition and a proof for each crate that it lists."""
+        """Writes crates.txt, and a source for each crate that it lists, and but for the program a definition and a proof."""
         self.write("crates.txt", listing)
         for line in listing.splitlines():
             name = line.partition("#")[0].partition(":")[0].strip()
             if name:
-                self.write(f"crates/{name}/src/{'main' if name == 'filehost' else 'lib'}.rt", "first")
+                if name == "filehost":
+                    self.write("crates/filehost/src/main.rt", "first")
+                    continue
+                self.write(f"crates/{name}/src/lib.rt", "first")
                 self.write(f"crates/{name}/specs/Lib.antt")
                 self.write(f"crates/{name}/proofs/Lib.antt")
 
