@@ -2,7 +2,7 @@
 --     ranges-specifier = range-unit "=" range-set
 --     int-range = first-pos "-" [ last-pos ]
 --     suffix-range = "-" suffix-length
--- The unit is `bytes`, in any case. The elements of the set are parted by commas, and an empty one asks for nothing (section 5.6.1).
+-- The unit is `bytes`, in any case. Commas separate the elements of the set, and an empty one asks for nothing (section 5.6.1).
 use Rattle.std.specs.Prelude.{◌≡◌, ℕ, ◌-◌, ◌^◌, ◌≤◌, ◌⊎◌, min, List, [], ◌∷◌, ◌++◌, length, codes, Some, None}
 use Rattle.std.specs.List.{All, AllByRecursion, join_with_byte}
 use Rattle.std.specs.Str.{str_to_ascii_lowercase}
@@ -22,7 +22,7 @@ pub record IsAskable (specs : List Spec) : Type 0 where
   pub few : length specs ≤ 16
   pub in_order : All IsInOrder specs
 
--- one or more decimal digits, and the position that they stand for: their value, or the greatest `u64` where that is less
+-- one or more decimal digits, and the position that they give: their value, or the greatest `u64` where that is less
 pub record IsPosition (digits : List ℕ) (position : ℕ) : Type 0 where
   pub numeral : IsNumeral 10 digits
   pub value : position ≡ min (digits_value 10 digits) (2 ^ 64 - 1)
@@ -38,7 +38,7 @@ IsSpecText text (Suffix n) = (a : List ℕ) × IsPosition a n × (text ≡ codes
 abbrev pub IsBlank : List ℕ → Type 0
 IsBlank text = AllByRecursion (λ b. (b ≡ 32) ⊎ (b ≡ 9)) text
 
--- an element has blanks round nothing or round one spec, and this is what it asks for
+-- an element is blanks around nothing or around one spec, and this is what it asks for
 abbrev pub IsElement : List ℕ → List Spec → Type 0
 IsElement text [] = IsBlank text
 IsElement text (spec ∷ []) =
@@ -52,7 +52,7 @@ AreElements [] specs = specs ≡ []
 AreElements (element ∷ elements) specs =
     (own : List Spec) × (others : List Spec) × IsElement element own × AreElements elements others × (specs ≡ own ++ others)
 
--- the whole value: `bytes`, an equals sign, and elements parted by commas, which ask for a list that may be asked for
+-- the whole value: `bytes`, an equals sign, and elements separated by commas, which ask for a list that may be asked for
 pub record AsksRanges (text : List ℕ) (specs : List Spec) : Type 0 where
   pub unit : List ℕ
   pub elements : List (List ℕ)

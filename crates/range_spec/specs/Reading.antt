@@ -15,7 +15,7 @@ pub record IsDigitBefore (text : List ℕ) (value : ℕ) (rest : List ℕ) : Typ
   pub value_is : digit_value byte ≡ value
   pub small : value < 10
 
--- the text is digits that stand for this position, and then the rest
+-- the text is digits that give this position, and then the rest
 pub record IsPositionBefore (text : List ℕ) (position : ℕ) (rest : List ℕ) : Type 0 where
   pub digits : List ℕ
   pub parts : text ≡ digits ++ rest

@@ -6,7 +6,7 @@ use Rattle.range_spec.specs.declared.grammar.Spec.{Spec}
 use Rattle.range_spec.specs.declared.grammar.Spec.TheVariants.{From}
 use Rattle.range_spec.specs.Asks.{IsPosition, AsksRanges}
 
--- the text is `bytes=FIRST-LAST`, in lower case, with nothing round its parts
+-- the text is `bytes=FIRST-LAST`, in lower case, with nothing around its parts
 pub record IsPlainText (text : List ℕ) (first last : ℕ) : Type 0 where
   pub first_digits : List ℕ
   pub last_digits : List ℕ
