@@ -4,6 +4,7 @@ import fcntl
 import hashlib
 import json
 import pathlib
+import re
 import struct
 import subprocess
 import termios
@@ -24,17 +25,27 @@ ABC = hashlib.sha1(b"abc").hexdigest()
 SECONDS = 60
 PATIENCE = 20
 
-# The status of each refusal that a short connection can meet.
-STATUSES = {
-    "400 Bad Request": "BadHead BadName BadPath BadDigest BadBody",
-    "404 Not Found": "NoRoute NoSuchFile NoSuchDeploy NoSuchDraft NotListed NoSuchAlias NoSuchChange",
-    "405 Method Not Allowed": "BadMethod",
-    "409 Conflict": "NotComplete PathTaken SamePath DeployInUse NotAChange AlreadyUndone Clash",
-    "413 Payload Too Large": "TooManyFiles",
-    "416 Range Not Satisfiable": "NotSatisfiable",
-    "422 Unprocessable Entity": "WrongDigest",
+# The phrases of the status codes that replies have (RFC 9110, section 15).
+PHRASES = {
+    400: "Bad Request",
+    404: "Not Found",
+    405: "Method Not Allowed",
+    409: "Conflict",
+    413: "Payload Too Large",
+    416: "Range Not Satisfiable",
+    422: "Unprocessable Entity",
+    503: "Service Unavailable",
+    507: "Insufficient Storage",
 }
-STATUS_OF = {name: status for status, names in STATUSES.items() for name in names.split()}
+
+
+def documented_statuses():
+    """The status line's code and phrase for each name of a refusal, by the table in docs/HTTP.md."""
+    table = (TOP / "docs/HTTP.md").read_text().partition("\n## Refusals\n")[2].partition("\n## ")[0]
+    return {name: f"{code} {PHRASES[int(code)]}" for name, code in re.findall(r"(?m)^\| (\w+) \| (\d+) \|", table)}
+
+
+STATUS_OF = documented_statuses()
 
 
 def run(*words, given=b"", **how):

@@ -9,7 +9,7 @@ import subprocess
 import tempfile
 import unittest
 
-from client import EXAMPLES, HERE, PROGRAM, SECONDS, Program, content_length, cut_after, told
+from client import EXAMPLES, HERE, PROGRAM, SECONDS, Program, content_length, cut_after, refused
 
 SOURCE = HERE / "refuse_allocation.c"
 NO_MEMORY = b"filehost: out of memory\n"
@@ -23,9 +23,9 @@ def pieces(stream):
 
 GIVEN = (EXAMPLES / "first-run.http").read_bytes()
 OPENED, UPLOADED, PART, UNDONE, GONE = pieces((EXAMPLES / "first-run.replies").read_bytes())
-NO_FILE = told("404 Not Found", {"error": "NoSuchFile"})
-NO_DEPLOY = told("404 Not Found", {"error": "NoSuchDeploy"})
-NO_CHANGE = told("404 Not Found", {"error": "NoSuchChange"})
+NO_FILE = refused("NoSuchFile")
+NO_DEPLOY = refused("NoSuchDeploy")
+NO_CHANGE = refused("NoSuchChange")
 WHOLE = (
     b"HTTP/1.1 200 OK\r\nContent-Type: text/plain; charset=utf-8\r\nContent-Length: 5\r\n"
     b'ETag: "aaf4c61ddcc5e8a2dabede0f3b482cd9aea9434d"\r\nAccept-Ranges: bytes\r\n\r\nhello'
@@ -50,9 +50,9 @@ def is_right(replies):
     place = next((n for n, (one, other) in enumerate(zip(replies, stated)) if one != other), len(replies))
     if place == len(replies):
         return False
-    if replies[place] == told("503 Service Unavailable", {"error": "OutOfMemory"}, "Connection: close"):
+    if replies[place] == refused("OutOfMemory", "Connection: close"):
         return len(replies) == place + 1
-    if replies[place] != told("503 Service Unavailable", {"error": "OutOfMemory"}):
+    if replies[place] != refused("OutOfMemory"):
         return False
     return replies[place + 1:] in TAILS[place]
 

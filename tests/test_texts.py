@@ -165,7 +165,7 @@ class Refusals(Interface):
         self.assert_rows([exchange for _, exchange in met])
         self.assert_answers(b"x\r\n\r\n", told("400 Bad Request", {"error": "BadHead"}, "Connection: close"))
         # A connection is too short for HistoryFull; test_memory.py meets OutOfMemory.
-        self.assertEqual({name for name, _ in met if name} | {"BadHead"}, set(STATUS_OF))
+        self.assertEqual({name for name, _ in met if name} | {"BadHead", "HistoryFull", "OutOfMemory"}, set(STATUS_OF))
 
     def test_name_the_least_alias(self):
         rows = [put(f"{ALIASES}/{name}", {"deploy": 1}, {"entry": entry})
