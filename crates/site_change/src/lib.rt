@@ -1,10 +1,9 @@
 //! What a command does to the state, and when it is refused.
 #![tactic(auto)]
 
-mod cells;
+mod cell_commands;
 mod commands;
 mod decisions;
-mod few_cells;
 mod laws;
 mod live;
 mod plans;

@@ -8,9 +8,8 @@ ghost use Rattle.site_state.specs.Values.{value_eq};
 ghost use Rattle.site_state.specs.declared.values.Value.TheVariants as value;
 ghost use Rattle.site_change.specs.Differences.{AreLiveChanges, AreSides, IsStep};
 
-use crate::cells::live_cell;
 use crate::plans::{Change, push_some};
-use host_names::{Cell, FilePath, SiteName};
+use host_names::{Cell, CellRef, FilePath, SiteName};
 use site_state::{File, Value};
 use std::alloc::{AllocError, Global};
 use std::cmp::Ordering;
@@ -68,7 +67,7 @@ fn added(site: &SiteName, listed: &Listed) -> Result<Change, AllocError>
         ≡ record { cell = cell.Live site.now listed.now.0; before = None; after = Some (value.Live listed.now.1) }) }
 {
     Ok(Change {
-        cell: live_cell(site, &listed.0)?,
+        cell: CellRef::Live(site, &listed.0).to_cell()?,
         before: None,
         after: Some(Value::Live(listed.1.clone()?)),
     })

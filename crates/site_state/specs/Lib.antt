@@ -3,7 +3,6 @@ pub mod Listings
 pub mod States
 pub mod Named
 pub mod Items
-pub mod Keys
 pub mod Places
 pub mod LiveRange
 pub mod AliasRange

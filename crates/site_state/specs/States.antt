@@ -1,5 +1,5 @@
 -- The state of the host: what stands in each cell.
-use Rattle.std.specs.Prelude.{ℕ, List, [], ◌∷◌, Bool, true, false, Option, Some, None, filter}
+use Rattle.std.specs.Prelude.{ℕ, List, [], ◌∷◌, Bool, true, false, Option, Some, None, IsTrue, filter}
 use Rattle.std.specs.FinMap as map
 use Rattle.std.specs.Str.{bytes_eq}
 use Rattle.host_names.specs.Cells.{cell_cmp}
@@ -28,6 +28,10 @@ is_of_kind c v = false
 abbrev pub may_stand : Cell → Option Value → Bool
 may_stand c (Some v) = is_of_kind c v
 may_stand c None = true
+
+-- what is in each cell is of the cell's kind
+abbrev pub AreOfKind : State → Type 0
+AreOfKind state = (c : Cell) → IsTrue (may_stand c (map.get state c))
 
 -- the state with this in the cell, or with nothing in it
 abbrev pub with_cell : State → Cell → Option Value → State

@@ -35,7 +35,7 @@ pub(crate) fn file(alloc: Global, bytes: &str) -> Result<File, AllocError> {
 pub(crate) fn uploaded(alloc: Global, words: &str) -> Result<MemoryUploads, AllocError> {
     let mut uploads = MemoryUploads::new(alloc);
     for word in words.split(' ') {
-        uploads.add(alloc, Vec::from_slice(alloc, word.as_bytes())?)?;
+        uploads.add(Vec::from_slice(alloc, word.as_bytes())?)?;
     }
     Ok(uploads)
 }

@@ -5,7 +5,7 @@ use Rattle.site_change.specs.declared.plans.Change.{Change}
 use Rattle.site_change.specs.Differences.{change_at}
 use Rattle.site_change.specs.Plans.{IsDifference}
 use Rattle.site_change.proofs.Deciding.{two_changes}
-use Rattle.site_change.proofs.few_cells.change_two.Goals as goal
+use Rattle.site_change.proofs.cell_commands.change_two.Goals as goal
 
 pub returns : goal.returns
 returns c =

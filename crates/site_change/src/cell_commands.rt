@@ -13,11 +13,10 @@ ghost use Rattle.site_change.specs.Decisions.{IsDecision};
 ghost use Rattle.site_change.specs.Plans.{IsDifference};
 ghost use Rattle.site_change.specs.TouchedCells.{AreTouched};
 
-use crate::cells::{alias_cell, draft_cell, kept_cell, live_cell};
 use crate::commands::{DecideError, Refusal};
 use crate::plans::{Change, Plan, push_change};
 use crate::touched::Touched;
-use host_names::{AliasName, Cell, FilePath, SiteName};
+use host_names::{AliasName, Cell, CellRef, FilePath, SiteName};
 use site_state::{File, State, Value};
 use std::alloc::{AllocError, Global};
 use std::cmp::Ordering;
@@ -87,7 +86,7 @@ pub(crate) fn cancel(
     if state.draft(site, number).is_none() {
         return Err(DecideError::Refused(Refusal::NoSuchDraft));
     }
-    let draft = draft_cell(site, number)?;
+    let draft = Cell::Draft(site.copied(), number);
     Ok(plan_one(alloc, state, site, draft, None)?)
 }
 
@@ -106,7 +105,7 @@ pub(crate) fn remove(
     if state.file(site, path).is_none() {
         return Err(DecideError::Refused(Refusal::NoSuchFile));
     }
-    let live = live_cell(site, path)?;
+    let live = CellRef::Live(site, path).to_cell()?;
     Ok(plan_one(alloc, state, site, live, None)?)
 }
 
@@ -140,8 +139,8 @@ fn change_paths(
     ensures { IfOk result (λ changes. IsDifference state.now
         (renamed site.now source.now target.now state.now (Some file.now)) changes.items) }
 {
-    let left = live_cell(site, source)?;
-    let reached = live_cell(site, target)?;
+    let left = CellRef::Live(site, source).to_cell()?;
+    let reached = CellRef::Live(site, target).to_cell()?;
     let file = Value::Live(file.clone()?);
     change_both(alloc, state, (left, None), (reached, Some(file)))
 }
@@ -156,8 +155,8 @@ fn touched_paths(
     ensures { IfOk result (AreTouched site.now
         (λ c. same_cell c (cell.Live site.now one.now) || same_cell c (cell.Live site.now other.now))) }
 {
-    let one = live_cell(site, one)?;
-    let other = live_cell(site, other)?;
+    let one = CellRef::Live(site, one).to_cell()?;
+    let other = CellRef::Live(site, other).to_cell()?;
     Touched::two(alloc, site, one, other)
 }
 
@@ -204,9 +203,9 @@ pub(crate) fn move_alias(
     if state.kept(site, number).is_none() {
         return Err(DecideError::Refused(Refusal::NoSuchDeploy));
     }
-    let kept = kept_cell(site, number)?;
-    let touched = Touched::two(alloc, site, kept, alias_cell(site, name)?)?;
-    let alias = alias_cell(site, name)?;
+    let kept = Cell::Kept(site.copied(), number);
+    let touched = Touched::two(alloc, site, kept, Cell::Alias(site.copied(), name.copied()))?;
+    let alias = Cell::Alias(site.copied(), name.copied());
     let changes = change_one(alloc, state, alias, Some(Value::Alias(number)))?;
     Ok(Plan { changes, touched })
 }
@@ -226,7 +225,7 @@ pub(crate) fn remove_alias(
     if state.alias(site, name).is_none() {
         return Err(DecideError::Refused(Refusal::NoSuchAlias));
     }
-    let alias = alias_cell(site, name)?;
+    let alias = Cell::Alias(site.copied(), name.copied());
     Ok(plan_one(alloc, state, site, alias, None)?)
 }
 
@@ -246,19 +245,9 @@ pub(crate) fn remove_deploy(
         return Err(DecideError::Refused(Refusal::NoSuchDeploy));
     }
     if let Some(name) = state.alias_for(site, number) {
-        return Err(DecideError::Refused(Refusal::DeployInUse(name_of(name))));
+        return Err(DecideError::Refused(Refusal::DeployInUse(name.copied())));
     }
-    let touched = Touched::one_and_aliases(alloc, site, kept_cell(site, number)?)?;
-    let changes = change_one(alloc, state, kept_cell(site, number)?, None)?;
+    let touched = Touched::one_and_aliases(alloc, site, Cell::Kept(site.copied(), number))?;
+    let changes = change_one(alloc, state, Cell::Kept(site.copied(), number), None)?;
     Ok(Plan { changes, touched })
-}
-
-/// A name once more, which takes no memory.
-fn name_of(name: &AliasName) -> AliasName
-    ensures { result ≡ name.now }
-{
-    match name.clone() {
-        Ok(name) => name,
-        Err(_) => unreachable!(),
-    }
 }

@@ -5,7 +5,7 @@ use Rattle.site_state.specs.States.{State}
 use Rattle.site_state.proofs.Entries.{less_back}
 use Rattle.site_change.specs.Plans.{IsDifference}
 use Rattle.site_change.proofs.Deciding.{swapped}
-use Rattle.site_change.proofs.few_cells.change_both.Goals as goal
+use Rattle.site_change.proofs.cell_commands.change_both.Goals as goal
 
 pub change_two-requires-in-Equal : goal.change_two-requires-in-Equal
 change_two-requires-in-Equal c = elim c.in-Equal.is [
