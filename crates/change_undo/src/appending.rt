@@ -96,7 +96,7 @@ fn apply_command<U: Uploads>(
     if keep_found(found, state, uploads, command).is_err() || logged.reserve(1).is_err() {
         return Err(DecideError::OutOfMemory);
     }
-    match state.set_cells(alloc, writes) {
+    match state.set_cells(writes) {
         Ok(()) => Ok(plan),
         Err(_) => Err(DecideError::OutOfMemory),
     }

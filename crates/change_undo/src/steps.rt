@@ -84,7 +84,7 @@ fn carry_out(
     ensures { OnOk result (state.new ≡ applied command.now number state.old uploads.now) }
 {
     match decided(alloc, state, uploads, number, command) {
-        Ok(Decision { writes, .. }) => state.set_cells(alloc, writes),
+        Ok(Decision { writes, .. }) => state.set_cells(writes),
         Err(DecideError::OutOfMemory) => Err(AllocError),
         Err(DecideError::Refused(_)) => unreachable!(),
     }

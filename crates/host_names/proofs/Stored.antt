@@ -1,4 +1,4 @@
--- What the entries of a map from digests to files stand for.
+-- What the entries of a map from digests to files mean.
 use Rattle.std.proofs.Common.{◌≡◌, ℕ, Bool, true, false, cond, List, [], ◌∷◌, map, Option, Some, None, option_map, refl, sym, ap, subst, ◌∙◌}
 use Rattle.std.specs.BTreeMap.{is_at}
 use Rattle.std.specs.FinMap.{get, find, insert, get-from_entries, get-insert, get-empty, same_map}
@@ -21,7 +21,7 @@ is_eq-true Less e = cc e
 is_eq-true Equal e = refl
 is_eq-true Greater e = cc e
 
--- a map with a file more is digested, where the file stands under its own digest
+-- a map with a file more is digested, where the file is under its own digest
 pub AreDigested-insert : (files : Contents) (bytes : List ℕ) → AreDigested files → AreDigested (insert files (digest_of bytes) bytes)
 AreDigested-insert files bytes h digest found e =
     let here = sym (get-insert digest_cmp_total files (digest_of bytes) bytes digest) ∙ e in

@@ -178,7 +178,7 @@ impl SiteName {
     }
 }
 
-/// The name of an alias, which stands for a kept deploy of its site.
+/// The name of an alias, which names a kept deploy of its site.
 #[derive(Clone, Debug, PartialEq, Eq, PartialOrd, Ord, Drop)]
 pub struct AliasName(pub Name);
 

@@ -21,10 +21,10 @@ use site_state::{File, State, Value};
 use std::alloc::{AllocError, Global};
 use std::cmp::Ordering;
 
-/// A cell, and what comes to stand there.
+/// A cell, and what is written into it.
 type Write = (Cell, Option<Value>);
 
-/// What changes where this comes to stand in one cell.
+/// What changes where this is written into one cell.
 fn change_one(
     alloc: Global,
     state: &State,
@@ -38,7 +38,7 @@ fn change_one(
     Ok(changes)
 }
 
-/// What changes where these come to stand in two cells, of which the first comes first.
+/// What changes where these are written into two cells, of which the first comes first.
 fn change_two(
     alloc: Global,
     state: &State,
@@ -71,7 +71,7 @@ pub(crate) fn plan_one(
     Ok(Plan { changes, touched })
 }
 
-/// What the giving up of an open deploy changes and touches.
+/// What the cancelling of an open deploy changes and touches.
 pub(crate) fn cancel(
     alloc: Global,
     state: &State,
@@ -109,7 +109,7 @@ pub(crate) fn remove(
     Ok(plan_one(alloc, state, site, live, None)?)
 }
 
-/// What changes where these come to stand in two cells.
+/// What changes where these are written into two cells.
 fn change_both(
     alloc: Global,
     state: &State,
@@ -126,7 +126,7 @@ fn change_both(
     }
 }
 
-/// What changes where this file stands at one path no longer, but at another.
+/// What changes where this file is served at one path no longer, but at another.
 fn change_paths(
     alloc: Global,
     state: &State,
@@ -210,7 +210,7 @@ pub(crate) fn move_alias(
     Ok(Plan { changes, touched })
 }
 
-/// What the giving up of an alias changes and touches.
+/// What the removal of an alias changes and touches.
 pub(crate) fn remove_alias(
     alloc: Global,
     state: &State,

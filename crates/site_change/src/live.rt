@@ -1,4 +1,4 @@
-//! The changes of the files that a site serves, from those that stand there to those of a tree.
+//! The changes of the files that a site serves, from those that are there to those of a tree.
 ghost use Rattle.std.specs.Prelude.{◌≡◌, IfOk, IsTrue, MatchOption, [], option_to_list, true};
 ghost use Rattle.std.specs.List.{AllByRecursion};
 ghost use Rattle.host_names.specs.Cells.{cell_cmp};
@@ -14,7 +14,7 @@ use site_state::{File, Value};
 use std::alloc::{AllocError, Global};
 use std::cmp::Ordering;
 
-/// A cell with what stands in it.
+/// A cell with what is in it.
 type Entry = (Cell, Value);
 
 /// A path with the file that a tree has there.
@@ -39,7 +39,7 @@ fn compare_paths(site: &SiteName, entry: &Entry, listed: &Listed) -> Ordering
     }
 }
 
-/// Whether what stands in a cell is this file.
+/// Whether what is in a cell is this file.
 fn is_file(held: &Value, file: &File) -> bool
     ensures { result ≡ value_eq held.now (value.Live file.now) }
 {
@@ -140,7 +140,7 @@ impl<'a> Step<'a> {
     }
 }
 
-/// The changes of a site's live cells, from the files that stand there to those of a tree, both in the order of
+/// The changes of a site's live cells, from the files that are there to those of a tree, both in the order of
 /// the paths. Each list is gone through once.
 pub fn live_changes<'a>(
     alloc: Global,

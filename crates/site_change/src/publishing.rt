@@ -45,7 +45,7 @@ fn full_changes(
     Ok(changes)
 }
 
-/// A file, as what stands in its cell; nothing for none.
+/// A file, as the value of its cell; nothing for none.
 fn served<U: Uploads>(uploads: &U, listed: &Option<Digest>) -> Result<Option<Value>, AllocError>
     requires { if_lacking (U.contents uploads.now) listed.now ≡ None }
     ensures { IfOk result (λ v. v ≡ option_map value.Live (changes.file_at (U.contents uploads.now) listed.now)) }

@@ -1,4 +1,4 @@
--- The items of a state, and the map that they stand for.
+-- The items of a state, and the map that they mean.
 use Rattle.std.proofs.Common.{◌≡◌, ℕ, true, false, cond, List, [], ◌∷◌, get_or, Option, Some, None, Result, Ok, Err, OnOk, OnErr, IsTrue, All, refl, sym, ap, subst, ◌∙◌}
 use Rattle.std.specs.FinMap as finmap
 use Rattle.std.specs.List.{AllByRecursion}
@@ -19,14 +19,14 @@ use Rattle.site_state.proofs.Entries.{is_sorted-from, find_at, find_in_gap}
 abbrev pub Items : Type 0
 Items = List (Cell × Value)
 
--- the map that items stand for
+-- the map that items mean
 abbrev pub state_of : Items → State
 state_of items = finmap.from_sorted items
 
 pub get-state_of : (items : Items) (cell : Cell) → AreItems items → finmap.get (state_of items) cell ≡ finmap.find cell_cmp cell items
 get-state_of items cell are = finmap.get-from_sorted cell_cmp items cell (is_sorted-from cell_cmp items are.sorted)
 
--- the item at the place of a cell is what stands in the cell
+-- the item at the place of a cell is what is in the cell
 pub found_at : (items : Items) (state : State) (cell : Cell) (i : ℕ) (e : Cell × Value) → AreItems items → state_of items ≡ state
     → IsPlace cell_cmp cell items i → e ≡ get_or items i e → (Some e.1 ≡ finmap.get state cell) × IsTrue (is_of_kind cell e.1)
 found_at items state cell i e are is place at =
@@ -61,7 +61,7 @@ pub get-with_cell : (state : State) (cell : Cell) (value : Option Value) (q : Ce
 get-with_cell state cell (Some v) q = finmap.get-insert cell_cmp_total state cell v q
 get-with_cell state cell None q = finmap.get-remove cell_cmp_total state cell q
 
--- the items after a write are items, and stand for the map after it
+-- the items after a write are items, and mean the map after it
 pub AreItems-edited : (items : Items) (cell : Cell) (value : Option Value) → AreItems items → IsTrue (may_stand cell value) → AreItems (edited cell_cmp items cell value)
 AreItems-edited items cell value are kind = record {
   sorted = Rises-edited cell_cmp_total cell_cmp-IsAntisymmetric items cell value are.sorted;

@@ -18,11 +18,11 @@ use std::alloc::{AllocError, Global};
 use std::marker::Model;
 use std::mem;
 
-/// What stands in each cell. Contracts see a finite map. Each value is of its cell's kind, and each alias names a
+/// What is in each cell. Contracts see a finite map. Each value is of its cell's kind, and each alias names a
 /// deploy of its site that is kept.
 #[derive(Drop)]
 pub struct State {
-    /// By cell; each cell stands once.
+    /// By cell; each cell is there once.
     items: Vec<(Cell, Value)>,
 }
 
@@ -195,17 +195,14 @@ impl State {
 
     /// Writes into each of these cells, which strictly rise, a value of its kind, or nothing. All are written,
     /// or, without memory, none. The work is linear in the state and the cells.
-    pub fn set_cells(
-        &mut self,
-        alloc: Global,
-        cells: Vec<(Cell, Option<Value>)>,
-    ) -> Result<(), AllocError>
+    pub fn set_cells(&mut self, cells: Vec<(Cell, Option<Value>)>) -> Result<(), AllocError>
         requires rising { IsStrictlySortedBy cell_cmp (keys_of cells.items) }
         requires of_kind { All (λ e. IsTrue (may_stand e.0 e.1)) cells.items }
         requires named { AliasesNamed (with_cells self.old cells.items) }
         ensures ok { OnOk result (self.new ≡ with_cells self.old cells.items) }
         ensures err { OnErr result (self.new ≡ self.old) }
     {
+        let alloc = *self.items.allocator();
         let mut merged = Vec::with_capacity(alloc, self.items.len() + cells.len())?;
         let items = mem::replace(&mut self.items, Vec::new(alloc));
         merge(items, cells, &mut merged);
@@ -214,11 +211,11 @@ impl State {
     }
 
     /// A copy, which shares the files, the trees and the lists.
-    pub fn copy(&self, alloc: Global) -> Result<State, AllocError>
+    pub fn copy(&self) -> Result<State, AllocError>
         ensures { IfOk result (λ copy. copy ≡ self.now) }
     {
         Ok(State {
-            items: self.items.as_slice().to_vec(alloc)?,
+            items: self.items.as_slice().to_vec(*self.items.allocator())?,
         })
     }
 }

@@ -1,7 +1,7 @@
 use Rattle.std.proofs.Common.{◌≡◌, Bool, true, false, ◌||◌, refl, ap, ◌∙◌}
 use Rattle.site_change.proofs.touched.Touched.two.Goals as goal
 
--- what is listed behind two, which is nothing, and all paths and aliases, which are not touched, add nothing
+-- what is listed after two, which is nothing, and all paths and aliases, which are not touched, add nothing
 of_two : (a b : Bool) → (((a || (b || false)) || false) || false) ≡ (a || b)
 of_two true b = refl
 of_two false true = refl
