@@ -3,6 +3,8 @@ use Rattle.std.specs.Prelude.{ℕ, ◌+◌, ◌-◌, ◌==◌, nat_le, List, [],
 use Rattle.std.specs.List.{list_all}
 use Rattle.std.specs.Str.{bytes_eq}
 use Rattle.host_names.specs.Blobs.{Contents}
+use Rattle.host_names.specs.declared.cells.Cell.{Cell}
+use Rattle.host_names.specs.declared.cells.Cell.TheVariants as cell
 use Rattle.host_names.specs.declared.names.SiteName.{SiteName}
 use Rattle.site_state.specs.States.{State}
 use Rattle.site_change.specs.declared.commands.Command.{Command}
@@ -54,14 +56,21 @@ change_refusal uploads entries site k = refusal_at uploads entries site k (entry
 abbrev pub undo_refusal : Contents → ℕ → List Entry → SiteName → ℕ → Option UndoRefusal
 undo_refusal uploads limit entries site k = if nat_le limit (length entries) then Some HistoryFull else change_refusal uploads entries site k
 
--- what may find no memory: an undo that is not refused, and the cell of a clash
+-- whether a copy of the cell takes memory: a path is a shared text, and names and numbers are copied in place
+abbrev pub is_path : Cell → Bool
+is_path (cell.Live site path) = true
+is_path (cell.Kept site n) = false
+is_path (cell.Alias site name) = false
+is_path (cell.Draft site n) = false
+
+-- what may be out of memory: an undo that is not refused, and one whose clash is at a path
 abbrev pub may_take_memory : Option UndoRefusal → Bool
 may_take_memory None = true
 may_take_memory (Some HistoryFull) = false
 may_take_memory (Some NoSuchChange) = false
 may_take_memory (Some NotAChange) = false
 may_take_memory (Some AlreadyUndone) = false
-may_take_memory (Some (Clash j at)) = true
+may_take_memory (Some (Clash j at)) = is_path at
 
 -- ---- which histories there can be
 

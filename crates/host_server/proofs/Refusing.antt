@@ -68,7 +68,7 @@ takes_memory (Some undo_reason.HistoryFull) h = cc h
 takes_memory (Some undo_reason.NoSuchChange) h = cc h
 takes_memory (Some undo_reason.NotAChange) h = cc h
 takes_memory (Some undo_reason.AlreadyUndone) h = cc h
-takes_memory (Some (undo_reason.Clash change cell)) h = refl
+takes_memory (Some (undo_reason.Clash change cell)) h = h
 
 pub undo_told : (e : UndoError) (r : Result ℕ UndoError) (first : Option UndoRefusal) → r ≡ Err e
     → ((x : UndoRefusal) → r ≡ Err (undo.Refused x) → first ≡ Some x) → (r ≡ Err undo.OutOfMemory → histories.may_take_memory first ≡ true)

@@ -58,12 +58,12 @@ reason_of_undo undo_error.OutOfMemory = reason.OutOfMemory
 abbrev pub IsReason : Option Refusal → Refusal → Type 0
 IsReason first answered = (first ≡ Some answered) ⊎ ((first ≡ None) × (answered ≡ reason.OutOfMemory))
 
--- what may find no memory: an undo that is not refused, and the cell of a clash
+-- what may be out of memory: an undo that is not refused, and one whose clash is at a path
 abbrev pub may_take_memory : Option Refusal → Bool
 may_take_memory None = true
-may_take_memory (Some (reason.Clash change cell)) = true
+may_take_memory (Some (reason.Clash change cell)) = histories.is_path cell
 may_take_memory (Some other) = false
 
--- the same of an undo, where there may be no memory to name the cell of a clash either
+-- the same of an undo, which may also be out of memory where its clash is at a path
 abbrev pub IsUndoReason : Option Refusal → Refusal → Type 0
 IsUndoReason first answered = (first ≡ Some answered) ⊎ ((may_take_memory first ≡ true) × (answered ≡ reason.OutOfMemory))
