@@ -14,3 +14,4 @@ pub mod TheClash
 pub mod GrowingClash
 pub mod Planned
 pub mod KeptClash
+pub mod LeavingOut

@@ -1,5 +1,6 @@
 pub mod Histories
 pub mod Clashes
+pub mod Effects
 pub mod Kept
 pub mod Live
 pub mod LiveChanges

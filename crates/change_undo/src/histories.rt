@@ -7,6 +7,7 @@ ghost use Rattle.site_change.specs.declared.commands.Refusal.{Refusal as Reason}
 ghost use Rattle.change_undo.specs.declared.entries.Entry.TheVariants as entry;
 ghost use Rattle.change_undo.specs.declared.entries.UndoRefusal.{UndoRefusal as UndoReason};
 ghost use Rattle.change_undo.specs.Clashes;
+ghost use Rattle.change_undo.specs.Effects.{UndoesChange};
 ghost use Rattle.change_undo.specs.Histories;
 
 use crate::appending::append;
@@ -170,6 +171,7 @@ impl History {
         ensures number { IfOk result (λ number. number ≡ length self.old.entries + 1) }
         ensures entries { OnOk result (self.new.entries ≡ self.old.entries ++ entry.Undo site.now change ∷ []) }
         ensures state { OnOk result (Histories.run self.old.found self.new.entries ≡ Some self.new.state) }
+        ensures effect { OnOk result (UndoesChange self.old.found self.old self.new change) }
         ensures at_once { OnOk result ((before : List Entry) (command : Command) → self.old.entries ≡ before ++ entry.Change command ∷ []
             → change ≡ length before + 1 → Histories.run self.old.found before ≡ Some self.new.state) }
         ensures err { OnErr result (self.new ≡ self.old) }

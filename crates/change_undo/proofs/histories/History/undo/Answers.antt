@@ -1,8 +1,10 @@
 use Rattle.std.proofs.Common.{◌≡◌, ◌++◌, ◌∷◌, [], Some, arith, sym, ap, subst, ◌∙◌}
 use Rattle.site_change.specs.Changes.{IsWithin}
 use Rattle.change_undo.specs.declared.entries.Entry.TheVariants as entry
+use Rattle.change_undo.specs.Effects.{UndoesChange}
 use Rattle.change_undo.specs.Histories.{Past, run, undo_refusal}
 use Rattle.change_undo.specs.Logged.{entries_of}
+use Rattle.change_undo.proofs.LeavingOut.{undo-effect}
 use Rattle.change_undo.proofs.Runs.{named-within, undo_refusal-grows}
 use Rattle.change_undo.proofs.Sound.{length-entries_of, next_number, allowed_by, rerun-is, rerun-runs, clear-of, sound-undo, undone-at_once}
 use Rattle.change_undo.proofs.histories.History.undo.Goals as goal
@@ -74,3 +76,16 @@ returns-clause-outlasts c = λ uploads within.
     let P : Past → Type 0 = λ p. IsWithin p.found uploads → undo_refusal uploads p.limit p.entries c.args.site.now c.args.change ≡ undo_refusal p.found p.limit p.entries c.args.site.now c.args.change in
     subst P c.self.view_is (λ within. undo_refusal-grows c.self.inside.found uploads c.self.inside.limit (entries_of c.self.inside.logged.items) c.args.site.now c.args.change within
     c.self.invariant.legal) within
+
+pub returns-clause-effect : goal.returns-clause-effect
+returns-clause-effect c =
+    let past = c.self.inside in
+    let old : Past = record { limit = past.limit; entries = entries_of past.logged.items; found = past.found; state = past.state } in
+    let new : Past = record { limit = past.limit; entries = entries_of c.undone.new.logged.items; found = past.found; state = c.in_ok-self-inside.field-0 } in
+    let P : Past → Type 0 = λ p. UndoesChange p.found p new c.args.change in
+    subst P c.self.view_is (undo-effect past.found old new c.args.site.now c.args.change c.self.invariant.ran
+    (allowed_by past.logged.items c.as_slice.result.now past.found past.state past.limit c.args.site.now c.args.change c.in_ok-reason.field-0
+    c.self.invariant c.as_slice.ensures.value c.in_ok-reason.ensures.found c.in_default.is)
+    c.in_ok-self-inside.ensures.entries
+    (ap (run past.found) c.in_ok-self-inside.ensures.entries ∙ sym (rerun-is past.logged.items past.found c.args.site.now c.args.change c.self.invariant.marked)
+    ∙ c.in_ok-self-inside.ensures.state))
