@@ -21,7 +21,8 @@ use Rattle.change_undo.specs.declared.entries.Entry.{Entry}
 use Rattle.change_undo.specs.declared.entries.Entry.TheVariants.{Change, Undo}
 use Rattle.change_undo.specs.declared.logged.Logged.{Logged}
 use Rattle.change_undo.specs.Clashes.{changed_cells, in_cell, first_touch, clash_in}
-use Rattle.change_undo.specs.Kept.{IsPlanOf, IsPlanned, state_after, ArePlanned, cells_of, first_touched, kept_touch}
+use Rattle.change_undo.specs.Kept.{ArePlanned, cells_of, first_touched, kept_touch}
+use Rattle.change_undo.specs.Plans.{IsPlanOf, IsPlanned, state_after}
 use Rattle.change_undo.specs.Logged.{marked_live, with_change}
 use Rattle.change_undo.proofs.ChangedCells.{is_listed}
 use Rattle.change_undo.proofs.FirstTouch.{not_among, changed-sorted}
@@ -86,7 +87,7 @@ plan-lists uploads state n command (change ∷ items) c each listed =
       | false ↦ λ e h. plan-lists uploads state n command items c each.1 h
     ] refl listed
 
-plan-cells : (uploads : Contents) (state : State) (n : ℕ) (command : Command) (plan : Plan) → IsPlanOf uploads state n command plan
+pub plan-cells : (uploads : Contents) (state : State) (n : ℕ) (command : Command) (plan : Plan) → IsPlanOf uploads state n command plan
     → cells_of plan.changes.items ≡ changed_cells command n state uploads
 plan-cells uploads state n command plan is =
     same_list (cells_of plan.changes.items) (changed_cells command n state uploads) is.changes.ordered (changed-sorted command n state uploads)

@@ -57,16 +57,32 @@ change_at uploads entries site k (Some (Change command)) h =
 nonzero : (k : ℕ) → 0 < k → (k == 0) ≡ false
 nonzero k h = elim (k == 0) as (λ t. (k == 0) ≡ t → t ≡ false) [ true ↦ λ e. absurd (omega (arith, eqb-true k 0 e, h)) | false ↦ λ e. refl ] refl
 
--- a change whose undo isn't refused lives
-pub allowed-lives : (uploads : Contents) (entries : List Entry) (site : SiteName) (k : ℕ) → change_refusal uploads entries site k ≡ None
-    → (command : Command) × Contains (live_changes entries) (k, command)
-allowed-lives uploads entries site k ok =
+-- a change whose undo isn't refused is an entry that is not among the undone ones
+pub record IsNamed (entries : List Entry) (k : ℕ) : Type 0 where
+  pub command : Command
+  pub some : 0 < k
+  pub there : slice_get entries (k - 1) ≡ Some (Change command)
+  pub lives : is_among (undone entries) k ≡ false
+
+pub allowed-at : (uploads : Contents) (entries : List Entry) (site : SiteName) (k : ℕ) → change_refusal uploads entries site k ≡ None → IsNamed entries k
+allowed-at uploads entries site k ok =
     let named = change_at uploads entries site k (entry_at entries k) ok in
     let some = entry_at-some entries k (Change named.0) named.1 in
-    let number : 1 + (k - 1) ≡ k = omega (arith, some) in
-    let there : slice_get entries (k - 1) ≡ Some (Change named.0) = sym (ap (λ t. cond t None (slice_get entries (k - 1))) (nonzero k some)) ∙ named.1 in
-    let P : ℕ → Type 0 = λ m. Contains (live_changes entries) (m, named.0) in
-    (named.0, subst P number (live-at (undone entries) 1 (k - 1) entries named.0 there (ap (is_among (undone entries)) number ∙ named.2)))
+    record {
+      command = named.0;
+      some = some;
+      there = sym (ap (λ t. cond t None (slice_get entries (k - 1))) (nonzero k some)) ∙ named.1;
+      lives = named.2;
+    }
+
+-- so it lives
+allowed-lives : (uploads : Contents) (entries : List Entry) (site : SiteName) (k : ℕ) → change_refusal uploads entries site k ≡ None
+    → (command : Command) × Contains (live_changes entries) (k, command)
+allowed-lives uploads entries site k ok =
+    let named = allowed-at uploads entries site k ok in
+    let number : 1 + (k - 1) ≡ k = omega (arith, named.some) in
+    let P : ℕ → Type 0 = λ m. Contains (live_changes entries) (m, named.command) in
+    (named.command, subst P number (live-at (undone entries) 1 (k - 1) entries named.command named.there (ap (is_among (undone entries)) number ∙ named.lives)))
 
 -- what lives has a place
 place_of : (uploads : Contents) (n : ℕ) (command : Command) (state : State) (row : List (ℕ × Command)) → Contains row (n, command)

@@ -4,7 +4,6 @@ pub mod Marks
 pub mod Writes
 pub mod Found
 pub mod Errors
-pub mod Sound
 pub mod Clashing
 pub mod ChangedCells
 pub mod WithoutClash
@@ -15,3 +14,5 @@ pub mod GrowingClash
 pub mod Planned
 pub mod KeptClash
 pub mod LeavingOut
+pub mod WritingBack
+pub mod Sound

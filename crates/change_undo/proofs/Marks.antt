@@ -1,24 +1,21 @@
 -- What the marks of the entries tell.
-use Rattle.std.proofs.Common.{◌≡◌, ℕ, zero, suc, ◌+◌, ◌-◌, ◌<◌, ◌≤◌, ◌==◌, nat_le, Bool, true, false, not, cond, ◌&&◌, ◌||◌, List, [], ◌∷◌, ◌++◌, drop, get_or, set, length, slice_get, Option, Some, None, IsSome, option_map, refl, sym, ap, subst, ◌∙◌, arith, eq-eqb, if◌then◌else◌}
+use Rattle.std.proofs.Common.{◌≡◌, ℕ, zero, suc, ◌+◌, ◌-◌, ◌<◌, ◌≤◌, ◌==◌, nat_le, Bool, true, false, not, cond, ◌||◌, List, [], ◌∷◌, ◌++◌, get_or, set, length, slice_get, Some, None, option_map, refl, sym, ap, subst, ◌∙◌, arith, eq-eqb, if◌then◌else◌}
 use Rattle.std.specs.FinMap as map
-use Rattle.std.proofs.lemmas.List.{length-map, drop_more, append-nil, length-append}
+use Rattle.std.proofs.lemmas.List.{length-map, append-nil, length-append}
 use Rattle.std.proofs.lemmas.Bool.{leb-true, eqb-true}
 use Rattle.std.specs.Str.{bytes_eq}
 use Rattle.site_change.specs.declared.commands.Command.{Command}
 use Rattle.host_names.specs.Blobs.{Contents}
 use Rattle.host_names.specs.declared.names.SiteName.{SiteName}
-use Rattle.site_state.specs.States.{State}
-use Rattle.site_change.specs.declared.commands.Refusal.{Refusal}
-use Rattle.site_change.specs.Changes.{site_of_command, refusal, applied, if_accepted, run_from}
+use Rattle.site_change.specs.Changes.{site_of_command}
 use Rattle.change_undo.specs.declared.entries.Entry.{Entry}
 use Rattle.change_undo.specs.declared.entries.Entry.TheVariants.{Change, Undo}
 use Rattle.change_undo.specs.declared.entries.UndoRefusal.TheVariants.{HistoryFull, NoSuchChange, AlreadyUndone, Clash}
 use Rattle.change_undo.specs.Clashes.{clash, clash_in}
 use Rattle.change_undo.specs.declared.logged.Logged.{Logged}
 use Rattle.change_undo.specs.Histories.{marked as with_mark, undone, is_among, live_from, site_of_entry, same_site, entry_at, marked_entry, refusal_at, undo_refusal}
-use Rattle.change_undo.specs.Live.{without}
 use Rattle.change_undo.proofs.Live.{is_among-push, undone-append}
-use Rattle.change_undo.specs.Logged.{entries_of, AreMarked, marked_live, with_change, command_if, carried_out}
+use Rattle.change_undo.specs.Logged.{entries_of, AreMarked, marked_live, with_change}
 
 -- the marked entries have the live changes
 pub marked_live-is : (gone : List ℕ) (n : ℕ) (logged : List Logged) → AreMarked gone n logged → marked_live n logged ≡ live_from gone n (entries_of logged)
@@ -86,49 +83,6 @@ named_site found entry command site is is_one same =
     let at : found ≡ site_of_command command = is ∙ ap site_of_entry is_one in
     let P : SiteName → Type 0 = λ s. same_site s site ≡ true in
     subst P at (elim (bytes_eq found.0 site.0) as (λ t. bytes_eq found.0 site.0 ≡ t → t ≡ true) [ true ↦ λ e. refl | false ↦ λ e. cc (same ∙ ap not e) ] refl)
-
--- ---- carrying out the changes again
-
--- an entry's change, before others
-abbrev pub before_others : ℕ → Option Command → List (ℕ × Command) → List (ℕ × Command)
-before_others n None changes = changes
-before_others n (Some command) changes = (n, command) ∷ changes
-
-carried_first : (k n : ℕ) (gone : Bool) (entry : Entry) (changes : List (ℕ × Command))
-    → without k (with_change gone n entry changes) ≡ before_others n (command_if (not gone && not (k == n)) entry) (without k changes)
-carried_first k n gone (Undo site j) changes = refl
-carried_first k n true (Change command) changes = refl
-carried_first k n false (Change command) changes = elim (k == n) as (λ t. cond (not t) ((n, command) ∷ without k changes) (without k changes)
-    ≡ before_others n (command_if (true && not t) (Change command)) (without k changes)) [ true ↦ refl | false ↦ refl ]
-
--- the changes that are carried out from a place on
-pub carried_at : (k n i : ℕ) (logged : List Logged) (l : Logged) → i < length logged → l ≡ get_or logged i l
-    → without k (marked_live n (drop i logged)) ≡ before_others n (carried_out k n l) (without k (marked_live (n + 1) (drop (i + 1) logged)))
-carried_at k n i logged l within at =
-    ap (λ ls. without k (marked_live n ls)) (drop_more logged i l within)
-    ∙ ap (λ (x : Logged). without k (marked_live n (x ∷ drop (i + 1) logged))) (sym at)
-    ∙ carried_first k n l.is_undone l.entry (marked_live (n + 1) (drop (i + 1) logged))
-
-some_accepted : (reason : Option Refusal) (next : Option State) → IsSome (if_accepted reason next) → reason ≡ None
-some_accepted None next h = refl
-some_accepted (Some reason) next h = cc h
-
--- the next of them is accepted
-pub carried_accepted : (uploads : Contents) (state : State) (n : ℕ) (command : Command) (o : Option Command) (changes : List (ℕ × Command)) → o ≡ Some command
-    → IsSome (run_from uploads state (before_others n o changes)) → refusal command n state uploads ≡ None
-carried_accepted uploads state n command o changes e h =
-    let P : Option Command → Type 0 = λ o. IsSome (run_from uploads state (before_others n o changes)) in
-    some_accepted (refusal command n state uploads) (run_from uploads (applied command n state uploads) changes) (subst P e h)
-
--- once it is carried out, the others remain
-pub carried_rest : (uploads : Contents) (state : State) (n : ℕ) (command : Command) (o : Option Command) (changes : List (ℕ × Command)) → o ≡ Some command
-    → refusal command n state uploads ≡ None → run_from uploads state (before_others n o changes) ≡ run_from uploads (applied command n state uploads) changes
-carried_rest uploads state n command o changes e ok =
-    ap (λ o. run_from uploads state (before_others n o changes)) e ∙ ap (λ r. if_accepted r (run_from uploads (applied command n state uploads) changes)) ok
-
-pub carried_none : (uploads : Contents) (state : State) (n : ℕ) (o : Option Command) (changes : List (ℕ × Command)) → o ≡ None
-    → run_from uploads state (before_others n o changes) ≡ run_from uploads state changes
-carried_none uploads state n o changes e = ap (λ o. run_from uploads state (before_others n o changes)) e
 
 -- ---- an undo more
 

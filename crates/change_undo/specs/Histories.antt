@@ -8,6 +8,7 @@ use Rattle.host_names.specs.declared.cells.Cell.TheVariants as cell
 use Rattle.host_names.specs.declared.names.SiteName.{SiteName}
 use Rattle.site_state.specs.States.{State}
 use Rattle.site_change.specs.declared.commands.Command.{Command}
+use Rattle.site_change.specs.declared.plans.Plan.{Plan}
 use Rattle.site_change.specs.Changes.{refusal, site_of_command}
 use Rattle.change_undo.specs.declared.entries.Entry.{Entry}
 use Rattle.change_undo.specs.declared.entries.Entry.TheVariants.{Change, Undo}
@@ -92,9 +93,10 @@ IsLegalAfter uploads before (entry ∷ entries) = IsTrue (is_allowed uploads bef
 abbrev pub IsLegal : Contents → List Entry → Type 0
 IsLegal uploads entries = IsLegalAfter uploads [] entries
 
--- what a history is: its limit, its entries, what it found of the uploads, and the state that its entries give
+-- what a history is: how many entries it may have, its entries, of each what it changed and touched if it is a change that lives, and
+-- the state that its entries give
 pub record Past : Type 0 where
   pub limit : ℕ
   pub entries : List Entry
-  pub found : Contents
+  pub plans : List (Option Plan)
   pub state : State

@@ -1,8 +1,11 @@
-pub mod Histories
-pub mod Clashes
-pub mod Effects
-pub mod Kept
-pub mod Live
+-- What public clauses say.
 pub mod LiveChanges
+pub mod Live
+pub mod Clashes
+pub mod Histories
+pub mod Plans
+pub mod Effects
+-- How a history is kept, of which only private functions speak.
 pub mod Logged
+pub mod Kept
 pub mod Past

@@ -1,5 +1,5 @@
 -- How a history is kept: its entries, each with a mark whether it was undone.
-use Rattle.std.specs.Prelude.{◌≡◌, ℕ, ◌+◌, List, [], ◌∷◌, map, Bool, not, ◌&&◌, ◌==◌, Option, Some, None, if◌then◌else◌}
+use Rattle.std.specs.Prelude.{◌≡◌, ℕ, ◌+◌, List, [], ◌∷◌, map, Bool, if◌then◌else◌}
 use Rattle.site_change.specs.declared.commands.Command.{Command}
 use Rattle.change_undo.specs.declared.entries.Entry.{Entry}
 use Rattle.change_undo.specs.declared.entries.Entry.TheVariants.{Change, Undo}
@@ -24,11 +24,3 @@ with_change gone n (Undo site k) changes = changes
 abbrev pub marked_live : ℕ → List Logged → List (ℕ × Command)
 marked_live n [] = []
 marked_live n (l ∷ logged) = with_change l.is_undone n l.entry (marked_live (n + 1) logged)
-
-abbrev pub command_if : Bool → Entry → Option Command
-command_if live (Change command) = if live then Some command else None
-command_if live (Undo site k) = None
-
--- the command of an entry, unless it is marked or has this number
-abbrev pub carried_out : ℕ → ℕ → Logged → Option Command
-carried_out left_out n l = command_if (not l.is_undone && not (left_out == n)) l.entry

@@ -9,12 +9,14 @@ ghost use Rattle.site_state.specs.States.{State as Cells};
 ghost use Rattle.change_undo.specs.declared.entries.Entry.{Entry as Line};
 ghost use Rattle.change_undo.specs.declared.entries.Entry.TheVariants as line;
 ghost use Rattle.change_undo.specs.Clashes.{IsClash, clash};
-ghost use Rattle.change_undo.specs.Histories.{IsLegal, change_refusal, is_newest, live_changes, run, undo_refusal};
+ghost use Rattle.change_undo.specs.Histories.{IsLegal, Past, change_refusal, is_newest, live_changes, run, undo_refusal};
 ghost use Rattle.change_undo.specs.Live.{without};
+ghost use Rattle.change_undo.specs.Plans.{IsHistoryOver};
 
 /// A history that was legal stays legal, with the same state, the same clashes and the same reasons to refuse an undo,
-/// when more is uploaded.
+/// when more is uploaded; and its changes are still those that they were.
 pub fn histories_outlast_uploads()
+    ensures over { (uploads more : Contents) (past : Past) → IsWithin uploads more → IsHistoryOver uploads past → IsHistoryOver more past }
     ensures legal { (uploads more : Contents) (entries : List Line) → IsWithin uploads more → IsLegal uploads entries → IsLegal more entries }
     ensures run { (uploads more : Contents) (entries : List Line) (state : Cells) → IsWithin uploads more → IsLegal uploads entries
         → run uploads entries ≡ Some state → run more entries ≡ Some state }

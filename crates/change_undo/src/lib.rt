@@ -4,7 +4,6 @@
 mod appending;
 mod clashes;
 mod entries;
-mod founds;
 mod histories;
 mod laws;
 mod logged;

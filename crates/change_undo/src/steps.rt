@@ -1,20 +1,16 @@
-//! Commands that are carried out, one by one.
-ghost use Rattle.std.specs.Prelude.{◌≡◌, ◌↔◌, map, All, Err, Some, None, IfOk, IsSome, IsTrue, OnOk, option_copied};
-ghost use Rattle.std.specs.FinMap as map;
+//! What a command writes into the state, and what takes it back.
+ghost use Rattle.std.specs.Prelude.{◌≡◌, ◌↔◌, map, All, Err, Some, None, IfOk, IsTrue, OnOk};
 ghost use Rattle.std.specs.List.Sorted.{IsStrictlySortedBy};
 ghost use Rattle.std.specs.Map.{keys_of};
 ghost use Rattle.host_names.specs.Cells.{cell_cmp};
-ghost use Rattle.site_change.specs.Changes.{applied, refusal, run_from};
+ghost use Rattle.site_change.specs.Changes.{applied, refusal};
 ghost use Rattle.site_change.specs.declared.commands.Refusal.{Refusal as Reason};
 ghost use Rattle.site_state.specs.Named.{AliasesNamed};
 ghost use Rattle.site_state.specs.States.{may_stand, with_cells};
-ghost use Rattle.change_undo.specs.Kept.{IsPlanOf};
-ghost use Rattle.change_undo.specs.Live.{without};
-ghost use Rattle.change_undo.specs.Logged.{carried_out, marked_live};
+ghost use Rattle.change_undo.specs.Kept as spec;
+ghost use Rattle.change_undo.specs.Plans.{IsPlanOf};
 
-use crate::entries::Entry;
-use crate::logged::Logged;
-use host_names::{Cell, MemoryUploads, Uploads};
+use host_names::{Cell, Uploads};
 use site_change::{Change, Command, DecideError, Plan, decide};
 use site_state::{State, Value};
 use std::alloc::{AllocError, Global};
@@ -72,53 +68,30 @@ pub(crate) fn decided<U: Uploads>(
     }
 }
 
-/// Carries out a command that is accepted. Without memory nothing changes.
-fn carry_out(
-    alloc: Global,
-    state: &mut State,
-    uploads: &MemoryUploads,
-    number: u64,
-    command: &Command,
-) -> Result<(), AllocError>
-    requires { refusal command.now number state.old uploads.now ≡ None }
-    ensures { OnOk result (state.new ≡ applied command.now number state.old uploads.now) }
+/// What a cell had before a change. Copies share the files.
+fn before_of(change: &Change) -> Result<Write, AllocError>
+    ensures { IfOk result (λ write. write ≡ (change.now.cell, change.now.before)) }
 {
-    match decided(alloc, state, uploads, number, command) {
-        Ok(Decision { writes, .. }) => state.set_cells(alloc, writes),
-        Err(DecideError::OutOfMemory) => Err(AllocError),
-        Err(DecideError::Refused(_)) => unreachable!(),
-    }
+    Ok((change.cell.clone()?, change.before.clone()?))
 }
 
-/// The state that the changes give from nothing, without the one of this number and without those that are
-/// marked.
-pub(crate) fn rerun(
-    alloc: Global,
-    logged: &[Logged],
-    found: &MemoryUploads,
-    left_out: u64,
-) -> Result<State, AllocError>
-    requires { IsSome (run_from found.now map.empty (without left_out (marked_live 1 logged.now))) }
-    ensures { IfOk result (λ state. run_from found.now map.empty (without left_out (marked_live 1 logged.now)) ≡ Some state) }
+/// What the cells of some changes had before them.
+fn befores(alloc: Global, changes: &[Change]) -> Result<Vec<Write>, AllocError>
+    ensures { IfOk result (λ writes. writes.items ≡ spec.befores changes.now) }
 {
-    let mut state = State::new(alloc);
-    let mut number = 1u64;
-    'entries: for kept in logged {
-        if let Some(command) = command_of(kept, number, left_out) {
-            carry_out(alloc, &mut state, found, number, command)?;
-        }
-        number += 1;
+    let mut writes = Vec::with_capacity(alloc, changes.len())?;
+    for change in changes {
+        writes.push(before_of(change)?)?;
     }
-    Ok(state)
+    Ok(writes)
 }
 
-/// The command of the entry of this number, if it is to be carried out: a change that is neither marked nor left
-/// out.
-fn command_of(kept: &Logged, number: u64, left_out: u64) -> Option<&Command>
-    ensures { option_copied result ≡ carried_out left_out number kept.now }
+/// What the cells that a plan changes had before; nothing where there is no plan.
+pub(crate) fn befores_of(alloc: Global, plan: &Option<Plan>) -> Result<Vec<Write>, AllocError>
+    ensures { IfOk result (λ writes. writes.items ≡ spec.befores_of plan.now) }
 {
-    match &kept.entry {
-        Entry::Change(command) if !kept.is_undone && left_out != number => Some(command),
-        _ => None,
+    match plan {
+        Some(plan) => befores(alloc, plan.changes.as_slice()),
+        None => Ok(Vec::new(alloc)),
     }
 }

@@ -1,52 +1,56 @@
 //! One undo more.
-ghost use Rattle.std.specs.Prelude.{◌≡◌, ◌+◌, ◌<◌, ◌≤◌, [], ◌∷◌, ◌++◌, length, false, Some, None, IfOk, IsSome, OnOk, OnErr};
+ghost use Rattle.std.specs.Prelude.{◌≡◌, ◌+◌, ◌-◌, ◌<◌, ◌≤◌, [], ◌∷◌, ◌++◌, length, false, None, OnOk, OnErr};
 ghost use Rattle.std.specs.FinMap as map;
-ghost use Rattle.site_change.specs.Changes.{run_from};
+ghost use Rattle.host_names.specs.Blobs.{Contents};
+ghost use Rattle.site_state.specs.States.{with_cells};
 ghost use Rattle.change_undo.specs.declared.entries.Entry.TheVariants as entry;
 ghost use Rattle.change_undo.specs.Clashes.{clash_in};
 ghost use Rattle.change_undo.specs.Histories;
-ghost use Rattle.change_undo.specs.Kept.{ArePlanned};
-ghost use Rattle.change_undo.specs.Live.{without};
+ghost use Rattle.change_undo.specs.Kept.{ArePlanned, AreWritable, befores_of as befores_in, plan_at};
 ghost use Rattle.change_undo.specs.Logged.{AreMarked, entries_of, marked_live};
 
 use crate::entries::Entry;
 use crate::logged::Logged;
-use crate::steps::rerun;
-use host_names::{MemoryUploads, SiteName};
+use crate::steps::befores_of;
+use host_names::SiteName;
 use site_state::State;
 use std::alloc::{AllocError, Global};
 
-/// Appends the undo of a change that may be undone, and marks that change. Answers the state without it. Without
-/// memory nothing changes.
-pub(crate) fn undone(
+/// Appends the undo of a change, marks that change, and gives each cell that it changed what it had before. Without memory
+/// nothing changes.
+pub(crate) fn take_back(
     alloc: Global,
     logged: &mut Vec<Logged>,
-    found: &MemoryUploads,
+    state: &mut State,
     site: &SiteName,
     change: u64,
-) -> Result<State, AllocError>
+) -> Result<(), AllocError>
     requires marked { AreMarked (Histories.undone (entries_of logged.old.items)) 1 logged.old.items }
     requires next { Histories.is_among (Histories.undone (entries_of logged.old.items)) (length logged.old.items + 1) ≡ false }
     requires some { 0 < change }
     requires within { change ≤ length logged.old.items }
-    requires planned { ArePlanned found.now map.empty 1 logged.old.items }
-    requires clear { clash_in found.now change map.empty (marked_live 1 logged.old.items) ≡ None }
-    requires runs { IsSome (run_from found.now map.empty (without change (marked_live 1 logged.old.items))) }
-    ensures state { IfOk result (λ state. run_from found.now map.empty (without change (marked_live 1 logged.old.items)) ≡ Some state) }
+    requires writable { AreWritable state.old (befores_in (plan_at logged.old.items (change - 1))) }
+    ensures state { OnOk result (state.new ≡ with_cells state.old (befores_in (plan_at logged.old.items (change - 1)))) }
     ensures entries { OnOk result (entries_of logged.new.items ≡ entries_of logged.old.items ++ entry.Undo site.now change ∷ []) }
     ensures marked { OnOk result (AreMarked (Histories.undone (entries_of logged.new.items)) 1 logged.new.items) }
-    ensures planned { OnOk result (ArePlanned found.now map.empty 1 logged.new.items) }
-    ensures err { OnErr result (logged.new.items ≡ logged.old.items) }
+    ensures planned { OnOk result ((uploads : Contents) → ArePlanned uploads map.empty 1 logged.old.items
+        → clash_in uploads change map.empty (marked_live 1 logged.old.items) ≡ None → ArePlanned uploads map.empty 1 logged.new.items) }
+    ensures err { OnErr result ((logged.new.items ≡ logged.old.items) × (state.new ≡ state.old)) }
 {
-    let site = site.clone()?;
-    let state = rerun(alloc, logged.as_slice(), found, change)?;
-    logged.push(Logged {
-        entry: Entry::Undo { site, change },
+    let named = &logged[change as usize - 1];
+    let writes = befores_of(alloc, &named.plan)?;
+    logged.reserve(1)?;
+    state.set_cells(alloc, writes)?;
+    logged.push_reserved(Logged {
+        entry: Entry::Undo {
+            site: site.copied(),
+            change,
+        },
         is_undone: false,
         plan: None,
-    })?;
+    });
     let named = &mut logged[change as usize - 1];
     named.is_undone = true;
     named.plan = None;
-    Ok(state)
+    Ok(())
 }

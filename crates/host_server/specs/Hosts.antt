@@ -1,12 +1,12 @@
 -- What a host has: its entries and its uploads.
-use Rattle.std.specs.Prelude.{◌≡◌, ℕ, ◌+◌, List, [], ◌∷◌, ◌++◌, length, Some, unwrap_or, refl}
+use Rattle.std.specs.Prelude.{ℕ, ◌+◌, List, [], ◌∷◌, ◌++◌, length, unwrap_or, refl}
 use Rattle.std.specs.Coded.{Coded, code_by, coded×, coded_ℕ}
 use Rattle.std.specs.FinMap as map
 use Rattle.host_names.specs.Blobs.{Contents, with_file}
 use Rattle.site_state.specs.States.{State}
-use Rattle.site_change.specs.Changes.{IsWithin}
 use Rattle.change_undo.specs.declared.entries.Entry.{Entry}
 use Rattle.change_undo.specs.Histories.{Past, run, IsLegal}
+use Rattle.change_undo.specs.Plans.{IsHistoryOver}
 
 -- the history, how many entries it may have, and the bytes that were uploaded
 pub record Host : Type 0 where
@@ -46,8 +46,6 @@ coded_host entries uploads =
     code_by (ℕ × (List Entry × Contents)) (coded× coded_ℕ (coded× entries uploads))
     (λ h. (h.limit, (h.entries, h.uploads))) (λ t. record { limit = t.0; entries = t.1.0; uploads = t.1.1 }) (λ _. refl)
 
--- What the history found is among the uploads, over which its entries are legal and give its state.
-pub record IsKept (past : Past) (uploads : Contents) : Type 0 where
-  pub within : IsWithin past.found uploads
-  pub legal : IsLegal uploads past.entries
-  pub ran : run uploads past.entries ≡ Some past.state
+-- the uploads are some over which the history is what it is
+abbrev pub IsKept : Past → Contents → Type 0
+IsKept past uploads = IsHistoryOver uploads past

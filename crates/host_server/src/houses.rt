@@ -9,7 +9,7 @@ ghost use Rattle.host_server.specs.Reasons;
 ghost use Rattle.host_server.specs.Reasons.{commit_refusal, IsReason, IsUndoReason};
 
 use crate::reasons::{commit_reason, undo_error_reason};
-use change_undo::{Entry, GREATEST_LIMIT, History};
+use change_undo::{Entry, History};
 use host_api::Refusal;
 use host_names::{BlobInfo, MemoryUploads, SiteName};
 use site_change::Command;
@@ -45,7 +45,7 @@ impl SoloHouse {
     /// A host without entries, which may have as many as the limit says.
     pub fn new(alloc: Global, limit: u64) -> SoloHouse
         requires some { 1 ≤ limit }
-        requires bounded { limit ≤ GREATEST_LIMIT }
+        requires bounded { limit ≤ 1000000 }
         ensures { result ≡ record { limit = limit; entries = []; uploads = map.empty } }
     {
         SoloHouse {

@@ -1,5 +1,4 @@
 use Rattle.std.proofs.Common.{subst}
-use Rattle.change_undo.specs.Histories as histories
 use Rattle.host_server.specs.Hosts.{Host}
 use Rattle.host_server.specs.Reasons.{undo_refusal}
 use Rattle.host_server.proofs.Kept.{kept_by_undo}
@@ -12,24 +11,19 @@ use Rattle.host_server.proofs.houses.SoloHouse.undo.Goals as goal
 
 pub invariant_of-self : goal.invariant_of-self
 invariant_of-self c =
-    kept_by_undo c.undo.result c.self.inside.history c.undo.new.self c.self.inside.uploads c.args.site.now c.args.change c.self.invariant
-    (c.undo.ensures.outlasts c.self.inside.uploads c.self.invariant.within) c.undo.ensures.accepted c.undo.ensures.entries c.undo.ensures.state c.undo.ensures.err c.undo.ensures.found
+    kept_by_undo c.undo.result c.self.inside.history c.undo.new.self c.self.inside.uploads c.self.invariant c.undo.ensures.over c.undo.ensures.err
 
 pub returns-clause-accepted : goal.returns-clause-accepted
 returns-clause-accepted c =
     let P : Host → Type 0 = λ h. IsUndoAnswered c.map_err.result (undo_refusal h c.args.site.now c.args.change) in
-    (subst P c.self.view_is (undo_answers c.undo.result c.map_err.result
-    (histories.undo_refusal c.self.inside.history.found c.self.inside.history.limit c.self.inside.history.entries c.args.site.now c.args.change)
-    (histories.undo_refusal c.self.inside.uploads c.self.inside.history.limit c.self.inside.history.entries c.args.site.now c.args.change)
-    (c.undo.ensures.outlasts c.self.inside.uploads c.self.invariant.within) c.map_err.ensures.cases c.undo.ensures.accepted c.undo.ensures.refused c.undo.ensures.memory)).0
+    (subst P c.self.view_is (undo_answers c.undo.result c.map_err.result c.self.inside.history c.self.inside.uploads c.args.site.now c.args.change c.self.invariant
+    c.map_err.ensures.cases c.undo.ensures.accepted c.undo.ensures.refused c.undo.ensures.memory)).0
 
 pub returns-clause-refused : goal.returns-clause-refused
 returns-clause-refused c =
     let P : Host → Type 0 = λ h. IsUndoAnswered c.map_err.result (undo_refusal h c.args.site.now c.args.change) in
-    (subst P c.self.view_is (undo_answers c.undo.result c.map_err.result
-    (histories.undo_refusal c.self.inside.history.found c.self.inside.history.limit c.self.inside.history.entries c.args.site.now c.args.change)
-    (histories.undo_refusal c.self.inside.uploads c.self.inside.history.limit c.self.inside.history.entries c.args.site.now c.args.change)
-    (c.undo.ensures.outlasts c.self.inside.uploads c.self.invariant.within) c.map_err.ensures.cases c.undo.ensures.accepted c.undo.ensures.refused c.undo.ensures.memory)).1
+    (subst P c.self.view_is (undo_answers c.undo.result c.map_err.result c.self.inside.history c.self.inside.uploads c.args.site.now c.args.change c.self.invariant
+    c.map_err.ensures.cases c.undo.ensures.accepted c.undo.ensures.refused c.undo.ensures.memory)).1
 
 pub returns-clause-grows : goal.returns-clause-grows
 returns-clause-grows c =
