@@ -16,3 +16,4 @@ pub mod KeptClash
 pub mod LeavingOut
 pub mod WritingBack
 pub mod Sound
+pub mod Opened

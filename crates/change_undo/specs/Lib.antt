@@ -5,6 +5,7 @@ pub mod Clashes
 pub mod Histories
 pub mod Plans
 pub mod Effects
+pub mod Openings
 -- How a history is kept, of which only private functions speak.
 pub mod Logged
 pub mod Kept

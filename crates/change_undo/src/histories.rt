@@ -1,7 +1,11 @@
 //! Histories: changes are committed at their end, and undone by an entry of their own.
-ghost use Rattle.std.specs.Prelude.{◌≡◌, ◌↔◌, ◌+◌, ◌≤◌, ◌<◌, [], ◌∷◌, ◌++◌, length, false, Some, None, true, Err, IsErrOf, List, IfOk, OnOk, OnErr, option_copied, option_map};
+ghost use Rattle.std.specs.Prelude.{◌≡◌, ◌↔◌, ◌+◌, ◌≤◌, ◌<◌, [], ◌∷◌, ◌++◌, length, false, Some, None, true, Err, IsErrOf, List, ℕ, IfOk, OnOk, OnErr, option_copied, option_map};
 ghost use Rattle.std.specs.FinMap as map;
 ghost use Rattle.host_names.specs.Blobs.{Contents};
+ghost use Rattle.host_names.specs.declared.names.SiteName.{SiteName as Site};
+ghost use Rattle.site_state.specs.Files.{Paths};
+ghost use Rattle.site_state.specs.States.{draft_at, kept_at};
+ghost use Rattle.site_state.specs.declared.values.Draft.{Draft as Opened};
 ghost use Rattle.site_change.specs.Changes.{applied, refusal};
 ghost use Rattle.site_change.specs.declared.commands.Refusal.{Refusal as Reason};
 ghost use Rattle.change_undo.specs.declared.entries.Entry.TheVariants as entry;
@@ -9,6 +13,7 @@ ghost use Rattle.change_undo.specs.declared.entries.UndoRefusal.{UndoRefusal as 
 ghost use Rattle.change_undo.specs.Clashes;
 ghost use Rattle.change_undo.specs.Effects.{UndoesChange};
 ghost use Rattle.change_undo.specs.Histories;
+ghost use Rattle.change_undo.specs.Openings.{Opens};
 ghost use Rattle.change_undo.specs.Plans.{IsHistoryOver};
 
 use crate::appending::append;
@@ -66,10 +71,13 @@ impl History {
         }
     }
 
-    /// The state: what the changes that no undo names give from nothing.
+    /// The state: what the changes that no undo names give from nothing. The number of an open or kept deploy is that of
+    /// the entry that opened it.
     pub fn state(&self) -> &State
         ensures value { result.now ≡ self.now.state }
         ensures over { (uploads : Contents) × IsHistoryOver uploads self.now }
+        ensures opened { (site : Site) (number : ℕ) (draft : Opened) → draft_at result.now site number ≡ Some draft → Opens self.now.entries site number }
+        ensures kept { (site : Site) (number : ℕ) (tree : Paths (List ℕ)) → kept_at result.now site number ≡ Some tree → Opens self.now.entries site number }
     {
         &self.state
     }
