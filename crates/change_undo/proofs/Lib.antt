@@ -1,7 +1,7 @@
 pub mod Live
 pub mod Runs
 pub mod Marks
-pub mod Writes
+pub mod PlanWrites
 pub mod Found
 pub mod Errors
 pub mod Clashing

@@ -18,12 +18,12 @@ use Rattle.change_undo.specs.declared.entries.Entry.{Entry}
 use Rattle.change_undo.specs.declared.entries.Entry.TheVariants.{Change, Undo}
 use Rattle.change_undo.specs.declared.entries.UndoRefusal.{UndoRefusal}
 use Rattle.change_undo.specs.declared.entries.UndoRefusal.TheVariants.{HistoryFull}
-use Rattle.change_undo.specs.declared.logged.Logged.{Logged}
+use Rattle.change_undo.specs.declared.planned_entries.PlannedEntry.{PlannedEntry}
 use Rattle.change_undo.specs.Clashes.{clash_in}
 use Rattle.change_undo.specs.Effects.{UndoesChange}
 use Rattle.change_undo.specs.Histories.{Past, undone, is_among, run, change_refusal, undo_refusal, IsLegal}
 use Rattle.change_undo.specs.Kept.{ArePlanned, AreWritable, befores_of, plan_at}
-use Rattle.change_undo.specs.Logged.{AreMarked, entries_of, marked_live}
+use Rattle.change_undo.specs.PlannedEntries.{AreMarked, entries_of, marked_live}
 use Rattle.change_undo.specs.Past.{IsRunOver, IsSound, past_of, plans_of}
 use Rattle.change_undo.specs.Plans.{IsPlanOf, IsPlanned, state_after, ArePlans, IsHistoryOver}
 use Rattle.change_undo.proofs.LeavingOut.{undo-effect}
@@ -32,36 +32,36 @@ use Rattle.change_undo.proofs.Planned.{planned-push, plans-grow}
 use Rattle.change_undo.proofs.Runs.{guard, history-grows, next-not_undone, clear_where_allowed, run-change, run-undo, run-undone_at_once, within_limit}
 use Rattle.change_undo.proofs.WritingBack.{writes-back}
 
-pub length-entries_of : (logged : List Logged) → length (entries_of logged) ≡ length logged
-length-entries_of logged = length-map logged (λ (l : Logged). l.entry)
+pub length-entries_of : (logged : List PlannedEntry) → length (entries_of logged) ≡ length logged
+length-entries_of logged = length-map logged (λ (l : PlannedEntry). l.entry)
 
 -- the next number is not undone yet
-pub next_number : (logged : List Logged) (uploads : Contents) (state : State) → IsRunOver uploads logged state → is_among (undone (entries_of logged)) (length logged + 1) ≡ false
+pub next_number : (logged : List PlannedEntry) (uploads : Contents) (state : State) → IsRunOver uploads logged state → is_among (undone (entries_of logged)) (length logged + 1) ≡ false
 next_number logged uploads state over =
     ap (λ (n : ℕ). is_among (undone (entries_of logged)) (n + 1)) (sym (length-entries_of logged)) ∙ next-not_undone uploads (entries_of logged) over.legal
 
 -- the changes that are not marked give the state
-marked_run : (logged : List Logged) (uploads : Contents) (state : State) → AreMarked (undone (entries_of logged)) 1 logged → IsRunOver uploads logged state
+marked_run : (logged : List PlannedEntry) (uploads : Contents) (state : State) → AreMarked (undone (entries_of logged)) 1 logged → IsRunOver uploads logged state
     → run_from uploads map.empty (marked_live 1 logged) ≡ Some state
 marked_run logged uploads state marked over = ap (run_from uploads map.empty) (marked_live-is (undone (entries_of logged)) 1 logged marked) ∙ over.ran
 
 -- ---- the plans, beside the marked entries and beside the entries alone
 
-plans-of : (uploads : Contents) (state : State) (gone : List ℕ) (n : ℕ) (logged : List Logged) → AreMarked gone n logged → ArePlanned uploads state n logged
+plans-of : (uploads : Contents) (state : State) (gone : List ℕ) (n : ℕ) (logged : List PlannedEntry) → AreMarked gone n logged → ArePlanned uploads state n logged
     → ArePlans uploads state gone n (entries_of logged) (plans_of logged)
 plans-of uploads state gone n [] marked planned = tt
 plans-of uploads state gone n (l ∷ logged) marked planned =
     let P : Bool → Type 0 = λ t. IsPlanned uploads state n t l.entry l.plan × ArePlans uploads (state_after uploads state n t l.entry) gone (n + 1) (entries_of logged) (plans_of logged) in
     subst P marked.0 (planned.0, plans-of uploads (state_after uploads state n l.is_undone l.entry) gone (n + 1) logged marked.1 planned.1)
 
-planned-of : (uploads : Contents) (state : State) (gone : List ℕ) (n : ℕ) (logged : List Logged) → AreMarked gone n logged
+planned-of : (uploads : Contents) (state : State) (gone : List ℕ) (n : ℕ) (logged : List PlannedEntry) → AreMarked gone n logged
     → ArePlans uploads state gone n (entries_of logged) (plans_of logged) → ArePlanned uploads state n logged
 planned-of uploads state gone n [] marked planned = tt
 planned-of uploads state gone n (l ∷ logged) marked planned =
     let P : Bool → Type 0 = λ t. IsPlanned uploads state n t l.entry l.plan × ArePlanned uploads (state_after uploads state n t l.entry) (n + 1) logged in
     subst P (sym marked.0) (planned.0, planned-of uploads (state_after uploads state n (is_among gone n) l.entry) gone (n + 1) logged marked.1 planned.1)
 
-pub over-run : (limit : ℕ) (uploads : Contents) (logged : List Logged) (state : State) → AreMarked (undone (entries_of logged)) 1 logged → IsRunOver uploads logged state
+pub over-run : (limit : ℕ) (uploads : Contents) (logged : List PlannedEntry) (state : State) → AreMarked (undone (entries_of logged)) 1 logged → IsRunOver uploads logged state
     → IsHistoryOver uploads (past_of limit logged state)
 over-run limit uploads logged state marked over = record {
   legal = over.legal;
@@ -69,7 +69,7 @@ over-run limit uploads logged state marked over = record {
   planned = plans-of uploads map.empty (undone (entries_of logged)) 1 logged marked over.planned;
 }
 
-pub run-over : (limit : ℕ) (uploads : Contents) (logged : List Logged) (state : State) → AreMarked (undone (entries_of logged)) 1 logged
+pub run-over : (limit : ℕ) (uploads : Contents) (logged : List PlannedEntry) (state : State) → AreMarked (undone (entries_of logged)) 1 logged
     → IsHistoryOver uploads (past_of limit logged state) → IsRunOver uploads logged state
 run-over limit uploads logged state marked over = record {
   legal = over.legal;
@@ -78,7 +78,7 @@ run-over limit uploads logged state marked over = record {
 }
 
 -- there are uploads over which it is so
-pub some_over : (limit : ℕ) (logged : List Logged) (state : State) → IsSound limit logged state → (uploads : Contents) × IsHistoryOver uploads (past_of limit logged state)
+pub some_over : (limit : ℕ) (logged : List PlannedEntry) (state : State) → IsSound limit logged state → (uploads : Contents) × IsHistoryOver uploads (past_of limit logged state)
 some_over limit logged state sound = (sound.uploads, over-run limit sound.uploads logged state sound.marked sound.over)
 
 -- more uploads do no harm
@@ -104,11 +104,11 @@ sound-new limit some bounded = record {
 
 -- ---- after a commit
 
-abbrev pub IsAppended : List Logged → List Logged → Contents → State → ℕ → Command → Type 0
+abbrev pub IsAppended : List PlannedEntry → List PlannedEntry → Contents → State → ℕ → Command → Type 0
 IsAppended logged items uploads state number command =
     (plan : Plan) × (items ≡ logged ++ record { entry = Change command; is_undone = false; plan = Some plan } ∷ []) × IsPlanOf uploads state number command plan
 
-run-append : (logged items : List Logged) (uploads : Contents) (state after : State) (number : ℕ) (command : Command) → AreMarked (undone (entries_of logged)) 1 logged
+run-append : (logged items : List PlannedEntry) (uploads : Contents) (state after : State) (number : ℕ) (command : Command) → AreMarked (undone (entries_of logged)) 1 logged
     → IsRunOver uploads logged state → number ≡ length logged + 1 → refusal command number state uploads ≡ None → IsAppended logged items uploads state number command
     → after ≡ applied command number state uploads → AreMarked (undone (entries_of items)) 1 items × IsRunOver uploads items after
 run-append logged items uploads state after number command marked over at ok is effect =
@@ -116,10 +116,10 @@ run-append logged items uploads state after number command marked over at ok is 
     let n : number ≡ length es + 1 = at ∙ ap (λ (m : ℕ). m + 1) (sym (length-entries_of logged)) in
     let accepted : refusal command (length es + 1) state uploads ≡ None = ap (λ (m : ℕ). refusal command m state uploads) (sym n) ∙ ok in
     let more = run-change uploads es command state over.legal over.ran accepted in
-    let new : Logged = record { entry = Change command; is_undone = false; plan = Some is.0 } in
+    let new : PlannedEntry = record { entry = Change command; is_undone = false; plan = Some is.0 } in
     let pushed = after_change logged new command marked (next_number logged uploads state over) refl refl in
     let reached : applied command (length es + 1) state uploads ≡ after = ap (λ (m : ℕ). applied command m state uploads) (sym n) ∙ sym effect in
-    let P : List Logged → Type 0 = λ items. AreMarked (undone (entries_of items)) 1 items × IsRunOver uploads items after in
+    let P : List PlannedEntry → Type 0 = λ items. AreMarked (undone (entries_of items)) 1 items × IsRunOver uploads items after in
     let Q : List Entry → Type 0 = IsLegal uploads in
     subst P (sym is.1) (
       pushed.1,
@@ -130,23 +130,23 @@ run-append logged items uploads state after number command marked over at ok is 
       },
     )
 
-pub sound-append : {E : Type 0} (r : Result (Unit {0}) E) (limit : ℕ) (logged items : List Logged) (uploads : Contents) (state after : State) (number : ℕ) (command : Command)
+pub sound-append : {E : Type 0} (r : Result (Unit {0}) E) (limit : ℕ) (logged items : List PlannedEntry) (uploads : Contents) (state after : State) (number : ℕ) (command : Command)
     → IsSound limit logged state → IsHistoryOver uploads (past_of limit logged state) → number ≡ length logged + 1 → number ≤ limit
     → OnOk r (IsAppended logged items uploads state number command) → OnOk r (after ≡ applied command number state uploads)
     → OnOk r (refusal command number state uploads ≡ None) → OnErr r ((items ≡ logged) × (after ≡ state))
     → IsSound limit items after × IsHistoryOver uploads (past_of limit items after)
 sound-append (Ok x) limit logged items uploads state after number command sound over at room is effect ok err =
     let new = run-append logged items uploads state after number command sound.marked (run-over limit uploads logged state sound.marked over) at ok is effect in
-    let longer : length items ≡ length logged + 1 = ap (λ (ls : List Logged). length ls) is.1 ∙ length-append logged (record { entry = Change command; is_undone = false; plan = Some is.0 } ∷ []) in (
+    let longer : length items ≡ length logged + 1 = ap (λ (ls : List PlannedEntry). length ls) is.1 ∙ length-append logged (record { entry = Change command; is_undone = false; plan = Some is.0 } ∷ []) in (
       record { some = sound.some; bounded = sound.bounded; room = omega (arith, longer, at, room); marked = new.0; uploads = uploads; over = new.1 },
       over-run limit uploads items after new.0 new.1,
     )
 sound-append (Err e) limit logged items uploads state after number command sound over at room is effect ok err =
-    let P : List Logged → Type 0 = λ items. IsSound limit items after × IsHistoryOver uploads (past_of limit items after) in
+    let P : List PlannedEntry → Type 0 = λ items. IsSound limit items after × IsHistoryOver uploads (past_of limit items after) in
     let Q : State → Type 0 = λ after. IsSound limit logged after × IsHistoryOver uploads (past_of limit logged after) in
     subst P (sym err.0) (subst Q (sym err.1) (sound, over))
 
-pub same_past : {A E : Type 0} (r : Result A E) (limit : ℕ) (logged items : List Logged) (state after : State) → OnErr r ((items ≡ logged) × (after ≡ state))
+pub same_past : {A E : Type 0} (r : Result A E) (limit : ℕ) (logged items : List PlannedEntry) (state after : State) → OnErr r ((items ≡ logged) × (after ≡ state))
     → OnErr r (past_of limit items after ≡ past_of limit logged state)
 same_past (Ok x) limit logged items state after err = tt
 same_past (Err e) limit logged items state after err = λ i. past_of limit (err.0 i) (err.1 i)
@@ -165,23 +165,23 @@ told-refused n (Err decide.OutOfMemory) reason same = (λ h. cc h, λ p. cc (sam
 -- ---- after an undo
 
 -- where no reason against the undo was found, there is none
-pub allowed_by : (limit : ℕ) (logged items : List Logged) (uploads : Contents) (state : State) (site : SiteName) (k : ℕ) (reason : Option UndoRefusal) → IsRunOver uploads logged state
+pub allowed_by : (limit : ℕ) (logged items : List PlannedEntry) (uploads : Contents) (state : State) (site : SiteName) (k : ℕ) (reason : Option UndoRefusal) → IsRunOver uploads logged state
     → items ≡ logged → ((u : Contents) → ArePlanned u map.empty 1 items → reason ≡ undo_refusal u limit (entries_of items) site k) → reason ≡ None
     → change_refusal uploads (entries_of logged) site k ≡ None
 allowed_by limit logged items uploads state site k reason over is told none =
-    let P : List Logged → Type 0 = ArePlanned uploads map.empty 1 in
+    let P : List PlannedEntry → Type 0 = ArePlanned uploads map.empty 1 in
     within_limit uploads limit (entries_of logged) site k (
-    ap (λ (xs : List Logged). undo_refusal uploads limit (entries_of xs) site k) (sym is) ∙ sym (told uploads (subst P (sym is) over.planned)) ∙ none
+    ap (λ (xs : List PlannedEntry). undo_refusal uploads limit (entries_of xs) site k) (sym is) ∙ sym (told uploads (subst P (sym is) over.planned)) ∙ none
     )
 
 -- a change that may be undone has no clash
-clear-of : (logged : List Logged) (uploads : Contents) (site : SiteName) (k : ℕ) → AreMarked (undone (entries_of logged)) 1 logged → change_refusal uploads (entries_of logged) site k ≡ None
+clear-of : (logged : List PlannedEntry) (uploads : Contents) (site : SiteName) (k : ℕ) → AreMarked (undone (entries_of logged)) 1 logged → change_refusal uploads (entries_of logged) site k ≡ None
     → clash_in uploads k map.empty (marked_live 1 logged) ≡ None
 clear-of logged uploads site k marked ok =
     ap (clash_in uploads k map.empty) (marked_live-is (undone (entries_of logged)) 1 logged marked)
     ∙ clear_where_allowed uploads (entries_of logged) site k ok
 
-pub run-undone : (logged items : List Logged) (uploads : Contents) (state after : State) (site : SiteName) (k : ℕ) → AreMarked (undone (entries_of logged)) 1 logged
+pub run-undone : (logged items : List PlannedEntry) (uploads : Contents) (state after : State) (site : SiteName) (k : ℕ) → AreMarked (undone (entries_of logged)) 1 logged
     → IsRunOver uploads logged state → change_refusal uploads (entries_of logged) site k ≡ None → entries_of items ≡ entries_of logged ++ Undo site k ∷ []
     → after ≡ with_cells state (befores_of (plan_at logged (k - 1)))
     → ((u : Contents) → ArePlanned u map.empty 1 logged → clash_in u k map.empty (marked_live 1 logged) ≡ None → ArePlanned u map.empty 1 items)
@@ -196,17 +196,17 @@ run-undone logged items uploads state after site k marked over ok is effect plan
       planned = planned uploads over.planned (clear-of logged uploads site k marked ok);
     }
 
-pub writable : (limit : ℕ) (logged : List Logged) (state : State) (site : SiteName) (k : ℕ) → IsSound limit logged state
+pub writable : (limit : ℕ) (logged : List PlannedEntry) (state : State) (site : SiteName) (k : ℕ) → IsSound limit logged state
     → ((u : Contents) → IsRunOver u logged state → change_refusal u (entries_of logged) site k ≡ None) → AreWritable state (befores_of (plan_at logged (k - 1)))
 writable limit logged state site k sound ok = (writes-back sound.uploads logged state site k sound.marked sound.over (ok sound.uploads sound.over)).0
 
 -- what the plans tell of the reason against an undo is so over each uploads over which the history is what it is
-pub over_all : (Q : Option UndoRefusal → Type 0) (limit : ℕ) (logged items : List Logged) (state : State) (site : SiteName) (k : ℕ) → AreMarked (undone (entries_of logged)) 1 logged
+pub over_all : (Q : Option UndoRefusal → Type 0) (limit : ℕ) (logged items : List PlannedEntry) (state : State) (site : SiteName) (k : ℕ) → AreMarked (undone (entries_of logged)) 1 logged
     → items ≡ logged → ((u : Contents) → ArePlanned u map.empty 1 items → Q (undo_refusal u limit (entries_of items) site k))
     → (past : Past) → past_of limit logged state ≡ past → (uploads : Contents) → IsHistoryOver uploads past → Q (undo_refusal uploads past.limit past.entries site k)
 over_all Q limit logged items state site k marked same told past is uploads over =
     let H : Past → Type 0 = IsHistoryOver uploads in
-    let P : List Logged → Type 0 = λ ls. ArePlanned uploads map.empty 1 ls → Q (undo_refusal uploads limit (entries_of ls) site k) in
+    let P : List PlannedEntry → Type 0 = λ ls. ArePlanned uploads map.empty 1 ls → Q (undo_refusal uploads limit (entries_of ls) site k) in
     let R : Past → Type 0 = λ p. Q (undo_refusal uploads p.limit p.entries site k) in
     subst R is (subst P same (told uploads) (run-over limit uploads logged state marked (subst H (sym is) over)).planned)
 
@@ -218,7 +218,7 @@ room_where uploads limit entries site k ok =
       | inr over ↦ cc (sym room ∙ le-leb limit (length entries) over)
     ]
 
-pub sound-undo : (limit : ℕ) (logged items : List Logged) (state after : State) (site : SiteName) (k : ℕ) → IsSound limit logged state
+pub sound-undo : (limit : ℕ) (logged items : List PlannedEntry) (state after : State) (site : SiteName) (k : ℕ) → IsSound limit logged state
     → ((u : Contents) → IsHistoryOver u (past_of limit logged state) → undo_refusal u limit (entries_of logged) site k ≡ None)
     → entries_of items ≡ entries_of logged ++ Undo site k ∷ [] → AreMarked (undone (entries_of items)) 1 items
     → after ≡ with_cells state (befores_of (plan_at logged (k - 1)))
@@ -238,7 +238,7 @@ sound-undo limit logged items state after site k sound ok is marked effect plann
       over = run-undone logged items sound.uploads state after site k sound.marked sound.over (within_limit sound.uploads limit (entries_of logged) site k none) is effect planned;
     }
 
-pub over-undo : (limit : ℕ) (logged items : List Logged) (state after : State) (site : SiteName) (k : ℕ) → AreMarked (undone (entries_of logged)) 1 logged
+pub over-undo : (limit : ℕ) (logged items : List PlannedEntry) (state after : State) (site : SiteName) (k : ℕ) → AreMarked (undone (entries_of logged)) 1 logged
     → (past : Past) → past_of limit logged state ≡ past → ((u : Contents) → IsHistoryOver u past → undo_refusal u past.limit past.entries site k ≡ None)
     → entries_of items ≡ entries_of logged ++ Undo site k ∷ [] → AreMarked (undone (entries_of items)) 1 items
     → after ≡ with_cells state (befores_of (plan_at logged (k - 1)))
@@ -267,7 +267,7 @@ at_once-over old new site k after is uploads before command over last at =
 
 -- ---- the reasons to refuse a commit
 
-pub refused_within : {A : Type 0} (limit number : ℕ) (logged : List Logged) (state : State) (uploads : Contents) (command : Command) (reason : Refusal)
+pub refused_within : {A : Type 0} (limit number : ℕ) (logged : List PlannedEntry) (state : State) (uploads : Contents) (command : Command) (reason : Refusal)
     → A ↔ (refusal command number state uploads ≡ Some reason) → number ≡ length logged + 1 → number ≤ limit
     → A ↔ ((length (entries_of logged) < limit) × (refusal command (length (entries_of logged) + 1) state uploads ≡ Some reason))
 refused_within limit number logged state uploads command reason same at room =

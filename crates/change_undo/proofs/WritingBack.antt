@@ -25,11 +25,11 @@ use Rattle.site_change.proofs.Named.{named_applied}
 use Rattle.site_change.proofs.OfKind.{writes_of_kind}
 use Rattle.change_undo.specs.declared.entries.Entry.{Entry}
 use Rattle.change_undo.specs.declared.entries.Entry.TheVariants.{Change, Undo}
-use Rattle.change_undo.specs.declared.logged.Logged.{Logged}
+use Rattle.change_undo.specs.declared.planned_entries.PlannedEntry.{PlannedEntry}
 use Rattle.change_undo.specs.Histories.{undone, is_among, run, change_refusal, entry_at}
 use Rattle.change_undo.specs.Kept.{ArePlanned, AreWritable, cells_of, befores, befores_of, plan_at}
 use Rattle.change_undo.specs.Live.{without}
-use Rattle.change_undo.specs.Logged.{AreMarked, entries_of, marked_live, with_change}
+use Rattle.change_undo.specs.PlannedEntries.{AreMarked, entries_of, marked_live, with_change}
 use Rattle.change_undo.specs.Past.{IsRunOver}
 use Rattle.change_undo.specs.Plans.{IsPlanOf, IsPlanned, state_after}
 use Rattle.change_undo.proofs.ChangedCells.{is_listed}
@@ -39,7 +39,7 @@ use Rattle.change_undo.proofs.Live.{IsRising, live_from-rising, live_changes-und
 use Rattle.change_undo.proofs.Marks.{marked_live-is}
 use Rattle.change_undo.proofs.Places.{InPlace}
 use Rattle.change_undo.proofs.Runs.{clear_where_allowed, run-undo}
-use Rattle.change_undo.proofs.Writes.{written, get-with_cells}
+use Rattle.change_undo.proofs.PlanWrites.{written, get-with_cells}
 
 -- ---- values are of their cells' kinds
 
@@ -88,7 +88,7 @@ record IsPlannedAt (uploads : Contents) (state : State) (row : List (ℕ × Comm
   planned : IsPlanOf uploads over k command its
   kinds : AreOfKind over
 
-planned-at : (uploads : Contents) (gone : List ℕ) (state : State) (n i k : ℕ) (logged : List Logged) (command : Command) → k ≡ n + i → AreMarked gone n logged
+planned-at : (uploads : Contents) (gone : List ℕ) (state : State) (n i k : ℕ) (logged : List PlannedEntry) (command : Command) → k ≡ n + i → AreMarked gone n logged
     → is_among gone k ≡ false → slice_get (entries_of logged) i ≡ Some (Change command) → AreOfKind state → ArePlanned uploads state n logged
     → IsPlannedAt uploads state (marked_live n logged) k command (plan_at logged i)
 planned-at uploads gone state n i k [] command at marked lives e kinds planned = cc e
@@ -155,7 +155,7 @@ named-run uploads state after (c ∷ row) named ran =
     named-run uploads (applied c.1 c.0 state uploads) after row (named_applied c.1 c.0 state uploads named parts.0) parts.1
 
 -- Where a change may be undone, what its cells had before it can be written, and leaves the state without it.
-pub writes-back : (uploads : Contents) (logged : List Logged) (state : State) (site : SiteName) (k : ℕ) → AreMarked (undone (entries_of logged)) 1 logged
+pub writes-back : (uploads : Contents) (logged : List PlannedEntry) (state : State) (site : SiteName) (k : ℕ) → AreMarked (undone (entries_of logged)) 1 logged
     → IsRunOver uploads logged state → change_refusal uploads (entries_of logged) site k ≡ None
     → AreWritable state (befores_of (plan_at logged (k - 1)))
     × (run uploads (entries_of logged ++ Undo site k ∷ []) ≡ Some (with_cells state (befores_of (plan_at logged (k - 1)))))

@@ -11,12 +11,12 @@ use Rattle.site_state.specs.declared.values.Value.{Value}
 use Rattle.site_change.specs.declared.plans.Change.{Change as CellChange}
 use Rattle.site_change.specs.declared.plans.Plan.{Plan}
 use Rattle.site_change.specs.TouchedCells.{is_touched}
-use Rattle.change_undo.specs.declared.logged.Logged.{Logged}
+use Rattle.change_undo.specs.declared.planned_entries.PlannedEntry.{PlannedEntry}
 use Rattle.change_undo.specs.Clashes.{in_cell}
 use Rattle.change_undo.specs.Plans.{IsPlanned, state_after}
 
 -- each of these entries has its plan, in the state that those before it leave; n is the number of the first
-abbrev pub ArePlanned : Contents → State → ℕ → List Logged → Type 0
+abbrev pub ArePlanned : Contents → State → ℕ → List PlannedEntry → Type 0
 ArePlanned uploads state n [] = Unit {0}
 ArePlanned uploads state n (l ∷ logged) =
     IsPlanned uploads state n l.is_undone l.entry l.plan × ArePlanned uploads (state_after uploads state n l.is_undone l.entry) (n + 1) logged
@@ -31,7 +31,7 @@ first_touched cells None = None
 first_touched cells (Some plan) = find (is_touched plan.touched) cells
 
 -- the first of these entries whose plan touches one of the cells, with the first such cell; n is the number of the first
-abbrev pub kept_touch : List Cell → ℕ → List Logged → Option (ℕ × Cell)
+abbrev pub kept_touch : List Cell → ℕ → List PlannedEntry → Option (ℕ × Cell)
 kept_touch cells n [] = None
 kept_touch cells n (l ∷ logged) = in_cell n (first_touched cells l.plan) (kept_touch cells (n + 1) logged)
 
@@ -45,7 +45,7 @@ befores_of None = []
 befores_of (Some plan) = befores plan.changes.items
 
 -- the plan of the entry at this place, from 0 on
-abbrev pub plan_at : List Logged → ℕ → Option Plan
+abbrev pub plan_at : List PlannedEntry → ℕ → Option Plan
 plan_at [] i = None
 plan_at (l ∷ logged) zero = l.plan
 plan_at (l ∷ logged) (suc i) = plan_at logged i

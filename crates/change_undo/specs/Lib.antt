@@ -7,6 +7,6 @@ pub mod Plans
 pub mod Effects
 pub mod Openings
 -- How a history is kept, of which only private functions speak.
-pub mod Logged
+pub mod PlannedEntries
 pub mod Kept
 pub mod Past

@@ -16,11 +16,12 @@ ghost use Rattle.change_undo.specs.Histories;
 ghost use Rattle.change_undo.specs.Openings.{Opens};
 ghost use Rattle.change_undo.specs.Plans.{IsHistoryOver};
 
-use crate::appending::append;
 use crate::clashes::clash_of;
+use crate::commits::append;
 use crate::entries::{CommitError, Entry, UndoError};
-use crate::logged::{Logged, undo_refusal};
-use crate::undoing::take_back;
+use crate::planned_entries::PlannedEntry;
+use crate::refusals::undo_refusal;
+use crate::undos::take_back;
 use host_names::{Cell, SiteName, Uploads};
 use site_change::{Command, DecideError};
 use site_state::State;
@@ -36,7 +37,7 @@ pub const GREATEST_LIMIT: u64 = 1_000_000;
 #[derive(Drop)]
 pub struct History {
     limit: u64,
-    logged: Vec<Logged>,
+    logged: Vec<PlannedEntry>,
     state: State,
 }
 

@@ -1,6 +1,6 @@
 use Rattle.host_names.specs.Blobs.{Contents}
 use Rattle.change_undo.specs.Histories.{Past}
-use Rattle.change_undo.specs.Logged.{entries_of}
+use Rattle.change_undo.specs.PlannedEntries.{entries_of}
 use Rattle.change_undo.specs.Plans.{IsHistoryOver}
 use Rattle.std.proofs.Common.{subst}
 use Rattle.change_undo.proofs.Opened.{AreOpened, opened, opened-draft, opened-kept}

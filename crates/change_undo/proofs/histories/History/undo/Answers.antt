@@ -1,7 +1,7 @@
 use Rattle.std.proofs.Common.{◌≡◌, ◌++◌, ◌∷◌, [], Some, true, arith, refl, sym, ap, subst, ◌∙◌}
 use Rattle.change_undo.specs.declared.entries.Entry.TheVariants as entry
 use Rattle.change_undo.specs.Histories.{Past, may_take_memory}
-use Rattle.change_undo.specs.Logged.{entries_of}
+use Rattle.change_undo.specs.PlannedEntries.{entries_of}
 use Rattle.change_undo.specs.Past.{past_of}
 use Rattle.change_undo.proofs.Runs.{named-within}
 use Rattle.change_undo.proofs.Sound.{length-entries_of, next_number, allowed_by, over_all, sound-undo, over-undo, effect-over, at_once-over, writable}

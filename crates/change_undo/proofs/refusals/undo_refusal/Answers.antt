@@ -6,9 +6,9 @@ use Rattle.change_undo.specs.declared.entries.UndoRefusal.TheVariants.{AlreadyUn
 use Rattle.change_undo.specs.Clashes.{clash_in}
 use Rattle.change_undo.specs.Histories.{may_take_memory, undo_refusal}
 use Rattle.change_undo.specs.Kept.{ArePlanned}
-use Rattle.change_undo.specs.Logged.{entries_of, marked_live}
+use Rattle.change_undo.specs.PlannedEntries.{entries_of, marked_live}
 use Rattle.change_undo.proofs.Marks.{named_site, refusal_by_mark}
-use Rattle.change_undo.proofs.logged.undo_refusal.Goals as goal
+use Rattle.change_undo.proofs.refusals.undo_refusal.Goals as goal
 
 -- a reason that is answered is also one that is the same
 same_reason : {E : Type 0} (r : Result (Option UndoRefusal) E) (P : Contents → Type 0) (a b : Contents → Option UndoRefusal) → ((u : Contents) → a u ≡ b u)

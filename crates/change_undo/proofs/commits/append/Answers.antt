@@ -1,6 +1,6 @@
 use Rattle.std.proofs.Common.{rules}
 use Rattle.change_undo.proofs.Errors.{err_moves, ok_moves}
-use Rattle.change_undo.proofs.appending.append.Goals as goal
+use Rattle.change_undo.proofs.commits.append.Goals as goal
 
 pub returns-in-Err-clause-refused : goal.returns-in-Err-clause-refused
 returns-in-Err-clause-refused g c = λ reason. err_moves _ _ (c.in-Err.ensures.refused reason)

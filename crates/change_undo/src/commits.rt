@@ -1,4 +1,4 @@
-//! One change more.
+//! The commit of a command.
 ghost use Rattle.std.specs.Prelude.{◌≡◌, ◌↔◌, ◌<◌, [], ◌∷◌, ◌++◌, false, Some, None, Err, IfOk, OnOk, OnErr, vec_len, vec_capacity};
 ghost use Rattle.site_change.specs.Changes.{applied, refusal};
 ghost use Rattle.site_change.specs.declared.commands.Refusal.{Refusal as Reason};
@@ -7,8 +7,8 @@ ghost use Rattle.change_undo.specs.declared.entries.Entry.TheVariants as entry;
 ghost use Rattle.change_undo.specs.Plans.{IsPlanOf};
 
 use crate::entries::Entry;
-use crate::logged::Logged;
-use crate::steps::{Decision, decided};
+use crate::planned_entries::PlannedEntry;
+use crate::writes::{Decision, decided};
 use host_names::Uploads;
 use site_change::{Command, DecideError, Plan};
 use site_state::State;
@@ -18,7 +18,7 @@ use std::alloc::Global;
 /// and the state stay.
 fn apply_command<U: Uploads>(
     alloc: Global,
-    logged: &mut Vec<Logged>,
+    logged: &mut Vec<PlannedEntry>,
     state: &mut State,
     uploads: &U,
     number: u64,
@@ -49,7 +49,7 @@ fn apply_command<U: Uploads>(
 /// Appends a command that is accepted, and carries it out. On an error the entries and the state stay.
 pub(crate) fn append<U: Uploads>(
     alloc: Global,
-    logged: &mut Vec<Logged>,
+    logged: &mut Vec<PlannedEntry>,
     state: &mut State,
     uploads: &U,
     number: u64,
@@ -64,7 +64,7 @@ pub(crate) fn append<U: Uploads>(
 {
     match apply_command(alloc, logged, state, uploads, number, &command) {
         Ok(plan) => {
-            logged.push_reserved(Logged {
+            logged.push_reserved(PlannedEntry {
                 entry: Entry::Change(command),
                 is_undone: false,
                 plan: Some(plan),

@@ -11,14 +11,14 @@ use Rattle.site_state.specs.Named.{AliasesNamed}
 use Rattle.site_state.specs.States.{may_stand, with_cells}
 use Rattle.site_state.specs.declared.values.Value.{Value}
 use Rattle.change_undo.specs.declared.entries.Entry.TheVariants as entry
-use Rattle.change_undo.specs.declared.logged.Logged.{Logged}
+use Rattle.change_undo.specs.declared.planned_entries.PlannedEntry.{PlannedEntry}
 use Rattle.change_undo.specs.Clashes.{clash_in}
 use Rattle.change_undo.specs.Histories.{undone, is_among}
 use Rattle.change_undo.specs.Kept.{ArePlanned, befores_of}
-use Rattle.change_undo.specs.Logged.{AreMarked, entries_of, marked_live}
+use Rattle.change_undo.specs.PlannedEntries.{AreMarked, entries_of, marked_live}
 use Rattle.change_undo.proofs.Marks.{after_undo}
 use Rattle.change_undo.proofs.Planned.{plan_at-is, planned-mark, planned-push_undo, marked_live-push_undo}
-use Rattle.change_undo.proofs.undoing.take_back.Goals as goal
+use Rattle.change_undo.proofs.undos.take_back.Goals as goal
 
 pub set_cells-requires-clause-rising : goal.set_cells-requires-clause-rising
 set_cells-requires-clause-rising c =
@@ -45,17 +45,17 @@ returns-clause-state c =
     c.in_ok-set_cells.ensures.ok ∙ ap (with_cells c.args.state.now) is
 
 -- the same of a list that is known to have the undo at its end, with a copy of the site
-pushed_undo : (logged items : List Logged) (copy site : SiteName) (k : ℕ) (l : Logged) → items ≡ logged ++ record { entry = entry.Undo copy k; is_undone = false; plan = None } ∷ []
+pushed_undo : (logged items : List PlannedEntry) (copy site : SiteName) (k : ℕ) (l : PlannedEntry) → items ≡ logged ++ record { entry = entry.Undo copy k; is_undone = false; plan = None } ∷ []
     → copy.0 ≡ site.0 → AreMarked (undone (entries_of logged)) 1 logged → is_among (undone (entries_of logged)) (length logged + 1) ≡ false
     → 0 < k → k ≤ length logged → l ≡ get_or items (k - 1) l
     → (entries_of (set items (k - 1) (record { entry = l.entry; is_undone = true; plan = None })) ≡ entries_of logged ++ entry.Undo site k ∷ [])
     × AreMarked (undone (entries_of (set items (k - 1) (record { entry = l.entry; is_undone = true; plan = None })))) 1 (set items (k - 1) (record { entry = l.entry; is_undone = true; plan = None }))
 pushed_undo logged items copy site k l is same marked next some within at =
-    let new : Logged = record { entry = entry.Undo copy k; is_undone = false; plan = None } in
+    let new : PlannedEntry = record { entry = entry.Undo copy k; is_undone = false; plan = None } in
     let copied : copy ≡ site = ap (λ (t : List ℕ). record { 0 = t }) same in
-    let P : List Logged → Type 0 = λ items. (entries_of (set items (k - 1) (record { entry = l.entry; is_undone = true; plan = None })) ≡ entries_of logged ++ entry.Undo site k ∷ [])
+    let P : List PlannedEntry → Type 0 = λ items. (entries_of (set items (k - 1) (record { entry = l.entry; is_undone = true; plan = None })) ≡ entries_of logged ++ entry.Undo site k ∷ [])
     × AreMarked (undone (entries_of (set items (k - 1) (record { entry = l.entry; is_undone = true; plan = None })))) 1 (set items (k - 1) (record { entry = l.entry; is_undone = true; plan = None })) in
-    subst P (sym is) (after_undo logged new site k l marked next some within (ap (λ s. entry.Undo s k) copied) refl (at ∙ ap (λ (xs : List Logged). get_or xs (k - 1) l) is))
+    subst P (sym is) (after_undo logged new site k l marked next some within (ap (λ s. entry.Undo s k) copied) refl (at ∙ ap (λ (xs : List PlannedEntry). get_or xs (k - 1) l) is))
 
 pub returns-clause-entries : goal.returns-clause-entries
 returns-clause-entries c =
@@ -68,16 +68,16 @@ returns-clause-marked c =
     (ap (λ (s : SiteName). s.0) c.copied.ensures) c.requires.marked c.requires.next c.requires.some c.requires.within c.index_mut-named.ensures.value).1
 
 -- and so do the plans, by the place of the change
-pushed_planned : (uploads : Contents) (logged items : List Logged) (copy : SiteName) (k : ℕ) (l : Logged)
+pushed_planned : (uploads : Contents) (logged items : List PlannedEntry) (copy : SiteName) (k : ℕ) (l : PlannedEntry)
     → items ≡ logged ++ record { entry = entry.Undo copy k; is_undone = false; plan = None } ∷ [] → 0 < k → k ≤ length logged → l ≡ get_or items (k - 1) l
     → clash_in uploads k map.empty (marked_live 1 logged) ≡ None → ArePlanned uploads map.empty 1 logged
     → ArePlanned uploads map.empty 1 (set items (k - 1) (record { entry = l.entry; is_undone = true; plan = None }))
 pushed_planned uploads logged items copy k l is some within at clear planned =
-    let new : Logged = record { entry = entry.Undo copy k; is_undone = false; plan = None } in
+    let new : PlannedEntry = record { entry = entry.Undo copy k; is_undone = false; plan = None } in
     let longer = length-append logged (new ∷ []) in
-    let P : List Logged → Type 0 = λ items. ArePlanned uploads map.empty 1 (set items (k - 1) (record { entry = l.entry; is_undone = true; plan = None })) in
+    let P : List PlannedEntry → Type 0 = λ items. ArePlanned uploads map.empty 1 (set items (k - 1) (record { entry = l.entry; is_undone = true; plan = None })) in
     subst P (sym is) (planned-mark uploads map.empty 1 (k - 1) k (logged ++ new ∷ []) l (omega (arith, some)) (omega (arith, longer, some, within))
-    (at ∙ ap (λ (xs : List Logged). get_or xs (k - 1) l) is) (ap (clash_in uploads k map.empty) (marked_live-push_undo 1 logged copy k) ∙ clear)
+    (at ∙ ap (λ (xs : List PlannedEntry). get_or xs (k - 1) l) is) (ap (clash_in uploads k map.empty) (marked_live-push_undo 1 logged copy k) ∙ clear)
     (planned-push_undo uploads map.empty 1 logged copy k planned))
 
 pub returns-clause-planned : goal.returns-clause-planned

@@ -1,4 +1,4 @@
-//! One undo more.
+//! The undo of a change.
 ghost use Rattle.std.specs.Prelude.{◌≡◌, ◌+◌, ◌-◌, ◌<◌, ◌≤◌, [], ◌∷◌, ◌++◌, length, false, None, OnOk, OnErr};
 ghost use Rattle.std.specs.FinMap as map;
 ghost use Rattle.host_names.specs.Blobs.{Contents};
@@ -7,11 +7,11 @@ ghost use Rattle.change_undo.specs.declared.entries.Entry.TheVariants as entry;
 ghost use Rattle.change_undo.specs.Clashes.{clash_in};
 ghost use Rattle.change_undo.specs.Histories;
 ghost use Rattle.change_undo.specs.Kept.{ArePlanned, AreWritable, befores_of as befores_in, plan_at};
-ghost use Rattle.change_undo.specs.Logged.{AreMarked, entries_of, marked_live};
+ghost use Rattle.change_undo.specs.PlannedEntries.{AreMarked, entries_of, marked_live};
 
 use crate::entries::Entry;
-use crate::logged::Logged;
-use crate::steps::befores_of;
+use crate::planned_entries::PlannedEntry;
+use crate::writes::befores_of;
 use host_names::SiteName;
 use site_state::State;
 use std::alloc::{AllocError, Global};
@@ -20,7 +20,7 @@ use std::alloc::{AllocError, Global};
 /// nothing changes.
 pub(crate) fn take_back(
     alloc: Global,
-    logged: &mut Vec<Logged>,
+    logged: &mut Vec<PlannedEntry>,
     state: &mut State,
     site: &SiteName,
     change: u64,
@@ -41,7 +41,7 @@ pub(crate) fn take_back(
     let writes = befores_of(alloc, &named.plan)?;
     logged.reserve(1)?;
     state.set_cells(alloc, writes)?;
-    logged.push_reserved(Logged {
+    logged.push_reserved(PlannedEntry {
         entry: Entry::Undo {
             site: site.copied(),
             change,

@@ -1,4 +1,4 @@
-//! The entries of a history as they are kept.
+//! Why an undo is refused.
 ghost use Rattle.std.specs.Prelude.{◌≡◌, Some, None, IfOk, OnErr, option_map, true};
 ghost use Rattle.std.specs.FinMap as map;
 ghost use Rattle.host_names.specs.Blobs.{Contents};
@@ -7,21 +7,13 @@ ghost use Rattle.change_undo.specs.Clashes.{clash_in};
 ghost use Rattle.change_undo.specs.Histories;
 ghost use Rattle.change_undo.specs.Histories.{is_path, may_take_memory};
 ghost use Rattle.change_undo.specs.Kept.{ArePlanned};
-ghost use Rattle.change_undo.specs.Logged.{AreMarked, entries_of, marked_live};
+ghost use Rattle.change_undo.specs.PlannedEntries.{AreMarked, entries_of, marked_live};
 
 use crate::clashes::clash_of;
 use crate::entries::{Entry, UndoRefusal};
+use crate::planned_entries::PlannedEntry;
 use host_names::{Cell, SiteName};
-use site_change::Plan;
 use std::alloc::AllocError;
-
-/// An entry, whether a later one undoes it, and of a change that lives what it changes and touches in its place.
-#[derive(Drop)]
-pub(crate) struct Logged {
-    pub(crate) entry: Entry,
-    pub(crate) is_undone: bool,
-    pub(crate) plan: Option<Plan>,
-}
 
 /// A copy of a cell, which takes memory only where it has a path.
 fn copied(cell: &Cell) -> Result<Cell, AllocError>
@@ -37,7 +29,7 @@ fn copied(cell: &Cell) -> Result<Cell, AllocError>
 }
 
 /// The clash of a change as a reason to refuse its undo. It owns the cell, whose path may be out of memory.
-fn clash_refusal(logged: &[Logged], change: u64) -> Result<Option<UndoRefusal>, AllocError>
+fn clash_refusal(logged: &[PlannedEntry], change: u64) -> Result<Option<UndoRefusal>, AllocError>
     ensures found { IfOk result (λ refusal. (uploads : Contents) → ArePlanned uploads map.empty 1 logged.now
         → refusal ≡ option_map (λ later. reason.Clash later.0 later.1) (clash_in uploads change map.empty (marked_live 1 logged.now))) }
     ensures memory { OnErr result ((uploads : Contents) → ArePlanned uploads map.empty 1 logged.now
@@ -55,7 +47,7 @@ fn clash_refusal(logged: &[Logged], change: u64) -> Result<Option<UndoRefusal>, 
 /// The first reason to refuse the undo of the change of this number and site.
 pub(crate) fn undo_refusal(
     limit: u64,
-    logged: &[Logged],
+    logged: &[PlannedEntry],
     site: &SiteName,
     change: u64,
 ) -> Result<Option<UndoRefusal>, AllocError>

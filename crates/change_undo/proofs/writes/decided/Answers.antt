@@ -8,8 +8,8 @@ use Rattle.site_state.specs.Named.{AliasesNamed}
 use Rattle.site_state.specs.States.{may_stand, with_cells}
 use Rattle.site_state.specs.declared.values.Value.{Value}
 use Rattle.change_undo.proofs.Errors.{err_moves}
-use Rattle.change_undo.proofs.Writes.{writes, may_stand-writes, with_cells-writes, keys_of-writes}
-use Rattle.change_undo.proofs.steps.decided.Goals as goal
+use Rattle.change_undo.proofs.PlanWrites.{writes, may_stand-writes, with_cells-writes, keys_of-writes}
+use Rattle.change_undo.proofs.writes.decided.Goals as goal
 
 pub returns-in-Ok-writes_of-clause-rising : goal.returns-in-Ok-writes_of-clause-rising
 returns-in-Ok-writes_of-clause-rising g c =
