@@ -3,6 +3,7 @@ pub mod LastPlaces
 mod MethodNames
 mod NumberTexts
 pub mod Cuts
+mod Fitting
 pub mod PathTexts
 mod ObjectBodies
 mod ListedFiles

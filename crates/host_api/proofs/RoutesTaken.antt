@@ -5,7 +5,6 @@ use Rattle.host_names.specs.Name.{is_name}
 use Rattle.host_names.specs.declared.names.AliasName.{AliasName}
 use Rattle.host_names.specs.declared.names.SiteName.{SiteName}
 use Rattle.host_names.specs.declared.paths.PathError.{PathError}
-use Rattle.host_names.specs.declared.paths.PathError.TheVariants as path_error
 use Rattle.host_api.specs.Numbers.{number_of}
 use Rattle.host_api.specs.Patterns.{site_on, alias_on, routed_alike, KeepsPath, GivesRoute}
 use Rattle.host_api.specs.Refusals.{of_path}

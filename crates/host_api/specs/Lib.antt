@@ -1,6 +1,7 @@
 pub mod Numbers
 pub mod Targets
 pub mod Patterns
+pub mod Fits
 pub mod Routes
 pub mod Bodies
 pub mod Refusals

@@ -5,6 +5,7 @@ mod bodies;
 mod change_lines;
 mod digest_texts;
 mod documents;
+mod laws;
 mod limits;
 mod listings;
 mod members;
@@ -22,6 +23,7 @@ mod versions;
 
 pub use bodies::{Ask, ask_of};
 pub use change_lines::{ChangeKind, ChangeLine, ChangeLines};
+pub use laws::a_path_fits_what_it_is_made_of;
 pub use limits::body_limit;
 pub use refusal_texts::{SHORT_TEXT, short_text};
 pub use refusals::Refusal;
