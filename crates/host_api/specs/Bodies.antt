@@ -174,26 +174,16 @@ rename_ask site body = rename_with site (text_at (codes "from") body) (text_at (
 
 -- what the body asks for on this route, or the first reason why it asks for nothing
 abbrev pub asked : Route → List ℕ → Result Ask Refusal
-asked (route.Read site version path) body = Ok (ask.Read site version path)
+asked (route.Ready wanted) body = Ok wanted
 asked (route.Open site) body = open_ask site body
-asked (route.Restore site n) body = Ok (ask.Command (command.Restore site n))
 asked (route.MoveAlias site name) body = alias_ask site name body
-asked (route.RemoveAlias site name) body = Ok (ask.Command (command.RemoveAlias site name))
 asked (route.Rename site) body = rename_ask site body
-asked (route.Remove site path) body = Ok (ask.Command (command.Remove site path))
 asked (route.Undo site) body = undo_ask site body
-asked (route.Changes site) body = Ok (ask.Changes site)
-asked (route.Deploy n) body = Ok (ask.Deploy n)
-asked (route.RemoveDeploy n) body = Ok (ask.RemoveDeploy n)
-asked (route.Cancel n) body = Ok (ask.Cancel n)
-asked (route.Upload n path) body = Ok (ask.Upload n path)
 
+-- whether the body says what is asked for
 abbrev pub has_document : Route → Bool
-has_document (route.Open site) = true
-has_document (route.MoveAlias site name) = true
-has_document (route.Rename site) = true
-has_document (route.Undo site) = true
-has_document other = false
+has_document (route.Ready wanted) = false
+has_document other = true
 
 -- whether the body is parsed, which takes memory: the route has one that says something, and it is text
 abbrev pub is_parsed : Route → List ℕ → Bool

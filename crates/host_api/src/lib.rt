@@ -27,7 +27,7 @@ pub use laws::a_path_fits_what_it_is_made_of;
 pub use limits::body_limit;
 pub use refusal_texts::{SHORT_TEXT, short_text};
 pub use refusals::Refusal;
-pub use resources::Resource;
+pub use resources::{AliasResource, DeployResource, Resource, SiteResource};
 pub use routes::{Route, route_of};
 pub use texts::{DeployState, Digests, Told, text};
 pub use types::content_type;
