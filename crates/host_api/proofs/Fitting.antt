@@ -7,8 +7,8 @@ use Rattle.std.proofs.lemmas.Slice.Eq.{bytes_eq-Decides}
 use Rattle.std.specs.List.{list_all, prefix_len}
 use Rattle.std.specs.Str.{bytes_eq}
 use Rattle.host_api.specs.Fits.{slashed, HasNoSlash, IsFor, AreFor, MayFollow, said, Fits}
-use Rattle.host_api.specs.Patterns.{is_rest, with_part}
-use Rattle.host_api.specs.Targets.{Part, word, site, alias, number, Bindings, rest_alone, with_site, with_alias, with_number, bound, before, from_first, fit}
+use Rattle.host_api.specs.Patterns.{is_rest}
+use Rattle.host_api.specs.Targets.{Part, word, site, alias, number, Bindings, rest_alone, with_site, with_alias, with_number, with_part, bound, before, from_first, fit}
 use Rattle.host_api.proofs.Cuts.{cut}
 
 -- ---- cuts

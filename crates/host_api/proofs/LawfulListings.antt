@@ -1,4 +1,4 @@
--- Of what a body lists, removals stand in a patch alone.
+-- Of what a body lists, only a patch has removals.
 use Rattle.std.proofs.Common.{◌≡◌, ℕ, Bool, true, false, not, cond, ◌&&◌, ◌||◌, List, [], ◌∷◌, Option, Some, None, is_some, Result, Ok, Err, IsTrue, refl, sym, ap, subst, ◌∙◌}
 use Rattle.std.specs.FinMap as map
 use Rattle.std.specs.FinMap.Entries.{put, by_order}

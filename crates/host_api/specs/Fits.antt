@@ -2,13 +2,13 @@
 use Rattle.std.specs.Prelude.{◌≡◌, ⊤, ℕ, Bool, true, false, List, [], ◌∷◌, ◌++◌, IsTrue, not, ◌==◌}
 use Rattle.std.specs.List.{flat_map, list_all}
 use Rattle.std.specs.Str.{byte}
-use Rattle.host_api.specs.Targets.{Part, word, site, alias, number, Bindings, rest_alone}
-use Rattle.host_api.specs.Patterns.{with_part}
+use Rattle.host_api.specs.Targets.{Part, word, site, alias, number, Bindings, rest_alone, with_part}
 
 -- these segments, each after a slash
 abbrev pub slashed : List (List ℕ) → List ℕ
 slashed segments = flat_map (λ segment. byte "/" ∷ segment) segments
 
+-- the text is no more than one segment
 abbrev pub HasNoSlash : List ℕ → Type 0
 HasNoSlash text = IsTrue (list_all (λ b. not (b == byte "/")) text)
 

@@ -1,7 +1,7 @@
--- What the patterns of the program and what it finds by them stand for.
+-- What the patterns of the program mean, and what it finds by them.
 use Rattle.std.specs.Prelude.{◌≡◌, ◌⊎◌, ℕ, Bool, true, List, [], ◌∷◌, Option, Some, None, Result, Ok, Err, IsTrue, map, ◌==◌, if◌then◌else◌}
 use Rattle.std.specs.Str.{byte, bytes_eq}
-use Rattle.host_api.specs.Targets.{Part, word, site, alias, number, Bindings, with_site, with_alias, with_number, before, from_first}
+use Rattle.host_api.specs.Targets.{Part, word, site, alias, number, Bindings, before, from_first}
 use Rattle.host_names.specs.declared.paths.PathError.{PathError}
 use Rattle.host_names.specs.declared.paths.PathError.TheVariants as path_error
 use Rattle.std.specs.List.{list_any}
@@ -33,21 +33,14 @@ bindings_of b = record { site_text = b.site.now; alias_text = b.alias.now; numbe
 abbrev pub found_of : Resource × BindingsLent → Resource × Bindings
 found_of found = (found.0, bindings_of found.1)
 
--- whether a segment may stand in the place of a part
+-- whether a segment may be in the place of a part
 abbrev pub may_bind : Part → List ℕ → Bool
 may_bind (word w) segment = bytes_eq segment w
 may_bind site segment = true
 may_bind alias segment = true
 may_bind number segment = true
 
--- what is found with the segment that stands in the place of a part
-abbrev pub with_part : Part → List ℕ → Bindings → Bindings
-with_part (word w) segment b = b
-with_part site segment b = with_site segment b
-with_part alias segment b = with_alias segment b
-with_part number segment b = with_number segment b
-
--- the segment behind the leading slash, and what follows it
+-- the segment after the leading slash, and what follows it
 abbrev pub next_segment : List ℕ → Option (List ℕ × List ℕ)
 next_segment [] = None
 next_segment (b ∷ text) = if b == byte "/" then Some (before (byte "/") text, from_first (byte "/") text) else None
@@ -57,7 +50,7 @@ abbrev pub is_rest : List ℕ → Bool
 is_rest [] = true
 is_rest (b ∷ text) = b == byte "/"
 
--- whether an escape may stand in the text
+-- whether the text may have an escape
 abbrev pub has_percent : List ℕ → Bool
 has_percent text = list_any (λ b. b == byte "%") text
 

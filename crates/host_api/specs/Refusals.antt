@@ -33,9 +33,11 @@ shown_of (BadMethod resource) = (codes "BadMethod", 405)
 shown_of BadHead = (codes "BadHead", 400)
 shown_of (NotSatisfiable length) = (codes "NotSatisfiable", 416)
 
+-- the name of a reason
 abbrev pub name_of : Refusal → List ℕ
 name_of refusal = (shown_of refusal).0
 
+-- its status code (RFC 9110, section 15)
 abbrev pub status_of : Refusal → ℕ
 status_of refusal = (shown_of refusal).1
 

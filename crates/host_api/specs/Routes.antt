@@ -35,18 +35,19 @@ pub record Row : Type 0 where
 abbrev pub whole : Resource → List Part → Row
 whole r parts = record { named = r; parts = parts; has_rest = false }
 
--- the pattern, and the path of a file behind it
+-- the pattern, and the path of a file after it
 abbrev pub with_path : Resource → List Part → Row
 with_path r parts = record { named = r; parts = parts; has_rest = true }
 
--- /api/v1/sites/{site}, and these parts behind it
+-- /api/v1/sites/{site}, and these parts after it
 abbrev pub of_site : List Part → List Part
 of_site parts = word (codes "api") ∷ word (codes "v1") ∷ word (codes "sites") ∷ site ∷ parts
 
--- /api/v1/deploys/{number}, and these parts behind it
+-- /api/v1/deploys/{number}, and these parts after it
 abbrev pub of_deploy : List Part → List Part
 of_deploy parts = word (codes "api") ∷ word (codes "v1") ∷ word (codes "deploys") ∷ number ∷ parts
 
+-- the table of routes
 abbrev pub rows : List Row
 rows =
     with_path (OfSite site_resource.LiveFile) (word (codes "s") ∷ site ∷ [])
@@ -68,7 +69,7 @@ abbrev pub first_found : Resource → Option Bindings → Option (Resource × Bi
 first_found r None others = others
 first_found r (Some bindings) others = Some (r, bindings)
 
--- the first row whose pattern the path fits, with what stands in its open places
+-- the first row whose pattern the path fits, with what is in its open places
 abbrev pub found_in : List Row → List ℕ → Option (Resource × Bindings)
 found_in [] path = None
 found_in (row ∷ others) path = first_found row.named (fit row.parts row.has_rest path) (found_in others path)
@@ -92,6 +93,7 @@ methods_of (OfDeploy deploy_resource.Itself) = codes "GET" ∷ codes "HEAD" ∷ 
 methods_of (OfDeploy deploy_resource.Cancel) = codes "POST" ∷ []
 methods_of (OfDeploy deploy_resource.File) = codes "PUT" ∷ []
 
+-- whether a resource has the method
 abbrev pub has_method : Resource → List ℕ → Bool
 has_method r method = list_any (bytes_eq method) (methods_of r)
 
@@ -101,12 +103,14 @@ misnames (OfSite r) b = not (is_name b.site_text)
 misnames (OfAlias r) b = not (is_name b.site_text && is_name b.alias_text)
 misnames (OfDeploy r) b = false
 
+-- the names, where they are names
 abbrev pub site_in : Bindings → SiteName
 site_in b = record { 0 = b.site_text }
 
 abbrev pub alias_in : Bindings → AliasName
 alias_in b = record { 0 = b.alias_text }
 
+-- the route with a path, or that the text is none
 abbrev pub to_file : (List ℕ → Route) → Option (List ℕ) → Result Route Refusal
 to_file make None = Err BadPath
 to_file make (Some path) = Ok (make path)
@@ -115,9 +119,11 @@ to_file make (Some path) = Ok (make path)
 abbrev pub read_route : SiteName → Version → List ℕ → Result Route Refusal
 read_route name version rest = to_file (λ path. route.Ready (ask.Read name version path)) (read_path rest)
 
+-- the removal of a file
 abbrev pub remove_route : SiteName → List ℕ → Result Route Refusal
 remove_route name rest = to_file (λ path. route.Ready (ask.Command (command.Remove name path))) (written_path rest)
 
+-- the upload of a file
 abbrev pub upload_route : ℕ → List ℕ → Result Route Refusal
 upload_route deploy rest = to_file (λ path. route.Ready (ask.Upload deploy path)) (written_path rest)
 
@@ -166,6 +172,7 @@ routed_by method path None = Err NoRoute
 routed_by method path (Some (r, bindings)) =
     if not (has_method r method) then Err (BadMethod r) else routed_at method path r bindings
 
+-- the route of a method and a target, or the first reason why there is none
 unfoldable pub routed : List ℕ → List ℕ → Result Route Refusal
 routed method target = routed_by method (path_of target) (found_in rows (path_of target))
 
@@ -176,6 +183,7 @@ asks_of_path (ask.Command (command.Remove name path)) = true
 asks_of_path (ask.Upload deploy path) = true
 asks_of_path other = false
 
+-- whether there is a route and it has the path of a file
 abbrev pub has_path : Result Route Refusal → Bool
 has_path (Ok (route.Ready asked)) = asks_of_path asked
 has_path other = false

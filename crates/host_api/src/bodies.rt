@@ -34,7 +34,7 @@ pub enum Ask {
     Changes {
         site: SiteName,
     },
-    /// How a deploy stands.
+    /// The state of a deploy.
     Deploy {
         deploy: u64,
     },
@@ -42,7 +42,7 @@ pub enum Ask {
     RemoveDeploy {
         deploy: u64,
     },
-    /// That an open deploy be given up, in the site that has it.
+    /// That an open deploy be cancelled, in the site that has it.
     Cancel {
         deploy: u64,
     },
@@ -83,7 +83,7 @@ fn undo(alloc: Global, site: SiteName, body: &[u8]) -> Result<Ask, Refusal>
     }
 }
 
-/// The deploy that a body lets an alias stand for.
+/// The deploy that a body lets an alias name.
 fn move_alias(alloc: Global, site: SiteName, name: AliasName, body: &[u8]) -> Result<Ask, Refusal>
     ensures ok { IfOk result (λ ask. alias_ask site name body.now ≡ Ok ask) }
     ensures refused { IfErr result (λ refusal. refusal ≢ Refusal.OutOfMemory →

@@ -21,7 +21,7 @@ pub enum Refusal {
     SamePath,
     /// There is no such alias.
     NoSuchAlias,
-    /// An alias stands for the deploy; of several the least is named.
+    /// An alias names the deploy; of several the least is told.
     DeployInUse(AliasName),
     /// The deploy lists more than 10,000 paths.
     TooManyFiles,

@@ -1,4 +1,4 @@
-//! The texts of replies.
+//! The texts of replies, as JSON (RFC 8259).
 ghost use Rattle.std.specs.Prelude.{◌≡◌, ◌++◌, [], IfOk, OnOk};
 ghost use Rattle.std.specs.String.{string_bytes};
 ghost use Rattle.host_api.specs.Texts.{number_or_null, state_name, required_of, opened_text, uploaded_text, deploy_text, told_text};
@@ -43,7 +43,7 @@ impl From<Vec<Digest>> for Digests {
     }
 }
 
-/// How a deploy stands.
+/// The state of a deploy.
 #[derive(Drop)]
 pub enum DeployState {
     /// It is open, and these of its files were not uploaded.
@@ -92,7 +92,7 @@ pub enum Told {
     Entered {
         number: u64,
     },
-    /// A deploy: its number, its site, and how it stands.
+    /// A deploy: its number, its site, and its state.
     Deploy {
         id: u64,
         site: SiteName,
@@ -110,7 +110,7 @@ const ROOM: usize = 132;
 // So many bytes hold a digest of a list: its digits, the quotes and a comma.
 const DIGEST_ROOM: usize = 43;
 
-/// An empty text, with room for a list of digests and for what stands around it.
+/// An empty text, with room for a list of digests and for what is around it.
 fn text_around(alloc: Global, digests: &[Digest]) -> Result<String, AllocError>
     ensures { IfOk result (λ text. string_bytes text ≡ []) }
 {
