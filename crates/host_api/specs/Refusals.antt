@@ -1,5 +1,5 @@
 -- The names and the status codes of refusals.
-use Rattle.std.specs.Prelude.{ℕ, List, codes}
+use Rattle.std.specs.Prelude.{ℕ, Bool, true, false, List, codes}
 use Rattle.host_names.specs.declared.paths.PathError.{PathError}
 use Rattle.host_names.specs.declared.paths.PathError.TheVariants as path
 use Rattle.host_api.specs.declared.refusals.Refusal.{Refusal}
@@ -40,6 +40,24 @@ name_of refusal = (shown_of refusal).0
 -- its status code (RFC 9110, section 15)
 abbrev pub status_of : Refusal → ℕ
 status_of refusal = (shown_of refusal).1
+
+-- whether a change or an undo may be refused for it
+abbrev pub is_of_change : Refusal → Bool
+is_of_change NoSuchDraft = true
+is_of_change (NotComplete digest) = true
+is_of_change NoSuchDeploy = true
+is_of_change NoSuchFile = true
+is_of_change PathTaken = true
+is_of_change SamePath = true
+is_of_change NoSuchAlias = true
+is_of_change (DeployInUse name) = true
+is_of_change TooManyFiles = true
+is_of_change HistoryFull = true
+is_of_change NoSuchChange = true
+is_of_change NotAChange = true
+is_of_change AlreadyUndone = true
+is_of_change (Clash change cell) = true
+is_of_change other = false
 
 -- why a text gives no path
 abbrev pub of_path : PathError → Refusal

@@ -60,24 +60,16 @@ pub enum Refusal {
     NotSatisfiable(u64),
 }
 
-/// What a reply says of a reason: the name, and the status code (RFC 9110, section 15).
-#[derive(Clone, Copy)]
-struct Shown {
-    name: &'static str,
-    status: StatusCode,
-}
-
 impl Refusal {
-    ghost use Rattle.std.specs.Prelude.{◌≡◌, ◌≤◌, length};
-    ghost use Rattle.host_api.specs.Refusals.{name_of, status_of};
+    ghost use Rattle.std.specs.Prelude.{◌≡◌, ◌≤◌, false, length};
+    ghost use Rattle.host_api.specs.Refusals.{name_of, status_of, is_of_change};
 
-    // What a reply says of it.
-    fn shown(&self) -> Shown
-        ensures name { result.name.now ≡ name_of self.now }
-        ensures short { length result.name.now ≤ 14 }
-        ensures status { result.status ≡ status_of self.now }
+    // What a reply says of it: its name, and the status code.
+    fn shown(&self) -> (&'static str, StatusCode)
+        ensures name { result.0.now ≡ name_of self.now }
+        ensures status { result.1 ≡ status_of self.now }
     {
-        let (name, status) = match self {
+        match self {
             Refusal::NoSuchDraft => ("NoSuchDraft", StatusCode::NOT_FOUND),
             Refusal::NotComplete(_) => ("NotComplete", StatusCode::CONFLICT),
             Refusal::NoSuchDeploy => ("NoSuchDeploy", StatusCode::NOT_FOUND),
@@ -92,6 +84,17 @@ impl Refusal {
             Refusal::NotAChange => ("NotAChange", StatusCode::CONFLICT),
             Refusal::AlreadyUndone => ("AlreadyUndone", StatusCode::CONFLICT),
             Refusal::Clash { .. } => ("Clash", StatusCode::CONFLICT),
+            _ => self.shown_of_request(),
+        }
+    }
+
+    // The same of a reason for which no change or undo is refused.
+    fn shown_of_request(&self) -> (&'static str, StatusCode)
+        requires { is_of_change self.now ≡ false }
+        ensures name { result.0.now ≡ name_of self.now }
+        ensures status { result.1 ≡ status_of self.now }
+    {
+        match self {
             Refusal::BadName => ("BadName", StatusCode::BAD_REQUEST),
             Refusal::BadPath => ("BadPath", StatusCode::BAD_REQUEST),
             Refusal::BadDigest => ("BadDigest", StatusCode::BAD_REQUEST),
@@ -103,23 +106,24 @@ impl Refusal {
             Refusal::BadMethod(_) => ("BadMethod", StatusCode::METHOD_NOT_ALLOWED),
             Refusal::BadHead => ("BadHead", StatusCode::BAD_REQUEST),
             Refusal::NotSatisfiable(_) => ("NotSatisfiable", StatusCode::RANGE_NOT_SATISFIABLE),
-        };
-        Shown { name, status }
+            _ => unreachable!(),
+        }
     }
 
     /// The name that a reply gives to it.
+    #[tactic(auto, using(crate::proofs::RefusalNames::short_name))]
     pub fn name(&self) -> &'static str
         ensures value { result.now ≡ name_of self.now }
         ensures short { length result.now ≤ 14 }
     {
-        self.shown().name
+        self.shown().0
     }
 
     /// The status code of the reply (RFC 9110, section 15).
     pub fn status(&self) -> StatusCode
         ensures { result ≡ status_of self.now }
     {
-        self.shown().status
+        self.shown().1
     }
 }
 
