@@ -1,5 +1,5 @@
 //! Histories: changes are committed at their end, and undone by an entry of their own.
-ghost use Rattle.std.specs.Prelude.{◌≡◌, ◌≢◌, ◌↔◌, ◌+◌, ◌≤◌, ◌<◌, [], ◌∷◌, ◌++◌, length, false, Some, None, true, Err, IsErrOf, List, IfOk, OnOk, OnErr, option_copied, option_map};
+ghost use Rattle.std.specs.Prelude.{◌≡◌, ◌≢◌, ◌↔◌, ◌+◌, ◌≤◌, ◌<◌, [], ◌∷◌, ◌++◌, length, nat_le, false, Some, None, true, Err, IsErrOf, List, IfOk, OnOk, OnErr, option_copied, option_map};
 ghost use Rattle.std.specs.FinMap as map;
 ghost use Rattle.host_names.specs.Blobs.{Contents};
 ghost use Rattle.site_change.specs.Changes.{IsWithin, applied, refusal};
@@ -81,6 +81,13 @@ impl History {
         ensures { result ≡ length self.now.entries }
     {
         self.logged.len() as u64
+    }
+
+    /// Whether it has as many entries as its limit says.
+    pub fn is_full(&self) -> bool
+        ensures { result ≡ nat_le self.now.limit (length self.now.entries) }
+    {
+        self.limit <= self.logged.len() as u64
     }
 
     /// The entry of a number, from 1 on.

@@ -1,6 +1,7 @@
 pub mod Hosts
 pub mod Reasons
 pub mod Outcomes
+pub mod Memory
 pub mod Replies
 pub mod Bodies
 pub mod Answers

@@ -68,10 +68,10 @@ then_published p tell = record { told = told_of p.entry tell; host = p.host }
 
 -- ---- commands
 
--- what an opened deploy lists and is not uploaded; of other commands nothing is asked
-abbrev pub AreRequired : Contents → Command → List Digest → Type 0
-AreRequired uploads (Open site files auto) required = AreMissing uploads files.1 required
-AreRequired uploads command required = required ≡ []
+-- what a deploy lists and is not uploaded, where a command that is not refused opens it; else nothing
+abbrev pub AreRequired : Contents → Command → Option Refusal → List Digest → Type 0
+AreRequired uploads (Open site files auto) None required = AreMissing uploads files.1 required
+AreRequired uploads command refusal required = required ≡ []
 
 -- the command's entry, whose number is told
 abbrev pub entering : Host → Command → Outcome
@@ -185,10 +185,6 @@ abbrev pub is_refusal : Told → Bool
 is_refusal (Refused reason) = true
 is_refusal told = false
 
-abbrev pub is_opening : Command → Bool
-is_opening (Open site files auto) = true
-is_opening command = false
-
 -- what is told where a call answers so
 abbrev pub told_by : Result Told Refusal → Told
 told_by (Ok told) = told
@@ -202,6 +198,6 @@ Does result host out = (result ≡ Err OutOfMemory) ⊎ ((told_by result ≡ out
 abbrev pub DoesCommit : Result Told Refusal → Host → Host → Command → Type 0
 DoesCommit result next host command =
     (result ≡ Err OutOfMemory)
-    ⊎ ((required : List Digest) × AreRequired host.uploads command required
+    ⊎ ((required : List Digest) × AreRequired host.uploads command (commit_refusal host command) required
     × (told_by result ≡ (commit_outcome host command required (commit_refusal host command)).told)
     × (next ≡ (commit_outcome host command required (commit_refusal host command)).host))

@@ -146,7 +146,7 @@ IsTold close out answer next = (answer ≡ told_answer close out.told) × (next 
 
 abbrev pub IsCommitTold : Bool → Host → Command → Answer → Host → Type 0
 IsCommitTold close host command answer next =
-    (required : List Digest) × AreRequired host.uploads command required
+    (required : List Digest) × AreRequired host.uploads command (commit_refusal host command) required
     × IsTold close (commit_outcome host command required (commit_refusal host command)) answer next
 
 abbrev pub IsReplyToAsk : Bool → Host → RequestParts → List ℕ → Result Ask Refusal → Answer → Host → Type 0

@@ -1,5 +1,5 @@
 -- What a host shows of its deploys and its changes.
-use Rattle.std.specs.Prelude.{◌≡◌, ℕ, ◌-◌, List, length, drop, not, Bool, false, ◌||◌, is_some, Option, Some, None, Result, Ok, Err, option_and_then, if◌then◌else◌}
+use Rattle.std.specs.Prelude.{◌≡◌, ℕ, ◌-◌, List, length, drop, not, Bool, false, is_some, Option, Some, None, Result, Ok, Err, option_and_then, if◌then◌else◌}
 use Rattle.std.specs.List.{enumerate_from, filter_map}
 use Rattle.host_names.specs.Blobs.{Contents}
 use Rattle.host_names.specs.declared.digests.Digest.{Digest}
@@ -47,16 +47,13 @@ ShowsOn host n (Some site) told = (standing : Result DeployState Refusal) × Sta
 abbrev pub ShowsDeploy : Host → ℕ → Told → Type 0
 ShowsDeploy host n told = ShowsOn host n (site_of_deploy (entry_at host.entries n)) told
 
--- whether the deploy is open or kept
-abbrev pub is_standing : Option Draft → Option (Paths (List ℕ)) → Bool
-is_standing draft tree = is_some draft || is_some tree
+abbrev pub is_open_in : Host → ℕ → Option SiteName → Bool
+is_open_in host n None = false
+is_open_in host n (Some site) = is_some (draft_at (state_of host) site n)
 
-abbrev pub is_shown_in : Host → ℕ → Option SiteName → Bool
-is_shown_in host n None = false
-is_shown_in host n (Some site) = is_standing (draft_at (state_of host) site n) (kept_at (state_of host) site n)
-
-abbrev pub is_shown : Host → ℕ → Bool
-is_shown host n = is_shown_in host n (site_of_deploy (entry_at host.entries n))
+-- whether the deploy is open: then its missing digests are listed, which takes memory
+abbrev pub is_open : Host → ℕ → Bool
+is_open host n = is_open_in host n (site_of_deploy (entry_at host.entries n))
 
 -- ---- the changes of a site
 

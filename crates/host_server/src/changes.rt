@@ -1,10 +1,12 @@
 //! What a host tells of changes and undos.
-ghost use Rattle.std.specs.Prelude.{◌≡◌, ◌⊎◌, true, false, Some, None, IsSome, OnErr, IfOk, IfErr, Err, IsErrOf};
+ghost use Rattle.std.specs.Prelude.{◌≡◌, ◌≢◌, ◌⊎◌, true, false, Some, None, IsTrue, OnOk, OnErr, IfOk, IfErr, Err, IsErrOf};
 ghost use Rattle.site_change.specs.declared.commands.Command.TheVariants as command;
 ghost use Rattle.change_undo.specs.Histories.{entry_at};
 ghost use Rattle.change_undo.specs.declared.entries.Entry.TheVariants as entry;
 ghost use Rattle.host_server.specs.Answers.{Grows};
 ghost use Rattle.host_server.specs.Hosts.{with_entry, with_upload};
+ghost use Rattle.host_names.specs.declared.names.SiteName.{SiteName as Site};
+ghost use Rattle.host_server.specs.Memory.{CommandRunsOut, deploy_refusal, is_published};
 ghost use Rattle.host_server.specs.Outcomes;
 ghost use Rattle.host_server.specs.Outcomes.{deploy_outcome, enter_outcome, entered, published_if_ready, undone, Publishes, Does, DoesCommit};
 ghost use Rattle.host_server.specs.Reasons;
@@ -13,7 +15,7 @@ ghost use Rattle.host_server.specs.Reasons.{commit_refusal, may_take_memory};
 use crate::houses::SoloHouse;
 use host_api::{Digests, Refusal, Told};
 use host_names::SiteName;
-use site_change::Command;
+use site_change::{Command, MOST_FILES};
 use site_state::{Draft, Listing, least_missing, missing};
 use std::alloc::Global;
 
@@ -36,15 +38,31 @@ impl SoloHouse {
         number: u64,
     ) -> Result<Option<u64>, Refusal>
         ensures done { Publishes result self.new (published_if_ready self.old site.now number) }
+        ensures memory { IsErrOf result Refusal.OutOfMemory → IsTrue (is_published self.old site.now number) }
         ensures err { OnErr result (self.new ≡ self.old) }
         ensures grows { Grows self.old self.new }
     {
         if !self.is_ready(site, number) {
             return Ok(None);
         }
-        let site = site.clone()?;
+        let site = site.copied();
         let entry = self.commit(alloc, Command::Publish { site, number })?;
         Ok(Some(entry))
+    }
+
+    /// Whether a deploy of these files may be opened, or the first reason why not. It takes no memory.
+    fn judge_opening(&self, files: &Listing) -> Result<(), Refusal>
+        ensures ok { OnOk result ((site : Site) (auto : _) → commit_refusal self.now (command.Open site files.now auto) ≡ None) }
+        ensures refused { IfErr result (λ reason. (reason ≢ Refusal.OutOfMemory)
+            × ((site : Site) (auto : _) → commit_refusal self.now (command.Open site files.now auto) ≡ Some reason)) }
+    {
+        if self.is_full() {
+            return Err(Refusal::HistoryFull);
+        }
+        if files.entries().len() > MOST_FILES {
+            return Err(Refusal::TooManyFiles);
+        }
+        Ok(())
     }
 
     /// Opens a deploy, and publishes it if it is ready.
@@ -59,11 +77,13 @@ impl SoloHouse {
         ensures told { IfOk result (λ told. Outcomes.is_refusal told ≡ false) }
         ensures stands { let opening = command.Open site files auto in
             OnErr result ((self.new ≡ self.old) ⊎ (self.new ≡ entered self.old opening (commit_refusal self.old opening))) }
+        ensures memory { IsErrOf result Refusal.OutOfMemory → CommandRunsOut self.old (command.Open site files auto) self.new }
         ensures grows { Grows self.old self.new }
     {
+        self.judge_opening(&files)?;
         let draft = Draft { auto, files };
         let required = missing(alloc, &draft, self.uploads())?;
-        let owner = site.clone()?;
+        let owner = site.copied();
         let Draft { auto, files } = draft;
         let id = self.commit(alloc, Command::Open { site, files, auto })?;
         let published = self.publish_if_ready(alloc, &owner, id)?;
@@ -86,12 +106,12 @@ impl SoloHouse {
         Ok(Told::Entered { number })
     }
 
-    /// Commits a command, and publishes a deploy that it leaves ready. Where that publishing fails, for want of memory or
-    /// because the history is full, the command stands.
+    /// Commits a command, and publishes a deploy that it leaves ready. Where that publishing fails, out of memory or
+    /// because the history is full, the command remains.
     pub fn change(&mut self, alloc: Global, command: Command) -> Result<Told, Refusal>
         ensures done { DoesCommit result self.new self.old command }
         ensures told { IfOk result (λ told. Outcomes.is_refusal told ≡ false) }
-        ensures memory { IsErrOf result Refusal.OutOfMemory → Outcomes.is_opening command ≡ false → commit_refusal self.old command ≡ None }
+        ensures memory { IsErrOf result Refusal.OutOfMemory → CommandRunsOut self.old command self.new }
         ensures stands { OnErr result ((self.new ≡ self.old) ⊎ (self.new ≡ entered self.old command (commit_refusal self.old command))) }
         ensures grows { Grows self.old self.new }
     {
@@ -121,20 +141,19 @@ impl SoloHouse {
     /// The site of a deploy, as one that a command can have.
     fn owner(&self, number: u64) -> Result<SiteName, Refusal>
         ensures found { IfOk result (λ site. Outcomes.site_of_deploy (entry_at self.now.entries number) ≡ Some site) }
-        ensures refused { IfErr result (λ reason. ((Outcomes.site_of_deploy (entry_at self.now.entries number) ≡ None) × (reason ≡ Refusal.NoSuchDeploy))
-            ⊎ (IsSome (Outcomes.site_of_deploy (entry_at self.now.entries number)) × (reason ≡ Refusal.OutOfMemory))) }
+        ensures refused { IfErr result (λ reason. (Outcomes.site_of_deploy (entry_at self.now.entries number) ≡ None) × (reason ≡ Refusal.NoSuchDeploy)) }
     {
         match self.site_of_deploy(number) {
-            Some(site) => Ok(site.clone()?),
+            Some(site) => Ok(site.copied()),
             None => Err(Refusal::NoSuchDeploy),
         }
     }
 
-    /// Gives an open deploy up, in the site that has it. On an error nothing changes.
+    /// Cancels an open deploy, in the site that has it. On an error nothing changes.
     pub fn cancel(&mut self, alloc: Global, number: u64) -> Result<Told, Refusal>
         ensures done { Does result self.new (deploy_outcome self.old number (λ site. command.Cancel site number)) }
         ensures told { IfOk result (λ told. Outcomes.is_refusal told ≡ false) }
-        ensures memory { IsErrOf result Refusal.OutOfMemory → IsSome (Outcomes.site_of_deploy (entry_at self.old.entries number)) }
+        ensures memory { IsErrOf result Refusal.OutOfMemory → deploy_refusal self.old number (λ site. command.Cancel site number) ≡ None }
         ensures err { OnErr result (self.new ≡ self.old) }
         ensures grows { Grows self.old self.new }
     {
@@ -146,7 +165,7 @@ impl SoloHouse {
     pub fn remove_deploy(&mut self, alloc: Global, number: u64) -> Result<Told, Refusal>
         ensures done { Does result self.new (deploy_outcome self.old number (λ site. command.RemoveDeploy site number)) }
         ensures told { IfOk result (λ told. Outcomes.is_refusal told ≡ false) }
-        ensures memory { IsErrOf result Refusal.OutOfMemory → IsSome (Outcomes.site_of_deploy (entry_at self.old.entries number)) }
+        ensures memory { IsErrOf result Refusal.OutOfMemory → deploy_refusal self.old number (λ site. command.RemoveDeploy site number) ≡ None }
         ensures err { OnErr result (self.new ≡ self.old) }
         ensures grows { Grows self.old self.new }
     {

@@ -1,9 +1,10 @@
 //! Uploads to deploys.
-ghost use Rattle.std.specs.Prelude.{◌≡◌, ◌⊎◌, false, Ok, Err, OnErr, IfOk, IfErr, IsOk, IsErrOf, option_copied};
+ghost use Rattle.std.specs.Prelude.{◌≡◌, ◌⊎◌, false, Ok, Err, OnErr, IfOk, IfErr, IsErrOf, option_copied};
 ghost use Rattle.change_undo.specs.Histories.{entry_at};
 ghost use Rattle.host_server.specs.Answers.{Grows};
 ghost use Rattle.host_server.specs.Hosts.{state_of, with_upload};
 ghost use Rattle.host_server.specs.Outcomes.{Does, kept, upload_outcome};
+ghost use Rattle.host_server.specs.Memory.{UploadRunsOut};
 ghost use Rattle.host_server.specs.Outcomes;
 ghost use Rattle.site_state.specs.States.{draft_at, kept_at};
 
@@ -48,8 +49,7 @@ impl SoloHouse {
     ) -> Result<(SiteName, Digest, BlobInfo), Refusal>
         ensures ok { IfOk result (λ (site, digest, file). (Outcomes.judge_upload self.now number path.now bytes.items ≡ Ok (site, digest))
             × (file ≡ bytes.items)) }
-        ensures refused { IfErr result (λ reason. (Outcomes.judge_upload self.now number path.now bytes.items ≡ Err reason)
-            ⊎ (IsOk (Outcomes.judge_upload self.now number path.now bytes.items) × (reason ≡ Refusal.OutOfMemory))) }
+        ensures refused { IfErr result (λ reason. Outcomes.judge_upload self.now number path.now bytes.items ≡ Err reason) }
     {
         let Some(site) = self.site_of_deploy(number) else {
             return Err(Refusal::NoSuchDeploy);
@@ -62,11 +62,11 @@ impl SoloHouse {
         if digest != file.digest() {
             return Err(Refusal::WrongDigest);
         }
-        Ok((site.clone()?, digest, file))
+        Ok((site.copied(), digest, file))
     }
 
     /// Takes the bytes as the file of a path of a deploy, and publishes the deploy if it is ready. Where that fails, the
-    /// upload stands.
+    /// upload remains.
     pub fn upload(
         &mut self,
         alloc: Global,
@@ -76,7 +76,7 @@ impl SoloHouse {
     ) -> Result<Told, Refusal>
         ensures done { Does result self.new (upload_outcome self.old number path.now bytes.items) }
         ensures told { IfOk result (λ told. Outcomes.is_refusal told ≡ false) }
-        ensures memory { IsErrOf result Refusal.OutOfMemory → IsOk (Outcomes.judge_upload self.old number path.now bytes.items) }
+        ensures memory { IsErrOf result Refusal.OutOfMemory → UploadRunsOut self.old number path.now bytes.items self.new }
         ensures stands { OnErr result ((self.new ≡ self.old)
             ⊎ (self.new ≡ kept self.old bytes.items (Outcomes.judge_upload self.old number path.now bytes.items))) }
         ensures grows { Grows self.old self.new }

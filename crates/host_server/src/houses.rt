@@ -1,6 +1,7 @@
 //! A host on one thread, with its history and its uploads in memory.
-ghost use Rattle.std.specs.Prelude.{◌≡◌, ◌≢◌, ◌≤◌, ◌⊎◌, Option, ℕ, [], Some, None, Ok, Err, IfOk, IfErr, OnOk, OnErr, length, option_copied, option_map};
+ghost use Rattle.std.specs.Prelude.{◌≡◌, ◌≢◌, ◌≤◌, ◌⊎◌, Option, ℕ, [], Some, None, Ok, Err, IfOk, IfErr, OnOk, OnErr, length, nat_le, option_copied, option_map};
 ghost use Rattle.std.specs.FinMap as map;
+ghost use Rattle.host_names.specs.Blobs.{digest_of};
 ghost use Rattle.change_undo.specs.Histories.{run, entry_at, marked_entry};
 ghost use Rattle.change_undo.specs.declared.entries.Entry.TheVariants as entry;
 ghost use Rattle.host_server.specs.Answers.{Grows};
@@ -11,7 +12,7 @@ ghost use Rattle.host_server.specs.Reasons.{commit_refusal, IsReason, IsUndoReas
 use crate::reasons::{commit_reason, undo_error_reason};
 use change_undo::{Entry, GREATEST_LIMIT, History};
 use host_api::Refusal;
-use host_names::{BlobInfo, MemoryUploads, SiteName};
+use host_names::{BlobInfo, MemoryUploads, SiteName, Uploads};
 use site_change::Command;
 use site_state::State;
 use std::alloc::Global;
@@ -77,6 +78,13 @@ impl SoloHouse {
         self.history.entry(number)
     }
 
+    /// Whether it has as many entries as its limit says.
+    pub(crate) fn is_full(&self) -> bool
+        ensures { result ≡ nat_le self.now.limit (length self.now.entries) }
+    {
+        self.history.is_full()
+    }
+
     /// The number of entries.
     pub(crate) fn len(&self) -> u64
         ensures { result ≡ length self.now.entries }
@@ -131,13 +139,18 @@ impl SoloHouse {
             .map_err(undo_error_reason)
     }
 
-    /// Adds a file to the uploads. Without memory nothing changes.
+    /// Adds a file to the uploads. A digest that is known keeps its file, and takes no memory. Without memory nothing
+    /// changes.
     pub(crate) fn keep(&mut self, alloc: Global, file: BlobInfo) -> Result<(), Refusal>
         ensures ok { OnOk result (self.new ≡ with_upload self.old file) }
         ensures err { OnErr result (self.new ≡ self.old) }
         ensures memory { IfErr result (λ reason. reason ≡ Refusal.OutOfMemory) }
+        ensures unknown { OnErr result (map.get self.old.uploads (digest_of file) ≡ None) }
         ensures grows { Grows self.old self.new }
     {
+        if self.uploads.find(&file.digest()).is_some() {
+            return Ok(());
+        }
         let Ok(file) = Arc::new(alloc, file) else {
             return Err(Refusal::OutOfMemory);
         };

@@ -1,5 +1,5 @@
 //! What a host shows of its deploys and its changes.
-ghost use Rattle.std.specs.Prelude.{◌≡◌, ◌⊎◌, true, false, IfOk, Err, IsErrOf};
+ghost use Rattle.std.specs.Prelude.{◌≡◌, ◌≢◌, ◌⊎◌, [], true, false, IsSome, IfOk, OnErr, Err, IsErrOf};
 ghost use Rattle.host_server.specs.Hosts.{state_of};
 ghost use Rattle.host_server.specs.Outcomes.{is_refusal, told_by};
 ghost use Rattle.host_server.specs.Shown as spec;
@@ -24,8 +24,7 @@ impl SoloHouse {
         number: u64,
     ) -> Result<DeployState, Refusal>
         ensures stands { (result ≡ Err Refusal.OutOfMemory) ⊎ spec.StandsIn self.now site.now number result }
-        ensures memory { IsErrOf result Refusal.OutOfMemory → spec.is_standing (draft_at (state_of self.now) site.now number)
-            (kept_at (state_of self.now) site.now number) ≡ true }
+        ensures memory { IsErrOf result Refusal.OutOfMemory → IsSome (draft_at (state_of self.now) site.now number) }
     {
         let state = self.state();
         if let Some(draft) = state.draft(site, number) {
@@ -42,7 +41,7 @@ impl SoloHouse {
     pub fn deploy(&self, alloc: Global, number: u64) -> Result<Told, Refusal>
         ensures shown { (result ≡ Err Refusal.OutOfMemory) ⊎ spec.ShowsDeploy self.now number (told_by result) }
         ensures told { IfOk result (λ told. is_refusal told ≡ false) }
-        ensures memory { IsErrOf result Refusal.OutOfMemory → spec.is_shown self.now number ≡ true }
+        ensures memory { IsErrOf result Refusal.OutOfMemory → spec.is_open self.now number ≡ true }
     {
         let Some(site) = self.site_of_deploy(number) else {
             return Err(Refusal::NoSuchDeploy);
@@ -50,7 +49,7 @@ impl SoloHouse {
         let state = self.state_of_deploy(alloc, site, number)?;
         Ok(Told::Deploy {
             id: number,
-            site: site.clone()?,
+            site: site.copied(),
             state,
         })
     }
@@ -78,7 +77,8 @@ impl SoloHouse {
 
     /// The lines of the last entries of a site, the oldest first.
     pub fn changes(&self, alloc: Global, site: &SiteName) -> Result<ChangeLines, AllocError>
-        ensures { IfOk result (λ lines. lines ≡ spec.shown_lines self.now site.now) }
+        ensures shown { IfOk result (λ lines. lines ≡ spec.shown_lines self.now site.now) }
+        ensures memory { OnErr result (spec.shown_lines self.now site.now ≢ []) }
     {
         let mut lines = Vec::new(alloc);
         let mut number = self.len();

@@ -21,7 +21,7 @@ use site_state::{Draft, Listing, State, Value};
 use std::alloc::{AllocError, Global};
 
 /// The greatest number of paths that a deploy lists.
-const MOST_FILES: usize = 10_000;
+pub const MOST_FILES: usize = 10_000;
 
 /// An open deploy of these files, as what stands in its cell.
 fn opened(files: &Listing, auto: bool) -> Result<Value, AllocError>

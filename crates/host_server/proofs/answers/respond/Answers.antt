@@ -90,6 +90,6 @@ returns-in_ok-lines-in-Changes c =
     let body = c.args.body.items in
     let asks : asked_for parts body ≡ Ok (ask.Changes c.in-Changes.site) = sym (ap (asked_for parts) c.as_slice.ensures.value) ∙ c.in_ok-ask.ensures.ok ∙ ap Ok c.in-Changes.is in
     record {
-      replied = told_changes c.args.close c.args.house.now parts body c.in-Changes.site c.in_ok-lines-in-Changes.lines c.tell-in-Changes.result asks c.tell-in-Changes.ensures.gives c.in_ok-lines-in-Changes.ensures;
+      replied = told_changes c.args.close c.args.house.now parts body c.in-Changes.site c.in_ok-lines-in-Changes.lines c.tell-in-Changes.result asks c.tell-in-Changes.ensures.gives c.in_ok-lines-in-Changes.ensures.shown;
       grows = itself c.args.house.now;
     }

@@ -1,7 +1,8 @@
 use Rattle.std.proofs.Common.{rules, ◌≡◌, ◌<◌, inl, inr, ◌-◌, Vec, Global, length, arith, sym, ap, subst, ◌∙◌}
 use Rattle.host_api.specs.declared.change_lines.ChangeLine.{ChangeLine}
 use Rattle.host_server.specs.Shown.{most_lines}
-use Rattle.host_server.proofs.Lines.{AreFound, none_found, line_found, no_line_found, all_shown}
+use Rattle.host_server.proofs.Lines.{AreFound, none_found, line_found, no_line_found, all_shown, some_shown}
+use Rattle.host_server.proofs.Opening.{on_err}
 use Rattle.host_server.proofs.houses.SoloHouse.changes.Goals.{in-Some+in_ok-push, in_default, then-entries-test+else-len-lt-MOST_LINES, else-entries-test}
 use Rattle.host_server.proofs.houses.SoloHouse.changes.Goals as goal
 
@@ -21,11 +22,16 @@ entries-preserved c =
           (sym c.line.ensures ∙ w.in_default.is))
     ]
 
-pub returns : goal.returns
-returns c =
+pub returns-clause-shown : goal.returns-clause-shown
+returns-clause-shown c =
     let host = c.args.self.now in
     let site = c.args.site.now in
     c.from.ensures ∙ c.reverse.ensures.items ∙ all_shown host site c.entries.lines.items c.entries.number c.entries.invariant (elim c.entries-test.branch [
       | then-entries-test+else-len-lt-MOST_LINES w ↦ inr (search rules)
       | else-entries-test w ↦ inl (search rules)
     ])
+
+pub returns-in_err-push-clause-memory : goal.returns-in_err-push-clause-memory
+returns-in_err-push-clause-memory c =
+    on_err c.from_residual.result (some_shown c.args.self.now c.args.site.now c.in-Some.line c.entries.number c.entries-test.true c.entries.invariant.2
+    (sym c.line.ensures ∙ c.in-Some.is))

@@ -1,0 +1,47 @@
+-- Where memory may run out, and what a host has done by then. Nothing else is answered by `OutOfMemory`.
+use Rattle.std.specs.Prelude.{◌≡◌, ◌⊎◌, ℕ, List, Bool, true, false, ◌&&◌, Option, Some, None, Ok, is_none, IsTrue}
+use Rattle.std.specs.FinMap as map
+use Rattle.host_names.specs.Blobs.{digest_of}
+use Rattle.host_names.specs.declared.digests.Digest.{Digest}
+use Rattle.host_names.specs.declared.names.SiteName.{SiteName}
+use Rattle.site_change.specs.declared.commands.Command.{Command}
+use Rattle.site_change.specs.declared.commands.Command.TheVariants.{Open, Publish}
+use Rattle.change_undo.specs.declared.entries.Entry.TheVariants.{Change}
+use Rattle.change_undo.specs.Histories.{entry_at}
+use Rattle.host_api.specs.declared.refusals.Refusal.{Refusal}
+use Rattle.host_api.specs.declared.refusals.Refusal.TheVariants.{NoSuchDeploy}
+use Rattle.host_server.specs.Hosts.{Host, next_number, with_entry, with_upload}
+use Rattle.host_server.specs.Outcomes.{is_ready, judge_upload, site_of_deploy}
+use Rattle.host_server.specs.Reasons.{commit_refusal, undo_refusal, may_take_memory}
+
+-- whether a deploy is published: it is ready, and its publishing is not refused
+abbrev pub is_published : Host → SiteName → ℕ → Bool
+is_published host site n = is_ready host site n && is_none (commit_refusal host (Publish site n))
+
+-- whether the command opens a deploy that is then published
+abbrev pub opens_published : Host → Command → Bool
+opens_published host (Open site files auto) = is_published (with_entry host (Change (Open site files auto))) site (next_number host)
+opens_published host command = false
+
+-- What a host has where a command runs out of memory, which is not refused: what was there; or the command's entry too,
+-- where a deploy is published that it opened.
+abbrev pub CommandRunsOut : Host → Command → Host → Type 0
+CommandRunsOut host command next =
+    (commit_refusal host command ≡ None)
+    × ((next ≡ host) ⊎ ((next ≡ with_entry host (Change command)) × IsTrue (opens_published host command)))
+
+-- the same of a command on a deploy, whose site is that of the entry which opened it
+abbrev pub refusal_on : Host → (SiteName → Command) → Option SiteName → Option Refusal
+refusal_on host command None = Some NoSuchDeploy
+refusal_on host command (Some site) = commit_refusal host (command site)
+
+abbrev pub deploy_refusal : Host → ℕ → (SiteName → Command) → Option Refusal
+deploy_refusal host n command = refusal_on host command (site_of_deploy (entry_at host.entries n))
+
+-- What a host has where an upload runs out of memory, whose bytes are accepted: what was there, where no file of their
+-- digest was; or the bytes too, where the deploy is published that they complete.
+abbrev pub UploadRunsOut : Host → ℕ → List ℕ → List ℕ → Host → Type 0
+UploadRunsOut host n path bytes next =
+    (at : SiteName × Digest) × (judge_upload host n path bytes ≡ Ok at)
+    × (((next ≡ host) × (map.get host.uploads (digest_of bytes) ≡ None))
+    ⊎ ((next ≡ with_upload host bytes) × IsTrue (is_published (with_upload host bytes) at.0 n)))
