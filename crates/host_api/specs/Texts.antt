@@ -1,5 +1,5 @@
 -- The JSON texts of replies: compact, members in the order of their bytes.
-use Rattle.std.specs.Prelude.{ℕ, List, [], ◌++◌, map, Option, Some, None, codes, decimal}
+use Rattle.std.specs.Prelude.{ℕ, Bool, true, false, List, [], ◌++◌, map, Option, Some, None, codes, decimal}
 use Rattle.std.specs.List.{join_with_byte}
 use Rattle.std.specs.Str.{byte}
 use Rattle.hex.specs.Hex.{encode_lower}
@@ -34,6 +34,11 @@ detail_of (NotComplete digest) = codes "\"digest\":" ++ quoted (encode_lower dig
 detail_of (DeployInUse name) = codes "\"alias\":" ++ quoted name.0 ++ codes ","
 detail_of (Clash change cell) = codes "\"cell\":" ++ compact_text (string (cell_text cell)) ++ codes ",\"change\":" ++ decimal change ++ codes ","
 detail_of refusal = codes ""
+
+-- whether the text of a refusal names a cell; the others take no memory
+abbrev pub has_cell : Refusal → Bool
+has_cell (Clash change cell) = true
+has_cell refusal = false
 
 abbrev pub opened_text : ℕ → Option ℕ → List Digest → List ℕ
 opened_text id published required =

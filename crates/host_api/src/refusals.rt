@@ -60,74 +60,66 @@ pub enum Refusal {
     NotSatisfiable(u64),
 }
 
+/// What a reply says of a reason: the name, and the status code (RFC 9110, section 15).
+#[derive(Clone, Copy)]
+struct Shown {
+    name: &'static str,
+    status: StatusCode,
+}
+
 impl Refusal {
-    ghost use Rattle.std.specs.Prelude.{◌≡◌};
+    ghost use Rattle.std.specs.Prelude.{◌≡◌, ◌≤◌, length};
     ghost use Rattle.host_api.specs.Refusals.{name_of, status_of};
+
+    // What a reply says of it.
+    fn shown(&self) -> Shown
+        ensures name { result.name.now ≡ name_of self.now }
+        ensures short { length result.name.now ≤ 14 }
+        ensures status { result.status ≡ status_of self.now }
+    {
+        let (name, status) = match self {
+            Refusal::NoSuchDraft => ("NoSuchDraft", StatusCode::NOT_FOUND),
+            Refusal::NotComplete(_) => ("NotComplete", StatusCode::CONFLICT),
+            Refusal::NoSuchDeploy => ("NoSuchDeploy", StatusCode::NOT_FOUND),
+            Refusal::NoSuchFile => ("NoSuchFile", StatusCode::NOT_FOUND),
+            Refusal::PathTaken => ("PathTaken", StatusCode::CONFLICT),
+            Refusal::SamePath => ("SamePath", StatusCode::CONFLICT),
+            Refusal::NoSuchAlias => ("NoSuchAlias", StatusCode::NOT_FOUND),
+            Refusal::DeployInUse(_) => ("DeployInUse", StatusCode::CONFLICT),
+            Refusal::TooManyFiles => ("TooManyFiles", StatusCode::PAYLOAD_TOO_LARGE),
+            Refusal::HistoryFull => ("HistoryFull", StatusCode::INSUFFICIENT_STORAGE),
+            Refusal::NoSuchChange => ("NoSuchChange", StatusCode::NOT_FOUND),
+            Refusal::NotAChange => ("NotAChange", StatusCode::CONFLICT),
+            Refusal::AlreadyUndone => ("AlreadyUndone", StatusCode::CONFLICT),
+            Refusal::Clash { .. } => ("Clash", StatusCode::CONFLICT),
+            Refusal::BadName => ("BadName", StatusCode::BAD_REQUEST),
+            Refusal::BadPath => ("BadPath", StatusCode::BAD_REQUEST),
+            Refusal::BadDigest => ("BadDigest", StatusCode::BAD_REQUEST),
+            Refusal::BadBody => ("BadBody", StatusCode::BAD_REQUEST),
+            Refusal::NotListed => ("NotListed", StatusCode::NOT_FOUND),
+            Refusal::WrongDigest => ("WrongDigest", StatusCode::UNPROCESSABLE_ENTITY),
+            Refusal::OutOfMemory => ("OutOfMemory", StatusCode::SERVICE_UNAVAILABLE),
+            Refusal::NoRoute => ("NoRoute", StatusCode::NOT_FOUND),
+            Refusal::BadMethod(_) => ("BadMethod", StatusCode::METHOD_NOT_ALLOWED),
+            Refusal::BadHead => ("BadHead", StatusCode::BAD_REQUEST),
+            Refusal::NotSatisfiable(_) => ("NotSatisfiable", StatusCode::RANGE_NOT_SATISFIABLE),
+        };
+        Shown { name, status }
+    }
 
     /// The name that a reply gives to it.
     pub fn name(&self) -> &'static str
-        ensures { result.now ≡ name_of self.now }
+        ensures value { result.now ≡ name_of self.now }
+        ensures short { length result.now ≤ 14 }
     {
-        match self {
-            Refusal::NoSuchDraft => "NoSuchDraft",
-            Refusal::NotComplete(_) => "NotComplete",
-            Refusal::NoSuchDeploy => "NoSuchDeploy",
-            Refusal::NoSuchFile => "NoSuchFile",
-            Refusal::PathTaken => "PathTaken",
-            Refusal::SamePath => "SamePath",
-            Refusal::NoSuchAlias => "NoSuchAlias",
-            Refusal::DeployInUse(_) => "DeployInUse",
-            Refusal::TooManyFiles => "TooManyFiles",
-            Refusal::HistoryFull => "HistoryFull",
-            Refusal::NoSuchChange => "NoSuchChange",
-            Refusal::NotAChange => "NotAChange",
-            Refusal::AlreadyUndone => "AlreadyUndone",
-            Refusal::Clash { .. } => "Clash",
-            Refusal::BadName => "BadName",
-            Refusal::BadPath => "BadPath",
-            Refusal::BadDigest => "BadDigest",
-            Refusal::BadBody => "BadBody",
-            Refusal::NotListed => "NotListed",
-            Refusal::WrongDigest => "WrongDigest",
-            Refusal::OutOfMemory => "OutOfMemory",
-            Refusal::NoRoute => "NoRoute",
-            Refusal::BadMethod(_) => "BadMethod",
-            Refusal::BadHead => "BadHead",
-            Refusal::NotSatisfiable(_) => "NotSatisfiable",
-        }
+        self.shown().name
     }
 
     /// The status code of the reply (RFC 9110, section 15).
     pub fn status(&self) -> StatusCode
         ensures { result ≡ status_of self.now }
     {
-        match self {
-            Refusal::BadName
-            | Refusal::BadPath
-            | Refusal::BadDigest
-            | Refusal::BadBody
-            | Refusal::BadHead => StatusCode::BAD_REQUEST,
-            Refusal::NoSuchDraft
-            | Refusal::NoSuchDeploy
-            | Refusal::NoSuchFile
-            | Refusal::NoSuchAlias
-            | Refusal::NoSuchChange
-            | Refusal::NotListed
-            | Refusal::NoRoute => StatusCode::NOT_FOUND,
-            Refusal::BadMethod(_) => StatusCode::METHOD_NOT_ALLOWED,
-            Refusal::NotComplete(_)
-            | Refusal::PathTaken
-            | Refusal::SamePath
-            | Refusal::DeployInUse(_)
-            | Refusal::NotAChange
-            | Refusal::AlreadyUndone
-            | Refusal::Clash { .. } => StatusCode::CONFLICT,
-            Refusal::TooManyFiles => StatusCode::PAYLOAD_TOO_LARGE,
-            Refusal::NotSatisfiable(_) => StatusCode::RANGE_NOT_SATISFIABLE,
-            Refusal::WrongDigest => StatusCode::UNPROCESSABLE_ENTITY,
-            Refusal::OutOfMemory => StatusCode::SERVICE_UNAVAILABLE,
-            Refusal::HistoryFull => StatusCode::INSUFFICIENT_STORAGE,
-        }
+        self.shown().status
     }
 }
 
