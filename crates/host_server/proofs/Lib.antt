@@ -1,4 +1,4 @@
-pub mod Leaving
+pub mod Telling
 mod Memory
 pub mod Kept
 pub mod Refusing

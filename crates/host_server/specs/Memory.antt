@@ -1,5 +1,5 @@
--- Where memory may run out, and what a host has done by then. Nothing else is answered by `OutOfMemory`.
-use Rattle.std.specs.Prelude.{◌≡◌, ◌⊎◌, ℕ, List, Bool, true, false, ◌&&◌, Option, Some, None, Ok, is_none, IsTrue}
+-- Where memory may run out, and what a host has by then. Nothing else is answered by `OutOfMemory`.
+use Rattle.std.specs.Prelude.{◌≡◌, ◌⊎◌, ℕ, List, Bool, true, false, ◌&&◌, ◌||◌, Option, Some, None, Result, Ok, Err, is_none, IsTrue}
 use Rattle.std.specs.FinMap as map
 use Rattle.host_names.specs.Blobs.{digest_of}
 use Rattle.host_names.specs.declared.digests.Digest.{Digest}
@@ -8,10 +8,18 @@ use Rattle.site_change.specs.declared.commands.Command.{Command}
 use Rattle.site_change.specs.declared.commands.Command.TheVariants.{Open, Publish}
 use Rattle.change_undo.specs.declared.entries.Entry.TheVariants.{Change}
 use Rattle.change_undo.specs.Histories.{entry_at}
+use Rattle.http_wire.specs.Requests.{RequestParts}
+use Rattle.host_api.specs.Bodies.{is_parsed}
+use Rattle.host_api.specs.Routes.{routed, takes_path}
+use Rattle.host_api.specs.Targets.{path_of}
+use Rattle.host_api.specs.Texts.{has_cell}
 use Rattle.host_api.specs.declared.refusals.Refusal.{Refusal}
 use Rattle.host_api.specs.declared.refusals.Refusal.TheVariants.{NoSuchDeploy}
+use Rattle.host_api.specs.declared.routes.Route.{Route}
+use Rattle.host_api.specs.declared.texts.Told.{Told}
+use Rattle.host_api.specs.declared.texts.Told.TheVariants.{Refused}
 use Rattle.host_server.specs.Hosts.{Host, next_number, with_entry, with_upload}
-use Rattle.host_server.specs.Outcomes.{is_ready, judge_upload, site_of_deploy}
+use Rattle.host_server.specs.Outcomes.{Outcome, is_ready, judge_upload, site_of_deploy}
 use Rattle.host_server.specs.Reasons.{commit_refusal, undo_refusal, may_take_memory}
 
 -- whether a deploy is published: it is ready, and its publishing is not refused
@@ -45,3 +53,30 @@ UploadRunsOut host n path bytes next =
     (at : SiteName × Digest) × (judge_upload host n path bytes ≡ Ok at)
     × (((next ≡ host) × (map.get host.uploads (digest_of bytes) ≡ None))
     ⊎ ((next ≡ with_upload host bytes) × IsTrue (is_published (with_upload host bytes) at.0 n)))
+
+abbrev pub UndoRunsOut : Host → SiteName → ℕ → Host → Type 0
+UndoRunsOut host site k next = (next ≡ host) × IsTrue (may_take_memory (undo_refusal host site k))
+
+abbrev pub DeployRunsOut : Host → ℕ → (SiteName → Command) → Host → Type 0
+DeployRunsOut host n command next = (next ≡ host) × (deploy_refusal host n command ≡ None)
+
+-- ---- the texts of replies
+
+-- whether the text takes memory: that of a refusal does so only where it names a cell
+abbrev pub takes_text : Told → Bool
+takes_text (Refused refusal) = has_cell refusal
+takes_text told = true
+
+-- all is done, and there is no memory for the text that tells it
+abbrev pub TextRunsOut : Outcome → Host → Type 0
+TextRunsOut out next = (next ≡ out.host) × IsTrue (takes_text out.told)
+
+-- ---- what a request asks for
+
+-- whether it takes memory to find what a request on this route asks for: the path of a file, or the body
+abbrev pub route_takes : List ℕ → List ℕ → Result Route Refusal → Bool
+route_takes path body (Err refusal) = takes_path path (Err refusal)
+route_takes path body (Ok route) = takes_path path (Ok route) || is_parsed route body
+
+abbrev pub asking_takes : RequestParts → List ℕ → Bool
+asking_takes parts body = route_takes (path_of parts.target) body (routed parts.method parts.target)

@@ -19,7 +19,7 @@ use Rattle.host_api.specs.declared.refusals.Refusal.TheVariants.{NoSuchDeploy, N
 use Rattle.host_api.specs.declared.texts.Told.{Told}
 use Rattle.host_api.specs.declared.texts.Told.TheVariants.{Opened, Uploaded, Entered, Refused}
 use Rattle.host_server.specs.Hosts.{Host, state_of, next_number, with_entry, with_upload}
-use Rattle.host_server.specs.Reasons.{commit_refusal, undo_refusal}
+use Rattle.host_server.specs.Reasons.{commit_refusal}
 
 -- what the host tells, and what it has then
 pub record Outcome : Type 0 where
@@ -147,7 +147,7 @@ uploaded host n bytes (Err reason) = refused host reason
 abbrev pub upload_outcome : Host → ℕ → List ℕ → List ℕ → Outcome
 upload_outcome host n path bytes = uploaded host n bytes (judge_upload host n path bytes)
 
--- ---- where memory gives out
+-- ---- what is done first
 
 -- the entry of the command alone, without that which publishes what it opened
 abbrev pub entered : Host → Command → Option Refusal → Host
@@ -158,26 +158,6 @@ entered host command None = with_entry host (Change command)
 abbrev pub kept : Host → List ℕ → Result (SiteName × Digest) Refusal → Host
 kept host bytes (Ok at) = with_upload host bytes
 kept host bytes (Err reason) = host
-
--- A command may leave what was there, or its entry alone, or all that it does, whatever digests are told as required.
-abbrev pub CommandMayLeave : Host → Command → Host → Type 0
-CommandMayLeave host command next =
-    (next ≡ host)
-    ⊎ (next ≡ entered host command (commit_refusal host command))
-    ⊎ (next ≡ (commit_outcome host command [] (commit_refusal host command)).host)
-
-abbrev pub UndoMayLeave : Host → SiteName → ℕ → Host → Type 0
-UndoMayLeave host site k next = (next ≡ host) ⊎ (next ≡ (undone host site k (undo_refusal host site k)).host)
-
-abbrev pub DeployMayLeave : Host → ℕ → (SiteName → Command) → Host → Type 0
-DeployMayLeave host n command next = (next ≡ host) ⊎ (next ≡ (deploy_outcome host n command).host)
-
--- An upload may leave what was there, or its bytes alone, or all that it does.
-abbrev pub UploadMayLeave : Host → ℕ → List ℕ → List ℕ → Host → Type 0
-UploadMayLeave host n path bytes next =
-    (next ≡ host)
-    ⊎ (next ≡ kept host bytes (judge_upload host n path bytes))
-    ⊎ (next ≡ (upload_outcome host n path bytes).host)
 
 -- ---- answers of calls
 

@@ -117,10 +117,15 @@ fn read_request<S: Source>(
 }
 
 /// Sends a reply.
-fn send<W: Sink>(sink: &mut W, reply: Reply, head_only: bool) -> Result<(), ConnectionFault>
-    ensures { Sends W.may_fail result (sent_text head_only (answer_of reply)) (W.held sink.old) (W.held sink.new) }
+fn send<W: Sink>(
+    sink: &mut W,
+    reply: Reply,
+    close: bool,
+    head_only: bool,
+) -> Result<(), ConnectionFault>
+    ensures { Sends W.may_fail result (sent_text close head_only (answer_of reply)) (W.held sink.old) (W.held sink.new) }
 {
-    match reply.send(sink, head_only) {
+    match reply.send(sink, close, head_only) {
         Ok(()) => Ok(()),
         Err(_) => Err(ConnectionFault::OutputFault),
     }
@@ -133,8 +138,8 @@ fn refuse<W: Sink>(sink: &mut W, stop: Stop) -> Result<(), ConnectionFault>
     match stop {
         Stop::Ended => Ok(()),
         Stop::ReadFault => Err(ConnectionFault::InputFault),
-        Stop::BadHead { head_only } => send(sink, Reply::bad_head(), head_only),
-        Stop::OutOfMemory { head_only } => send(sink, Reply::out_of_memory(true), head_only),
+        Stop::BadHead { head_only } => send(sink, Reply::bad_head(), true, head_only),
+        Stop::OutOfMemory { head_only } => send(sink, Reply::out_of_memory(), true, head_only),
     }
 }
 
@@ -152,7 +157,7 @@ fn exchange<W: Sink>(
     let head_only = is_head_only(&request.head);
     let close = request.closes();
     let reply = answer(alloc, request, house);
-    send(sink, reply, head_only)?;
+    send(sink, reply, close, head_only)?;
     if close {
         Ok(Next::End)
     } else {

@@ -1,5 +1,6 @@
 //! The files of the versions of a site.
-ghost use Rattle.std.specs.Prelude.{◌≡◌, Ok, Err, IfOk, IfErr};
+ghost use Rattle.std.specs.Prelude.{◌≡◌, false, Ok, Err, IfOk, IfErr};
+ghost use Rattle.host_api.specs.Texts.{has_cell};
 ghost use Rattle.host_server.specs.Hosts.{state_of};
 ghost use Rattle.host_server.specs.Versions as spec;
 ghost use Rattle.site_state.specs.States.{kept_at};
@@ -14,6 +15,7 @@ impl SoloHouse {
     fn kept_file(&self, site: &SiteName, deploy: u64, path: &FilePath) -> Result<&File, Refusal>
         ensures found { IfOk result (λ file. spec.kept_file (kept_at (state_of self.now) site.now deploy) path.now ≡ Ok file.now) }
         ensures refused { IfErr result (λ refusal. spec.kept_file (kept_at (state_of self.now) site.now deploy) path.now ≡ Err refusal) }
+        ensures plain { IfErr result (λ refusal. has_cell refusal ≡ false) }
     {
         let Some(tree) = self.state().kept(site, deploy) else {
             return Err(Refusal::NoSuchDeploy);
@@ -30,6 +32,7 @@ impl SoloHouse {
     ) -> Result<&File, Refusal>
         ensures found { IfOk result (λ file. spec.file_of (state_of self.now) site.now version.now path.now ≡ Ok file.now) }
         ensures refused { IfErr result (λ refusal. spec.file_of (state_of self.now) site.now version.now path.now ≡ Err refusal) }
+        ensures plain { IfErr result (λ refusal. has_cell refusal ≡ false) }
     {
         match version {
             Version::Live => self.state().file(site, path).ok_or(Refusal::NoSuchFile),

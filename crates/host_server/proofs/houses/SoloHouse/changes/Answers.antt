@@ -1,4 +1,4 @@
-use Rattle.std.proofs.Common.{rules, ◌≡◌, ◌<◌, inl, inr, ◌-◌, Vec, Global, length, arith, sym, ap, subst, ◌∙◌}
+use Rattle.std.proofs.Common.{rules, ◌<◌, inl, inr, ◌-◌, Vec, Global, length, sym, ap, subst, ◌∙◌}
 use Rattle.host_api.specs.declared.change_lines.ChangeLine.{ChangeLine}
 use Rattle.host_server.specs.Shown.{most_lines}
 use Rattle.host_server.proofs.Lines.{AreFound, none_found, line_found, no_line_found, all_shown, some_shown}
