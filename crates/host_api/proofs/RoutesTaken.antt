@@ -7,9 +7,9 @@ use Rattle.host_names.specs.declared.names.SiteName.{SiteName}
 use Rattle.host_names.specs.declared.paths.PathError.{PathError}
 use Rattle.host_names.specs.declared.paths.PathError.TheVariants as path_error
 use Rattle.host_api.specs.Numbers.{number_of}
-use Rattle.host_api.specs.Patterns.{site_on, alias_on, routed_alike, GivesRoute}
+use Rattle.host_api.specs.Patterns.{site_on, alias_on, routed_alike, KeepsPath, GivesRoute}
 use Rattle.host_api.specs.Refusals.{of_path}
-use Rattle.host_api.specs.Routes.{rows, found_in, has_method, misnames, route_to, routed_at, routed_by, routed, takes_path, to_file, site_in, alias_in}
+use Rattle.host_api.specs.Routes.{rows, found_in, has_method, misnames, route_to, routed_at, routed_by, routed, has_path, to_file, site_in, alias_in}
 use Rattle.host_api.specs.Targets.{Bindings, path_of, has_hash, read_path, written_path}
 use Rattle.host_api.specs.declared.refusals.Refusal.{Refusal}
 use Rattle.host_api.specs.declared.refusals.Refusal.TheVariants.{BadMethod, BadName, BadPath, OutOfMemory}
@@ -82,62 +82,53 @@ abbrev pub route_by : (List ℕ → Route) → Result (List ℕ) PathError → R
 route_by make (Ok file) = Ok (make file)
 route_by make (Err error) = Err (of_path error)
 
--- a path that was to be read, whether it is one or not
-file_takes : (text : List ℕ) (make : List ℕ → Route) (path : Option (List ℕ)) → has_hash text ≡ false
-    → ((file : List ℕ) → takes_path text (Ok (make file)) ≡ true) → takes_path text (to_file make path) ≡ true
-file_takes text make None none takes = rw none refl
-file_takes text make (Some file) none takes = takes file
-
-gives : (text : List ℕ) (make : List ℕ → Route) (path : Option (List ℕ)) (read : Result (List ℕ) PathError) → has_hash text ≡ false
-    → ((file : List ℕ) → takes_path text (Ok (make file)) ≡ true)
-    → IfOk read (λ file. path ≡ Some file) → (IsErrOf read path_error.BadPath → path ≡ None)
-    → GivesRoute text (route_by make read) (to_file make path)
-gives text make path (Ok file) none takes ok bad = inl (sym (ap (to_file make) ok))
-gives text make path (Err path_error.BadPath) none takes ok bad = inl (sym (ap (to_file make) (bad refl)))
-gives text make path (Err path_error.OutOfMemory) none takes ok bad = inr (refl, file_takes text make path none takes)
+gives : (make : List ℕ → Route) (path : Option (List ℕ)) (read : Result (List ℕ) PathError)
+    → ((file : List ℕ) → has_path (Ok (make file)) ≡ true) → KeepsPath path read → GivesRoute (route_by make read) (to_file make path)
+gives make None read takes h = inl (ap (route_by make) h)
+gives make (Some path) read takes (inl e) = inl (ap (route_by make) e)
+gives make (Some path) read takes (inr e) = inr (ap (route_by make) e, takes path)
 
 -- the same behind the test of names
-gives_behind : {A : Type 0} (text : List ℕ) (make : A → List ℕ → Route) (path : Option (List ℕ)) (bad hash : Bool) (named found : A) (read : Result (List ℕ) PathError)
-    → has_hash text ≡ hash → ((a : A) (file : List ℕ) → takes_path text (Ok (make a file)) ≡ true) → tested bad hash named ≡ Ok found
-    → IfOk read (λ file. path ≡ Some file) → (IsErrOf read path_error.BadPath → path ≡ None)
-    → GivesRoute text (route_by (make found) read) (behind bad hash (to_file (make named) path))
-gives_behind text make path true hash named found read is takes h ok bad = absurd (cc h)
-gives_behind text make path false true named found read is takes h ok bad = absurd (cc h)
-gives_behind text make path false false named found read is takes h ok bad =
-    subst (λ a. GivesRoute text (route_by (make a) read) (to_file (make named) path)) (sym (named_so false false named found h))
-    (gives text (make named) path read is (takes named) ok bad)
+gives_behind : {A : Type 0} (make : A → List ℕ → Route) (path : Option (List ℕ)) (bad hash : Bool) (named found : A) (read : Result (List ℕ) PathError)
+    → ((a : A) (file : List ℕ) → has_path (Ok (make a file)) ≡ true) → tested bad hash named ≡ Ok found → KeepsPath path read
+    → GivesRoute (route_by (make found) read) (behind bad hash (to_file (make named) path))
+gives_behind make path true hash named found read takes h keeps = absurd (cc h)
+gives_behind make path false true named found read takes h keeps = absurd (cc h)
+gives_behind make path false false named found read takes h keeps =
+    subst (λ a. GivesRoute (route_by (make a) read) (to_file (make named) path)) (sym (named_so false false named found h))
+    (gives (make named) path read (takes named) keeps)
 
 pub live_read : (path : List ℕ) (b : Bindings) (site : SiteName) (read : Result (List ℕ) PathError) → site_on path b.site_text ≡ Ok site
-    → IfOk read (λ file. read_path b.rest ≡ Some file) → (IsErrOf read path_error.BadPath → read_path b.rest ≡ None)
-    → GivesRoute path (route_by (route.Read site version.Live) read) (routed_alike path resource.LiveFile b)
+    → KeepsPath (read_path b.rest) read
+    → GivesRoute (route_by (route.Read site version.Live) read) (routed_alike path resource.LiveFile b)
 live_read path b site read h =
-    gives_behind path (λ s. route.Read s version.Live) (read_path b.rest) _ (has_hash path) (site_in b) site read refl (λ _ _. refl) h
+    gives_behind (λ s. route.Read s version.Live) (read_path b.rest) _ (has_hash path) (site_in b) site read (λ _ _. refl) h
 
 pub alias_read : (path : List ℕ) (b : Bindings) (site : SiteName) (name : AliasName) (read : Result (List ℕ) PathError) → alias_on path b.site_text b.alias_text ≡ Ok (site, name)
-    → IfOk read (λ file. read_path b.rest ≡ Some file) → (IsErrOf read path_error.BadPath → read_path b.rest ≡ None)
-    → GivesRoute path (route_by (route.Read site (version.Alias name)) read) (routed_alike path resource.AliasFile b)
+    → KeepsPath (read_path b.rest) read
+    → GivesRoute (route_by (route.Read site (version.Alias name)) read) (routed_alike path resource.AliasFile b)
 alias_read path b site name read h =
-    gives_behind path (λ (both : SiteName × AliasName). route.Read both.0 (version.Alias both.1)) (read_path b.rest) _ (has_hash path) (site_in b, alias_in b) (site, name) read refl
+    gives_behind (λ (both : SiteName × AliasName). route.Read both.0 (version.Alias both.1)) (read_path b.rest) _ (has_hash path) (site_in b, alias_in b) (site, name) read
     (λ _ _. refl) h
 
 pub kept_read : (path : List ℕ) (b : Bindings) (site : SiteName) (deploy : ℕ) (read : Result (List ℕ) PathError) → deploy ≡ number_of b.number_text → site_on path b.site_text ≡ Ok site
-    → IfOk read (λ file. read_path b.rest ≡ Some file) → (IsErrOf read path_error.BadPath → read_path b.rest ≡ None)
-    → GivesRoute path (route_by (route.Read site (version.Kept deploy)) read) (routed_alike path resource.KeptFile b)
-kept_read path b site deploy read is h ok bad =
-    subst (λ n. GivesRoute path (route_by (route.Read site (version.Kept n)) read) (routed_alike path resource.KeptFile b)) (sym is)
-    (gives_behind path (λ s. route.Read s (version.Kept (number_of b.number_text))) (read_path b.rest) _ (has_hash path) (site_in b) site read refl (λ _ _. refl) h ok bad)
+    → KeepsPath (read_path b.rest) read
+    → GivesRoute (route_by (route.Read site (version.Kept deploy)) read) (routed_alike path resource.KeptFile b)
+kept_read path b site deploy read is h keeps =
+    subst (λ n. GivesRoute (route_by (route.Read site (version.Kept n)) read) (routed_alike path resource.KeptFile b)) (sym is)
+    (gives_behind (λ s. route.Read s (version.Kept (number_of b.number_text))) (read_path b.rest) _ (has_hash path) (site_in b) site read (λ _ _. refl) h keeps)
 
 pub site_file_written : (path : List ℕ) (b : Bindings) (site : SiteName) (written : Result (List ℕ) PathError) → site_on path b.site_text ≡ Ok site
-    → IfOk written (λ file. written_path b.rest ≡ Some file) → (IsErrOf written path_error.BadPath → written_path b.rest ≡ None)
-    → GivesRoute path (route_by (route.Remove site) written) (routed_alike path resource.SiteFile b)
+    → KeepsPath (written_path b.rest) written
+    → GivesRoute (route_by (route.Remove site) written) (routed_alike path resource.SiteFile b)
 site_file_written path b site written h =
-    gives_behind path route.Remove (written_path b.rest) _ (has_hash path) (site_in b) site written refl (λ _ _. refl) h
+    gives_behind route.Remove (written_path b.rest) _ (has_hash path) (site_in b) site written (λ _ _. refl) h
 
 pub deploy_file_written : (path : List ℕ) (b : Bindings) (deploy : ℕ) (written : Result (List ℕ) PathError) → deploy ≡ number_of b.number_text → has_hash path ≡ false
-    → IfOk written (λ file. written_path b.rest ≡ Some file) → (IsErrOf written path_error.BadPath → written_path b.rest ≡ None)
-    → GivesRoute path (route_by (route.Upload deploy) written) (routed_alike path resource.DeployFile b)
+    → KeepsPath (written_path b.rest) written
+    → GivesRoute (route_by (route.Upload deploy) written) (routed_alike path resource.DeployFile b)
 deploy_file_written path b deploy written is none =
-    gives_behind path route.Upload (written_path b.rest) false (has_hash path) (number_of b.number_text) deploy written refl (λ _ _. refl) (rw none (ap Ok (sym is)))
+    gives_behind route.Upload (written_path b.rest) false (has_hash path) (number_of b.number_text) deploy written (λ _ _. refl) (rw none (ap Ok (sym is)))
 
 -- ---- what is known of a route
 
@@ -171,23 +162,23 @@ route_no_memory resource.Cancel method b h = cc h
 route_no_memory resource.DeployFile method b h = file_no_memory _ _ h
 
 -- what the taking of a route gives, by what it answers
-pub record Given (path : List ℕ) (result routed : Result Route Refusal) : Type 0 where
+pub record Given (result routed : Result Route Refusal) : Type 0 where
   pub ok : IfOk result (λ taken. routed ≡ Ok taken)
   pub refused : IfErr result (λ reason. reason ≢ OutOfMemory → routed ≡ Err reason)
-  pub memory : IsErrOf result OutOfMemory → IsTrue (takes_path path routed)
+  pub memory : IsErrOf result OutOfMemory → IsTrue (has_path routed)
 
-given : (path : List ℕ) (result routed : Result Route Refusal) → (routed ≡ Err OutOfMemory → ⊥) → GivesRoute path result routed → Given path result routed
-given path (Ok taken) routed never (inl is) = record { ok = sym is; refused = tt; memory = λ e. absurd (cc e) }
-given path (Ok taken) routed never (inr none) = absurd (cc (none.0))
-given path (Err reason) routed never (inl is) = record { ok = tt; refused = λ _. sym is; memory = λ e. absurd (never (sym is ∙ e)) }
-given path (Err reason) routed never (inr none) = record { ok = tt; refused = λ other. absurd (other (cc (none.0))); memory = λ _. none.1 }
+given : (result routed : Result Route Refusal) → (routed ≡ Err OutOfMemory → ⊥) → GivesRoute result routed → Given result routed
+given (Ok taken) routed never (inl is) = record { ok = sym is; refused = tt; memory = λ e. absurd (cc e) }
+given (Ok taken) routed never (inr none) = absurd (cc (none.0))
+given (Err reason) routed never (inl is) = record { ok = tt; refused = λ _. sym is; memory = λ e. absurd (never (sym is ∙ e)) }
+given (Err reason) routed never (inr none) = record { ok = tt; refused = λ other. absurd (other (cc (none.0))); memory = λ _. none.1 }
 
 -- the route of a request whose path fits a pattern, and whose method the resource has
 pub found_route : (method target path : List ℕ) (r : Resource) (b : Bindings) (result : Result Route Refusal) → path ≡ path_of target → found_in rows path ≡ Some (r, b)
-    → has_method r method ≡ true → GivesRoute path result (routed_at method path r b) → Given (path_of target) result (routed method target)
+    → has_method r method ≡ true → GivesRoute result (routed_at method path r b) → Given result (routed method target)
 unfolding routed
 found_route method target path r b result is found known gave =
     let at : routed method target ≡ routed_at method path r b =
     ap (λ p. routed_by method p (found_in rows p)) (sym is) ∙ ap (routed_by method path) found ∙ ap (λ h. cond (not h) (Err (BadMethod r)) (routed_at method path r b)) known in
-    let here = given path result (routed_at method path r b) (λ h. behind_no_memory _ _ _ (route_no_memory r method b) h) gave in
-    subst (λ p. Given p result (routed method target)) is (subst (Given path result) (sym at) here)
+    let here = given result (routed_at method path r b) (λ h. behind_no_memory _ _ _ (route_no_memory r method b) h) gave in
+    subst (Given result) (sym at) here

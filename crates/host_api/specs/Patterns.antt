@@ -5,7 +5,10 @@ use Rattle.host_api.specs.Targets.{Part, word, site, alias, number, Bindings, wi
 use Rattle.host_names.specs.Name.{is_name}
 use Rattle.host_names.specs.declared.names.AliasName.{AliasName}
 use Rattle.host_names.specs.declared.names.SiteName.{SiteName}
-use Rattle.host_api.specs.Routes.{Row, routed_at, takes_path}
+use Rattle.host_names.specs.declared.paths.PathError.{PathError}
+use Rattle.host_names.specs.declared.paths.PathError.TheVariants as path_error
+use Rattle.std.specs.List.{list_any}
+use Rattle.host_api.specs.Routes.{Row, routed_at, has_path}
 use Rattle.host_api.specs.declared.refusals.Refusal.{Refusal}
 use Rattle.host_api.specs.declared.refusals.Refusal.TheVariants.{BadName, BadPath, OutOfMemory}
 use Rattle.host_api.specs.declared.resources.Resource.{Resource}
@@ -54,6 +57,15 @@ abbrev pub is_rest : List ℕ → Bool
 is_rest [] = true
 is_rest (b ∷ text) = b == byte "/"
 
+-- whether an escape may stand in the text
+abbrev pub has_percent : List ℕ → Bool
+has_percent text = list_any (λ b. b == byte "%") text
+
+-- what is kept is that path, or there was no memory for it; where there is none, it is a bad path
+abbrev pub KeepsPath : Option (List ℕ) → Result (List ℕ) PathError → Type 0
+KeepsPath None result = result ≡ Err path_error.BadPath
+KeepsPath (Some path) result = (result ≡ Ok path) ⊎ (result ≡ Err path_error.OutOfMemory)
+
 -- the site of a name on a path, or the first reason why there is none
 abbrev pub site_on : List ℕ → List ℕ → Result SiteName Refusal
 site_on path name =
@@ -72,6 +84,6 @@ alias_on path name alias_name =
 abbrev pub routed_alike : List ℕ → Resource → Bindings → Result Route Refusal
 routed_alike path r bindings = routed_at [] path r bindings
 
--- the route is that one, or the first reason why there is none; or there was no memory for the path of a file
-abbrev pub GivesRoute : List ℕ → Result Route Refusal → Result Route Refusal → Type 0
-GivesRoute path result routed = (result ≡ routed) ⊎ ((result ≡ Err OutOfMemory) × IsTrue (takes_path path routed))
+-- the route is that one, or the first reason why there is none; or there was no memory for its path
+abbrev pub GivesRoute : Result Route Refusal → Result Route Refusal → Type 0
+GivesRoute result routed = (result ≡ routed) ⊎ ((result ≡ Err OutOfMemory) × IsTrue (has_path routed))

@@ -144,10 +144,9 @@ routed_by method path (Some (r, bindings)) =
 unfoldable pub routed : List ℕ → List ℕ → Result Route Refusal
 routed method target = routed_by method (path_of target) (found_in rows (path_of target))
 
--- whether the path of a file was to be read: what comes before that, as the test for `#`, takes no memory
-abbrev pub takes_path : List ℕ → Result Route Refusal → Bool
-takes_path path (Ok (route.Read name at file)) = true
-takes_path path (Ok (route.Remove name file)) = true
-takes_path path (Ok (route.Upload deploy file)) = true
-takes_path path (Err BadPath) = not (has_hash path)
-takes_path path other = false
+-- whether there is a route and it has the path of a file, which takes memory
+abbrev pub has_path : Result Route Refusal → Bool
+has_path (Ok (route.Read name version path)) = true
+has_path (Ok (route.Remove name path)) = true
+has_path (Ok (route.Upload deploy path)) = true
+has_path other = false

@@ -1,8 +1,7 @@
 //! Which route a request takes.
 ghost use Rattle.std.specs.Prelude.{◌≡◌, ◌≢◌, Ok, Err, IsTrue, IfOk, IfErr, IsErrOf};
-ghost use Rattle.host_api.specs.Routes.{routed, takes_path};
+ghost use Rattle.host_api.specs.Routes.{routed, has_path};
 ghost use Rattle.host_api.specs.Routes as spec;
-ghost use Rattle.host_api.specs.Targets as targets;
 ghost use Rattle.host_api.specs.Patterns.{bindings_of, is_rest, site_on, alias_on, routed_alike, GivesRoute};
 
 use crate::numbers::number_of;
@@ -112,7 +111,7 @@ fn alias_of(name: &str, alias: &str, path: &str) -> Result<(SiteName, AliasName)
 // The reading of a live file.
 fn live_file(alloc: Global, path: &str, bindings: Bindings<'_>) -> Result<Route, Refusal>
     requires { IsTrue (is_rest bindings.rest.now) }
-    ensures { GivesRoute path.now result (routed_alike path.now Resource.LiveFile (bindings_of bindings.entry)) }
+    ensures { GivesRoute result (routed_alike path.now Resource.LiveFile (bindings_of bindings.entry)) }
 {
     let site = site_of(bindings.site, path)?;
     let path = read_path(alloc, bindings.rest)?;
@@ -126,7 +125,7 @@ fn live_file(alloc: Global, path: &str, bindings: Bindings<'_>) -> Result<Route,
 // The reading of a file of the deploy that an alias stands for.
 fn alias_file(alloc: Global, path: &str, bindings: Bindings<'_>) -> Result<Route, Refusal>
     requires { IsTrue (is_rest bindings.rest.now) }
-    ensures { GivesRoute path.now result (routed_alike path.now Resource.AliasFile (bindings_of bindings.entry)) }
+    ensures { GivesRoute result (routed_alike path.now Resource.AliasFile (bindings_of bindings.entry)) }
 {
     let (site, alias) = alias_of(bindings.site, bindings.alias, path)?;
     let path = read_path(alloc, bindings.rest)?;
@@ -140,7 +139,7 @@ fn alias_file(alloc: Global, path: &str, bindings: Bindings<'_>) -> Result<Route
 // The reading of a file of a deploy.
 fn kept_file(alloc: Global, path: &str, bindings: Bindings<'_>) -> Result<Route, Refusal>
     requires { IsTrue (is_rest bindings.rest.now) }
-    ensures { GivesRoute path.now result (routed_alike path.now Resource.KeptFile (bindings_of bindings.entry)) }
+    ensures { GivesRoute result (routed_alike path.now Resource.KeptFile (bindings_of bindings.entry)) }
 {
     let site = site_of(bindings.site, path)?;
     let path = read_path(alloc, bindings.rest)?;
@@ -154,7 +153,7 @@ fn kept_file(alloc: Global, path: &str, bindings: Bindings<'_>) -> Result<Route,
 // The removal of a file.
 fn site_file(alloc: Global, path: &str, bindings: Bindings<'_>) -> Result<Route, Refusal>
     requires { IsTrue (is_rest bindings.rest.now) }
-    ensures { GivesRoute path.now result (routed_alike path.now Resource.SiteFile (bindings_of bindings.entry)) }
+    ensures { GivesRoute result (routed_alike path.now Resource.SiteFile (bindings_of bindings.entry)) }
 {
     let site = site_of(bindings.site, path)?;
     let path = written_path(alloc, bindings.rest)?;
@@ -164,7 +163,7 @@ fn site_file(alloc: Global, path: &str, bindings: Bindings<'_>) -> Result<Route,
 // The upload of a file.
 fn deploy_file(alloc: Global, path: &str, bindings: Bindings<'_>) -> Result<Route, Refusal>
     requires { IsTrue (is_rest bindings.rest.now) }
-    ensures { GivesRoute path.now result (routed_alike path.now Resource.DeployFile (bindings_of bindings.entry)) }
+    ensures { GivesRoute result (routed_alike path.now Resource.DeployFile (bindings_of bindings.entry)) }
 {
     if has_hash(path) {
         return Err(Refusal::BadPath);
@@ -221,7 +220,7 @@ fn route_at(
     bindings: Bindings<'_>,
 ) -> Result<Route, Refusal>
     requires { IsTrue (is_rest bindings.rest.now) }
-    ensures { GivesRoute path.now result (spec.routed_at method.now path.now resource (bindings_of bindings.entry)) }
+    ensures { GivesRoute result (spec.routed_at method.now path.now resource (bindings_of bindings.entry)) }
 {
     match resource {
         Resource::LiveFile => live_file(alloc, path, bindings),
@@ -256,8 +255,7 @@ fn route_at(
 pub fn route_of(alloc: Global, method: &str, target: &str) -> Result<Route, Refusal>
     ensures ok { IfOk result (λ route. routed method.now target.now ≡ Ok route) }
     ensures refused { IfErr result (λ refusal. refusal ≢ Refusal.OutOfMemory → routed method.now target.now ≡ Err refusal) }
-    ensures memory { IsErrOf result Refusal.OutOfMemory
-        → IsTrue (takes_path (targets.path_of target.now) (routed method.now target.now)) }
+    ensures memory { IsErrOf result Refusal.OutOfMemory → IsTrue (has_path (routed method.now target.now)) }
 {
     let path = path_of(target);
     let Some((resource, bindings)) = find(path) else {

@@ -15,9 +15,9 @@ pub returns-in_err-path : goal.returns-in_err-path
 returns-in_err-path c =
     let error = c.in_err-path.field-0.0 in
     let is : c.from_residual-in_err-path.result ≡ Err (of_path error) = search rules in
-    subst (λ r. GivesRoute c.args.path.now r (routed_alike c.args.path.now LiveFile (bindings_of c.args.bindings))) (sym is)
-    (live_read c.args.path.now (bindings_of c.args.bindings) c.in_ok-site.site (Err error) (sym c.site_of.ensures ∙ c.in_ok-site.was) tt c.in_err-path.ensures.bad)
+    subst (λ r. GivesRoute r (routed_alike c.args.path.now LiveFile (bindings_of c.args.bindings))) (sym is)
+    (live_read c.args.path.now (bindings_of c.args.bindings) c.in_ok-site.site (Err error) (sym c.site_of.ensures ∙ c.in_ok-site.was) c.in_err-path.ensures)
 
 pub returns : goal.returns
 returns c =
-    live_read c.args.path.now (bindings_of c.args.bindings) c.in_ok-site.site (Ok c.in_ok-path.path) (sym c.site_of.ensures ∙ c.in_ok-site.was) c.in_ok-path.ensures.ok (λ e. absurd (cc e))
+    live_read c.args.path.now (bindings_of c.args.bindings) c.in_ok-site.site (Ok c.in_ok-path.path) (sym c.site_of.ensures ∙ c.in_ok-site.was) c.in_ok-path.ensures

@@ -1,7 +1,7 @@
 use Rattle.std.proofs.Common.{refl, ◌∙◌, ap, arith}
 use Rattle.std.proofs.lemmas.Str.Pattern.{strip_prefix_char}
 use Rattle.host_api.proofs.PathTexts.{behind}
-use Rattle.host_api.proofs.target_paths.behind_slash.Goals as goal
+use Rattle.host_api.proofs.target_paths.after_slash.Goals as goal
 
 pub returns : goal.returns
 returns c =
