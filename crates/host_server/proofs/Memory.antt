@@ -1,8 +1,7 @@
 -- Finding what a request asks for, where memory may run out.
 use Rattle.std.proofs.Common.{◌≡◌, ◌≢◌, ◌⊎◌, inl, inr, Bool, true, false, ◌||◌, List, ℕ, Result, Ok, Err, IfOk, IfErr, IsErrOf, refl, sym, ap, subst, ◌∙◌}
 use Rattle.host_api.specs.Bodies.{asked, is_parsed, then_with}
-use Rattle.host_api.specs.Routes.{routed, takes_path}
-use Rattle.host_api.specs.Targets.{path_of}
+use Rattle.host_api.specs.Routes.{routed, has_path}
 use Rattle.host_api.specs.declared.bodies.Ask.{Ask}
 use Rattle.host_api.specs.declared.refusals.Refusal.{Refusal}
 use Rattle.host_api.specs.declared.refusals.Refusal.TheVariants.{OutOfMemory}
@@ -30,24 +29,22 @@ or_true true = refl
 or_true false = refl
 
 -- the path of a file takes memory, so the route does
-path_taken : (path body : List ℕ) (route : Result Route Refusal) → takes_path path route ≡ true → route_takes path body route ≡ true
-path_taken path body (Ok route) takes = ap (λ b. b || is_parsed route body) takes
-path_taken path body (Err reason) takes = takes
+path_taken : (body : List ℕ) (route : Result Route Refusal) → has_path route ≡ true → route_takes body route ≡ true
+path_taken body (Ok route) takes = ap (λ b. b || is_parsed route body) takes
+path_taken body (Err reason) takes = takes
 
 -- the same of the body
-body_taken : (path body : List ℕ) (route : Route) → is_parsed route body ≡ true → route_takes path body (Ok route) ≡ true
-body_taken path body route parsed = ap (λ b. takes_path path (Ok route) || b) parsed ∙ or_true (takes_path path (Ok route))
+body_taken : (body : List ℕ) (route : Route) → is_parsed route body ≡ true → route_takes body (Ok route) ≡ true
+body_taken body route parsed = ap (λ b. has_path (Ok route) || b) parsed ∙ or_true (has_path (Ok route))
 
 -- no route is taken
 pub no_route : (parts : RequestParts) (method target body : List ℕ) (reason : Refusal) (result : Result Route Refusal) → method ≡ parts.method → target ≡ parts.target
     → result ≡ Err reason → (reason ≢ OutOfMemory → routed method target ≡ Err reason)
-    → (IsErrOf result OutOfMemory → takes_path (path_of target) (routed method target) ≡ true) → IsUnasked parts body reason
+    → (IsErrOf result OutOfMemory → has_path (routed method target) ≡ true) → IsUnasked parts body reason
 no_route parts method target body reason result m t is refused memory =
     let same : routed method target ≡ routed parts.method parts.target = ap (λ x. routed x target) m ∙ ap (routed parts.method) t in
-    let P : List ℕ → Type 0 = λ path. takes_path path (routed parts.method parts.target) ≡ true in
     or_refused (asking_takes parts body) reason (is_memory reason)
-    (λ none. path_taken (path_of parts.target) body (routed parts.method parts.target)
-    (subst P (ap path_of t) (sym (ap (takes_path (path_of target)) same) ∙ memory (is ∙ ap Err none))))
+    (λ none. path_taken body (routed parts.method parts.target) (sym (ap has_path same) ∙ memory (is ∙ ap Err none)))
     (λ some. ap (λ r. then_with r (λ route. asked route body)) (sym same ∙ refused some))
 
 -- a route is taken, and the body asks for something
@@ -70,5 +67,5 @@ asks_refused parts method target body route (Ok ask) m t is refused memory = tt
 asks_refused parts method target body route (Err reason) m t is refused memory =
     let at = route_asks parts method target body route m t is in
     or_refused (asking_takes parts body) reason (is_memory reason)
-    (λ none. ap (route_takes (path_of parts.target) body) at ∙ body_taken (path_of parts.target) body route (memory (ap Err none)))
+    (λ none. ap (route_takes body) at ∙ body_taken body route (memory (ap Err none)))
     (λ some. asks parts body route at ∙ refused some)

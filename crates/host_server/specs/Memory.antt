@@ -10,8 +10,7 @@ use Rattle.change_undo.specs.declared.entries.Entry.TheVariants.{Change}
 use Rattle.change_undo.specs.Histories.{entry_at}
 use Rattle.http_wire.specs.Requests.{RequestParts}
 use Rattle.host_api.specs.Bodies.{is_parsed}
-use Rattle.host_api.specs.Routes.{routed, takes_path}
-use Rattle.host_api.specs.Targets.{path_of}
+use Rattle.host_api.specs.Routes.{routed, has_path}
 use Rattle.host_api.specs.Texts.{has_cell}
 use Rattle.host_api.specs.declared.refusals.Refusal.{Refusal}
 use Rattle.host_api.specs.declared.refusals.Refusal.TheVariants.{NoSuchDeploy}
@@ -73,10 +72,10 @@ TextRunsOut out next = (next ≡ out.host) × IsTrue (takes_text out.told)
 
 -- ---- what a request asks for
 
--- whether it takes memory to find what a request on this route asks for: the path of a file, or the body
-abbrev pub route_takes : List ℕ → List ℕ → Result Route Refusal → Bool
-route_takes path body (Err refusal) = takes_path path (Err refusal)
-route_takes path body (Ok route) = takes_path path (Ok route) || is_parsed route body
+-- whether it takes memory to find what a request on this route asks for: to keep the path of a file, or to parse the body
+abbrev pub route_takes : List ℕ → Result Route Refusal → Bool
+route_takes body (Err refusal) = false
+route_takes body (Ok route) = has_path (Ok route) || is_parsed route body
 
 abbrev pub asking_takes : RequestParts → List ℕ → Bool
-asking_takes parts body = route_takes (path_of parts.target) body (routed parts.method parts.target)
+asking_takes parts body = route_takes body (routed parts.method parts.target)
