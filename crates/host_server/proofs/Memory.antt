@@ -1,5 +1,5 @@
 -- Finding what a request asks for, where memory may run out.
-use Rattle.std.proofs.Common.{◌≡◌, ◌≢◌, ◌⊎◌, inl, inr, Bool, true, false, ◌||◌, List, ℕ, Result, Ok, Err, IfOk, IfErr, IsErrOf, refl, sym, ap, subst, ◌∙◌}
+use Rattle.std.proofs.Common.{◌≡◌, ◌≢◌, ◌⊎◌, inl, inr, Bool, true, false, ◌||◌, List, ℕ, Result, Ok, Err, IfOk, IfErr, IsErrOf, refl, sym, ap, ◌∙◌}
 use Rattle.host_api.specs.Bodies.{asked, is_parsed, then_with}
 use Rattle.host_api.specs.Routes.{routed, has_path}
 use Rattle.host_api.specs.declared.bodies.Ask.{Ask}

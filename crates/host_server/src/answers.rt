@@ -15,8 +15,12 @@ ghost use Rattle.host_server.specs.Outcomes.{told_by};
 ghost use Rattle.host_server.specs.Replies as spec;
 ghost use Rattle.host_server.specs.Replies.{AsksRange, IsAnswer};
 
+use crate::change_lists::list_changes;
+use crate::deploys::show_deploy;
 use crate::houses::SoloHouse;
 use crate::replies::Reply;
+use crate::versions::file;
+use crate::views::HostView;
 use host_api::{Ask, Refusal, Told, Version, ask_of, route_of};
 use host_names::{FilePath, SiteName};
 use http_wire::Head;
@@ -70,34 +74,34 @@ fn choice_in(range: &Asked, size: u64) -> Choice
 }
 
 /// The reply with what is read of a file, or why there is none.
-fn read_file(
-    house: &SoloHouse,
+fn read_file<H: HostView>(
+    host: &H,
     head: &Head,
     site: &SiteName,
     version: &Version,
     path: &FilePath,
 ) -> Result<Reply, Refusal>
-    ensures reads { Reads house.now head.now site.now version.now path.now result }
+    ensures reads { Reads (H.host host.now) head.now site.now version.now path.now result }
     ensures plain { IfErr result (λ reason. has_cell reason ≡ false) }
 {
     let range = range_asked(head);
-    let file = house.file(site, version, path)?;
+    let file = file(host, site, version, path)?;
     let choice = choice_in(&range, file.bytes().len() as u64);
     Reply::of_file(path, file, &choice)
 }
 
 /// The reply to the reading of a file.
-fn read(
+fn read<H: HostView>(
     alloc: Global,
-    house: &SoloHouse,
+    host: &H,
     head: &Head,
     site: &SiteName,
     version: &Version,
     path: &FilePath,
 ) -> Reply
-    ensures { (body : List ℕ) → AnswersAsk house.now head.now body (Ok (Ask.Read site.now version.now path.now)) (answer_of result) house.now }
+    ensures { (body : List ℕ) → AnswersAsk (H.host host.now) head.now body (Ok (Ask.Read site.now version.now path.now)) (answer_of result) (H.host host.now) }
 {
-    match read_file(house, head, site, version, path) {
+    match read_file(host, head, site, version, path) {
         Ok(reply) => reply,
         Err(reason) => Reply::of_told(alloc, &Told::Refused(reason)),
     }
@@ -114,10 +118,10 @@ fn tell(alloc: Global, told: Result<Told, Refusal>) -> Reply
 }
 
 /// The changes of a site, as they are told.
-fn changes(alloc: Global, house: &SoloHouse, site: &SiteName) -> Result<Told, Refusal>
-    ensures { (result ≡ Err Refusal.OutOfMemory) ⊎ (result ≡ Ok (Told.Changes (shown_lines house.now site.now))) }
+fn told_changes<H: HostView>(alloc: Global, host: &H, site: &SiteName) -> Result<Told, Refusal>
+    ensures { (result ≡ Err Refusal.OutOfMemory) ⊎ (result ≡ Ok (Told.Changes (shown_lines (H.host host.now) site.now))) }
 {
-    Ok(Told::Changes(house.changes(alloc, site)?))
+    Ok(Told::Changes(list_changes(alloc, host, site)?))
 }
 
 /// What a request asks for, or the first reason why it asks for nothing.
@@ -143,8 +147,8 @@ fn respond(alloc: Global, head: &Head, body: Vec<u8>, house: &mut SoloHouse, ask
         } => read(alloc, house, head, &site, &version, &path),
         Ask::Command(command) => tell(alloc, house.change(alloc, command)),
         Ask::Undo { site, change } => tell(alloc, house.take_back(alloc, &site, change)),
-        Ask::Changes { site } => tell(alloc, changes(alloc, house, &site)),
-        Ask::Deploy { deploy } => tell(alloc, house.deploy(alloc, deploy)),
+        Ask::Changes { site } => tell(alloc, told_changes(alloc, house, &site)),
+        Ask::Deploy { deploy } => tell(alloc, show_deploy(alloc, house, deploy)),
         Ask::RemoveDeploy { deploy } => tell(alloc, house.remove_deploy(alloc, deploy)),
         Ask::Cancel { deploy } => tell(alloc, house.cancel(alloc, deploy)),
         Ask::Upload { deploy, path } => tell(alloc, house.upload(alloc, deploy, &path, body)),

@@ -12,24 +12,41 @@ ghost use Rattle.host_server.specs.Outcomes.{deploy_outcome, enter_outcome, ente
 ghost use Rattle.host_server.specs.Reasons;
 ghost use Rattle.host_server.specs.Reasons.{commit_refusal, may_take_memory};
 
+use crate::deploys::owner;
 use crate::houses::SoloHouse;
+use crate::views::HostView;
 use host_api::{Digests, Refusal, Told};
 use host_names::SiteName;
 use site_change::{Command, MOST_FILES};
 use site_state::{Draft, Listing, least_missing, missing};
 use std::alloc::Global;
 
-impl SoloHouse {
-    /// Whether the deploy of a number publishes itself now.
-    fn is_ready(&self, site: &SiteName, number: u64) -> bool
-        ensures { result ≡ Outcomes.is_ready self.now site.now number }
-    {
-        match self.state().draft(site, number) {
-            Some(draft) => draft.auto && least_missing(draft, self.uploads()).is_none(),
-            None => false,
-        }
+/// Whether the deploy of a number publishes itself now.
+fn is_ready<H: HostView>(host: &H, site: &SiteName, number: u64) -> bool
+    ensures { result ≡ Outcomes.is_ready (H.host host.now) site.now number }
+{
+    match host.state().draft(site, number) {
+        Some(draft) => draft.auto && least_missing(draft, host.uploads()).is_none(),
+        None => false,
     }
+}
 
+/// Whether a deploy of these files may be opened, or the first reason why not. It takes no memory.
+fn judge_opening<H: HostView>(host: &H, files: &Listing) -> Result<(), Refusal>
+    ensures ok { OnOk result ((site : Site) (auto : _) → commit_refusal (H.host host.now) (command.Open site files.now auto) ≡ None) }
+    ensures refused { IfErr result (λ reason. (reason ≢ Refusal.OutOfMemory)
+        × ((site : Site) (auto : _) → commit_refusal (H.host host.now) (command.Open site files.now auto) ≡ Some reason)) }
+{
+    if host.is_full() {
+        return Err(Refusal::HistoryFull);
+    }
+    if files.entries().len() > MOST_FILES {
+        return Err(Refusal::TooManyFiles);
+    }
+    Ok(())
+}
+
+impl SoloHouse {
     /// Publishes a deploy if it is ready, and answers the entry that did. On an error it stays open.
     pub(crate) fn publish_if_ready(
         &mut self,
@@ -42,27 +59,12 @@ impl SoloHouse {
         ensures err { OnErr result (self.new ≡ self.old) }
         ensures grows { Grows self.old self.new }
     {
-        if !self.is_ready(site, number) {
+        if !is_ready(self, site, number) {
             return Ok(None);
         }
         let site = site.copied();
         let entry = self.commit(alloc, Command::Publish { site, number })?;
         Ok(Some(entry))
-    }
-
-    /// Whether a deploy of these files may be opened, or the first reason why not. It takes no memory.
-    fn judge_opening(&self, files: &Listing) -> Result<(), Refusal>
-        ensures ok { OnOk result ((site : Site) (auto : _) → commit_refusal self.now (command.Open site files.now auto) ≡ None) }
-        ensures refused { IfErr result (λ reason. (reason ≢ Refusal.OutOfMemory)
-            × ((site : Site) (auto : _) → commit_refusal self.now (command.Open site files.now auto) ≡ Some reason)) }
-    {
-        if self.is_full() {
-            return Err(Refusal::HistoryFull);
-        }
-        if files.entries().len() > MOST_FILES {
-            return Err(Refusal::TooManyFiles);
-        }
-        Ok(())
     }
 
     /// Opens a deploy, and publishes it if it is ready.
@@ -80,7 +82,7 @@ impl SoloHouse {
         ensures memory { IsErrOf result Refusal.OutOfMemory → CommandRunsOut self.old (command.Open site files auto) self.new }
         ensures grows { Grows self.old self.new }
     {
-        self.judge_opening(&files)?;
+        judge_opening(self, &files)?;
         let draft = Draft { auto, files };
         let required = missing(alloc, &draft, self.uploads())?;
         let owner = site.copied();
@@ -138,17 +140,6 @@ impl SoloHouse {
         Ok(Told::Entered { number })
     }
 
-    /// The site of a deploy, as one that a command can have.
-    fn owner(&self, number: u64) -> Result<SiteName, Refusal>
-        ensures found { IfOk result (λ site. Outcomes.site_of_deploy (entry_at self.now.entries number) ≡ Some site) }
-        ensures refused { IfErr result (λ reason. (Outcomes.site_of_deploy (entry_at self.now.entries number) ≡ None) × (reason ≡ Refusal.NoSuchDeploy)) }
-    {
-        match self.site_of_deploy(number) {
-            Some(site) => Ok(site.copied()),
-            None => Err(Refusal::NoSuchDeploy),
-        }
-    }
-
     /// Cancels an open deploy, in the site that has it. On an error nothing changes.
     pub fn cancel(&mut self, alloc: Global, number: u64) -> Result<Told, Refusal>
         ensures done { Does result self.new (deploy_outcome self.old number (λ site. command.Cancel site number)) }
@@ -157,7 +148,7 @@ impl SoloHouse {
         ensures err { OnErr result (self.new ≡ self.old) }
         ensures grows { Grows self.old self.new }
     {
-        let site = self.owner(number)?;
+        let site = owner(self, number)?;
         self.enter(alloc, Command::Cancel { site, number })
     }
 
@@ -169,7 +160,7 @@ impl SoloHouse {
         ensures err { OnErr result (self.new ≡ self.old) }
         ensures grows { Grows self.old self.new }
     {
-        let site = self.owner(number)?;
+        let site = owner(self, number)?;
         self.enter(alloc, Command::RemoveDeploy { site, number })
     }
 }

@@ -47,8 +47,8 @@ returns-in-Changes c =
     let host = c.args.house.now in
     let A : Ask → Type 0 = λ a. AnswersAsk host c.args.head.now c.args.body.items (Ok a) (answer_of c.tell-in-Changes.result) host in
     record {
-      replied = subst A (sym c.in-Changes.is) (told_changes host c.args.head.now c.args.body.items c.in-Changes.site c.changes.result
-          (answer_of c.tell-in-Changes.result) c.changes.ensures c.tell-in-Changes.ensures);
+      replied = subst A (sym c.in-Changes.is) (told_changes host c.args.head.now c.args.body.items c.in-Changes.site c.told_changes.result
+          (answer_of c.tell-in-Changes.result) c.told_changes.ensures c.tell-in-Changes.ensures);
       grows = itself host;
     }
 
@@ -57,8 +57,8 @@ returns-in-Deploy c =
     let host = c.args.house.now in
     let A : Ask → Type 0 = λ a. AnswersAsk host c.args.head.now c.args.body.items (Ok a) (answer_of c.tell-in-Deploy.result) host in
     record {
-      replied = subst A (sym c.in-Deploy.is) (told_deploy host c.args.head.now c.args.body.items c.in-Deploy.deploy c.deploy.result
-          (answer_of c.tell-in-Deploy.result) c.deploy.ensures.shown c.deploy.ensures.memory c.tell-in-Deploy.ensures);
+      replied = subst A (sym c.in-Deploy.is) (told_deploy host c.args.head.now c.args.body.items c.in-Deploy.deploy c.show_deploy.result
+          (answer_of c.tell-in-Deploy.result) c.show_deploy.ensures.shown c.show_deploy.ensures.memory c.tell-in-Deploy.ensures);
       grows = itself host;
     }
 

@@ -3,15 +3,15 @@ use Rattle.host_api.specs.declared.change_lines.ChangeLine.{ChangeLine}
 use Rattle.host_server.specs.Shown.{most_lines}
 use Rattle.host_server.proofs.Lines.{AreFound, none_found, line_found, no_line_found, all_shown, some_shown}
 use Rattle.host_server.proofs.Opening.{on_err}
-use Rattle.host_server.proofs.houses.SoloHouse.changes.Goals.{in-Some+in_ok-push, in_default, then-entries-test+else-len-lt-MOST_LINES, else-entries-test}
-use Rattle.host_server.proofs.houses.SoloHouse.changes.Goals as goal
+use Rattle.host_server.proofs.change_lists.list_changes.Goals.{in-Some+in_ok-push, in_default, then-entries-test+else-len-lt-MOST_LINES, else-entries-test}
+use Rattle.host_server.proofs.change_lists.list_changes.Goals as goal
 
 pub entries-init : goal.entries-init
-entries-init c = none_found c.args.self.now c.args.site.now c.new-lines.result.items c.len-number.result c.new-lines.ensures.items c.len-number.ensures
+entries-init g c = none_found (g.H.HostView.host c.args.host.now) c.args.site.now c.new-lines.result.items c.len-number.result c.new-lines.ensures.items c.len-number.ensures
 
 pub entries-preserved : goal.entries-preserved
-entries-preserved c =
-    let host = c.args.self.now in
+entries-preserved g c =
+    let host = (g.H.HostView.host c.args.host.now) in
     let site = c.args.site.now in
     let room : length c.entries.lines.items < most_lines = search rules in
     let P : Vec ChangeLine Global → Type 0 = λ v. AreFound host site v.items (c.entries.number - 1) in
@@ -23,8 +23,8 @@ entries-preserved c =
     ]
 
 pub returns-clause-shown : goal.returns-clause-shown
-returns-clause-shown c =
-    let host = c.args.self.now in
+returns-clause-shown g c =
+    let host = (g.H.HostView.host c.args.host.now) in
     let site = c.args.site.now in
     c.from.ensures ∙ c.reverse.ensures.items ∙ all_shown host site c.entries.lines.items c.entries.number c.entries.invariant (elim c.entries-test.branch [
       | then-entries-test+else-len-lt-MOST_LINES w ↦ inr (search rules)
@@ -32,6 +32,6 @@ returns-clause-shown c =
     ])
 
 pub returns-in_err-push-clause-memory : goal.returns-in_err-push-clause-memory
-returns-in_err-push-clause-memory c =
-    on_err c.from_residual.result (some_shown c.args.self.now c.args.site.now c.in-Some.line c.entries.number c.entries-test.true c.entries.invariant.2
+returns-in_err-push-clause-memory g c =
+    on_err c.from_residual.result (some_shown (g.H.HostView.host c.args.host.now) c.args.site.now c.in-Some.line c.entries.number c.entries-test.true c.entries.invariant.2
     (sym c.line.ensures ∙ c.in-Some.is))

@@ -1,8 +1,8 @@
 use Rattle.host_server.proofs.Lines.{AreFound}
-use Rattle.host_server.proofs.houses.SoloHouse.changes.Given as goal
+use Rattle.host_server.proofs.change_lists.list_changes.Given as goal
 
 abbrev pub invariant-entries : goal.invariant-entries
-invariant-entries l = AreFound l.self l.site l.lines.items l.number
+invariant-entries g l = AreFound (g.H.HostView.host l.host) l.site l.lines.items l.number
 
 abbrev pub decreases-entries : goal.decreases-entries
-decreases-entries l = l.number
+decreases-entries g l = l.number
