@@ -69,7 +69,7 @@ one_more host site k some within =
 
 -- ---- the loop
 
--- these lines, the newest first, are all from the entry behind this number on, and not too many
+-- these lines, the newest first, are all from the entry after this number on, and not too many
 abbrev pub AreFound : Host → SiteName → List ChangeLine → ℕ → Type 0
 AreFound host site items k = (reverse items ≡ lines_from host site k) × (length items ≤ most_lines) × (k ≤ length host.entries)
 

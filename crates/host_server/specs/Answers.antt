@@ -42,6 +42,7 @@ abbrev pub GivesFile : List ℕ → Asked → Result (List ℕ) Refusal → Resu
 GivesFile path range file result =
     (answer_by result ≡ read_answer path range file) ⊎ ((result ≡ Err OutOfMemory) × IsTrue (lends range file))
 
+-- the call reads the version of the site at the path, as the Range of the request asks
 abbrev pub Reads : Host → RequestParts → SiteName → Version → List ℕ → Result Reply Refusal → Type 0
 Reads host parts site version path result =
     (range : Asked) × AsksRange parts range × GivesFile path range (file_of (state_of host) site version path) result

@@ -7,12 +7,14 @@ use Rattle.host_server.specs.declared.replies.Body.TheVariants as body
 use Rattle.host_server.specs.declared.replies.Reply.{Reply}
 use Rattle.host_server.specs.Replies.{Answer}
 
+-- the bytes of a body
 abbrev pub bytes_of : Body → List ℕ
 bytes_of (body.Text text) = string_bytes text
 bytes_of (body.Short text) = text.bytes
 bytes_of (body.Fixed text) = text.now
 bytes_of (body.Part part) = part
 
+-- what a reply says: its answer
 abbrev pub answer_of : Reply → Answer
 answer_of r = record {
   status = r.status;

@@ -22,12 +22,15 @@ state_of host = unwrap_or (run host.uploads host.entries) map.empty
 abbrev pub next_number : Host → ℕ
 next_number host = length host.entries + 1
 
+-- the host with one entry more
 abbrev pub with_entry : Host → Entry → Host
 with_entry host entry = record { limit = host.limit; entries = host.entries ++ entry ∷ []; uploads = host.uploads }
 
+-- the host with these entries
 abbrev pub with_entries : Host → List Entry → Host
 with_entries host entries = record { limit = host.limit; entries = entries; uploads = host.uploads }
 
+-- the host with these bytes uploaded too; a digest that is known keeps its file
 abbrev pub with_upload : Host → List ℕ → Host
 with_upload host bytes = record { limit = host.limit; entries = host.entries; uploads = with_file host.uploads bytes }
 
@@ -37,6 +40,7 @@ IsLawful host = IsLegal host.uploads host.entries
 
 -- ---- how it is kept
 
+-- the host that a history and the uploads make
 abbrev pub host_of : Past → Contents → Host
 host_of past uploads = record { limit = past.limit; entries = past.entries; uploads = uploads }
 

@@ -1,11 +1,15 @@
+-- what a host has, and what changes it
 pub mod Hosts
 pub mod Reasons
 pub mod Outcomes
 pub mod Memory
-pub mod Replies
-pub mod Bodies
-pub mod Answers
-pub mod Serving
-pub mod Solo
+-- what is read of it
 pub mod Versions
 pub mod Shown
+-- what is answered, and what a connection and a run of the program do
+pub mod Replies
+pub mod Serving
+pub mod Solo
+-- what the values and the calls of the code mean: `answer_of` and `Grows` for callers, the others for private functions
+pub mod Bodies
+pub mod Answers

@@ -42,6 +42,7 @@ abbrev pub refusal_on : Host → (SiteName → Command) → Option SiteName → 
 refusal_on host command None = Some NoSuchDeploy
 refusal_on host command (Some site) = commit_refusal host (command site)
 
+-- the first reason against a command on the deploy of a number
 abbrev pub deploy_refusal : Host → ℕ → (SiteName → Command) → Option Refusal
 deploy_refusal host n command = refusal_on host command (site_of_deploy (entry_at host.entries n))
 
@@ -53,9 +54,12 @@ UploadRunsOut host n path bytes next =
     × (((next ≡ host) × (map.get host.uploads (digest_of bytes) ≡ None))
     ⊎ ((next ≡ with_upload host bytes) × IsTrue (is_published (with_upload host bytes) at.0 n)))
 
+-- What a host has where an undo runs out of memory: what was there, where the undo is not refused, or by a clash whose
+-- cell has a path.
 abbrev pub UndoRunsOut : Host → SiteName → ℕ → Host → Type 0
 UndoRunsOut host site k next = (next ≡ host) × IsTrue (may_take_memory (undo_refusal host site k))
 
+-- The same of a command on a deploy, which is not refused.
 abbrev pub DeployRunsOut : Host → ℕ → (SiteName → Command) → Host → Type 0
 DeployRunsOut host n command next = (next ≡ host) × (deploy_refusal host n command ≡ None)
 
@@ -77,5 +81,6 @@ abbrev pub route_takes : List ℕ → Result Route Refusal → Bool
 route_takes body (Err refusal) = false
 route_takes body (Ok route) = has_path (Ok route) || is_parsed route body
 
+-- whether it takes memory to find what this request asks for
 abbrev pub asking_takes : RequestParts → List ℕ → Bool
 asking_takes parts body = route_takes body (routed parts.method parts.target)

@@ -50,6 +50,7 @@ pub record Answer : Type 0 where
 
 -- ---- replies with JSON
 
+-- the status code of the reply (RFC 9110, section 15)
 abbrev pub status_told : Told → ℕ
 status_told (Opened id published required) = 200
 status_told (Uploaded published digest) = 200
@@ -63,6 +64,7 @@ abbrev pub range_refused : Refusal → Option ContentRange
 range_refused (NotSatisfiable size) = Some (Unsatisfied size)
 range_refused refusal = None
 
+-- the same of what is told
 abbrev pub range_told : Told → Option ContentRange
 range_told (Refused refusal) = range_refused refusal
 range_told told = None
@@ -72,10 +74,12 @@ abbrev pub allow_refused : Refusal → Option (List ℕ)
 allow_refused (BadMethod resource) = Some (allow_text resource)
 allow_refused refusal = None
 
+-- the same of what is told
 abbrev pub allow_told : Told → Option (List ℕ)
 allow_told (Refused refusal) = allow_refused refusal
 allow_told told = None
 
+-- the reply that tells this, as JSON
 abbrev pub told_answer : Told → Answer
 told_answer told = record {
   status = status_told told;
@@ -86,6 +90,7 @@ told_answer told = record {
   body = told_text told;
 }
 
+-- the reply that refuses a request
 abbrev pub refused_answer : Refusal → Answer
 refused_answer refusal = told_answer (Refused refusal)
 
@@ -115,10 +120,12 @@ file_answer path file (One first last) =
 file_answer path file (Many intervals) = part_answer 200 path file None file
 file_answer path file None416 = refused_answer (NotSatisfiable (length file))
 
+-- what is chosen of a file of this size
 abbrev pub choice_in : Asked → ℕ → Choice
 choice_in Ignore size = Whole
 choice_in (Specs specs) size = chosen specs size
 
+-- the reply to a read of this file, or of none for this reason
 abbrev pub read_answer : List ℕ → Asked → Result (List ℕ) Refusal → Answer
 read_answer path range (Err refusal) = refused_answer refusal
 read_answer path range (Ok file) = file_answer path file (choice_in range (length file))
@@ -132,6 +139,7 @@ AskedBy true (value ∷ other ∷ values) conditions range = range ≡ Ignore
 AskedBy true [] conditions range = range ≡ Ignore
 AskedBy false values conditions range = range ≡ Ignore
 
+-- what a request of these parts asks for by its Range
 abbrev pub AsksRange : RequestParts → Asked → Type 0
 AsksRange parts range =
     AskedBy (bytes_eq parts.method (codes "GET")) (values_of (codes "range") parts.fields) (values_of (codes "if-range") parts.fields) range
@@ -146,6 +154,7 @@ asked_for parts body = then_with (routed parts.method parts.target) (λ route. a
 abbrev pub IsTold : Outcome → Answer → Host → Type 0
 IsTold out answer next = (answer ≡ told_answer out.told) × (next ≡ out.host)
 
+-- the same of a command: whichever list of missing digests is told, it is the right one
 abbrev pub IsCommitTold : Host → Command → Answer → Host → Type 0
 IsCommitTold host command answer next =
     (required : List Digest) × AreRequired host.uploads command (commit_refusal host command) required
@@ -181,10 +190,12 @@ abbrev pub gives_bytes : Choice → Bool
 gives_bytes None416 = false
 gives_bytes choice = true
 
+-- the same of what is read: a file, or the reason why there is none
 abbrev pub lends : Asked → Result (List ℕ) Refusal → Bool
 lends range (Err refusal) = false
 lends range (Ok file) = gives_bytes (choice_in range (length file))
 
+-- a read takes memory, since it lends bytes
 abbrev pub ReadRunsOut : Host → RequestParts → SiteName → Version → List ℕ → Type 0
 ReadRunsOut host parts site version path =
     (range : Asked) × AsksRange parts range × IsTrue (lends range (file_of (state_of host) site version path))
@@ -220,6 +231,7 @@ abbrev pub RunsOut : Host → RequestParts → List ℕ → Host → Type 0
 RunsOut host parts body next =
     ((next ≡ host) × IsTrue (asking_takes parts body)) ⊎ AskRunsOut host parts body (asked_for parts body) next
 
+-- the reply that there is no memory, and what the host has then
 abbrev pub IsWithoutMemory : Host → RequestParts → List ℕ → Answer → Host → Type 0
 IsWithoutMemory host parts body answer next = (answer ≡ refused_answer OutOfMemory) × RunsOut host parts body next
 
@@ -255,5 +267,6 @@ sent_body head_only answer = if head_only then [] else answer.body
 abbrev pub sent_text : Bool → Bool → Answer → List ℕ
 sent_text close head_only answer = reply_text (fields_for close answer) (sent_body head_only answer)
 
+-- the reply to a request of this method, as it is sent
 abbrev pub sent_for : Bool → List ℕ → Answer → List ℕ
 sent_for close method answer = sent_text close (bytes_eq method (codes "HEAD")) answer

@@ -25,28 +25,32 @@ use Rattle.host_server.specs.Outcomes.{site_of_deploy}
 
 -- ---- a deploy
 
--- how a deploy stands that is open, or kept, or neither
+-- the state of a deploy that is open, or kept, or neither
 abbrev pub Stands : Contents → Option Draft → Option (Paths (List ℕ)) → Result DeployState Refusal → Type 0
 Stands uploads (Some draft) tree standing =
     (required : List Digest) × AreMissing uploads draft.files.1 required × (standing ≡ Ok (state.Open required))
 Stands uploads None (Some tree) standing = standing ≡ Ok state.Kept
 Stands uploads None None standing = standing ≡ Err NoSuchDeploy
 
+-- the state of the deploy of a number, in the site
 abbrev pub StandsIn : Host → SiteName → ℕ → Result DeployState Refusal → Type 0
 StandsIn host site n standing = Stands host.uploads (draft_at (state_of host) site n) (kept_at (state_of host) site n) standing
 
--- what is told of a deploy that stands so
+-- what is told of a deploy in this state
 abbrev pub shown : ℕ → SiteName → Result DeployState Refusal → Told
 shown n site (Ok standing) = Deploy n site standing
 shown n site (Err reason) = Refused reason
 
+-- what is told of the deploy of a number whose site is this, or which has none
 abbrev pub ShowsOn : Host → ℕ → Option SiteName → Told → Type 0
 ShowsOn host n None told = told ≡ Refused NoSuchDeploy
 ShowsOn host n (Some site) told = (standing : Result DeployState Refusal) × StandsIn host site n standing × (told ≡ shown n site standing)
 
+-- what is told of the deploy of a number
 abbrev pub ShowsDeploy : Host → ℕ → Told → Type 0
 ShowsDeploy host n told = ShowsOn host n (site_of_deploy (entry_at host.entries n)) told
 
+-- whether the deploy of a number is open in this site
 abbrev pub is_open_in : Host → ℕ → Option SiteName → Bool
 is_open_in host n None = false
 is_open_in host n (Some site) = is_some (draft_at (state_of host) site n)
@@ -82,5 +86,6 @@ last_of n xs = drop (length xs - n) xs
 abbrev pub most_lines : ℕ
 most_lines = 1000
 
+-- the last 1,000 lines of a site, the oldest first
 abbrev pub shown_lines : Host → SiteName → List ChangeLine
 shown_lines host site = last_of most_lines (lines_of host site)
