@@ -4,7 +4,7 @@ use super::asserts::assert_text;
 use change_undo::GREATEST_LIMIT;
 use host_api::{Told, text};
 use host_names::{Digest, SiteName, Uploads};
-use host_server::{ConnectionFault, SoloHouse, serve_connection};
+use host_server::{ConnectionFault, SoloHouse, list_changes, serve_connection};
 use http_wire::{Source, Writing};
 use std::alloc::{AllocError, Global};
 use std::process::Abort;
@@ -133,7 +133,7 @@ pub(crate) fn assert_answers(
 
 /// The entries of the site `one`.
 pub(crate) fn entries(alloc: Global, house: &SoloHouse) -> Result<String, Fail> {
-    let lines = house.changes(alloc, &SiteName::new("one")?)?;
+    let lines = list_changes(alloc, house, &SiteName::new("one")?)?;
     Ok(text(alloc, &Told::Changes(lines))?)
 }
 
