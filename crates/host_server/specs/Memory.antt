@@ -37,7 +37,7 @@ CommandRunsOut host command next =
     (commit_refusal host command ≡ None)
     × ((next ≡ host) ⊎ ((next ≡ with_entry host (Change command)) × IsTrue (opens_published host command)))
 
--- the same of a command on a deploy, whose site is that of the entry which opened it
+-- the first reason against a command on the deploy of this site, or of none
 abbrev pub refusal_on : Host → (SiteName → Command) → Option SiteName → Option Refusal
 refusal_on host command None = Some NoSuchDeploy
 refusal_on host command (Some site) = commit_refusal host (command site)
@@ -54,12 +54,12 @@ UploadRunsOut host n path bytes next =
     × (((next ≡ host) × (map.get host.uploads (digest_of bytes) ≡ None))
     ⊎ ((next ≡ with_upload host bytes) × IsTrue (is_published (with_upload host bytes) at.0 n)))
 
--- What a host has where an undo runs out of memory: what was there, where the undo is not refused, or by a clash whose
--- cell has a path.
+-- What a host has where an undo runs out of memory: what was there, where the undo is not refused, or by a clash that
+-- takes memory to name.
 abbrev pub UndoRunsOut : Host → SiteName → ℕ → Host → Type 0
 UndoRunsOut host site k next = (next ≡ host) × IsTrue (may_take_memory (undo_refusal host site k))
 
--- The same of a command on a deploy, which is not refused.
+-- The same of a command on the deploy of a number, where that is not refused.
 abbrev pub DeployRunsOut : Host → ℕ → (SiteName → Command) → Host → Type 0
 DeployRunsOut host n command next = (next ≡ host) × (deploy_refusal host n command ≡ None)
 
