@@ -15,12 +15,8 @@ ghost use Rattle.host_server.specs.Outcomes.{told_by};
 ghost use Rattle.host_server.specs.Replies as spec;
 ghost use Rattle.host_server.specs.Replies.{AsksRange, IsAnswer};
 
-use crate::change_lists::list_changes;
-use crate::deploys::show_deploy;
-use crate::houses::SoloHouse;
+use crate::host::{HostView, SoloHouse, file, list_changes, show_deploy};
 use crate::replies::Reply;
-use crate::versions::file;
-use crate::views::HostView;
 use host_api::{Ask, Refusal, Told, Version, ask_of, route_of};
 use host_names::{FilePath, SiteName};
 use http_wire::Head;

@@ -10,7 +10,7 @@ ghost use Rattle.host_server.specs.Replies.{closes, sent_text};
 ghost use Rattle.host_server.specs.Serving.{limit_of, TakesRequest, HeadStops, BodyStops, Stops, Sends, Refuses, Exchanges, Turns, Serves};
 
 use crate::answers::{Request, answer};
-use crate::houses::SoloHouse;
+use crate::host::SoloHouse;
 use crate::replies::Reply;
 use host_api::body_limit;
 use http_wire::{BodyFault, Head, HeadFault, Sink, Source, Wire, check_body};

@@ -5,7 +5,7 @@ ghost use Rattle.command_line.specs.CommandLine.{AskForSolo};
 ghost use Rattle.host_server.specs.Solo.{Runs, status_of};
 
 use crate::connections::{ConnectionFault, serve_connection};
-use crate::houses::SoloHouse;
+use crate::host::SoloHouse;
 use change_undo::GREATEST_LIMIT;
 use command_line::{Refusal, Wanted, read};
 use http_wire::{Sink, Source};

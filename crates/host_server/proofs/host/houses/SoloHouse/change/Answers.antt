@@ -1,5 +1,5 @@
 use Rattle.host_server.proofs.Entering.{enter_done}
-use Rattle.host_server.proofs.houses.SoloHouse.change.Goals as goal
+use Rattle.host_server.proofs.host.houses.SoloHouse.change.Goals as goal
 
 pub returns-in_default-clause-done : goal.returns-in_default-clause-done
 returns-in_default-clause-done c =

@@ -3,7 +3,7 @@ use Rattle.std.proofs.Common.{subst}
 use Rattle.host_server.specs.Answers.{Grows}
 use Rattle.host_server.specs.Hosts.{Host, host_of}
 use Rattle.host_server.proofs.Growing.{grows_uploads}
-use Rattle.host_server.proofs.houses.SoloHouse.keep.Goals as goal
+use Rattle.host_server.proofs.host.houses.SoloHouse.keep.Goals as goal
 
 pub invariant_of-self : goal.invariant_of-self
 invariant_of-self c =

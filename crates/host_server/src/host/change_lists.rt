@@ -2,7 +2,7 @@
 ghost use Rattle.std.specs.Prelude.{◌≡◌, ◌≢◌, [], IfOk, OnErr};
 ghost use Rattle.host_server.specs.Shown as spec;
 
-use crate::views::HostView;
+use super::views::HostView;
 use change_undo::Entry;
 use host_api::{ChangeKind, ChangeLine, ChangeLines};
 use host_names::SiteName;

@@ -7,7 +7,7 @@ use Rattle.site_change.specs.declared.commands.Command.TheVariants.{Open}
 use Rattle.host_server.specs.Outcomes.{DoesCommit, entered}
 use Rattle.host_server.proofs.Growing.{grows_then}
 use Rattle.host_server.proofs.Opening.{answer, on_err, open_done, open_refused}
-use Rattle.host_server.proofs.houses.SoloHouse.open.Goals as goal
+use Rattle.host_server.proofs.host.houses.SoloHouse.open.Goals as goal
 
 pub returns-in_err-published-clause-done : goal.returns-in_err-published-clause-done
 returns-in_err-published-clause-done c =

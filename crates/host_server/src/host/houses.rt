@@ -9,7 +9,7 @@ ghost use Rattle.host_server.specs.Hosts.{Host, state_of, next_number, with_entr
 ghost use Rattle.host_server.specs.Reasons;
 ghost use Rattle.host_server.specs.Reasons.{commit_refusal, IsReason, IsUndoReason};
 
-use crate::reasons::{commit_reason, undo_error_reason};
+use super::reasons::{commit_reason, undo_error_reason};
 use change_undo::{Entry, GREATEST_LIMIT, History};
 use host_api::Refusal;
 use host_names::{BlobInfo, MemoryUploads, SiteName, Uploads};

@@ -7,9 +7,9 @@ ghost use Rattle.host_server.specs.Memory.{UploadRunsOut};
 ghost use Rattle.host_server.specs.Outcomes;
 ghost use Rattle.site_state.specs.States.{draft_at, kept_at};
 
-use crate::deploys::site_of_deploy;
-use crate::houses::SoloHouse;
-use crate::views::HostView;
+use super::deploys::site_of_deploy;
+use super::houses::SoloHouse;
+use super::views::HostView;
 use host_api::{Refusal, Told};
 use host_names::{BlobInfo, Digest, FilePath, SiteName};
 use std::alloc::Global;

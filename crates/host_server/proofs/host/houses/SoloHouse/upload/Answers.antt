@@ -1,5 +1,5 @@
 use Rattle.host_server.proofs.Growing.{grows_then}
-use Rattle.host_server.proofs.houses.SoloHouse.upload.Goals as goal
+use Rattle.host_server.proofs.host.houses.SoloHouse.upload.Goals as goal
 
 pub returns-clause-grows : goal.returns-clause-grows
 returns-clause-grows c =

@@ -3,8 +3,8 @@ use Rattle.host_api.specs.declared.change_lines.ChangeLine.{ChangeLine}
 use Rattle.host_server.specs.Shown.{most_lines}
 use Rattle.host_server.proofs.Lines.{AreFound, none_found, line_found, no_line_found, all_shown, some_shown}
 use Rattle.host_server.proofs.Opening.{on_err}
-use Rattle.host_server.proofs.change_lists.list_changes.Goals.{in-Some+in_ok-push, in_default, then-entries-test+else-len-lt-MOST_LINES, else-entries-test}
-use Rattle.host_server.proofs.change_lists.list_changes.Goals as goal
+use Rattle.host_server.proofs.host.change_lists.list_changes.Goals.{in-Some+in_ok-push, in_default, then-entries-test+else-len-lt-MOST_LINES, else-entries-test}
+use Rattle.host_server.proofs.host.change_lists.list_changes.Goals as goal
 
 pub entries-init : goal.entries-init
 entries-init g c = none_found (g.H.HostView.host c.args.host.now) c.args.site.now c.new-lines.result.items c.len-number.result c.new-lines.ensures.items c.len-number.ensures

@@ -7,7 +7,7 @@ use Rattle.change_undo.specs.declared.entries.Entry.TheVariants.{Change}
 use Rattle.host_server.specs.Answers.{Grows}
 use Rattle.host_server.specs.Hosts.{host_of}
 use Rattle.host_server.proofs.Growing.{grows_past, first_of_both}
-use Rattle.host_server.proofs.houses.SoloHouse.commit.Goals as goal
+use Rattle.host_server.proofs.host.houses.SoloHouse.commit.Goals as goal
 
 pub invariant_of-self : goal.invariant_of-self
 invariant_of-self c =

@@ -7,7 +7,7 @@ ghost use Rattle.host_server.specs.Outcomes.{is_refusal, told_by};
 ghost use Rattle.host_server.specs.Shown as spec;
 ghost use Rattle.site_state.specs.States.{draft_at, kept_at};
 
-use crate::views::HostView;
+use super::views::HostView;
 use change_undo::Entry;
 use host_api::{DeployState, Digests, Refusal, Told};
 use host_names::SiteName;

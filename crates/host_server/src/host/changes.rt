@@ -12,9 +12,9 @@ ghost use Rattle.host_server.specs.Outcomes.{deploy_outcome, enter_outcome, ente
 ghost use Rattle.host_server.specs.Reasons;
 ghost use Rattle.host_server.specs.Reasons.{commit_refusal, may_take_memory};
 
-use crate::deploys::owner;
-use crate::houses::SoloHouse;
-use crate::views::HostView;
+use super::deploys::owner;
+use super::houses::SoloHouse;
+use super::views::HostView;
 use host_api::{Digests, Refusal, Told};
 use host_names::SiteName;
 use site_change::{Command, MOST_FILES};

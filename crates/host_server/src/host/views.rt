@@ -3,7 +3,7 @@ ghost use Rattle.std.specs.Prelude.{◌≡◌, length, nat_le, option_copied, op
 ghost use Rattle.change_undo.specs.Histories.{entry_at, marked_entry};
 ghost use Rattle.host_server.specs.Hosts.{Host, state_of};
 
-use crate::houses::SoloHouse;
+use super::houses::SoloHouse;
 use change_undo::Entry;
 use host_names::{MemoryUploads, Uploads};
 use site_state::State;

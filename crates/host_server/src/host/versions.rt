@@ -5,7 +5,7 @@ ghost use Rattle.host_server.specs.Hosts.{state_of};
 ghost use Rattle.host_server.specs.Versions as spec;
 ghost use Rattle.site_state.specs.States.{kept_at};
 
-use crate::views::HostView;
+use super::views::HostView;
 use host_api::{Refusal, Version};
 use host_names::{FilePath, SiteName};
 use site_state::File;
