@@ -8,3 +8,5 @@ pub mod Growing
 pub mod Turns
 pub mod Served
 pub mod Lines
+pub mod TimedTurns
+pub mod TimedConnections

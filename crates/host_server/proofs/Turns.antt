@@ -160,7 +160,8 @@ body_stopped read_fails old mid parts (stop.OutOfMemory head_only) head none = i
   head = head.1;
   says = head.2;
   size = none.1.0;
-  announced = none.1.1;
+  some = none.1.1;
+  announced = none.1.2;
   sent_is = ap (λ h. sent_text h (refused_answer true OutOfMemory)) none.0;
 })))
 

@@ -5,6 +5,7 @@ pub mod Replies
 pub mod Bodies
 pub mod Answers
 pub mod Serving
+pub mod Timing
 pub mod Solo
 pub mod Versions
 pub mod Shown

@@ -36,7 +36,7 @@ pub record TakesRequest (old new : Stream) (parts : RequestParts) (body : List �
   pub announced : AnnouncesBody parts.fields (limit_of parts) (length body)
   pub taken : Consumes old new (text ++ body)
 
--- a request is taken, and its reply sent; the connection ends behind it or not
+-- a request is taken, and its reply sent; the connection ends after it or not
 pub record IsAnswered (host : Host) (is_last close : Bool) (old : Stream) (sent : List ℕ) (next : Host) (new : Stream) : Type 0 where
   pub parts : RequestParts
   pub body : List ℕ
@@ -60,7 +60,7 @@ pub record IsBodyRefused (old : Stream) (sent : List ℕ) : Type 0 where
   pub none : (n : ℕ) → ¬ (AnnouncesBody parts.fields (limit_of parts) n)
   pub sent_is : sent ≡ sent_for parts.method (refused_answer true BadHead)
 
--- there is no memory for the head that stands there, and the reply has its body, since the method is not known
+-- there is no memory for the head that is there, and the reply has its body, since the method is not known
 abbrev pub IsHeadWithoutMemory : Stream → List ℕ → Type 0
 IsHeadWithoutMemory old sent = HasWholeHead old × (sent ≡ sent_text false (refused_answer true OutOfMemory))
 
@@ -72,6 +72,7 @@ pub record IsBodyWithoutMemory (old : Stream) (sent : List ℕ) : Type 0 where
   pub head : TakesHead old new text
   pub says : Says text parts
   pub size : ℕ
+  pub some : 0 < size
   pub announced : AnnouncesBody parts.fields (limit_of parts) size
   pub sent_is : sent ≡ sent_for parts.method (refused_answer true OutOfMemory)
 
@@ -79,7 +80,7 @@ pub record IsBodyWithoutMemory (old : Stream) (sent : List ℕ) : Type 0 where
 abbrev pub IsNotRead : Stream → List ℕ → Type 0
 IsNotRead old sent = IsHeadRefused old sent ⊎ IsBodyRefused old sent ⊎ IsHeadWithoutMemory old sent ⊎ IsBodyWithoutMemory old sent
 
--- the exchange behind which the connection ends
+-- the exchange after which the connection ends
 abbrev pub IsLast : Host → Bool → Stream → List ℕ → Host → Type 0
 IsLast host is_last old sent next =
     ((new : Stream) × IsAnswered host is_last true old sent next new) ⊎ (IsNotRead old sent × (next ≡ host))
@@ -105,7 +106,7 @@ IsCut old = IfSome old CutShort ⊎ IsBodyCut old
 
 -- ---- where a write failed
 
--- a front of the reply was sent, and some of it was not; what its request did stands
+-- a front of the reply was sent, and some of it was not; what its request did remains
 pub record IsFrontSent (host : Host) (is_last : Bool) (old : Stream) (sent : List ℕ) (next : Host) : Type 0 where
   pub rest : List ℕ
   pub some : 0 < length rest
@@ -133,7 +134,7 @@ Ends read_fails write_fails (Err fault.OutputFault) n host old sent next =
 Ends read_fails write_fails (Err fault.OutOfMemory) n host old sent next = (n ≡ 1) × (sent ≡ []) × (next ≡ host)
 
 -- What a connection does: it sends the replies to the requests of its stream, each over what the host has by then,
--- up to the first behind which it ends. It ends earlier only where the stream does, where a read or a write fails, or
+-- up to the first after which it ends. It ends earlier only where the stream does, where a read or a write fails, or
 -- where there is no memory to begin.
 pub record Serves (read_fails write_fails : Type 0) (result : Result (Unit {0}) ConnectionFault)
     (host next : Host) (stream held new_held : Stream) : Type 0 where
@@ -161,7 +162,7 @@ BodyStops read_fails old parts stop.ReadFault = read_fails
 BodyStops read_fails old parts (stop.BadHead head_only) =
     (head_only ≡ bytes_eq parts.method (codes "HEAD")) × ((n : ℕ) → ¬ (AnnouncesBody parts.fields (limit_of parts) n))
 BodyStops read_fails old parts (stop.OutOfMemory head_only) =
-    (head_only ≡ bytes_eq parts.method (codes "HEAD")) × ((size : ℕ) × AnnouncesBody parts.fields (limit_of parts) size)
+    (head_only ≡ bytes_eq parts.method (codes "HEAD")) × ((size : ℕ) × (0 < size) × AnnouncesBody parts.fields (limit_of parts) size)
 
 -- why it gives no request
 abbrev pub Stops : (read_fails : Type 0) → Stream → Stop → Type 0

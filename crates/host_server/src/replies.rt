@@ -1,8 +1,8 @@
 //! Replies, before they are written.
-ghost use Rattle.std.specs.Prelude.{◌≡◌, ◌≢◌, ◌≤◌, ◌⊎◌, All, length, true, Some, None, IfOk, IfErr, OnOk, OnErr, slice_range, option_map};
-ghost use Rattle.std.specs.Io.KnownBytes.{Appends};
+ghost use Rattle.std.specs.Prelude.{◌≡◌, ◌≢◌, ◌≤◌, ◌⊎◌, All, length, true, Some, None, IfOk, IfErr, slice_range, option_map};
 ghost use Rattle.http_wire.specs.Replies.{fields_of};
-ghost use Rattle.http_wire.specs.Sending.{SentFront};
+ghost use Rattle.http_wire.specs.Sending.{WritesText};
+ghost use Rattle.http_wire.specs.Timing.{NoRead, Ran};
 ghost use Rattle.range_spec.specs.declared.selection.Choice.TheVariants.{One};
 ghost use Rattle.host_api.specs.Texts.{told_text};
 ghost use Rattle.host_api.specs.declared.refusals.Refusal.TheVariants.{BadHead, OutOfMemory};
@@ -14,7 +14,7 @@ ghost use Rattle.range_spec.specs.Chosen.{LiesWithin, intervals_in};
 use host_api::{Refusal, Told, content_type, text};
 use host_names::{Digest, FilePath};
 use http::StatusCode;
-use http_wire::{ContentRange, ReplyHead, Sink, WriteFault, write_reply};
+use http_wire::{ContentRange, Duplex, ReplyHead, WriteFault, write_reply};
 use range_spec::Choice;
 use site_state::File;
 use std::alloc::{AllocError, Global};
@@ -281,13 +281,11 @@ impl Reply {
     }
 
     /// Writes it, without its body where only the head is wanted.
-    pub(crate) fn send<W: Sink>(&self, sink: &mut W, head_only: bool) -> Result<(), WriteFault>
-        ensures ok { OnOk result (Appends (W.held sink.old) (W.held sink.new) (sent_text head_only (answer_of self.now))) }
-        ensures fault { IfErr result (λ fault. SentFront (W.held sink.old) (W.held sink.new) (sent_text head_only (answer_of self.now)) fault.0) }
-        ensures cause { OnErr result W.may_fail }
+    pub(crate) fn send<D: Duplex>(&self, duplex: &mut D, head_only: bool) -> Result<(), WriteFault>
+        ensures { Ran D.saw NoRead duplex.old duplex.new (WritesText result (sent_text head_only (answer_of self.now))) }
     {
         let etag = self.etag.map(|digest| digest.to_hex());
         let head = self.head(etag.as_ref().map(|hex| hex.as_str()));
-        write_reply(sink, &head, self.sent_body(head_only))
+        write_reply(duplex, &head, self.sent_body(head_only))
     }
 }
