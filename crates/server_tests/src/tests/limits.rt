@@ -6,7 +6,7 @@ use super::talks::{
     joined, new_house,
 };
 use host_server::{SoloHouse, serve_connection};
-use http_wire::Writing;
+use http_wire::{Pair, Writing};
 use std::alloc::Global;
 use std::process::Abort;
 use std::test::Fail;
@@ -101,7 +101,11 @@ fn enter(
 ) -> Result<(), Fail> {
     let stream = joined(alloc, requests)?;
     let mut out = Vec::new(alloc);
-    let ended = serve_connection(alloc, stream.as_bytes(), &mut Writing(&mut out), house);
+    let mut duplex = Pair {
+        source: stream.as_bytes(),
+        sink: Writing(&mut out),
+    };
+    let ended = serve_connection(alloc, &mut duplex, house);
     assert_ended(rt, ended, Ok(()));
     Ok(())
 }

@@ -3,7 +3,7 @@
 use super::asserts::{assert_number, assert_text};
 use super::fakes::{NEVER, Narrow};
 use http::StatusCode;
-use http_wire::{ContentRange, ReplyHead, WriteFault, Writing, write_reply};
+use http_wire::{ContentRange, Pair, ReplyHead, WriteFault, Writing, write_reply};
 use std::alloc::Global;
 use std::process::Abort;
 use std::test::Fail;
@@ -29,10 +29,14 @@ fn write(out: &mut Narrow) -> Result<(), WriteFault> {
         allow: Some("GET, HEAD"),
         close: true,
     };
-    write_reply(&mut Writing(out), &head, b"world")
+    let mut duplex = Pair {
+        source: b"".as_slice(),
+        sink: Writing(out),
+    };
+    write_reply(&mut duplex, &head, b"world")
 }
 
-/// Asserts that so many bytes of the reply went out, and nothing was written behind the write that failed.
+/// Asserts that so many bytes of the reply went out, and nothing was written after the write that failed.
 fn assert_fails_after(rt: &impl Abort, alloc: Global, count: usize, fails: bool) {
     let mut out = Narrow::new(alloc, 1, count, fails);
     assert!(rt; write(&mut out) == Err(WriteFault(count as u64)));
@@ -50,7 +54,7 @@ fn a_write_fails_after_each_count_of_bytes(rt: HostRuntime) -> Result<(), Fail> 
     Ok(())
 }
 
-// Nothing is written behind the whole reply.
+// Nothing is written after the whole reply.
 #[test]
 fn a_writer_with_just_enough_room_takes_a_reply(rt: HostRuntime) -> Result<(), Fail> {
     let mut out = Narrow::new(rt.alloc(), 1, REPLY.len(), true);

@@ -4,7 +4,7 @@ use super::asserts::{assert_number, assert_text};
 use super::fakes::{NEVER, Narrow, Trickle};
 use super::talks::{REPLIES, REQUESTS, joined};
 use host_server::run_solo;
-use http_wire::{Reading, Source, Writing};
+use http_wire::{Pair, Reading, Source, Writing};
 use std::alloc::Global;
 use std::io::Write;
 use std::process::Abort;
@@ -17,13 +17,11 @@ fn run<S: Source + Drop, E: Write>(
     out: &mut Narrow,
     errors: &mut E,
 ) -> usize {
-    usize::from(run_solo(
-        alloc,
-        ["solo"].as_slice(),
+    let mut duplex = Pair {
         source,
-        &mut Writing(out),
-        errors,
-    ))
+        sink: Writing(out),
+    };
+    usize::from(run_solo(alloc, ["solo"].as_slice(), &mut duplex, errors))
 }
 
 /// Asserts the status of a run, and what it says of its end.
@@ -40,7 +38,7 @@ fn assert_says<S: Source + Drop>(
     assert_text(rt, errors.as_slice(), wanted.1);
 }
 
-// A byte a call: nothing is read behind the end, and nothing written behind the last reply.
+// A byte a call: nothing is read after the end, and nothing written after the last reply.
 #[test]
 fn streams_with_just_enough_room_end_well(rt: HostRuntime) -> Result<(), Fail> {
     let alloc = rt.alloc();

@@ -5,7 +5,7 @@ use change_undo::GREATEST_LIMIT;
 use host_api::{Told, text};
 use host_names::{Digest, SiteName, Uploads};
 use host_server::{ConnectionFault, SoloHouse, serve_connection};
-use http_wire::{Source, Writing};
+use http_wire::{Pair, Source, Writing};
 use std::alloc::{AllocError, Global};
 use std::process::Abort;
 use std::test::Fail;
@@ -112,7 +112,11 @@ pub(crate) fn assert_serves<S: Source + Drop>(
     ending: Result<(), ConnectionFault>,
 ) {
     let mut out = Vec::new(alloc);
-    let ended = serve_connection(alloc, source, &mut Writing(&mut out), house);
+    let mut duplex = Pair {
+        source,
+        sink: Writing(&mut out),
+    };
+    let ended = serve_connection(alloc, &mut duplex, house);
     assert_text(rt, out.as_slice(), wanted);
     assert_ended(rt, ended, ending);
 }
