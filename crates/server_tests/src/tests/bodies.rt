@@ -78,7 +78,11 @@ fn reads_bodies_in_a_row_and_nothing_after_them(rt: HostRuntime) -> Result<(), F
 }
 
 /// Asserts that a wire ends in a body of 4 bytes, and has no head then.
-fn assert_ends<D: Duplex>(rt: &impl Abort, alloc: Global, wire: &mut Reader<D>) -> Result<(), Fail> {
+fn assert_ends<D: Duplex>(
+    rt: &impl Abort,
+    alloc: Global,
+    wire: &mut Reader<D>,
+) -> Result<(), Fail> {
     assert_head(rt, alloc, wire, "PUT", "/")?;
     assert_no_body(rt, alloc, wire, 4, BodyFault::Ended);
     assert_no_head(rt, alloc, wire, HeadFault::Ended);

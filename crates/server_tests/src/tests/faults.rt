@@ -58,15 +58,14 @@ fn assert_cut(
 ) -> Result<(), Fail> {
     let front = replies.get(..count).ok_or("no such front")?;
     let mut house = new_house(alloc);
-    let mut out = Narrow::new(alloc, 1, count, fails);
     let mut duplex = Pair {
         source: asked.as_bytes(),
-        sink: Writing(&mut out),
+        sink: Writing(Narrow::new(alloc, 1, count, fails)),
     };
     let ended = serve_connection(alloc, &mut duplex, &mut house);
     assert_ended(rt, ended, Err(ConnectionFault::OutputFault));
-    assert_text(rt, out.held.as_slice(), front);
-    assert_number(rt, out.calls, count.saturating_add(1));
+    assert_text(rt, duplex.sink.0.held.as_slice(), front);
+    assert_number(rt, duplex.sink.0.calls, count.saturating_add(1));
     let answered = count_whole(&REPLIES, count).saturating_add(1);
     assert_history(rt, alloc, &house, answered)
 }

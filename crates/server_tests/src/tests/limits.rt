@@ -100,10 +100,9 @@ fn enter(
     requests: &[&str],
 ) -> Result<(), Fail> {
     let stream = joined(alloc, requests)?;
-    let mut out = Vec::new(alloc);
     let mut duplex = Pair {
         source: stream.as_bytes(),
-        sink: Writing(&mut out),
+        sink: Writing(Vec::new(alloc)),
     };
     let ended = serve_connection(alloc, &mut duplex, house);
     assert_ended(rt, ended, Ok(()));

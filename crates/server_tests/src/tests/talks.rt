@@ -111,13 +111,12 @@ pub(crate) fn assert_serves<S: Source + Drop>(
     wanted: &str,
     ending: Result<(), ConnectionFault>,
 ) {
-    let mut out = Vec::new(alloc);
     let mut duplex = Pair {
         source,
-        sink: Writing(&mut out),
+        sink: Writing(Vec::new(alloc)),
     };
     let ended = serve_connection(alloc, &mut duplex, house);
-    assert_text(rt, out.as_slice(), wanted);
+    assert_text(rt, duplex.sink.0.as_slice(), wanted);
     assert_ended(rt, ended, ending);
 }
 
