@@ -94,7 +94,7 @@ class Architecture(unittest.TestCase):
                     self.assertTrue(re.search(rf"\b(fn|ensures|ghost|for|impl) {name}\b", code))
 
     def test_names_files_of_crates_that_are_there(self):
-        named = set(re.findall(r"(?<![\w/])([a-z_]+/[a-z_]+\.rt)\b", self.text)) - {"src/lib.rt"}
+        named = set(re.findall(r"(?<![\w/])((?:[a-z_]+/)+[a-z_]+\.rt)\b", self.text)) - {"src/lib.rt"}
         self.assertGreater(len(named), 20)
         for name in sorted(named):
             crate, _, file = name.partition("/")

@@ -108,7 +108,7 @@ class CommandLine(Program):
     def test_says_what_it_takes_and_what_is_wrong(self):
         usage = "For more information, try '--help'."
         help_parts = ["An immutable file host", "Usage: filehost <COMMAND>", "solo  Serve",
-                      "filehost solo < examples/first-run.http"]
+                      "filehost solo < examples/first-run.http", "README.md", "docs/HTTP.md"]
         solo_parts = ["Usage: filehost solo", "standard input", "standard output", "Exit status: 0"]
         for words, parts in [
             ([], help_parts),

@@ -19,10 +19,11 @@ use Rattle.site_change.proofs.Effects.{one_cell, same_cell-itself}
 use Rattle.site_change.proofs.Touching.{changed}
 use Rattle.change_undo.specs.declared.entries.Entry.{Entry}
 use Rattle.change_undo.specs.declared.entries.Entry.TheVariants.{Change, Undo}
-use Rattle.change_undo.specs.declared.logged.Logged.{Logged}
+use Rattle.change_undo.specs.declared.planned_entries.PlannedEntry.{PlannedEntry}
 use Rattle.change_undo.specs.Clashes.{changed_cells, in_cell, first_touch, clash_in}
-use Rattle.change_undo.specs.Kept.{IsPlanOf, IsPlanned, state_after, ArePlanned, cells_of, first_touched, kept_touch}
-use Rattle.change_undo.specs.Logged.{marked_live, with_change}
+use Rattle.change_undo.specs.Kept.{ArePlanned, cells_of, first_touched, kept_touch}
+use Rattle.change_undo.specs.Plans.{IsPlanOf, IsPlanned, state_after}
+use Rattle.change_undo.specs.PlannedEntries.{marked_live, with_change}
 use Rattle.change_undo.proofs.ChangedCells.{is_listed}
 use Rattle.change_undo.proofs.FirstTouch.{not_among, changed-sorted}
 
@@ -86,7 +87,7 @@ plan-lists uploads state n command (change ∷ items) c each listed =
       | false ↦ λ e h. plan-lists uploads state n command items c each.1 h
     ] refl listed
 
-plan-cells : (uploads : Contents) (state : State) (n : ℕ) (command : Command) (plan : Plan) → IsPlanOf uploads state n command plan
+pub plan-cells : (uploads : Contents) (state : State) (n : ℕ) (command : Command) (plan : Plan) → IsPlanOf uploads state n command plan
     → cells_of plan.changes.items ≡ changed_cells command n state uploads
 plan-cells uploads state n command plan is =
     same_list (cells_of plan.changes.items) (changed_cells command n state uploads) is.changes.ordered (changed-sorted command n state uploads)
@@ -103,7 +104,7 @@ plan-cells uploads state n command plan is =
 
 -- ---- the first that touches some cells
 
-kept-touch : (uploads : Contents) (cells : List Cell) (state : State) (n : ℕ) (logged : List Logged) → ArePlanned uploads state n logged
+kept-touch : (uploads : Contents) (cells : List Cell) (state : State) (n : ℕ) (logged : List PlannedEntry) → ArePlanned uploads state n logged
     → first_touch uploads cells state (marked_live n logged) ≡ kept_touch cells n logged
 kept-touch uploads cells state n [] planned = refl
 kept-touch uploads cells state n (l ∷ logged) planned = one (λ s rest. kept-touch uploads cells s (n + 1) logged rest) l.is_undone l.entry l.plan planned.0 planned.1
@@ -121,12 +122,12 @@ kept-touch uploads cells state n (l ∷ logged) planned = one (λ s rest. kept-t
 -- ---- the clash of a change
 
 -- the first of these entries that touches a cell which the plan changes, with the first such cell
-abbrev pub plan_clash : Option Plan → ℕ → List Logged → Option (ℕ × Cell)
+abbrev pub plan_clash : Option Plan → ℕ → List PlannedEntry → Option (ℕ × Cell)
 plan_clash None n later = None
 plan_clash (Some plan) n later = kept_touch (cells_of plan.changes.items) n later
 
 -- of a number that is not among them
-pub clash-absent : (uploads : Contents) (k n : ℕ) (state : State) (logged : List Logged) → (k < n) ⊎ (n + length logged ≤ k) → clash_in uploads k state (marked_live n logged) ≡ None
+pub clash-absent : (uploads : Contents) (k n : ℕ) (state : State) (logged : List PlannedEntry) → (k < n) ⊎ (n + length logged ≤ k) → clash_in uploads k state (marked_live n logged) ≡ None
 clash-absent uploads k n state [] outside = refl
 clash-absent uploads k n state (l ∷ logged) outside =
     one (λ s. clash-absent uploads k (n + 1) s logged (elim outside [ inl below ↦ inl (omega (arith, below)) | inr beyond ↦ inr (omega (arith, beyond)) ])) l.is_undone l.entry
@@ -146,11 +147,11 @@ clash-absent uploads k n state (l ∷ logged) outside =
         ] refl
 
 -- of one at a place among them
-pub clash-kept : (uploads : Contents) (k n i : ℕ) (state : State) (logged : List Logged) (l : Logged) → k ≡ n + i → i < length logged → l ≡ get_or logged i l
+pub clash-kept : (uploads : Contents) (k n i : ℕ) (state : State) (logged : List PlannedEntry) (l : PlannedEntry) → k ≡ n + i → i < length logged → l ≡ get_or logged i l
     → ArePlanned uploads state n logged → clash_in uploads k state (marked_live n logged) ≡ plan_clash l.plan (k + 1) (drop (suc i) logged)
 clash-kept uploads k n i state [] l at within is planned = absurd (omega (arith, within))
 clash-kept uploads k n zero state (x ∷ logged) l at within is planned =
-    one x.is_undone x.entry x.plan planned.0 planned.1 ∙ ap (λ (y : Logged). plan_clash y.plan (k + 1) logged) (sym is)
+    one x.is_undone x.entry x.plan planned.0 planned.1 ∙ ap (λ (y : PlannedEntry). plan_clash y.plan (k + 1) logged) (sym is)
   where
     one : (gone : Bool) (entry : Entry) (plan : Option Plan) → IsPlanned uploads state n gone entry plan → ArePlanned uploads (state_after uploads state n gone entry) (n + 1) logged
         → clash_in uploads k state (with_change gone n entry (marked_live (n + 1) logged)) ≡ plan_clash plan (k + 1) logged

@@ -1,10 +1,9 @@
 pub mod Live
 pub mod Runs
 pub mod Marks
-pub mod Writes
+pub mod PlanWrites
 pub mod Found
 pub mod Errors
-pub mod Sound
 pub mod Clashing
 pub mod ChangedCells
 pub mod WithoutClash
@@ -14,3 +13,7 @@ pub mod TheClash
 pub mod GrowingClash
 pub mod Planned
 pub mod KeptClash
+pub mod LeavingOut
+pub mod WritingBack
+pub mod Sound
+pub mod Opened

@@ -1,27 +1,24 @@
 -- What the marks of the entries tell.
-use Rattle.std.proofs.Common.{◌≡◌, ℕ, zero, suc, ◌+◌, ◌-◌, ◌<◌, ◌≤◌, ◌==◌, nat_le, Bool, true, false, not, cond, ◌&&◌, ◌||◌, List, [], ◌∷◌, ◌++◌, drop, get_or, set, length, slice_get, Option, Some, None, IsSome, option_map, refl, sym, ap, subst, ◌∙◌, arith, eq-eqb, if◌then◌else◌}
+use Rattle.std.proofs.Common.{◌≡◌, ℕ, zero, suc, ◌+◌, ◌-◌, ◌<◌, ◌≤◌, ◌==◌, nat_le, Bool, true, false, not, cond, ◌||◌, List, [], ◌∷◌, ◌++◌, get_or, set, length, slice_get, Some, None, option_map, refl, sym, ap, subst, ◌∙◌, arith, eq-eqb, if◌then◌else◌}
 use Rattle.std.specs.FinMap as map
-use Rattle.std.proofs.lemmas.List.{length-map, drop_more, append-nil, length-append}
+use Rattle.std.proofs.lemmas.List.{length-map, append-nil, length-append}
 use Rattle.std.proofs.lemmas.Bool.{leb-true, eqb-true}
 use Rattle.std.specs.Str.{bytes_eq}
 use Rattle.site_change.specs.declared.commands.Command.{Command}
 use Rattle.host_names.specs.Blobs.{Contents}
 use Rattle.host_names.specs.declared.names.SiteName.{SiteName}
-use Rattle.site_state.specs.States.{State}
-use Rattle.site_change.specs.declared.commands.Refusal.{Refusal}
-use Rattle.site_change.specs.Changes.{site_of_command, refusal, applied, if_accepted, run_from}
+use Rattle.site_change.specs.Changes.{site_of_command}
 use Rattle.change_undo.specs.declared.entries.Entry.{Entry}
 use Rattle.change_undo.specs.declared.entries.Entry.TheVariants.{Change, Undo}
 use Rattle.change_undo.specs.declared.entries.UndoRefusal.TheVariants.{HistoryFull, NoSuchChange, AlreadyUndone, Clash}
 use Rattle.change_undo.specs.Clashes.{clash, clash_in}
-use Rattle.change_undo.specs.declared.logged.Logged.{Logged}
+use Rattle.change_undo.specs.declared.planned_entries.PlannedEntry.{PlannedEntry}
 use Rattle.change_undo.specs.Histories.{marked as with_mark, undone, is_among, live_from, site_of_entry, same_site, entry_at, marked_entry, refusal_at, undo_refusal}
-use Rattle.change_undo.specs.Live.{without}
 use Rattle.change_undo.proofs.Live.{is_among-push, undone-append}
-use Rattle.change_undo.specs.Logged.{entries_of, AreMarked, marked_live, with_change, command_if, carried_out}
+use Rattle.change_undo.specs.PlannedEntries.{entries_of, AreMarked, marked_live, with_change}
 
 -- the marked entries have the live changes
-pub marked_live-is : (gone : List ℕ) (n : ℕ) (logged : List Logged) → AreMarked gone n logged → marked_live n logged ≡ live_from gone n (entries_of logged)
+pub marked_live-is : (gone : List ℕ) (n : ℕ) (logged : List PlannedEntry) → AreMarked gone n logged → marked_live n logged ≡ live_from gone n (entries_of logged)
 marked_live-is gone n [] marked = refl
 marked_live-is gone n (l ∷ logged) marked =
     ap (with_change l.is_undone n l.entry) (marked_live-is gone (n + 1) logged marked.1) ∙ one l.entry
@@ -32,21 +29,21 @@ marked_live-is gone n (l ∷ logged) marked =
 
 -- ---- the entry at a place
 
-mark_at : (gone : List ℕ) (n i : ℕ) (logged : List Logged) (l : Logged) → AreMarked gone n logged → i < length logged → l ≡ get_or logged i l → l.is_undone ≡ is_among gone (n + i)
+mark_at : (gone : List ℕ) (n i : ℕ) (logged : List PlannedEntry) (l : PlannedEntry) → AreMarked gone n logged → i < length logged → l ≡ get_or logged i l → l.is_undone ≡ is_among gone (n + i)
 mark_at gone n i [] l marked within at = absurd (omega arith)
-mark_at gone n zero (x ∷ logged) l marked within at = ap (λ (x : Logged). x.is_undone) at ∙ marked.0 ∙ ap (is_among gone) (omega arith)
+mark_at gone n zero (x ∷ logged) l marked within at = ap (λ (x : PlannedEntry). x.is_undone) at ∙ marked.0 ∙ ap (is_among gone) (omega arith)
 mark_at gone n (suc i) (x ∷ logged) l marked within at = mark_at gone (n + 1) i logged l marked.1 (omega arith) at ∙ ap (is_among gone) (omega arith)
 
-entry_at_place : (i : ℕ) (logged : List Logged) (l : Logged) → i < length logged → l ≡ get_or logged i l → slice_get (entries_of logged) i ≡ Some l.entry
+entry_at_place : (i : ℕ) (logged : List PlannedEntry) (l : PlannedEntry) → i < length logged → l ≡ get_or logged i l → slice_get (entries_of logged) i ≡ Some l.entry
 entry_at_place i [] l within at = absurd (omega arith)
-entry_at_place zero (x ∷ logged) l within at = ap (λ (x : Logged). Some x.entry) (sym at)
+entry_at_place zero (x ∷ logged) l within at = ap (λ (x : PlannedEntry). Some x.entry) (sym at)
 entry_at_place (suc i) (x ∷ logged) l within at = entry_at_place i logged l (omega arith) at
 
 nonzero : (k : ℕ) → 0 < k → (k == 0) ≡ false
 nonzero k h = elim (k == 0) as (λ t. (k == 0) ≡ t → t ≡ false) [ true ↦ λ e. absurd (omega (arith, eqb-true k 0 e)) | false ↦ λ e. refl ] refl
 
 -- the entry of a number, with its mark
-pub marked_at : (logged : List Logged) (k : ℕ) (l : Logged) → AreMarked (undone (entries_of logged)) 1 logged → 0 < k → k ≤ length logged
+pub marked_at : (logged : List PlannedEntry) (k : ℕ) (l : PlannedEntry) → AreMarked (undone (entries_of logged)) 1 logged → 0 < k → k ≤ length logged
     → l ≡ get_or logged (k - 1) l
     → Some (l.entry, l.is_undone) ≡ marked_entry (entries_of logged) k
 marked_at logged k l marked some within at =
@@ -61,14 +58,14 @@ room : (limit n : ℕ) → n < limit → nat_le limit n ≡ false
 room limit n h = elim (nat_le limit n) as (λ t. nat_le limit n ≡ t → t ≡ false) [ true ↦ λ e. absurd (omega (arith, leb-true limit n e)) | false ↦ λ e. refl ] refl
 
 -- where the number names a change of the site, its mark and its clash tell the rest
-pub refusal_by_mark : (uploads : Contents) (limit : ℕ) (logged : List Logged) (site : SiteName) (k : ℕ) (l : Logged) (command : Command)
+pub refusal_by_mark : (uploads : Contents) (limit : ℕ) (logged : List PlannedEntry) (site : SiteName) (k : ℕ) (l : PlannedEntry) (command : Command)
     → AreMarked (undone (entries_of logged)) 1 logged → length logged < limit → 0 < k → k ≤ length logged
     → l ≡ get_or logged (k - 1) l → l.entry ≡ Change command → same_site (site_of_command command) site ≡ true
     → undo_refusal uploads limit (entries_of logged) site k
     ≡ (if l.is_undone then Some AlreadyUndone else option_map (λ later. Clash later.0 later.1) (clash_in uploads k map.empty (marked_live 1 logged)))
 refusal_by_mark uploads limit logged site k l command marked full some within at is_one same =
     let es = entries_of logged in
-    let len : length es ≡ length logged = length-map logged (λ (l : Logged). l.entry) in
+    let len : length es ≡ length logged = length-map logged (λ (l : PlannedEntry). l.entry) in
     let mark : l.is_undone ≡ is_among (undone es) k = mark_at (undone es) 1 (k - 1) logged l marked (omega arith) at ∙ ap (is_among (undone es)) (omega arith) in
     let found : entry_at es k ≡ Some (Change command) = ap (λ t. cond t None (slice_get es (k - 1))) (nonzero k some) ∙ entry_at_place (k - 1) logged l (omega arith) at ∙ ap Some is_one in
     let others = option_map (λ later. Clash later.0 later.1) (clash uploads es k) in
@@ -87,60 +84,17 @@ named_site found entry command site is is_one same =
     let P : SiteName → Type 0 = λ s. same_site s site ≡ true in
     subst P at (elim (bytes_eq found.0 site.0) as (λ t. bytes_eq found.0 site.0 ≡ t → t ≡ true) [ true ↦ λ e. refl | false ↦ λ e. cc (same ∙ ap not e) ] refl)
 
--- ---- carrying out the changes again
-
--- an entry's change, before others
-abbrev pub before_others : ℕ → Option Command → List (ℕ × Command) → List (ℕ × Command)
-before_others n None changes = changes
-before_others n (Some command) changes = (n, command) ∷ changes
-
-carried_first : (k n : ℕ) (gone : Bool) (entry : Entry) (changes : List (ℕ × Command))
-    → without k (with_change gone n entry changes) ≡ before_others n (command_if (not gone && not (k == n)) entry) (without k changes)
-carried_first k n gone (Undo site j) changes = refl
-carried_first k n true (Change command) changes = refl
-carried_first k n false (Change command) changes = elim (k == n) as (λ t. cond (not t) ((n, command) ∷ without k changes) (without k changes)
-    ≡ before_others n (command_if (true && not t) (Change command)) (without k changes)) [ true ↦ refl | false ↦ refl ]
-
--- the changes that are carried out from a place on
-pub carried_at : (k n i : ℕ) (logged : List Logged) (l : Logged) → i < length logged → l ≡ get_or logged i l
-    → without k (marked_live n (drop i logged)) ≡ before_others n (carried_out k n l) (without k (marked_live (n + 1) (drop (i + 1) logged)))
-carried_at k n i logged l within at =
-    ap (λ ls. without k (marked_live n ls)) (drop_more logged i l within)
-    ∙ ap (λ (x : Logged). without k (marked_live n (x ∷ drop (i + 1) logged))) (sym at)
-    ∙ carried_first k n l.is_undone l.entry (marked_live (n + 1) (drop (i + 1) logged))
-
-some_accepted : (reason : Option Refusal) (next : Option State) → IsSome (if_accepted reason next) → reason ≡ None
-some_accepted None next h = refl
-some_accepted (Some reason) next h = cc h
-
--- the next of them is accepted
-pub carried_accepted : (uploads : Contents) (state : State) (n : ℕ) (command : Command) (o : Option Command) (changes : List (ℕ × Command)) → o ≡ Some command
-    → IsSome (run_from uploads state (before_others n o changes)) → refusal command n state uploads ≡ None
-carried_accepted uploads state n command o changes e h =
-    let P : Option Command → Type 0 = λ o. IsSome (run_from uploads state (before_others n o changes)) in
-    some_accepted (refusal command n state uploads) (run_from uploads (applied command n state uploads) changes) (subst P e h)
-
--- once it is carried out, the others remain
-pub carried_rest : (uploads : Contents) (state : State) (n : ℕ) (command : Command) (o : Option Command) (changes : List (ℕ × Command)) → o ≡ Some command
-    → refusal command n state uploads ≡ None → run_from uploads state (before_others n o changes) ≡ run_from uploads (applied command n state uploads) changes
-carried_rest uploads state n command o changes e ok =
-    ap (λ o. run_from uploads state (before_others n o changes)) e ∙ ap (λ r. if_accepted r (run_from uploads (applied command n state uploads) changes)) ok
-
-pub carried_none : (uploads : Contents) (state : State) (n : ℕ) (o : Option Command) (changes : List (ℕ × Command)) → o ≡ None
-    → run_from uploads state (before_others n o changes) ≡ run_from uploads state changes
-carried_none uploads state n o changes e = ap (λ o. run_from uploads state (before_others n o changes)) e
-
 -- ---- an undo more
 
 -- marking an entry leaves the entries
-pub entries_of-mark : (logged : List Logged) (i : ℕ) (l : Logged) → i < length logged → l ≡ get_or logged i l
+pub entries_of-mark : (logged : List PlannedEntry) (i : ℕ) (l : PlannedEntry) → i < length logged → l ≡ get_or logged i l
     → entries_of (set logged i (record { entry = l.entry; is_undone = true; plan = None })) ≡ entries_of logged
 entries_of-mark [] i l within at = absurd (omega arith)
-entries_of-mark (x ∷ logged) zero l within at = ap (λ (y : Logged). y.entry ∷ entries_of logged) at
+entries_of-mark (x ∷ logged) zero l within at = ap (λ (y : PlannedEntry). y.entry ∷ entries_of logged) at
 entries_of-mark (x ∷ logged) (suc i) l within at = ap (λ es. x.entry ∷ es) (entries_of-mark logged i l (omega arith) at)
 
 -- and tells that one number more is undone
-AreMarked-other : (gone : List ℕ) (k n : ℕ) (logged : List Logged) → k < n → AreMarked gone n logged → AreMarked (gone ++ k ∷ []) n logged
+AreMarked-other : (gone : List ℕ) (k n : ℕ) (logged : List PlannedEntry) → k < n → AreMarked gone n logged → AreMarked (gone ++ k ∷ []) n logged
 AreMarked-other gone k n [] below marked = tt
 AreMarked-other gone k n (x ∷ logged) below marked =
     (marked.0 ∙ sym (is_among-push gone k n ∙ ap (λ t. is_among gone n || t) (differs k n below) ∙ or_false (is_among gone n)), AreMarked-other gone k (n + 1) logged (omega arith) marked.1)
@@ -152,7 +106,7 @@ AreMarked-other gone k n (x ∷ logged) below marked =
     or_false true = refl
     or_false false = refl
 
-pub AreMarked-mark : (gone : List ℕ) (n i m : ℕ) (logged : List Logged) (l : Logged) → i < length logged → m ≡ n + i → AreMarked gone n logged
+pub AreMarked-mark : (gone : List ℕ) (n i m : ℕ) (logged : List PlannedEntry) (l : PlannedEntry) → i < length logged → m ≡ n + i → AreMarked gone n logged
     → AreMarked (gone ++ m ∷ []) n (set logged i (record { entry = l.entry; is_undone = true; plan = None }))
 AreMarked-mark gone n i m [] l within at marked = absurd (omega arith)
 AreMarked-mark gone n zero m (x ∷ logged) l within at marked =
@@ -175,24 +129,24 @@ AreMarked-mark gone n (suc i) m (x ∷ logged) l within at marked = (
     or_false false = refl
 
 -- an unmarked entry at the end
-pub AreMarked-push : (gone : List ℕ) (n : ℕ) (logged : List Logged) (l : Logged) → AreMarked gone n logged → l.is_undone ≡ is_among gone (n + length logged)
+pub AreMarked-push : (gone : List ℕ) (n : ℕ) (logged : List PlannedEntry) (l : PlannedEntry) → AreMarked gone n logged → l.is_undone ≡ is_among gone (n + length logged)
     → AreMarked gone n (logged ++ l ∷ [])
 AreMarked-push gone n [] l marked e = (e ∙ ap (is_among gone) (omega arith), tt)
 AreMarked-push gone n (x ∷ logged) l marked e = (marked.0, AreMarked-push gone (n + 1) logged l marked.1 (e ∙ ap (is_among gone) (omega arith)))
 
-pub entries_of-push : (logged : List Logged) (l : Logged) → entries_of (logged ++ l ∷ []) ≡ entries_of logged ++ l.entry ∷ []
+pub entries_of-push : (logged : List PlannedEntry) (l : PlannedEntry) → entries_of (logged ++ l ∷ []) ≡ entries_of logged ++ l.entry ∷ []
 entries_of-push [] l = refl
 entries_of-push (x ∷ logged) l = ap (λ es. x.entry ∷ es) (entries_of-push logged l)
 
 -- the undo of a change, appended and marked
-pub after_undo : (logged : List Logged) (new : Logged) (site : SiteName) (k : ℕ) (l : Logged) → AreMarked (undone (entries_of logged)) 1 logged
+pub after_undo : (logged : List PlannedEntry) (new : PlannedEntry) (site : SiteName) (k : ℕ) (l : PlannedEntry) → AreMarked (undone (entries_of logged)) 1 logged
     → is_among (undone (entries_of logged)) (length logged + 1) ≡ false → 0 < k → k ≤ length logged → new.entry ≡ Undo site k → new.is_undone ≡ false
     → l ≡ get_or (logged ++ new ∷ []) (k - 1) l
     → (entries_of (set (logged ++ new ∷ []) (k - 1) (record { entry = l.entry; is_undone = true; plan = None })) ≡ entries_of logged ++ Undo site k ∷ [])
     × AreMarked (undone (entries_of (set (logged ++ new ∷ []) (k - 1) (record { entry = l.entry; is_undone = true; plan = None })))) 1
     (set (logged ++ new ∷ []) (k - 1) (record { entry = l.entry; is_undone = true; plan = None }))
 after_undo logged new site k l marked next some within is_undo unmarked at =
-    let items : List Logged = logged ++ new ∷ [] in
+    let items : List PlannedEntry = logged ++ new ∷ [] in
     let longer = length-append logged (new ∷ []) in
     let same : entries_of (set items (k - 1) (record { entry = l.entry; is_undone = true; plan = None })) ≡ entries_of logged ++ Undo site k ∷ [] =
     entries_of-mark items (k - 1) l (omega (arith, longer)) at ∙ entries_of-push logged new ∙ ap (λ (e : Entry). entries_of logged ++ e ∷ []) is_undo in
@@ -205,7 +159,7 @@ after_undo logged new site k l marked next some within is_undo unmarked at =
     )
 
 -- a change, appended
-pub after_change : (logged : List Logged) (new : Logged) (command : Command) → AreMarked (undone (entries_of logged)) 1 logged
+pub after_change : (logged : List PlannedEntry) (new : PlannedEntry) (command : Command) → AreMarked (undone (entries_of logged)) 1 logged
     → is_among (undone (entries_of logged)) (length logged + 1) ≡ false → new.entry ≡ Change command → new.is_undone ≡ false
     → (entries_of (logged ++ new ∷ []) ≡ entries_of logged ++ Change command ∷ []) × AreMarked (undone (entries_of (logged ++ new ∷ []))) 1 (logged ++ new ∷ [])
 after_change logged new command marked next is_change unmarked =

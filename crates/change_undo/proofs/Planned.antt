@@ -19,10 +19,12 @@ use Rattle.site_change.proofs.Locality.{is_local, same_value-same}
 use Rattle.site_change.proofs.Touching.{changed}
 use Rattle.change_undo.specs.declared.entries.Entry.{Entry}
 use Rattle.change_undo.specs.declared.entries.Entry.TheVariants.{Change, Undo}
-use Rattle.change_undo.specs.declared.logged.Logged.{Logged}
-use Rattle.change_undo.specs.Kept.{IsPlanOf, IsPlanned, state_after, ArePlanned}
+use Rattle.change_undo.specs.declared.planned_entries.PlannedEntry.{PlannedEntry}
+use Rattle.change_undo.specs.Kept.{ArePlanned, plan_at}
+use Rattle.change_undo.specs.LiveChanges.{is_among, live_from}
+use Rattle.change_undo.specs.Plans.{IsPlanOf, IsPlanned, state_after, ArePlans}
 use Rattle.change_undo.specs.Clashes.{changed_cells, first_touch, clash_in}
-use Rattle.change_undo.specs.Logged.{marked_live, with_change}
+use Rattle.change_undo.specs.PlannedEntries.{marked_live, with_change}
 use Rattle.change_undo.proofs.ChangedCells.{is_listed}
 use Rattle.change_undo.proofs.WithoutClash.{avoid_all}
 
@@ -34,37 +36,45 @@ plan-grows uploads more state n command plan within ok is =
     let P : State → Type 0 = λ after. IsDifference state after plan.changes.items in
     record { changes = subst P (sym (command_grows command n state uploads more within ok).1) is.changes; touched = is.touched }
 
--- what was accepted with less is planned alike
-pub plan-shrinks : (uploads more : Contents) (state : State) (n : ℕ) (command : Command) (plan : Plan) → IsWithin uploads more → refusal command n state uploads ≡ None
-    → IsPlanOf more state n command plan → IsPlanOf uploads state n command plan
-plan-shrinks uploads more state n command plan within ok is =
-    let P : State → Type 0 = λ after. IsDifference state after plan.changes.items in
-    record { changes = subst P (command_grows command n state uploads more within ok).1 is.changes; touched = is.touched }
+-- the first of the live changes, before the others
+live-first : (gone : List ℕ) (n : ℕ) (entry : Entry) (entries : List Entry) → live_from gone n (entry ∷ entries) ≡ with_change (is_among gone n) n entry (live_from gone (n + 1) entries)
+live-first gone n (Change command) entries = refl
+live-first gone n (Undo site k) entries = refl
 
-pub planned-grows : (uploads more : Contents) (state after : State) (n : ℕ) (logged : List Logged) → IsWithin uploads more
-    → run_from uploads state (marked_live n logged) ≡ Some after → ArePlanned uploads state n logged → ArePlanned more state n logged
-planned-grows uploads more state after n [] within ran planned = tt
-planned-grows uploads more state after n (l ∷ logged) within ran planned =
-    one (λ s ran rest. planned-grows uploads more s after (n + 1) logged within ran rest) l.is_undone l.entry l.plan ran planned.0 planned.1
+pub plans-grow : (uploads more : Contents) (state after : State) (gone : List ℕ) (n : ℕ) (entries : List Entry) (plans : List (Option Plan)) → IsWithin uploads more
+    → run_from uploads state (live_from gone n entries) ≡ Some after → ArePlans uploads state gone n entries plans → ArePlans more state gone n entries plans
+plans-grow uploads more state after gone n [] [] within ran planned = tt
+plans-grow uploads more state after gone n [] (plan ∷ plans) within ran planned = absurd planned
+plans-grow uploads more state after gone n (entry ∷ entries) [] within ran planned = absurd planned
+plans-grow uploads more state after gone n (entry ∷ entries) (plan ∷ plans) within ran planned =
+    one (λ s ran rest. plans-grow uploads more s after gone (n + 1) entries plans within ran rest) (is_among gone n) entry plan
+    (sym (ap (run_from uploads state) (live-first gone n entry entries)) ∙ ran) planned.0 planned.1
   where
-    one : ((s : State) → run_from uploads s (marked_live (n + 1) logged) ≡ Some after → ArePlanned uploads s (n + 1) logged → ArePlanned more s (n + 1) logged)
-        → (gone : Bool) (entry : Entry) (plan : Option Plan) → run_from uploads state (with_change gone n entry (marked_live (n + 1) logged)) ≡ Some after
-        → IsPlanned uploads state n gone entry plan → ArePlanned uploads (state_after uploads state n gone entry) (n + 1) logged
-        → IsPlanned more state n gone entry plan × ArePlanned more (state_after more state n gone entry) (n + 1) logged
-    one next gone (Undo site k) plan ran is rest = (is, next state ran rest)
+    one : ((s : State) → run_from uploads s (live_from gone (n + 1) entries) ≡ Some after → ArePlans uploads s gone (n + 1) entries plans → ArePlans more s gone (n + 1) entries plans)
+        → (is_gone : Bool) (entry : Entry) (plan : Option Plan) → run_from uploads state (with_change is_gone n entry (live_from gone (n + 1) entries)) ≡ Some after
+        → IsPlanned uploads state n is_gone entry plan → ArePlans uploads (state_after uploads state n is_gone entry) gone (n + 1) entries plans
+        → IsPlanned more state n is_gone entry plan × ArePlans more (state_after more state n is_gone entry) gone (n + 1) entries plans
+    one next is_gone (Undo site k) plan ran is rest = (is, next state ran rest)
     one next true (Change command) plan ran is rest = (is, next state ran rest)
     one next false (Change command) None ran is rest = absurd is
     one next false (Change command) (Some plan) ran is rest =
         let parts = accepted (refusal command n state uploads) _ after ran in
         let same = (command_grows command n state uploads more within parts.0).1 in
-        let P : State → Type 0 = λ s. ArePlanned more s (n + 1) logged in (
+        let P : State → Type 0 = λ s. ArePlans more s gone (n + 1) entries plans in (
           plan-grows uploads more state n command plan within parts.0 is,
           subst P (sym same) (next (applied command n state uploads) parts.1 rest),
         )
 
+-- ---- one entry
+
+pub plan_at-is : (i : ℕ) (logged : List PlannedEntry) (l : PlannedEntry) → i < length logged → l ≡ get_or logged i l → l.plan ≡ plan_at logged i
+plan_at-is i [] l within at = absurd (omega (arith, within))
+plan_at-is zero (x ∷ logged) l within at = ap (λ (y : PlannedEntry). y.plan) at
+plan_at-is (suc i) (x ∷ logged) l within at = plan_at-is i logged l (omega (arith, within)) at
+
 -- ---- one entry more
 
-pub planned-push : (uploads : Contents) (state after : State) (n m : ℕ) (logged : List Logged) (l : Logged) → m ≡ n + length logged
+pub planned-push : (uploads : Contents) (state after : State) (n m : ℕ) (logged : List PlannedEntry) (l : PlannedEntry) → m ≡ n + length logged
     → run_from uploads state (marked_live n logged) ≡ Some after → ArePlanned uploads state n logged → IsPlanned uploads after m l.is_undone l.entry l.plan
     → ArePlanned uploads state n (logged ++ l ∷ [])
 planned-push uploads state after n m [] l at ran planned is =
@@ -117,7 +127,7 @@ local_plan uploads a b n command plan agree is =
     each_same (change ∷ changes) each = (one_same change each.0, each_same changes each.1)
 
 -- without a change that none of these touches, their plans stay right
-pub planned-without : (uploads : Contents) (test : Cell → Bool) (state a b : State) (n : ℕ) (logged : List Logged) → Differs test state a b
+pub planned-without : (uploads : Contents) (test : Cell → Bool) (state a b : State) (n : ℕ) (logged : List PlannedEntry) → Differs test state a b
     → AvoidAll uploads a (marked_live n logged) test → ArePlanned uploads a n logged → ArePlanned uploads b n logged
 planned-without uploads test state a b n [] differs avoid planned = tt
 planned-without uploads test state a b n (l ∷ logged) differs avoid planned =
@@ -137,13 +147,13 @@ planned-without uploads test state a b n (l ∷ logged) differs avoid planned =
 
 -- ---- an undo more
 
-pub planned-push_undo : (uploads : Contents) (state : State) (n : ℕ) (logged : List Logged) (site : SiteName) (k : ℕ) → ArePlanned uploads state n logged
+pub planned-push_undo : (uploads : Contents) (state : State) (n : ℕ) (logged : List PlannedEntry) (site : SiteName) (k : ℕ) → ArePlanned uploads state n logged
     → ArePlanned uploads state n (logged ++ record { entry = Undo site k; is_undone = false; plan = None } ∷ [])
 planned-push_undo uploads state n [] site k planned = (refl, tt)
 planned-push_undo uploads state n (x ∷ logged) site k planned =
     (planned.0, planned-push_undo uploads (state_after uploads state n x.is_undone x.entry) (n + 1) logged site k planned.1)
 
-pub marked_live-push_undo : (n : ℕ) (logged : List Logged) (site : SiteName) (k : ℕ)
+pub marked_live-push_undo : (n : ℕ) (logged : List PlannedEntry) (site : SiteName) (k : ℕ)
     → marked_live n (logged ++ record { entry = Undo site k; is_undone = false; plan = None } ∷ []) ≡ marked_live n logged
 marked_live-push_undo n [] site k = refl
 marked_live-push_undo n (x ∷ logged) site k = ap (with_change x.is_undone n x.entry) (marked_live-push_undo (n + 1) logged site k)
@@ -160,12 +170,12 @@ differs_before command n state uploads c =
     not_false false e = cc e
 
 -- marking a change that has no clash
-pub planned-mark : (uploads : Contents) (state : State) (n i k : ℕ) (logged : List Logged) (l : Logged) → k ≡ n + i → i < length logged → l ≡ get_or logged i l
+pub planned-mark : (uploads : Contents) (state : State) (n i k : ℕ) (logged : List PlannedEntry) (l : PlannedEntry) → k ≡ n + i → i < length logged → l ≡ get_or logged i l
     → clash_in uploads k state (marked_live n logged) ≡ None → ArePlanned uploads state n logged
     → ArePlanned uploads state n (set logged i (record { entry = l.entry; is_undone = true; plan = None }))
 planned-mark uploads state n i k [] l at within is clear planned = absurd (omega (arith, within))
 planned-mark uploads state n zero k (x ∷ logged) l at within is clear planned =
-    let P : Logged → Type 0 = λ y. ArePlanned uploads state n (record { entry = y.entry; is_undone = true; plan = None } ∷ logged) in
+    let P : PlannedEntry → Type 0 = λ y. ArePlanned uploads state n (record { entry = y.entry; is_undone = true; plan = None } ∷ logged) in
     subst P (sym is) (one x.is_undone x.entry clear planned.1)
   where
     one : (gone : Bool) (entry : Entry) → clash_in uploads k state (with_change gone n entry (marked_live (n + 1) logged)) ≡ None

@@ -112,7 +112,7 @@ run-change uploads entries command state legal ran ok =
     )
 
 -- a test that would have refused failed
-guard : {A : Type 0} (t : Bool) (x : A) (o : Option A) → cond t (Some x) o ≡ None → (t ≡ false) × (o ≡ None)
+pub guard : {A : Type 0} (t : Bool) (x : A) (o : Option A) → cond t (Some x) o ≡ None → (t ≡ false) × (o ≡ None)
 guard true x o e = cc e
 guard false x o e = (refl, e)
 
@@ -244,7 +244,7 @@ pub within_limit : (uploads : Contents) (limit : ℕ) (entries : List Entry) (si
     → change_refusal uploads entries site k ≡ None
 within_limit uploads limit entries site k e = (guard (nat_le limit (length entries)) HistoryFull (change_refusal uploads entries site k) e).1
 
-entry_at-some : (entries : List Entry) (k : ℕ) (entry : Entry) → entry_at entries k ≡ Some entry → 0 < k
+pub entry_at-some : (entries : List Entry) (k : ℕ) (entry : Entry) → entry_at entries k ≡ Some entry → 0 < k
 entry_at-some entries zero entry e = cc e
 entry_at-some entries (suc k) entry e = omega arith
 

@@ -1,91 +1,155 @@
--- A history stays sound: its marks, its entries and its state go together.
-use Rattle.std.proofs.Common.{◌≡◌, ◌↔◌, ℕ, ◌+◌, ◌<◌, ◌≤◌, false, List, [], ◌∷◌, ◌++◌, length, Option, Some, None, IsSome, Result, Ok, Err, OnOk, OnErr, refl, sym, ap, subst, ◌∙◌, arith}
+-- A history stays sound: its marks, its entries, its plans and its state go together.
+use Rattle.std.proofs.Common.{◌≡◌, ◌↔◌, ℕ, ◌+◌, ◌-◌, ◌<◌, ◌≤◌, inl, inr, nat_le, Bool, false, List, [], ◌∷◌, ◌++◌, length, Option, Some, None, Result, Ok, Err, OnOk, OnErr, refl, sym, ap, subst, ◌∙◌, arith, le-leb}
 use Rattle.std.specs.FinMap as map
-use Rattle.std.proofs.lemmas.List.{length-map}
+use Rattle.std.proofs.lemmas.Bool.{cases_lt}
+use Rattle.std.proofs.lemmas.List.{length-map, length-append}
 use Rattle.host_names.specs.Blobs.{Contents}
 use Rattle.host_names.specs.declared.names.SiteName.{SiteName}
-use Rattle.site_state.specs.States.{State}
+use Rattle.site_state.specs.States.{State, with_cells}
 use Rattle.site_change.specs.declared.commands.Command.{Command}
 use Rattle.site_change.specs.declared.commands.Refusal.{Refusal}
 use Rattle.site_change.specs.declared.commands.DecideError.{DecideError}
 use Rattle.site_change.specs.declared.commands.DecideError.TheVariants as decide
+use Rattle.site_change.specs.declared.plans.Plan.{Plan}
 use Rattle.site_change.specs.Changes.{IsWithin, applied, refusal, run_from}
-use Rattle.site_change.proofs.Growing.{command_grows}
 use Rattle.change_undo.specs.declared.entries.CommitError.{CommitError}
 use Rattle.change_undo.specs.declared.entries.CommitError.TheVariants as commit
 use Rattle.change_undo.specs.declared.entries.Entry.{Entry}
 use Rattle.change_undo.specs.declared.entries.Entry.TheVariants.{Change, Undo}
 use Rattle.change_undo.specs.declared.entries.UndoRefusal.{UndoRefusal}
-use Rattle.change_undo.specs.declared.logged.Logged.{Logged}
-use Rattle.change_undo.specs.Histories.{undone, is_among, run, change_refusal, undo_refusal, IsLegal}
-use Rattle.change_undo.specs.Live.{without}
-use Rattle.change_undo.specs.Logged.{AreMarked, entries_of, marked_live}
-use Rattle.change_undo.specs.Past.{IsSound}
+use Rattle.change_undo.specs.declared.entries.UndoRefusal.TheVariants.{HistoryFull}
+use Rattle.change_undo.specs.declared.planned_entries.PlannedEntry.{PlannedEntry}
 use Rattle.change_undo.specs.Clashes.{clash_in}
-use Rattle.change_undo.proofs.Live.{live_changes-undo}
-use Rattle.site_change.specs.declared.plans.Plan.{Plan}
-use Rattle.change_undo.specs.Kept.{IsPlanOf, ArePlanned}
-use Rattle.change_undo.proofs.Planned.{plan-shrinks, planned-grows, planned-push}
+use Rattle.change_undo.specs.Effects.{UndoesChange}
+use Rattle.change_undo.specs.Histories.{Past, undone, is_among, run, change_refusal, undo_refusal, IsLegal}
+use Rattle.change_undo.specs.Kept.{ArePlanned, AreWritable, befores_of, plan_at}
+use Rattle.change_undo.specs.PlannedEntries.{AreMarked, entries_of, marked_live}
+use Rattle.change_undo.specs.Past.{IsRunOver, IsSound, past_of, plans_of}
+use Rattle.change_undo.specs.Plans.{IsPlanOf, IsPlanned, state_after, ArePlans, IsHistoryOver}
+use Rattle.change_undo.proofs.LeavingOut.{undo-effect}
 use Rattle.change_undo.proofs.Marks.{marked_live-is, after_change}
-use Rattle.change_undo.proofs.Runs.{history-grows, next-not_undone, clear_where_allowed, run-change, run-undo, run-undone_at_once, within_limit}
+use Rattle.change_undo.proofs.Planned.{planned-push, plans-grow}
+use Rattle.change_undo.proofs.Runs.{guard, history-grows, next-not_undone, clear_where_allowed, run-change, run-undo, run-undone_at_once, within_limit}
+use Rattle.change_undo.proofs.WritingBack.{writes-back}
 
-pub length-entries_of : (logged : List Logged) → length (entries_of logged) ≡ length logged
-length-entries_of logged = length-map logged (λ (l : Logged). l.entry)
+pub length-entries_of : (logged : List PlannedEntry) → length (entries_of logged) ≡ length logged
+length-entries_of logged = length-map logged (λ (l : PlannedEntry). l.entry)
 
 -- the next number is not undone yet
-pub next_number : (logged : List Logged) (found : Contents) (state : State) → IsSound logged found state → is_among (undone (entries_of logged)) (length logged + 1) ≡ false
-next_number logged found state sound =
-    ap (λ (n : ℕ). is_among (undone (entries_of logged)) (n + 1)) (sym (length-entries_of logged)) ∙ next-not_undone found (entries_of logged) sound.legal
+pub next_number : (logged : List PlannedEntry) (uploads : Contents) (state : State) → IsRunOver uploads logged state → is_among (undone (entries_of logged)) (length logged + 1) ≡ false
+next_number logged uploads state over =
+    ap (λ (n : ℕ). is_among (undone (entries_of logged)) (n + 1)) (sym (length-entries_of logged)) ∙ next-not_undone uploads (entries_of logged) over.legal
 
 -- the changes that are not marked give the state
-pub marked_run : (logged : List Logged) (found : Contents) (state : State) → IsSound logged found state → run_from found map.empty (marked_live 1 logged) ≡ Some state
-marked_run logged found state sound = ap (run_from found map.empty) (marked_live-is (undone (entries_of logged)) 1 logged sound.marked) ∙ sound.ran
+marked_run : (logged : List PlannedEntry) (uploads : Contents) (state : State) → AreMarked (undone (entries_of logged)) 1 logged → IsRunOver uploads logged state
+    → run_from uploads map.empty (marked_live 1 logged) ≡ Some state
+marked_run logged uploads state marked over = ap (run_from uploads map.empty) (marked_live-is (undone (entries_of logged)) 1 logged marked) ∙ over.ran
+
+-- ---- the plans, beside the marked entries and beside the entries alone
+
+plans-of : (uploads : Contents) (state : State) (gone : List ℕ) (n : ℕ) (logged : List PlannedEntry) → AreMarked gone n logged → ArePlanned uploads state n logged
+    → ArePlans uploads state gone n (entries_of logged) (plans_of logged)
+plans-of uploads state gone n [] marked planned = tt
+plans-of uploads state gone n (l ∷ logged) marked planned =
+    let P : Bool → Type 0 = λ t. IsPlanned uploads state n t l.entry l.plan × ArePlans uploads (state_after uploads state n t l.entry) gone (n + 1) (entries_of logged) (plans_of logged) in
+    subst P marked.0 (planned.0, plans-of uploads (state_after uploads state n l.is_undone l.entry) gone (n + 1) logged marked.1 planned.1)
+
+planned-of : (uploads : Contents) (state : State) (gone : List ℕ) (n : ℕ) (logged : List PlannedEntry) → AreMarked gone n logged
+    → ArePlans uploads state gone n (entries_of logged) (plans_of logged) → ArePlanned uploads state n logged
+planned-of uploads state gone n [] marked planned = tt
+planned-of uploads state gone n (l ∷ logged) marked planned =
+    let P : Bool → Type 0 = λ t. IsPlanned uploads state n t l.entry l.plan × ArePlanned uploads (state_after uploads state n t l.entry) (n + 1) logged in
+    subst P (sym marked.0) (planned.0, planned-of uploads (state_after uploads state n (is_among gone n) l.entry) gone (n + 1) logged marked.1 planned.1)
+
+pub over-run : (limit : ℕ) (uploads : Contents) (logged : List PlannedEntry) (state : State) → AreMarked (undone (entries_of logged)) 1 logged → IsRunOver uploads logged state
+    → IsHistoryOver uploads (past_of limit logged state)
+over-run limit uploads logged state marked over = record {
+  legal = over.legal;
+  ran = over.ran;
+  planned = plans-of uploads map.empty (undone (entries_of logged)) 1 logged marked over.planned;
+}
+
+pub run-over : (limit : ℕ) (uploads : Contents) (logged : List PlannedEntry) (state : State) → AreMarked (undone (entries_of logged)) 1 logged
+    → IsHistoryOver uploads (past_of limit logged state) → IsRunOver uploads logged state
+run-over limit uploads logged state marked over = record {
+  legal = over.legal;
+  ran = over.ran;
+  planned = planned-of uploads map.empty (undone (entries_of logged)) 1 logged marked over.planned;
+}
+
+-- there are uploads over which it is so
+pub some_over : (limit : ℕ) (logged : List PlannedEntry) (state : State) → IsSound limit logged state → (uploads : Contents) × IsHistoryOver uploads (past_of limit logged state)
+some_over limit logged state sound = (sound.uploads, over-run limit sound.uploads logged state sound.marked sound.over)
+
+-- more uploads do no harm
+pub over-grows : (uploads more : Contents) (past : Past) → IsWithin uploads more → IsHistoryOver uploads past → IsHistoryOver more past
+over-grows uploads more past within over =
+    let grown = history-grows uploads more past.entries within over.legal in record {
+      legal = grown.0;
+      ran = grown.1 past.state over.ran;
+      planned = plans-grow uploads more map.empty past.state (undone past.entries) 1 past.entries past.plans within over.ran over.planned;
+    }
+
+-- ---- at the start
+
+pub sound-new : (limit : ℕ) → 1 ≤ limit → limit ≤ 1000000 → IsSound limit [] map.empty
+sound-new limit some bounded = record {
+  some = some;
+  bounded = bounded;
+  room = omega (arith, some);
+  marked = tt;
+  uploads = map.empty;
+  over = record { legal = tt; ran = refl; planned = tt };
+}
 
 -- ---- after a commit
 
-sound-grows : (logged : List Logged) (found more : Contents) (state : State) → IsSound logged found state → IsWithin found more → IsSound logged more state
-sound-grows logged found more state sound within =
-    let grown = history-grows found more (entries_of logged) within sound.legal in
-    record {
-      marked = sound.marked;
-      legal = grown.0;
-      ran = grown.1 state sound.ran;
-      planned = planned-grows found more map.empty state 1 logged within (marked_run logged found state sound) sound.planned;
-    }
+abbrev pub IsAppended : List PlannedEntry → List PlannedEntry → Contents → State → ℕ → Command → Type 0
+IsAppended logged items uploads state number command =
+    (plan : Plan) × (items ≡ logged ++ record { entry = Change command; is_undone = false; plan = Some plan } ∷ []) × IsPlanOf uploads state number command plan
 
-sound-change : (logged items : List Logged) (found uploads : Contents) (state after : State) (number : ℕ) (command : Command) → IsSound logged found state
-    → IsWithin found uploads → number ≡ length logged + 1 → refusal command number state found ≡ None
-    → (plan : Plan) × (items ≡ logged ++ record { entry = Change command; is_undone = false; plan = Some plan } ∷ []) × IsPlanOf uploads state number command plan → after ≡ applied command number state uploads → IsSound items found after
-sound-change logged items found uploads state after number command sound within at ok is effect =
+run-append : (logged items : List PlannedEntry) (uploads : Contents) (state after : State) (number : ℕ) (command : Command) → AreMarked (undone (entries_of logged)) 1 logged
+    → IsRunOver uploads logged state → number ≡ length logged + 1 → refusal command number state uploads ≡ None → IsAppended logged items uploads state number command
+    → after ≡ applied command number state uploads → AreMarked (undone (entries_of items)) 1 items × IsRunOver uploads items after
+run-append logged items uploads state after number command marked over at ok is effect =
     let es = entries_of logged in
     let n : number ≡ length es + 1 = at ∙ ap (λ (m : ℕ). m + 1) (sym (length-entries_of logged)) in
-    let same = command_grows command number state found uploads within ok in
-    let accepted : refusal command (length es + 1) state found ≡ None = ap (λ (m : ℕ). refusal command m state found) (sym n) ∙ ok in
-    let more = run-change found es command state sound.legal sound.ran accepted in
-    let new : Logged = record { entry = Change command; is_undone = false; plan = Some is.0 } in
-    let pushed = after_change logged new command sound.marked (next_number logged found state sound) refl refl in
-    let reached : applied command (length es + 1) state found ≡ after = ap (λ (m : ℕ). applied command m state found) (sym n) ∙ sym same.1 ∙ sym effect in
-    let P : List Logged → Type 0 = λ items. IsSound items found after in
-    let Q : List Entry → Type 0 = IsLegal found in
-    subst P (sym is.1) (record {
-      marked = pushed.1;
-      legal = subst Q (sym pushed.0) more.1;
-      ran = ap (run found) pushed.0 ∙ more.0 ∙ ap Some reached;
-      planned = planned-push found map.empty state 1 number logged new (omega (arith, at)) (marked_run logged found state sound) sound.planned
-          (plan-shrinks found uploads state number command is.0 within ok is.2);
-    })
+    let accepted : refusal command (length es + 1) state uploads ≡ None = ap (λ (m : ℕ). refusal command m state uploads) (sym n) ∙ ok in
+    let more = run-change uploads es command state over.legal over.ran accepted in
+    let new : PlannedEntry = record { entry = Change command; is_undone = false; plan = Some is.0 } in
+    let pushed = after_change logged new command marked (next_number logged uploads state over) refl refl in
+    let reached : applied command (length es + 1) state uploads ≡ after = ap (λ (m : ℕ). applied command m state uploads) (sym n) ∙ sym effect in
+    let P : List PlannedEntry → Type 0 = λ items. AreMarked (undone (entries_of items)) 1 items × IsRunOver uploads items after in
+    let Q : List Entry → Type 0 = IsLegal uploads in
+    subst P (sym is.1) (
+      pushed.1,
+      record {
+        legal = subst Q (sym pushed.0) more.1;
+        ran = ap (run uploads) pushed.0 ∙ more.0 ∙ ap Some reached;
+        planned = planned-push uploads map.empty state 1 number logged new (omega (arith, at)) (marked_run logged uploads state marked over) over.planned is.2;
+      },
+    )
 
-pub sound-append : {E : Type 0} (r : Result (Unit {0}) E) (logged items : List Logged) (found more uploads : Contents) (state after : State) (number : ℕ) (command : Command)
-    → IsSound logged found state → IsWithin found more → IsWithin more uploads → number ≡ length logged + 1
-    → OnOk r ((plan : Plan) × (items ≡ logged ++ record { entry = Change command; is_undone = false; plan = Some plan } ∷ []) × IsPlanOf uploads state number command plan)
-    → OnOk r (after ≡ applied command number state uploads)
-    → OnOk r (refusal command number state more ≡ None) → OnErr r ((items ≡ logged) × (after ≡ state)) → IsSound items more after
-sound-append (Ok x) logged items found more uploads state after number command sound kept within at is effect ok err =
-    sound-change logged items more uploads state after number command (sound-grows logged found more state sound kept) within at ok is effect
-sound-append (Err e) logged items found more uploads state after number command sound kept within at is effect ok err =
-    let P : List Logged → Type 0 = λ items. IsSound items more after in
-    let Q : State → Type 0 = λ after. IsSound logged more after in
-    subst P (sym err.0) (subst Q (sym err.1) (sound-grows logged found more state sound kept))
+pub sound-append : {E : Type 0} (r : Result (Unit {0}) E) (limit : ℕ) (logged items : List PlannedEntry) (uploads : Contents) (state after : State) (number : ℕ) (command : Command)
+    → IsSound limit logged state → IsHistoryOver uploads (past_of limit logged state) → number ≡ length logged + 1 → number ≤ limit
+    → OnOk r (IsAppended logged items uploads state number command) → OnOk r (after ≡ applied command number state uploads)
+    → OnOk r (refusal command number state uploads ≡ None) → OnErr r ((items ≡ logged) × (after ≡ state))
+    → IsSound limit items after × IsHistoryOver uploads (past_of limit items after)
+sound-append (Ok x) limit logged items uploads state after number command sound over at room is effect ok err =
+    let new = run-append logged items uploads state after number command sound.marked (run-over limit uploads logged state sound.marked over) at ok is effect in
+    let longer : length items ≡ length logged + 1 = ap (λ (ls : List PlannedEntry). length ls) is.1 ∙ length-append logged (record { entry = Change command; is_undone = false; plan = Some is.0 } ∷ []) in (
+      record { some = sound.some; bounded = sound.bounded; room = omega (arith, longer, at, room); marked = new.0; uploads = uploads; over = new.1 },
+      over-run limit uploads items after new.0 new.1,
+    )
+sound-append (Err e) limit logged items uploads state after number command sound over at room is effect ok err =
+    let P : List PlannedEntry → Type 0 = λ items. IsSound limit items after × IsHistoryOver uploads (past_of limit items after) in
+    let Q : State → Type 0 = λ after. IsSound limit logged after × IsHistoryOver uploads (past_of limit logged after) in
+    subst P (sym err.0) (subst Q (sym err.1) (sound, over))
+
+pub same_past : {A E : Type 0} (r : Result A E) (limit : ℕ) (logged items : List PlannedEntry) (state after : State) → OnErr r ((items ≡ logged) × (after ≡ state))
+    → OnErr r (past_of limit items after ≡ past_of limit logged state)
+same_past (Ok x) limit logged items state after err = tt
+same_past (Err e) limit logged items state after err = λ i. past_of limit (err.0 i) (err.1 i)
 
 -- what a commit tells of an appended command
 abbrev pub told : ℕ → Result (Unit {0}) DecideError → Result ℕ CommitError
@@ -100,61 +164,110 @@ told-refused n (Err decide.OutOfMemory) reason same = (λ h. cc h, λ p. cc (sam
 
 -- ---- after an undo
 
--- carrying out the others again is the run with the undo
-pub rerun-is : (logged : List Logged) (found : Contents) (site : SiteName) (k : ℕ) → AreMarked (undone (entries_of logged)) 1 logged
-    → run_from found map.empty (without k (marked_live 1 logged)) ≡ run found (entries_of logged ++ Undo site k ∷ [])
-rerun-is logged found site k marked =
-    ap (λ changes. run_from found map.empty (without k changes)) (marked_live-is (undone (entries_of logged)) 1 logged marked)
-    ∙ sym (ap (run_from found map.empty) (live_changes-undo (entries_of logged) site k))
-
-pub rerun-runs : (logged : List Logged) (found : Contents) (state : State) (site : SiteName) (k : ℕ) → IsSound logged found state → change_refusal found (entries_of logged) site k ≡ None
-    → IsSome (run_from found map.empty (without k (marked_live 1 logged)))
-rerun-runs logged found state site k sound ok =
-    let after = run-undo found (entries_of logged) site k state sound.legal sound.ran ok in
-    rw (rerun-is logged found site k sound.marked ∙ after.1) refl
-
 -- where no reason against the undo was found, there is none
-pub allowed_by : (logged items : List Logged) (found : Contents) (state : State) (limit : ℕ) (site : SiteName) (k : ℕ) (reason : Option UndoRefusal) → IsSound logged found state
-    → items ≡ logged → ((uploads : Contents) → ArePlanned uploads map.empty 1 items → reason ≡ undo_refusal uploads limit (entries_of items) site k) → reason ≡ None
-    → change_refusal found (entries_of logged) site k ≡ None
-allowed_by logged items found state limit site k reason sound is told none =
-    let P : List Logged → Type 0 = ArePlanned found map.empty 1 in
-    within_limit found limit (entries_of logged) site k (
-    ap (λ (xs : List Logged). undo_refusal found limit (entries_of xs) site k) (sym is) ∙ sym (told found (subst P (sym is) sound.planned)) ∙ none
+pub allowed_by : (limit : ℕ) (logged items : List PlannedEntry) (uploads : Contents) (state : State) (site : SiteName) (k : ℕ) (reason : Option UndoRefusal) → IsRunOver uploads logged state
+    → items ≡ logged → ((u : Contents) → ArePlanned u map.empty 1 items → reason ≡ undo_refusal u limit (entries_of items) site k) → reason ≡ None
+    → change_refusal uploads (entries_of logged) site k ≡ None
+allowed_by limit logged items uploads state site k reason over is told none =
+    let P : List PlannedEntry → Type 0 = ArePlanned uploads map.empty 1 in
+    within_limit uploads limit (entries_of logged) site k (
+    ap (λ (xs : List PlannedEntry). undo_refusal uploads limit (entries_of xs) site k) (sym is) ∙ sym (told uploads (subst P (sym is) over.planned)) ∙ none
     )
 
 -- a change that may be undone has no clash
-pub clear-of : (logged : List Logged) (found : Contents) (state : State) (site : SiteName) (k : ℕ) → IsSound logged found state → change_refusal found (entries_of logged) site k ≡ None
-    → clash_in found k map.empty (marked_live 1 logged) ≡ None
-clear-of logged found state site k sound ok =
-    ap (clash_in found k map.empty) (marked_live-is (undone (entries_of logged)) 1 logged sound.marked)
-    ∙ clear_where_allowed found (entries_of logged) site k ok
+clear-of : (logged : List PlannedEntry) (uploads : Contents) (site : SiteName) (k : ℕ) → AreMarked (undone (entries_of logged)) 1 logged → change_refusal uploads (entries_of logged) site k ≡ None
+    → clash_in uploads k map.empty (marked_live 1 logged) ≡ None
+clear-of logged uploads site k marked ok =
+    ap (clash_in uploads k map.empty) (marked_live-is (undone (entries_of logged)) 1 logged marked)
+    ∙ clear_where_allowed uploads (entries_of logged) site k ok
 
-pub sound-undo : (logged items : List Logged) (found : Contents) (state after : State) (site : SiteName) (k : ℕ) → IsSound logged found state → change_refusal found (entries_of logged) site k ≡ None
-    → entries_of items ≡ entries_of logged ++ Undo site k ∷ [] → AreMarked (undone (entries_of items)) 1 items
-    → run_from found map.empty (without k (marked_live 1 logged)) ≡ Some after → ArePlanned found map.empty 1 items → IsSound items found after
-sound-undo logged items found state after site k sound ok is marked ran planned =
-    let before = run-undo found (entries_of logged) site k state sound.legal sound.ran ok in
-    let Q : List Entry → Type 0 = IsLegal found in
+pub run-undone : (logged items : List PlannedEntry) (uploads : Contents) (state after : State) (site : SiteName) (k : ℕ) → AreMarked (undone (entries_of logged)) 1 logged
+    → IsRunOver uploads logged state → change_refusal uploads (entries_of logged) site k ≡ None → entries_of items ≡ entries_of logged ++ Undo site k ∷ []
+    → after ≡ with_cells state (befores_of (plan_at logged (k - 1)))
+    → ((u : Contents) → ArePlanned u map.empty 1 logged → clash_in u k map.empty (marked_live 1 logged) ≡ None → ArePlanned u map.empty 1 items)
+    → IsRunOver uploads items after
+run-undone logged items uploads state after site k marked over ok is effect planned =
+    let before = run-undo uploads (entries_of logged) site k state over.legal over.ran ok in
+    let back = writes-back uploads logged state site k marked over ok in
+    let Q : List Entry → Type 0 = IsLegal uploads in
     record {
-      marked = marked;
       legal = subst Q (sym is) before.2;
-      ran = ap (run found) is ∙ sym (rerun-is logged found site k sound.marked) ∙ ran;
-      planned = planned;
+      ran = ap (run uploads) is ∙ back.1 ∙ ap Some (sym effect);
+      planned = planned uploads over.planned (clear-of logged uploads site k marked ok);
     }
 
+pub writable : (limit : ℕ) (logged : List PlannedEntry) (state : State) (site : SiteName) (k : ℕ) → IsSound limit logged state
+    → ((u : Contents) → IsRunOver u logged state → change_refusal u (entries_of logged) site k ≡ None) → AreWritable state (befores_of (plan_at logged (k - 1)))
+writable limit logged state site k sound ok = (writes-back sound.uploads logged state site k sound.marked sound.over (ok sound.uploads sound.over)).0
+
+-- what the plans tell of the reason against an undo is so over each uploads over which the history is what it is
+pub over_all : (Q : Option UndoRefusal → Type 0) (limit : ℕ) (logged items : List PlannedEntry) (state : State) (site : SiteName) (k : ℕ) → AreMarked (undone (entries_of logged)) 1 logged
+    → items ≡ logged → ((u : Contents) → ArePlanned u map.empty 1 items → Q (undo_refusal u limit (entries_of items) site k))
+    → (past : Past) → past_of limit logged state ≡ past → (uploads : Contents) → IsHistoryOver uploads past → Q (undo_refusal uploads past.limit past.entries site k)
+over_all Q limit logged items state site k marked same told past is uploads over =
+    let H : Past → Type 0 = IsHistoryOver uploads in
+    let P : List PlannedEntry → Type 0 = λ ls. ArePlanned uploads map.empty 1 ls → Q (undo_refusal uploads limit (entries_of ls) site k) in
+    let R : Past → Type 0 = λ p. Q (undo_refusal uploads p.limit p.entries site k) in
+    subst R is (subst P same (told uploads) (run-over limit uploads logged state marked (subst H (sym is) over)).planned)
+
+room_where : (uploads : Contents) (limit : ℕ) (entries : List Entry) (site : SiteName) (k : ℕ) → undo_refusal uploads limit entries site k ≡ None → length entries < limit
+room_where uploads limit entries site k ok =
+    let room = (guard (nat_le limit (length entries)) HistoryFull (change_refusal uploads entries site k) ok).0 in
+    elim (cases_lt (length entries) limit) [
+      | inl less ↦ less
+      | inr over ↦ cc (sym room ∙ le-leb limit (length entries) over)
+    ]
+
+pub sound-undo : (limit : ℕ) (logged items : List PlannedEntry) (state after : State) (site : SiteName) (k : ℕ) → IsSound limit logged state
+    → ((u : Contents) → IsHistoryOver u (past_of limit logged state) → undo_refusal u limit (entries_of logged) site k ≡ None)
+    → entries_of items ≡ entries_of logged ++ Undo site k ∷ [] → AreMarked (undone (entries_of items)) 1 items
+    → after ≡ with_cells state (befores_of (plan_at logged (k - 1)))
+    → ((u : Contents) → ArePlanned u map.empty 1 logged → clash_in u k map.empty (marked_live 1 logged) ≡ None → ArePlanned u map.empty 1 items)
+    → IsSound limit items after
+sound-undo limit logged items state after site k sound ok is marked effect planned =
+    let none = ok sound.uploads (over-run limit sound.uploads logged state sound.marked sound.over) in
+    let longer : length (entries_of items) ≡ length (entries_of logged) + 1 = ap (λ (es : List Entry). length es) is ∙ length-append (entries_of logged) (Undo site k ∷ []) in
+    let less = room_where sound.uploads limit (entries_of logged) site k none in
+    let same = length-entries_of items in
+    record {
+      some = sound.some;
+      bounded = sound.bounded;
+      room = omega (arith, longer, less, same);
+      marked = marked;
+      uploads = sound.uploads;
+      over = run-undone logged items sound.uploads state after site k sound.marked sound.over (within_limit sound.uploads limit (entries_of logged) site k none) is effect planned;
+    }
+
+pub over-undo : (limit : ℕ) (logged items : List PlannedEntry) (state after : State) (site : SiteName) (k : ℕ) → AreMarked (undone (entries_of logged)) 1 logged
+    → (past : Past) → past_of limit logged state ≡ past → ((u : Contents) → IsHistoryOver u past → undo_refusal u past.limit past.entries site k ≡ None)
+    → entries_of items ≡ entries_of logged ++ Undo site k ∷ [] → AreMarked (undone (entries_of items)) 1 items
+    → after ≡ with_cells state (befores_of (plan_at logged (k - 1)))
+    → ((u : Contents) → ArePlanned u map.empty 1 logged → clash_in u k map.empty (marked_live 1 logged) ≡ None → ArePlanned u map.empty 1 items)
+    → (uploads : Contents) → IsHistoryOver uploads past → IsHistoryOver uploads (past_of limit items after)
+over-undo limit logged items state after site k marked past is ok entries new_marked effect planned uploads over =
+    let H : Past → Type 0 = λ p. IsHistoryOver uploads p × (undo_refusal uploads p.limit p.entries site k ≡ None) in
+    let here : H (past_of limit logged state) = subst H (sym is) (over, ok uploads over) in
+    over-run limit uploads items after new_marked
+    (run-undone logged items uploads state after site k marked (run-over limit uploads logged state marked here.0) (within_limit uploads limit (entries_of logged) site k here.1) entries effect planned)
+
+pub effect-over : (old new : Past) (site : SiteName) (k : ℕ) → ((u : Contents) → IsHistoryOver u old → undo_refusal u old.limit old.entries site k ≡ None)
+    → ((u : Contents) → IsHistoryOver u old → IsHistoryOver u new) → new.entries ≡ old.entries ++ Undo site k ∷ []
+    → (uploads : Contents) → IsHistoryOver uploads old → UndoesChange uploads old new k
+effect-over old new site k ok after is uploads over =
+    undo-effect uploads old new site k over.ran (within_limit uploads old.limit old.entries site k (ok uploads over)) is (after uploads over).ran
+
 -- a change undone at once leaves what was before it
-pub undone-at_once : (logged : List Logged) (found : Contents) (state after : State) (site : SiteName) (k : ℕ) → IsSound logged found state
-    → run_from found map.empty (without k (marked_live 1 logged)) ≡ Some after → (before : List Entry) (command : Command) → entries_of logged ≡ before ++ Change command ∷ []
-    → k ≡ length before + 1 → run found before ≡ Some after
-undone-at_once logged found state after site k sound ran before command is at =
-    let Q : List Entry → Type 0 = IsLegal found in
-    sym (run-undone_at_once found before command site k (subst Q is sound.legal) at)
-    ∙ ap (λ es. run found (es ++ Undo site k ∷ [])) (sym is) ∙ sym (rerun-is logged found site k sound.marked) ∙ ran
+pub at_once-over : (old new : Past) (site : SiteName) (k : ℕ) → ((u : Contents) → IsHistoryOver u old → IsHistoryOver u new) → new.entries ≡ old.entries ++ Undo site k ∷ []
+    → (uploads : Contents) (before : List Entry) (command : Command) → IsHistoryOver uploads old → old.entries ≡ before ++ Change command ∷ [] → k ≡ length before + 1
+    → run uploads before ≡ Some new.state
+at_once-over old new site k after is uploads before command over last at =
+    let Q : List Entry → Type 0 = IsLegal uploads in
+    sym (run-undone_at_once uploads before command site k (subst Q last over.legal) at)
+    ∙ ap (λ es. run uploads (es ++ Undo site k ∷ [])) (sym last) ∙ ap (run uploads) (sym is) ∙ (after uploads over).ran
 
 -- ---- the reasons to refuse a commit
 
-pub refused_within : {A : Type 0} (limit number : ℕ) (logged : List Logged) (state : State) (uploads : Contents) (command : Command) (reason : Refusal)
+pub refused_within : {A : Type 0} (limit number : ℕ) (logged : List PlannedEntry) (state : State) (uploads : Contents) (command : Command) (reason : Refusal)
     → A ↔ (refusal command number state uploads ≡ Some reason) → number ≡ length logged + 1 → number ≤ limit
     → A ↔ ((length (entries_of logged) < limit) × (refusal command (length (entries_of logged) + 1) state uploads ≡ Some reason))
 refused_within limit number logged state uploads command reason same at room =

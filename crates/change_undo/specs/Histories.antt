@@ -3,9 +3,12 @@ use Rattle.std.specs.Prelude.{ℕ, ◌+◌, ◌-◌, ◌==◌, nat_le, List, [],
 use Rattle.std.specs.List.{list_all}
 use Rattle.std.specs.Str.{bytes_eq}
 use Rattle.host_names.specs.Blobs.{Contents}
+use Rattle.host_names.specs.declared.cells.Cell.{Cell}
+use Rattle.host_names.specs.declared.cells.Cell.TheVariants as cell
 use Rattle.host_names.specs.declared.names.SiteName.{SiteName}
 use Rattle.site_state.specs.States.{State}
 use Rattle.site_change.specs.declared.commands.Command.{Command}
+use Rattle.site_change.specs.declared.plans.Plan.{Plan}
 use Rattle.site_change.specs.Changes.{refusal, site_of_command}
 use Rattle.change_undo.specs.declared.entries.Entry.{Entry}
 use Rattle.change_undo.specs.declared.entries.Entry.TheVariants.{Change, Undo}
@@ -54,14 +57,21 @@ change_refusal uploads entries site k = refusal_at uploads entries site k (entry
 abbrev pub undo_refusal : Contents → ℕ → List Entry → SiteName → ℕ → Option UndoRefusal
 undo_refusal uploads limit entries site k = if nat_le limit (length entries) then Some HistoryFull else change_refusal uploads entries site k
 
--- what may find no memory: an undo that is not refused, and the cell of a clash
+-- whether a copy of the cell takes memory: a path is a shared text, and names and numbers are copied in place
+abbrev pub is_path : Cell → Bool
+is_path (cell.Live site path) = true
+is_path (cell.Kept site n) = false
+is_path (cell.Alias site name) = false
+is_path (cell.Draft site n) = false
+
+-- what may be out of memory: an undo that is not refused, and one whose clash is at a path
 abbrev pub may_take_memory : Option UndoRefusal → Bool
 may_take_memory None = true
 may_take_memory (Some HistoryFull) = false
 may_take_memory (Some NoSuchChange) = false
 may_take_memory (Some NotAChange) = false
 may_take_memory (Some AlreadyUndone) = false
-may_take_memory (Some (Clash j at)) = true
+may_take_memory (Some (Clash j at)) = is_path at
 
 -- ---- which histories there can be
 
@@ -83,9 +93,10 @@ IsLegalAfter uploads before (entry ∷ entries) = IsTrue (is_allowed uploads bef
 abbrev pub IsLegal : Contents → List Entry → Type 0
 IsLegal uploads entries = IsLegalAfter uploads [] entries
 
--- what a history is: its limit, its entries, what it found of the uploads, and the state that its entries give
+-- what a history is: how many entries it may have, its entries, of each what it changed and touched if it is a change that lives, and
+-- the state that its entries give
 pub record Past : Type 0 where
   pub limit : ℕ
   pub entries : List Entry
-  pub found : Contents
+  pub plans : List (Option Plan)
   pub state : State

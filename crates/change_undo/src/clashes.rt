@@ -1,4 +1,4 @@
-//! The clash of a change: what stands in the way of leaving it out.
+//! The clash of a change: what is in the way of leaving it out.
 ghost use Rattle.std.specs.Prelude.{◌≡◌, ◌<◌, ◌+◌, ◌-◌, ◌^◌, ◌≤◌, drop, find, length, option_copied, option_map};
 ghost use Rattle.site_change.specs.TouchedCells.{is_touched};
 ghost use Rattle.std.specs.FinMap as map;
@@ -6,9 +6,9 @@ ghost use Rattle.host_names.specs.Blobs.{Contents};
 ghost use Rattle.change_undo.specs.Clashes.{clash_in};
 ghost use Rattle.change_undo.specs.Kept as spec;
 ghost use Rattle.change_undo.specs.Kept.{ArePlanned, cells_of};
-ghost use Rattle.change_undo.specs.Logged.{marked_live};
+ghost use Rattle.change_undo.specs.PlannedEntries.{marked_live};
 
-use crate::logged::Logged;
+use crate::planned_entries::PlannedEntry;
 use host_names::Cell;
 use site_change::{Change, Touched};
 
@@ -26,7 +26,11 @@ fn first_touched<'a>(changes: &'a [Change], touched: &Touched) -> Option<&'a Cel
 
 /// The first of these entries that touches a cell of some changes, with the first such cell. The first entry has this
 /// number.
-fn kept_touch<'a>(logged: &[Logged], first: u64, changes: &'a [Change]) -> Option<(u64, &'a Cell)>
+fn kept_touch<'a>(
+    logged: &[PlannedEntry],
+    first: u64,
+    changes: &'a [Change],
+) -> Option<(u64, &'a Cell)>
     requires { first + length logged.now < 2 ^ 64 }
     ensures { option_map (λ found. (found.0, found.1.now)) result ≡ spec.kept_touch (cells_of changes.now) first logged.now }
 {
@@ -43,7 +47,7 @@ fn kept_touch<'a>(logged: &[Logged], first: u64, changes: &'a [Change]) -> Optio
 }
 
 /// The first later change that lives and touches a cell which this change changed, with the first such cell.
-pub(crate) fn clash_of(logged: &[Logged], change: u64) -> Option<(u64, &Cell)>
+pub(crate) fn clash_of(logged: &[PlannedEntry], change: u64) -> Option<(u64, &Cell)>
     ensures { (uploads : Contents) → ArePlanned uploads map.empty 1 logged.now
         → option_map (λ found. (found.0, found.1.now)) result ≡ clash_in uploads change map.empty (marked_live 1 logged.now) }
 {

@@ -9,12 +9,14 @@ ghost use Rattle.site_state.specs.States.{State as Cells};
 ghost use Rattle.change_undo.specs.declared.entries.Entry.{Entry as Line};
 ghost use Rattle.change_undo.specs.declared.entries.Entry.TheVariants as line;
 ghost use Rattle.change_undo.specs.Clashes.{IsClash, clash};
-ghost use Rattle.change_undo.specs.Histories.{IsLegal, change_refusal, is_newest, live_changes, run, undo_refusal};
+ghost use Rattle.change_undo.specs.Histories.{IsLegal, Past, change_refusal, is_newest, live_changes, run, undo_refusal};
 ghost use Rattle.change_undo.specs.Live.{without};
+ghost use Rattle.change_undo.specs.Plans.{IsHistoryOver};
 
 /// A history that was legal stays legal, with the same state, the same clashes and the same reasons to refuse an undo,
-/// when more is uploaded.
+/// when more is uploaded; and its changes are still those that they were.
 pub fn histories_outlast_uploads()
+    ensures over { (uploads more : Contents) (past : Past) → IsWithin uploads more → IsHistoryOver uploads past → IsHistoryOver more past }
     ensures legal { (uploads more : Contents) (entries : List Line) → IsWithin uploads more → IsLegal uploads entries → IsLegal more entries }
     ensures run { (uploads more : Contents) (entries : List Line) (state : Cells) → IsWithin uploads more → IsLegal uploads entries
         → run uploads entries ≡ Some state → run more entries ≡ Some state }
@@ -50,13 +52,13 @@ pub fn the_clash_is_found()
     ensures none { (uploads : Contents) (entries : List Line) (k j : ℕ) (at : Cell) → clash uploads entries k ≡ None → IsClash uploads entries k j at → ⊥ }
 {}
 
-/// One later change at most stands in the way of an undo, in one cell.
+/// One later change at most is in the way of an undo, in one cell.
 pub fn a_change_has_one_clash_at_most()
     ensures { (uploads : Contents) (entries : List Line) (k j i : ℕ) (at other : Cell) → IsClash uploads entries k j at → IsClash uploads entries k i other
         → (j ≡ i) × (at ≡ other) }
 {}
 
-/// No later change stands in the way of an undo that is not refused, nor in the way of the newest change that lives.
+/// No later change is in the way of an undo that is not refused, nor in that of the newest change that lives.
 pub fn the_newest_change_has_no_clash()
     ensures newest { (uploads : Contents) (entries : List Line) (k j : ℕ) (at : Cell) → is_newest entries k ≡ true → IsClash uploads entries k j at → ⊥ }
     ensures allowed { (uploads : Contents) (entries : List Line) (site : Site) (k j : ℕ) (at : Cell) → change_refusal uploads entries site k ≡ None

@@ -1,15 +1,15 @@
 //! The history: changes that are committed, and undone.
 #![tactic(auto)]
 
-mod appending;
 mod clashes;
+mod commits;
 mod entries;
-mod founds;
 mod histories;
 mod laws;
-mod logged;
-mod steps;
-mod undoing;
+mod planned_entries;
+mod refusals;
+mod undos;
+mod writes;
 
 pub use entries::{CommitError, Entry, UndoError, UndoRefusal};
 pub use histories::{GREATEST_LIMIT, History};

@@ -23,8 +23,8 @@ wanting =
 abbrev pub filehost : App
 filehost = with_subcommand wanting (new_app (codes "solo")).top
 
--- the words that ask for the command `solo`: its name, and perhaps the mark behind which no option
--- stands
+-- the words that ask for the command `solo`: its name, and perhaps the mark after which there is no
+-- option
 abbrev pub AskForSolo : List Text → Type 0
 AskForSolo words = (words ≡ codes "solo" ∷ []) ⊎ (words ≡ codes "solo" ∷ codes "--" ∷ [])
 

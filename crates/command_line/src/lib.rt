@@ -11,12 +11,22 @@ use clap::{Command, Error};
 use std::alloc::{AllocError, Global};
 use std::convert::AsStr;
 
-const ABOUT: &str = "An immutable file host: sites of files that are named by their SHA-1.
+const ABOUT: &str =
+    "An immutable file host: it serves sites over HTTP/1.1, and keeps each file under its SHA-1.
 
-A deploy lists its paths with the digests of their contents, takes the contents that are missing,
-and goes live whole or not at all. Each change has a number, and can be undone by it.";
+A deploy lists the paths of a site with the digests of their contents. The host asks for the contents
+that it lacks, and publishes the deploy whole or not at all. Each change has a number, by which it can
+be undone while no later change reads or writes what it changed.";
 
-const EXAMPLE: &str = "Example:\n  filehost solo < examples/first-run.http";
+const EXAMPLE: &str = "Example, at the top of the repository:
+  ./filehost solo < examples/first-run.http
+It opens a deploy of one file, uploads the file, reads a part of it, undoes the deploy and reads again,
+and prints the five replies.
+
+Documents, in the repository:
+  README.md        how to build it, a first run, and what is proved
+  docs/HTTP.md     each request and its reply
+  docs/CHANGES.md  deploys, aliases, and what an undo does";
 
 const ABOUT_SOLO: &str =
     "Serves one connection: HTTP/1.1 requests on standard input, replies on standard output";
@@ -52,7 +62,7 @@ impl From<AllocError> for Refusal {
     }
 }
 
-/// Reads the words behind the program's name.
+/// Reads the words after the program's name.
 pub fn read<S: AsStr>(alloc: Global, words: &[S]) -> Result<Wanted, Refusal>
     ensures taken { AskForSolo (map S.text words.now) → IfErr result (λ e. e ≡ Refusal.OutOfMemory) }
     ensures refused { IfOk result (λ wanted. (wanted ≡ Wanted.Solo) × AskForSolo (map S.text words.now)) }

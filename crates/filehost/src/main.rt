@@ -4,7 +4,7 @@
 ghost use Rattle.std.specs.Prelude.{◌≡◌, ◌⊎◌};
 
 use host_server::run_solo;
-use http_wire::{Reading, Writing};
+use http_wire::{Pair, Reading, Writing};
 use std::io::ErrorKind;
 use std::process::ExitCode;
 use std::{env, io};
@@ -23,22 +23,19 @@ fn main(rt: HostRuntime) -> ExitCode {
     ExitCode::from(status)
 }
 
-/// The words behind the program's name.
+/// The words after the program's name.
 fn words(rt: &HostRuntime) -> io::Result<Vec<String>> {
     Ok(env::args(rt)?.skip(1).collect(rt.alloc())?)
 }
 
 /// Runs the program on its standard streams, and answers its exit status.
 fn run(rt: &HostRuntime, words: &[String]) -> u8 {
-    let mut sink = Writing(rt.stdout());
+    let mut duplex = Pair {
+        source: Reading(rt.stdin()),
+        sink: Writing(rt.stdout()),
+    };
     let mut errors = rt.stderr();
-    run_solo(
-        rt.alloc(),
-        words,
-        Reading(rt.stdin()),
-        &mut sink,
-        &mut errors,
-    )
+    run_solo(rt.alloc(), words, &mut duplex, &mut errors)
 }
 
 /// Says why the words can't be read, as far as anyone listens, and answers the exit status.

@@ -1,4 +1,4 @@
--- Texts of lists: the first item, and each other behind a comma.
+-- Texts of lists: the first item, and each other after a comma.
 use Rattle.std.proofs.Common.{◌≡◌, ℕ, List, [], ◌∷◌, ◌++◌, map, codes, sym, ap, ◌∙◌, append-nil}
 use Rattle.std.specs.List.{flat_map, join_with_byte}
 use Rattle.std.proofs.lemmas.List.Concat.{flat_map-cons}

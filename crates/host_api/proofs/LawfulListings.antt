@@ -1,17 +1,16 @@
--- Of what a body lists, removals stand in a patch alone.
+-- Of what a body lists, only a patch has removals.
 use Rattle.std.proofs.Common.{◌≡◌, ℕ, Bool, true, false, not, cond, ◌&&◌, ◌||◌, List, [], ◌∷◌, Option, Some, None, is_some, Result, Ok, Err, IsTrue, refl, sym, ap, subst, ◌∙◌}
 use Rattle.std.specs.FinMap as map
 use Rattle.std.specs.FinMap.Entries.{put, by_order}
 use Rattle.std.specs.List.{list_all}
-use Rattle.std.specs.Cmp.Lexicographic.{slice_cmp, nat_list_cmp_total}
-use Rattle.std.specs.Ordering.{nat_cmp}
+use Rattle.std.specs.Cmp.Lexicographic.{nat_list_cmp_total}
 use Rattle.std.specs.declared.cmp.Ordering.TheVariants.{Less, Equal, Greater}
 use Rattle.serde_json.specs.Data.{Data, Members, no_members, member}
 use Rattle.host_names.specs.Path.{is_path, with_slash}
 use Rattle.host_names.specs.declared.digests.Digest.{Digest}
 use Rattle.site_state.specs.Files.{IsByPath}
 use Rattle.site_state.specs.Listings.{is_lawful}
-use Rattle.host_api.specs.Bodies.{Files, then_with, is_null, digest_in, listed_in, files_in, with_one, with_all}
+use Rattle.host_api.specs.Bodies.{Files, then_with, digest_in, listed_in, files_in, with_one, with_all}
 use Rattle.host_api.specs.declared.refusals.Refusal.{Refusal}
 use Rattle.host_api.specs.declared.refusals.Refusal.TheVariants.{BadPath, BadBody}
 use Rattle.host_api.proofs.ListedFiles.{Entry, path_cmp, entries_files_in}

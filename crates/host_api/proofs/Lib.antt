@@ -1,8 +1,10 @@
 pub mod JoinedTexts
 pub mod LastPlaces
 mod MethodNames
+mod RefusalNames
 mod NumberTexts
 pub mod Cuts
+mod Fitting
 pub mod PathTexts
 mod ObjectBodies
 mod ListedFiles

@@ -14,7 +14,7 @@ tells = search rules
 own : IsNumeralModel (λ ds. list_all is_digit ds ≡ true) (digits_value 10)
 own = numerals_by_value _ tells
 
--- digits behind a first one that is not 0 write their value, if it is not too great
+-- digits after a first one that is not 0 write their value, if it is not too great
 of_digits : (first digits within : Bool) (v : ℕ) → first ≡ false → digits ≡ true → (if not first && digits && within then v else 0) ≡ (if within then v else 0)
 of_digits true digits within v e f = absurd (true≢false e)
 of_digits false false within v e f = absurd (false≢true f)

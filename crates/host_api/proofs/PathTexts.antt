@@ -1,19 +1,22 @@
 -- The texts of paths.
-use Rattle.std.proofs.Common.{◌≡◌, ◌≢◌, ℕ, ◌-◌, Bool, true, false, cond, ◌&&◌, eqb, ltb, List, [], ◌∷◌, ◌++◌, Option, Some, None, Result, Ok, Err, IsTrue, codes, length, take, drop, refl, sym, ap, subst, ◌∙◌, arith}
+use Rattle.std.proofs.Common.{◌≡◌, ◌≢◌, ℕ, ◌-◌, Bool, true, false, cond, ◌&&◌, ◌||◌, eqb, eq-eqb, ltb, inl, inr, ◌<◌, length-append, List, [], ◌∷◌, ◌++◌, Option, Some, None, Result, Ok, Err, IsTrue, codes, length, take, drop, refl, sym, ap, subst, ◌∙◌, arith}
 use Rattle.std.proofs.lemmas.Bool.{and_parts, eqb-true, ltb-true}
+use Rattle.std.proofs.lemmas.Bool.Decides.{nat_tests}
 use Rattle.std.proofs.lemmas.List.{take_at}
 use Rattle.std.proofs.lemmas.Str.{IsUtf8-append, IsUtf8-from_ascii, IsUtf8-take, IsUtf8-past_char, IsUtf8-from_is_utf8, is_utf8-from_IsUtf8, IsCharBoundary-at_seam, encode_ascii}
 use Rattle.std.proofs.lemmas.Str.Ascii.{IsAscii-nil, IsAscii-cons}
 use Rattle.std.specs.Borrow.{Bor}
 use Rattle.std.specs.List.{list_all}
 use Rattle.std.specs.Option.{MatchOption, unwrap_or}
-use Rattle.std.specs.Result.{IfOk}
+use Rattle.std.specs.Result.{IfOk, IsErrOf}
 use Rattle.std.specs.Str.{IsUtf8, IsAscii, is_utf8}
 use Rattle.percent_encoding.specs.Percent.{percent_decode}
 use Rattle.percent_encoding.proofs.PercentLemmas.{percent_decode-nil, percent_decode_not_percent}
 use Rattle.host_names.specs.Path.{is_path, is_relative_path, with_slash}
-use Rattle.host_api.specs.Targets.{if_path, ends_with_slash, with_index, read_path, written_path}
-use Rattle.host_api.specs.Patterns.{is_rest}
+use Rattle.host_names.specs.declared.paths.PathError.{PathError}
+use Rattle.host_names.specs.declared.paths.PathError.TheVariants as path_error
+use Rattle.host_api.specs.Targets.{if_path, ends_with_slash, with_index}
+use Rattle.host_api.specs.Patterns.{is_rest, has_percent, KeepsPath}
 
 -- ---- ends in a slash
 
@@ -113,7 +116,7 @@ rest_path [] h = refl
 rest_path (b ∷ text) h = rw h (rw h refl)
 
 -- decoding keeps the slash
-decoded_rest : (rest : List ℕ) → is_rest rest ≡ true → is_rest (percent_decode rest) ≡ true
+pub decoded_rest : (rest : List ℕ) → is_rest rest ≡ true → is_rest (percent_decode rest) ≡ true
 decoded_rest [] h = rw percent_decode-nil refl
 decoded_rest (b ∷ rest) h =
     let e = eqb-true b 47 h in
@@ -127,43 +130,112 @@ index_rest : (text : List ℕ) → is_rest text ≡ true → is_rest (with_index
 index_rest [] h = refl
 index_rest (b ∷ text) h = led_cases (ends_with_slash (b ∷ text)) b text h
 
--- ---- what is read and written
+-- ---- what no path is
 
--- a page that was read as a path
-pub read_ok : (rest page path : List ℕ) → is_rest rest ≡ true → page ≡ with_index (percent_decode rest) → IsUtf8 page
-    → path ≡ with_slash page → is_path path ≡ true → read_path rest ≡ Some path
-read_ok rest page path led e utf8 kept lawful =
-    let led_page : is_rest page ≡ true = subst (λ (t : List ℕ). is_rest t ≡ true) (sym e) (index_rest (percent_decode rest) (decoded_rest rest led)) in
-    let is : is_path page ≡ true = sym (rest_path page led_page) ∙ ap is_path (sym kept) ∙ lawful in
-    let same : path ≡ page = kept ∙ slashed_path page is in
-    ap if_path (sym e) ∙ if_true _ _ (Some page) None (is_utf8-from_IsUtf8 page utf8) is ∙ ap Some (sym same)
+-- a text that is longer than a path
+too_long : (text : List ℕ) → 1024 < length text → is_path text ≡ false
+too_long [] h = absurd (omega arith)
+too_long (b ∷ text) h = grind (arith, nat_tests)
 
--- a page that is no path
-pub read_bad : (rest page : List ℕ) → is_rest rest ≡ true → page ≡ with_index (percent_decode rest)
-    → is_path (with_slash page) ≡ false → read_path rest ≡ None
-read_bad rest page led e unlawful =
-    let led_page : is_rest page ≡ true = subst (λ (t : List ℕ). is_rest t ≡ true) (sym e) (index_rest (percent_decode rest) (decoded_rest rest led)) in
-    ap if_path (sym e) ∙ if_right _ _ (Some page) None (sym (rest_path page led_page) ∙ unlawful)
+long_slash : (t : Bool) (text : List ℕ) → 1024 < length text → is_path (cond t text (47 ∷ text)) ≡ false
+long_slash true text h = too_long text h
+long_slash false text h = too_long (47 ∷ text) (omega arith)
 
--- what is decoded is no text
-pub read_raw : (rest : List ℕ) → is_utf8 (percent_decode rest) ≡ false → read_path rest ≡ None
-read_raw rest h = if_left _ _ (Some (with_index (percent_decode rest))) None (with_index-utf8 (percent_decode rest) _ ∙ h)
+too_long_slashed : (text : List ℕ) → 1024 < length text → is_path (with_slash text) ≡ false
+too_long_slashed [] h = absurd (omega arith)
+too_long_slashed (b ∷ text) h = long_slash (eqb b 47) (b ∷ text) h
 
--- the same of what is written
-pub written_ok : (rest text path : List ℕ) → text ≡ percent_decode (drop 1 rest) → IsUtf8 text
-    → path ≡ with_slash text → is_path path ≡ true → written_path rest ≡ Some path
-written_ok rest text path e utf8 kept lawful =
-    let named : path ≡ with_slash (percent_decode (drop 1 rest)) = kept ∙ ap with_slash e in
-    ap if_path (sym named) ∙ if_true _ _ (Some path) None
-    (ap is_utf8 kept ∙ with_slash-utf8 text ∙ is_utf8-from_IsUtf8 text utf8) lawful
+long_index : (t : Bool) (text : List ℕ) → 1024 < length text → is_path (cond t (text ++ codes "index.html") text) ≡ false
+long_index true text h = too_long (text ++ codes "index.html") (omega (arith, length-append text (codes "index.html")))
+long_index false text h = too_long text h
 
-pub written_bad : (rest text : List ℕ) → text ≡ percent_decode (drop 1 rest) → is_path (with_slash text) ≡ false → written_path rest ≡ None
-written_bad rest text e unlawful =
-    ap (λ t. if_path (with_slash t)) (sym e) ∙ if_right _ _ (Some (with_slash text)) None unlawful
+unlawful : (text : List ℕ) → is_path text ≡ false → if_path text ≡ None
+unlawful text h = if_right _ _ (Some text) None h
 
-pub written_raw : (rest : List ℕ) → is_utf8 (percent_decode (drop 1 rest)) ≡ false → written_path rest ≡ None
-written_raw rest h =
-    if_left _ _ (Some (with_slash (percent_decode (drop 1 rest)))) None (with_slash-utf8 (percent_decode (drop 1 rest)) ∙ h)
+-- a text that is longer than a path, of a page or of a file
+pub long_page : (text : List ℕ) → 1024 < length text → if_path (with_index text) ≡ None
+long_page text h = unlawful _ (long_index (ends_with_slash text) text h)
+
+pub long_file : (text : List ℕ) → 1024 < length text → if_path (with_slash text) ≡ None
+long_file text h = unlawful _ (too_long_slashed text h)
+
+-- bytes that are no text
+pub raw_page : (text : List ℕ) → is_utf8 text ≡ false → if_path (with_index text) ≡ None
+raw_page text h = if_left _ _ (Some (with_index text)) None (with_index-utf8 text _ ∙ h)
+
+pub raw_file : (text : List ℕ) → is_utf8 text ≡ false → if_path (with_slash text) ≡ None
+raw_file text h = if_left _ _ (Some (with_slash text)) None (with_slash-utf8 text ∙ h)
+
+-- ---- what is kept
+
+known : (o : Option (List ℕ)) (result : Result (List ℕ) PathError) (p : Option (List ℕ)) → o ≡ p → KeepsPath p result → KeepsPath o result
+known o result p e h = subst (λ x. KeepsPath x result) (sym e) h
+
+not_false : (t : Bool) → (t ≡ false → ⊥) → t ≡ true
+not_false true h = refl
+not_false false h = absurd (h refl)
+
+-- the outcomes of reading the text of a path
+pub keeps : (text : List ℕ) (result : Result (List ℕ) PathError) → IsUtf8 text
+    → (is_path (with_slash text) ≡ false → IsErrOf result path_error.BadPath) → (IsErrOf result path_error.BadPath → is_path (with_slash text) ≡ false)
+    → IfOk result (λ path. path ≡ with_slash text) → IfOk result (λ path. IsTrue (is_path path)) → KeepsPath (if_path (with_slash text)) result
+keeps text (Ok path) utf8 bad is_bad same lawful =
+    let text_is = with_slash-utf8 text ∙ is_utf8-from_IsUtf8 text utf8 in
+    known _ (Ok path) (Some (with_slash text)) (if_true _ _ (Some (with_slash text)) None text_is (ap is_path (sym same) ∙ lawful)) (inl (ap Ok same))
+keeps text (Err path_error.BadPath) utf8 bad is_bad same lawful = known _ (Err path_error.BadPath) None (unlawful _ (is_bad refl)) refl
+keeps text (Err path_error.OutOfMemory) utf8 bad is_bad same lawful =
+    let text_is = with_slash-utf8 text ∙ is_utf8-from_IsUtf8 text utf8 in
+    let path_is = not_false (is_path (with_slash text)) (λ h. cc (bad h)) in
+    known _ (Err path_error.OutOfMemory) (Some (with_slash text)) (if_true _ _ (Some (with_slash text)) None text_is path_is) (inr refl)
+
+-- a text that begins with a slash, or is empty, is kept as it is
+if_slashed : (s t : Bool) (text : List ℕ) (slashed : List ℕ) → s ≡ t → is_path slashed ≡ is_path text → (is_path text ≡ true → slashed ≡ text)
+    → cond (s && is_path slashed) (Some slashed) None ≡ cond (t && is_path text) (Some text) None
+if_slashed true false text slashed e same kept = absurd (cc e)
+if_slashed false true text slashed e same kept = absurd (cc e)
+if_slashed false false text slashed e same kept = refl
+if_slashed true true text slashed e same kept = by_test (is_path text) (is_path slashed) same kept
+  where
+    by_test : (p q : Bool) → q ≡ p → (p ≡ true → slashed ≡ text) → cond q (Some slashed) None ≡ cond p (Some text) None
+    by_test true true e kept = ap Some (kept refl)
+    by_test false false e kept = refl
+    by_test true false e kept = absurd (cc e)
+    by_test false true e kept = absurd (cc e)
+
+pub rest_kept : (text : List ℕ) → is_rest text ≡ true → if_path (with_slash text) ≡ if_path text
+rest_kept text led = if_slashed _ _ text (with_slash text) (with_slash-utf8 text) (rest_path text led) (slashed_path text)
+
+-- the page of a text that begins with a slash, or is empty
+pub page_kept : (text page : List ℕ) (result : Result (List ℕ) PathError) → is_rest text ≡ true → page ≡ with_index text
+    → KeepsPath (if_path (with_slash page)) result → KeepsPath (if_path (with_index text)) result
+page_kept text page result led e h =
+    let led_page : is_rest page ≡ true = subst (λ (t : List ℕ). is_rest t ≡ true) (sym e) (index_rest text led) in
+    known _ result (if_path (with_slash page)) (ap if_path (sym e) ∙ sym (rest_kept page led_page)) h
+
+pub folder : (text : List ℕ) → ends_with_slash text ≡ true → with_index text ≡ text ++ codes "index.html"
+folder text h = rw h refl
+
+pub no_folder : (text : List ℕ) → ends_with_slash text ≡ false → text ≡ with_index text
+no_folder text h = rw h refl
+
+-- nothing is kept where there is no path
+pub none_kept : (o : Option (List ℕ)) → o ≡ None → KeepsPath o (Err path_error.BadPath)
+none_kept o e = known o (Err path_error.BadPath) None e refl
+
+-- a folder's page that is longer than a path
+pub long_folder : (text : List ℕ) → ends_with_slash text ≡ true → 1024 < length (text ++ codes "index.html") → KeepsPath (if_path (with_index text)) (Err path_error.BadPath)
+long_folder text h long = none_kept _ (ap if_path (folder text h) ∙ unlawful _ (too_long _ long))
+
+-- a text without `%` is decoded already
+either_false : (s t : Bool) → (s || t) ≡ false → (s ≡ false) × (t ≡ false)
+either_false true t h = absurd (cc h)
+either_false false t h = (refl, h)
+
+pub undecoded : (text : List ℕ) → has_percent text ≡ false → percent_decode text ≡ text
+undecoded [] h = percent_decode-nil
+undecoded (b ∷ text) h =
+    let parts = either_false (eqb b 37) (has_percent text) h in
+    percent_decode_not_percent b text (λ e. absurd (cc (sym parts.0 ∙ eq-eqb b 37 e))) ∙ ap (λ t. b ∷ t) (undecoded text parts.1)
 
 -- what was decoded, but for its being text
 pub not_utf8 : (text : List ℕ) → (IsUtf8 text → ⊥) → is_utf8 text ≡ false
@@ -175,14 +247,3 @@ pub behind : (rest : List ℕ) (found : Option (Bor (List ℕ))) (whole : Bor (L
 behind rest (Some x) whole led same h = sym (ap (drop 1) h)
 behind [] None whole led same h = same
 behind (b ∷ rest) None whole led same h = absurd (h rest (ap (λ c. c ∷ rest) (eqb-true b 47 led)))
-
--- the outcomes of reading the text of a path
-pub read_oks : {E : Type 0} (rest page : List ℕ) (r : Result (List ℕ) E) → is_rest rest ≡ true → page ≡ with_index (percent_decode rest)
-    → IsUtf8 page → IfOk r (λ path. path ≡ with_slash page) → IfOk r (λ path. IsTrue (is_path path)) → IfOk r (λ path. read_path rest ≡ Some path)
-read_oks rest page (Ok path) led e utf8 kept lawful = read_ok rest page path led e utf8 kept lawful
-read_oks rest page (Err error) led e utf8 kept lawful = tt
-
-pub written_oks : {E : Type 0} (rest text : List ℕ) (r : Result (List ℕ) E) → text ≡ percent_decode (drop 1 rest)
-    → IsUtf8 text → IfOk r (λ path. path ≡ with_slash text) → IfOk r (λ path. IsTrue (is_path path)) → IfOk r (λ path. written_path rest ≡ Some path)
-written_oks rest text (Ok path) e utf8 kept lawful = written_ok rest text path e utf8 kept lawful
-written_oks rest text (Err error) e utf8 kept lawful = tt

@@ -48,6 +48,7 @@ abbrev pub form_with : Option Members → Option Bool → Option Bool → Option
 form_with (Some files) (Some draft) (Some patch) = Some (record { files = files; draft = draft; patch = patch })
 form_with files draft patch = None
 
+-- the parts of an opening's body, if it has the right form
 abbrev pub form_of : Members → Option Form
 form_of ms =
     form_with (option_and_then as_object (get_member (codes "files") ms))
@@ -81,7 +82,7 @@ listed_in patch value = if patch && is_null value then Ok None else then_with (d
 abbrev pub Files : Type 0
 Files = map.FinMap (slice_cmp nat_cmp) (Option Digest)
 
--- the files of a list in which each path stands once
+-- the files of a list that has each path once
 abbrev pub files_in : List (List ℕ × Option Digest) → Files
 files_in files = map.from_entries files
 
@@ -102,6 +103,7 @@ open_with name None = Err BadBody
 open_with name (Some form) =
     then_with (with_all form.patch map.empty form.files) (λ files. Ok (ask.Command (command.Open name (form.patch, map.entries files) (not form.draft))))
 
+-- the deploy that a body opens, or the first reason why it opens none
 abbrev pub open_ask : SiteName → List ℕ → Result Ask Refusal
 open_ask name body = open_with name (option_and_then form_of (object_of body))
 
@@ -131,15 +133,17 @@ abbrev pub undo_with : SiteName → Option ℕ → Result Ask Refusal
 undo_with site None = Err BadBody
 undo_with site (Some change) = Ok (ask.Undo site change)
 
+-- the change that a body undoes
 abbrev pub undo_ask : SiteName → List ℕ → Result Ask Refusal
 undo_ask site body = undo_with site (number_at (codes "change") body)
 
--- ---- letting an alias stand for a deploy
+-- ---- letting an alias name a deploy
 
 abbrev pub alias_with : SiteName → AliasName → Option ℕ → Result Ask Refusal
 alias_with site name None = Err BadBody
 alias_with site name (Some deploy) = Ok (ask.Command (command.MoveAlias site name deploy))
 
+-- the deploy that a body lets an alias name
 abbrev pub alias_ask : SiteName → AliasName → List ℕ → Result Ask Refusal
 alias_ask site name body = alias_with site name (number_at (codes "deploy") body)
 
@@ -167,6 +171,7 @@ rename_with site (Some source) (Some target) =
     then_with (path_in source) (λ from. then_with (path_in target) (λ to. Ok (ask.Command (command.Rename site from to))))
 rename_with site source target = Err BadBody
 
+-- the file that a body renames
 abbrev pub rename_ask : SiteName → List ℕ → Result Ask Refusal
 rename_ask site body = rename_with site (text_at (codes "from") body) (text_at (codes "to") body)
 
@@ -174,26 +179,16 @@ rename_ask site body = rename_with site (text_at (codes "from") body) (text_at (
 
 -- what the body asks for on this route, or the first reason why it asks for nothing
 abbrev pub asked : Route → List ℕ → Result Ask Refusal
-asked (route.Read site version path) body = Ok (ask.Read site version path)
+asked (route.Ready wanted) body = Ok wanted
 asked (route.Open site) body = open_ask site body
-asked (route.Restore site n) body = Ok (ask.Command (command.Restore site n))
 asked (route.MoveAlias site name) body = alias_ask site name body
-asked (route.RemoveAlias site name) body = Ok (ask.Command (command.RemoveAlias site name))
 asked (route.Rename site) body = rename_ask site body
-asked (route.Remove site path) body = Ok (ask.Command (command.Remove site path))
 asked (route.Undo site) body = undo_ask site body
-asked (route.Changes site) body = Ok (ask.Changes site)
-asked (route.Deploy n) body = Ok (ask.Deploy n)
-asked (route.RemoveDeploy n) body = Ok (ask.RemoveDeploy n)
-asked (route.Cancel n) body = Ok (ask.Cancel n)
-asked (route.Upload n path) body = Ok (ask.Upload n path)
 
+-- whether the body says what is asked for
 abbrev pub has_document : Route → Bool
-has_document (route.Open site) = true
-has_document (route.MoveAlias site name) = true
-has_document (route.Rename site) = true
-has_document (route.Undo site) = true
-has_document other = false
+has_document (route.Ready wanted) = false
+has_document other = true
 
 -- whether the body is parsed, which takes memory: the route has one that says something, and it is text
 abbrev pub is_parsed : Route → List ℕ → Bool

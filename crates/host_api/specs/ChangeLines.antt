@@ -21,6 +21,7 @@ kind_of (command.RemoveAlias site name) = Unalias
 kind_of (command.Restore site m) = Restore
 kind_of (command.RemoveDeploy site m) = Delete
 
+-- the word that a list has for it
 abbrev pub kind_name : ChangeKind → List ℕ
 kind_name Open = codes "open"
 kind_name Publish = codes "publish"
@@ -32,6 +33,7 @@ kind_name Remove = codes "remove"
 kind_name Restore = codes "restore"
 kind_name Delete = codes "delete"
 
+-- the text of an entry
 abbrev pub line_text : ChangeLine → List ℕ
 line_text (Change entry kind is_live) =
     codes "{\"entry\":" ++ decimal entry ++ codes ",\"kind\":\"" ++ kind_name kind
@@ -42,5 +44,6 @@ line_text (Undo entry change) = codes "{\"entry\":" ++ decimal entry ++ codes ",
 abbrev pub line_list : List ChangeLine → List ℕ
 line_list lines = join_with_byte (byte ",") (map line_text lines)
 
+-- the text of a list of changes
 abbrev pub list_text : List ChangeLine → List ℕ
 list_text lines = codes "{\"changes\":[" ++ line_list lines ++ codes "]}"

@@ -1,6 +1,7 @@
+-- what public clauses say
 pub mod Numbers
 pub mod Targets
-pub mod Patterns
+pub mod Fits
 pub mod Routes
 pub mod Bodies
 pub mod Refusals
@@ -9,3 +10,5 @@ pub mod Texts
 pub mod Types
 pub mod Methods
 pub mod Limits
+-- what only private functions need
+pub mod Patterns

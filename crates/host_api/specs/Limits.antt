@@ -4,10 +4,11 @@ use Rattle.std.specs.Str.{bytes_eq}
 use Rattle.host_api.specs.Routes.{rows, found_in}
 use Rattle.host_api.specs.Targets.{Bindings, path_of}
 use Rattle.host_api.specs.declared.resources.Resource.{Resource}
-use Rattle.host_api.specs.declared.resources.Resource.TheVariants as resource
+use Rattle.host_api.specs.declared.resources.Resource.TheVariants.{OfDeploy}
+use Rattle.host_api.specs.declared.resources.DeployResource.TheVariants.{File}
 
 abbrev pub is_deploy_file : Resource → Bool
-is_deploy_file resource.DeployFile = true
+is_deploy_file (OfDeploy File) = true
 is_deploy_file other = false
 
 abbrev pub is_upload : Option (Resource × Bindings) → Bool

@@ -1,14 +1,17 @@
--- What the patterns of the program and what it finds by them stand for.
-use Rattle.std.specs.Prelude.{◌≡◌, ◌⊎◌, ℕ, Bool, true, List, [], ◌∷◌, Option, Some, None, Result, Ok, Err, IsTrue, map, not, ◌==◌, ◌&&◌, if◌then◌else◌}
+-- What the patterns of the program mean, and what it finds by them.
+use Rattle.std.specs.Prelude.{◌≡◌, ◌⊎◌, ℕ, Bool, true, List, [], ◌∷◌, Option, Some, None, Result, Ok, Err, IsTrue, map, ◌==◌, if◌then◌else◌}
 use Rattle.std.specs.Str.{byte, bytes_eq}
-use Rattle.host_api.specs.Targets.{Part, word, site, alias, number, Bindings, with_site, with_alias, with_number, before, from_first, has_hash}
-use Rattle.host_names.specs.Name.{is_name}
-use Rattle.host_names.specs.declared.names.AliasName.{AliasName}
-use Rattle.host_names.specs.declared.names.SiteName.{SiteName}
-use Rattle.host_api.specs.Routes.{Row, routed_at, takes_path}
+use Rattle.host_api.specs.Targets.{Part, word, site, alias, number, Bindings, before, from_first}
+use Rattle.host_names.specs.declared.paths.PathError.{PathError}
+use Rattle.host_names.specs.declared.paths.PathError.TheVariants as path_error
+use Rattle.std.specs.List.{list_any}
+use Rattle.host_api.specs.Routes.{Row, misnames, site_in, alias_in, site_route, alias_route, deploy_route, has_path}
 use Rattle.host_api.specs.declared.refusals.Refusal.{Refusal}
-use Rattle.host_api.specs.declared.refusals.Refusal.TheVariants.{BadName, BadPath, OutOfMemory}
+use Rattle.host_api.specs.declared.refusals.Refusal.TheVariants.{BadName, OutOfMemory}
 use Rattle.host_api.specs.declared.resources.Resource.{Resource}
+use Rattle.host_api.specs.declared.resources.Resource.TheVariants.{OfSite, OfAlias, OfDeploy}
+use Rattle.host_api.specs.declared.routes.Named.{Named}
+use Rattle.host_api.specs.declared.routes.Named.TheVariants as named
 use Rattle.host_api.specs.declared.routes.Route.{Route}
 use Rattle.host_api.specs.declared.table.Row.{Row as RowWritten}
 use Rattle.host_api.specs.declared.targets.Bindings.{Bindings as BindingsLent}
@@ -30,21 +33,14 @@ bindings_of b = record { site_text = b.site.now; alias_text = b.alias.now; numbe
 abbrev pub found_of : Resource × BindingsLent → Resource × Bindings
 found_of found = (found.0, bindings_of found.1)
 
--- whether a segment may stand in the place of a part
+-- whether a segment may be in the place of a part
 abbrev pub may_bind : Part → List ℕ → Bool
 may_bind (word w) segment = bytes_eq segment w
 may_bind site segment = true
 may_bind alias segment = true
 may_bind number segment = true
 
--- what is found with the segment that stands in the place of a part
-abbrev pub with_part : Part → List ℕ → Bindings → Bindings
-with_part (word w) segment b = b
-with_part site segment b = with_site segment b
-with_part alias segment b = with_alias segment b
-with_part number segment b = with_number segment b
-
--- the segment behind the leading slash, and what follows it
+-- the segment after the leading slash, and what follows it
 abbrev pub next_segment : List ℕ → Option (List ℕ × List ℕ)
 next_segment [] = None
 next_segment (b ∷ text) = if b == byte "/" then Some (before (byte "/") text, from_first (byte "/") text) else None
@@ -54,24 +50,31 @@ abbrev pub is_rest : List ℕ → Bool
 is_rest [] = true
 is_rest (b ∷ text) = b == byte "/"
 
--- the site of a name on a path, or the first reason why there is none
-abbrev pub site_on : List ℕ → List ℕ → Result SiteName Refusal
-site_on path name =
-    if not (is_name name) then Err BadName
-    else if has_hash path then Err BadPath
-    else Ok (record { 0 = name })
+-- whether the text may have an escape
+abbrev pub has_percent : List ℕ → Bool
+has_percent text = list_any (λ b. b == byte "%") text
 
--- the site and the alias of two names on a path, or the first reason why there are none
-abbrev pub alias_on : List ℕ → List ℕ → List ℕ → Result (SiteName × AliasName) Refusal
-alias_on path name alias_name =
-    if not (is_name name && is_name alias_name) then Err BadName
-    else if has_hash path then Err BadPath
-    else Ok (record { 0 = name }, record { 0 = alias_name })
+-- what is kept is that path, or there was no memory for it; where there is none, it is a bad path
+abbrev pub KeepsPath : Option (List ℕ) → Result (List ℕ) PathError → Type 0
+KeepsPath None result = result ≡ Err path_error.BadPath
+KeepsPath (Some path) result = (result ≡ Ok path) ⊎ (result ≡ Err path_error.OutOfMemory)
 
--- the route to a resource of which each method that it has does the same
-abbrev pub routed_alike : List ℕ → Resource → Bindings → Result Route Refusal
-routed_alike path r bindings = routed_at [] path r bindings
+-- a resource with the names that its target has
+abbrev pub named_by : Resource → Bindings → Named
+named_by (OfSite r) b = named.Site r (site_in b)
+named_by (OfAlias r) b = named.Alias r (site_in b) (alias_in b)
+named_by (OfDeploy r) b = named.Deploy r
 
--- the route is that one, or the first reason why there is none; or there was no memory for the path of a file
-abbrev pub GivesRoute : List ℕ → Result Route Refusal → Result Route Refusal → Type 0
-GivesRoute path result routed = (result ≡ routed) ⊎ ((result ≡ Err OutOfMemory) × IsTrue (takes_path path routed))
+-- the names of a target, or that one is none
+abbrev pub named_in : Resource → Bindings → Result Named Refusal
+named_in r b = if misnames r b then Err BadName else Ok (named_by r b)
+
+-- the route of a method to a resource with its names, by the number and the rest of its target
+abbrev pub named_route : Named → List ℕ → ℕ → List ℕ → Result Route Refusal
+named_route (named.Site r name) method deploy rest = site_route r name deploy rest
+named_route (named.Alias r name called) method deploy rest = alias_route r method name called rest
+named_route (named.Deploy r) method deploy rest = deploy_route r method deploy rest
+
+-- the route is that one, or the first reason why there is none; or there was no memory for its path
+abbrev pub GivesRoute : Result Route Refusal → Result Route Refusal → Type 0
+GivesRoute result routed = (result ≡ routed) ⊎ ((result ≡ Err OutOfMemory) × IsTrue (has_path routed))

@@ -8,9 +8,19 @@ use Rattle.host_names.specs.declared.names.SiteName.{SiteName}
 use Rattle.host_api.specs.Numbers.{number_of}
 use Rattle.host_api.specs.Targets.{Part, word, site, alias, number, Bindings, fit, path_of, has_hash, read_path, written_path}
 use Rattle.host_api.specs.declared.resources.Resource.{Resource}
-use Rattle.host_api.specs.declared.resources.Resource.TheVariants as resource
+use Rattle.host_api.specs.declared.resources.Resource.TheVariants.{OfSite, OfAlias, OfDeploy}
+use Rattle.host_api.specs.declared.resources.SiteResource.{SiteResource}
+use Rattle.host_api.specs.declared.resources.SiteResource.TheVariants as site_resource
+use Rattle.host_api.specs.declared.resources.AliasResource.{AliasResource}
+use Rattle.host_api.specs.declared.resources.AliasResource.TheVariants as alias_resource
+use Rattle.host_api.specs.declared.resources.DeployResource.{DeployResource}
+use Rattle.host_api.specs.declared.resources.DeployResource.TheVariants as deploy_resource
+use Rattle.site_change.specs.declared.commands.Command.TheVariants as command
+use Rattle.host_api.specs.declared.bodies.Ask.{Ask}
+use Rattle.host_api.specs.declared.bodies.Ask.TheVariants as ask
 use Rattle.host_api.specs.declared.routes.Route.{Route}
 use Rattle.host_api.specs.declared.routes.Route.TheVariants as route
+use Rattle.host_api.specs.declared.versions.Version.{Version}
 use Rattle.host_api.specs.declared.versions.Version.TheVariants as version
 use Rattle.host_api.specs.declared.refusals.Refusal.{Refusal}
 use Rattle.host_api.specs.declared.refusals.Refusal.TheVariants.{NoRoute, BadMethod, BadName, BadPath}
@@ -25,108 +35,129 @@ pub record Row : Type 0 where
 abbrev pub whole : Resource → List Part → Row
 whole r parts = record { named = r; parts = parts; has_rest = false }
 
--- the pattern, and the path of a file behind it
+-- the pattern, and the path of a file after it
 abbrev pub with_path : Resource → List Part → Row
 with_path r parts = record { named = r; parts = parts; has_rest = true }
 
--- /api/v1/sites/{site}, and these parts behind it
+-- /api/v1/sites/{site}, and these parts after it
 abbrev pub of_site : List Part → List Part
 of_site parts = word (codes "api") ∷ word (codes "v1") ∷ word (codes "sites") ∷ site ∷ parts
 
--- /api/v1/deploys/{number}, and these parts behind it
+-- /api/v1/deploys/{number}, and these parts after it
 abbrev pub of_deploy : List Part → List Part
 of_deploy parts = word (codes "api") ∷ word (codes "v1") ∷ word (codes "deploys") ∷ number ∷ parts
 
+-- the table of routes
 abbrev pub rows : List Row
 rows =
-    with_path resource.LiveFile (word (codes "s") ∷ site ∷ [])
-    ∷ with_path resource.AliasFile (word (codes "a") ∷ site ∷ alias ∷ [])
-    ∷ with_path resource.KeptFile (word (codes "d") ∷ site ∷ number ∷ [])
-    ∷ whole resource.Deploys (of_site (word (codes "deploys") ∷ []))
-    ∷ whole resource.Restore (of_site (word (codes "deploys") ∷ number ∷ word (codes "restore") ∷ []))
-    ∷ whole resource.Alias (of_site (word (codes "aliases") ∷ alias ∷ []))
-    ∷ whole resource.Rename (of_site (word (codes "rename") ∷ []))
-    ∷ with_path resource.SiteFile (of_site (word (codes "files") ∷ []))
-    ∷ whole resource.Undo (of_site (word (codes "undo") ∷ []))
-    ∷ whole resource.Changes (of_site (word (codes "changes") ∷ []))
-    ∷ whole resource.Deploy (of_deploy [])
-    ∷ whole resource.Cancel (of_deploy (word (codes "cancel") ∷ []))
-    ∷ with_path resource.DeployFile (of_deploy (word (codes "files") ∷ []))
+    with_path (OfSite site_resource.LiveFile) (word (codes "s") ∷ site ∷ [])
+    ∷ with_path (OfAlias alias_resource.File) (word (codes "a") ∷ site ∷ alias ∷ [])
+    ∷ with_path (OfSite site_resource.KeptFile) (word (codes "d") ∷ site ∷ number ∷ [])
+    ∷ whole (OfSite site_resource.Deploys) (of_site (word (codes "deploys") ∷ []))
+    ∷ whole (OfSite site_resource.Restore) (of_site (word (codes "deploys") ∷ number ∷ word (codes "restore") ∷ []))
+    ∷ whole (OfAlias alias_resource.Itself) (of_site (word (codes "aliases") ∷ alias ∷ []))
+    ∷ whole (OfSite site_resource.Rename) (of_site (word (codes "rename") ∷ []))
+    ∷ with_path (OfSite site_resource.File) (of_site (word (codes "files") ∷ []))
+    ∷ whole (OfSite site_resource.Undo) (of_site (word (codes "undo") ∷ []))
+    ∷ whole (OfSite site_resource.Changes) (of_site (word (codes "changes") ∷ []))
+    ∷ whole (OfDeploy deploy_resource.Itself) (of_deploy [])
+    ∷ whole (OfDeploy deploy_resource.Cancel) (of_deploy (word (codes "cancel") ∷ []))
+    ∷ with_path (OfDeploy deploy_resource.File) (of_deploy (word (codes "files") ∷ []))
     ∷ []
 
 abbrev pub first_found : Resource → Option Bindings → Option (Resource × Bindings) → Option (Resource × Bindings)
 first_found r None others = others
 first_found r (Some bindings) others = Some (r, bindings)
 
--- the first row whose pattern the path fits, with what stands in its open places
+-- the first row whose pattern the path fits, with what is in its open places
 abbrev pub found_in : List Row → List ℕ → Option (Resource × Bindings)
 found_in [] path = None
 found_in (row ∷ others) path = first_found row.named (fit row.parts row.has_rest path) (found_in others path)
 
 -- the methods of a resource, in the order in which a reply lists them
-abbrev pub methods_of : Resource → List (List ℕ)
-methods_of resource.LiveFile = codes "GET" ∷ codes "HEAD" ∷ []
-methods_of resource.AliasFile = codes "GET" ∷ codes "HEAD" ∷ []
-methods_of resource.KeptFile = codes "GET" ∷ codes "HEAD" ∷ []
-methods_of resource.Deploys = codes "POST" ∷ []
-methods_of resource.Restore = codes "POST" ∷ []
-methods_of resource.Alias = codes "PUT" ∷ codes "DELETE" ∷ []
-methods_of resource.Rename = codes "POST" ∷ []
-methods_of resource.SiteFile = codes "DELETE" ∷ []
-methods_of resource.Undo = codes "POST" ∷ []
-methods_of resource.Changes = codes "GET" ∷ codes "HEAD" ∷ []
-methods_of resource.Deploy = codes "GET" ∷ codes "HEAD" ∷ codes "DELETE" ∷ []
-methods_of resource.Cancel = codes "POST" ∷ []
-methods_of resource.DeployFile = codes "PUT" ∷ []
+abbrev pub methods_of_site : SiteResource → List (List ℕ)
+methods_of_site site_resource.LiveFile = codes "GET" ∷ codes "HEAD" ∷ []
+methods_of_site site_resource.KeptFile = codes "GET" ∷ codes "HEAD" ∷ []
+methods_of_site site_resource.Deploys = codes "POST" ∷ []
+methods_of_site site_resource.Restore = codes "POST" ∷ []
+methods_of_site site_resource.Rename = codes "POST" ∷ []
+methods_of_site site_resource.File = codes "DELETE" ∷ []
+methods_of_site site_resource.Undo = codes "POST" ∷ []
+methods_of_site site_resource.Changes = codes "GET" ∷ codes "HEAD" ∷ []
 
+abbrev pub methods_of : Resource → List (List ℕ)
+methods_of (OfSite r) = methods_of_site r
+methods_of (OfAlias alias_resource.File) = codes "GET" ∷ codes "HEAD" ∷ []
+methods_of (OfAlias alias_resource.Itself) = codes "PUT" ∷ codes "DELETE" ∷ []
+methods_of (OfDeploy deploy_resource.Itself) = codes "GET" ∷ codes "HEAD" ∷ codes "DELETE" ∷ []
+methods_of (OfDeploy deploy_resource.Cancel) = codes "POST" ∷ []
+methods_of (OfDeploy deploy_resource.File) = codes "PUT" ∷ []
+
+-- whether a resource has the method
 abbrev pub has_method : Resource → List ℕ → Bool
 has_method r method = list_any (bytes_eq method) (methods_of r)
 
 -- whether a name that the target has to have is none
 abbrev pub misnames : Resource → Bindings → Bool
-misnames resource.LiveFile b = not (is_name b.site_text)
-misnames resource.AliasFile b = not (is_name b.site_text && is_name b.alias_text)
-misnames resource.KeptFile b = not (is_name b.site_text)
-misnames resource.Deploys b = not (is_name b.site_text)
-misnames resource.Restore b = not (is_name b.site_text)
-misnames resource.Alias b = not (is_name b.site_text && is_name b.alias_text)
-misnames resource.Rename b = not (is_name b.site_text)
-misnames resource.SiteFile b = not (is_name b.site_text)
-misnames resource.Undo b = not (is_name b.site_text)
-misnames resource.Changes b = not (is_name b.site_text)
-misnames resource.Deploy b = false
-misnames resource.Cancel b = false
-misnames resource.DeployFile b = false
+misnames (OfSite r) b = not (is_name b.site_text)
+misnames (OfAlias r) b = not (is_name b.site_text && is_name b.alias_text)
+misnames (OfDeploy r) b = false
 
+-- the names, where they are names
 abbrev pub site_in : Bindings → SiteName
 site_in b = record { 0 = b.site_text }
 
 abbrev pub alias_in : Bindings → AliasName
 alias_in b = record { 0 = b.alias_text }
 
+-- the route with a path, or that the text is none
 abbrev pub to_file : (List ℕ → Route) → Option (List ℕ) → Result Route Refusal
 to_file make None = Err BadPath
 to_file make (Some path) = Ok (make path)
 
+-- the reading of a file of a version of a site
+abbrev pub read_route : SiteName → Version → List ℕ → Result Route Refusal
+read_route name version rest = to_file (λ path. route.Ready (ask.Read name version path)) (read_path rest)
+
+-- the removal of a file
+abbrev pub remove_route : SiteName → List ℕ → Result Route Refusal
+remove_route name rest = to_file (λ path. route.Ready (ask.Command (command.Remove name path))) (written_path rest)
+
+-- the upload of a file
+abbrev pub upload_route : ℕ → List ℕ → Result Route Refusal
+upload_route deploy rest = to_file (λ path. route.Ready (ask.Upload deploy path)) (written_path rest)
+
+-- the route to a resource of a site, which has one method, or GET and HEAD, which do the same
+abbrev pub site_route : SiteResource → SiteName → ℕ → List ℕ → Result Route Refusal
+site_route site_resource.LiveFile name deploy rest = read_route name version.Live rest
+site_route site_resource.KeptFile name deploy rest = read_route name (version.Kept deploy) rest
+site_route site_resource.Deploys name deploy rest = Ok (route.Open name)
+site_route site_resource.Restore name deploy rest = Ok (route.Ready (ask.Command (command.Restore name deploy)))
+site_route site_resource.Rename name deploy rest = Ok (route.Rename name)
+site_route site_resource.File name deploy rest = remove_route name rest
+site_route site_resource.Undo name deploy rest = Ok (route.Undo name)
+site_route site_resource.Changes name deploy rest = Ok (route.Ready (ask.Changes name))
+
+-- the route of a method, which the resource has, to a resource of an alias
+abbrev pub alias_route : AliasResource → List ℕ → SiteName → AliasName → List ℕ → Result Route Refusal
+alias_route alias_resource.File method name called rest = read_route name (version.Alias called) rest
+alias_route alias_resource.Itself method name called rest =
+    if bytes_eq method (codes "PUT") then Ok (route.MoveAlias name called)
+    else Ok (route.Ready (ask.Command (command.RemoveAlias name called)))
+
+-- the same of a deploy
+abbrev pub deploy_route : DeployResource → List ℕ → ℕ → List ℕ → Result Route Refusal
+deploy_route deploy_resource.Itself method deploy rest =
+    if bytes_eq method (codes "DELETE") then Ok (route.Ready (ask.RemoveDeploy deploy))
+    else Ok (route.Ready (ask.Deploy deploy))
+deploy_route deploy_resource.Cancel method deploy rest = Ok (route.Ready (ask.Cancel deploy))
+deploy_route deploy_resource.File method deploy rest = upload_route deploy rest
+
 -- what a method, which the resource has, does to it
 abbrev pub route_to : Resource → List ℕ → Bindings → Result Route Refusal
-route_to resource.LiveFile method b = to_file (route.Read (site_in b) version.Live) (read_path b.rest)
-route_to resource.AliasFile method b = to_file (route.Read (site_in b) (version.Alias (alias_in b))) (read_path b.rest)
-route_to resource.KeptFile method b = to_file (route.Read (site_in b) (version.Kept (number_of b.number_text))) (read_path b.rest)
-route_to resource.Deploys method b = Ok (route.Open (site_in b))
-route_to resource.Restore method b = Ok (route.Restore (site_in b) (number_of b.number_text))
-route_to resource.Alias method b =
-    if bytes_eq method (codes "PUT") then Ok (route.MoveAlias (site_in b) (alias_in b))
-    else Ok (route.RemoveAlias (site_in b) (alias_in b))
-route_to resource.Rename method b = Ok (route.Rename (site_in b))
-route_to resource.SiteFile method b = to_file (route.Remove (site_in b)) (written_path b.rest)
-route_to resource.Undo method b = Ok (route.Undo (site_in b))
-route_to resource.Changes method b = Ok (route.Changes (site_in b))
-route_to resource.Deploy method b =
-    if bytes_eq method (codes "DELETE") then Ok (route.RemoveDeploy (number_of b.number_text))
-    else Ok (route.Deploy (number_of b.number_text))
-route_to resource.Cancel method b = Ok (route.Cancel (number_of b.number_text))
-route_to resource.DeployFile method b = to_file (route.Upload (number_of b.number_text)) (written_path b.rest)
+route_to (OfSite r) method b = site_route r (site_in b) (number_of b.number_text) b.rest
+route_to (OfAlias r) method b = alias_route r method (site_in b) (alias_in b) b.rest
+route_to (OfDeploy r) method b = deploy_route r method (number_of b.number_text) b.rest
 
 -- the route to a resource on a path, or the first reason why there is none: the names, the path
 abbrev pub routed_at : List ℕ → List ℕ → Resource → Bindings → Result Route Refusal
@@ -141,13 +172,18 @@ routed_by method path None = Err NoRoute
 routed_by method path (Some (r, bindings)) =
     if not (has_method r method) then Err (BadMethod r) else routed_at method path r bindings
 
+-- the route of a method and a target, or the first reason why there is none
 unfoldable pub routed : List ℕ → List ℕ → Result Route Refusal
 routed method target = routed_by method (path_of target) (found_in rows (path_of target))
 
--- whether the path of a file was to be read: what comes before that, as the test for `#`, takes no memory
-abbrev pub takes_path : List ℕ → Result Route Refusal → Bool
-takes_path path (Ok (route.Read name at file)) = true
-takes_path path (Ok (route.Remove name file)) = true
-takes_path path (Ok (route.Upload deploy file)) = true
-takes_path path (Err BadPath) = not (has_hash path)
-takes_path path other = false
+-- whether what is asked for has the path of a file that the target names, which takes memory
+abbrev pub asks_of_path : Ask → Bool
+asks_of_path (ask.Read name version path) = true
+asks_of_path (ask.Command (command.Remove name path)) = true
+asks_of_path (ask.Upload deploy path) = true
+asks_of_path other = false
+
+-- whether there is a route and it has the path of a file
+abbrev pub has_path : Result Route Refusal → Bool
+has_path (Ok (route.Ready asked)) = asks_of_path asked
+has_path other = false

@@ -1,4 +1,4 @@
--- The target of a request, in its parts.
+-- The target of a request, in its parts (RFC 9112, section 3.2; RFC 3986, sections 3.3 to 3.5).
 use Rattle.std.specs.Prelude.{ℕ, Bool, true, false, List, [], ◌∷◌, ◌++◌, Option, Some, None, option_map, drop, not, ◌==◌, ◌&&◌, if◌then◌else◌, codes}
 use Rattle.std.specs.List.{list_any, take_while}
 use Rattle.std.specs.Str.{byte, bytes_eq, is_utf8}
@@ -14,16 +14,17 @@ abbrev pub from_first : ℕ → List ℕ → List ℕ
 from_first b [] = []
 from_first b (c ∷ text) = if c == b then c ∷ text else from_first b text
 
--- the target without its query
+-- the target without its query (RFC 3986, section 3.4)
 abbrev pub path_of : List ℕ → List ℕ
 path_of target = before (byte "?") target
 
+-- whether there is a `#`: a target has no fragment (RFC 3986, section 3.5)
 abbrev pub has_hash : List ℕ → Bool
 has_hash text = list_any (λ b. b == byte "#") text
 
 -- ---- patterns
 
--- what stands between two slashes: a word, the name of a site or of an alias, or a number
+-- what is between two slashes: a word, the name of a site or of an alias, or a number
 pub data Part : Type 0 where
   word : List ℕ → Part
   site : Part
@@ -50,6 +51,13 @@ with_alias text b = record { site_text = b.site_text; alias_text = text; number_
 abbrev pub with_number : List ℕ → Bindings → Bindings
 with_number text b = record { site_text = b.site_text; alias_text = b.alias_text; number_text = text; rest = b.rest }
 
+-- what is found with the segment in the place of a part
+abbrev pub with_part : Part → List ℕ → Bindings → Bindings
+with_part (word w) segment b = b
+with_part site segment b = with_site segment b
+with_part alias segment b = with_alias segment b
+with_part number segment b = with_number segment b
+
 -- what the parts after it found, if the segment is of the part
 abbrev pub bound : Part → List ℕ → Option Bindings → Option Bindings
 bound (word w) segment found = if bytes_eq segment w then found else None
@@ -57,7 +65,7 @@ bound site segment found = option_map (with_site segment) found
 bound alias segment found = option_map (with_alias segment) found
 bound number segment found = option_map (with_number segment) found
 
--- the text is segments of these parts, each behind a slash, and behind them nothing, or a rest that begins with a slash
+-- the text is segments of these parts, each after a slash, and after them nothing, or a rest that begins with a slash
 abbrev pub fit : List Part → Bool → List ℕ → Option Bindings
 fit [] false [] = Some (rest_alone [])
 fit [] false (b ∷ text) = None
@@ -80,11 +88,11 @@ ends_with_slash [] = false
 ends_with_slash (b ∷ []) = b == byte "/"
 ends_with_slash (b ∷ c ∷ text) = ends_with_slash (c ∷ text)
 
--- a path that ends in a slash stands for the page index.html in it
+-- a path that ends in a slash names the page index.html in it
 abbrev pub with_index : List ℕ → List ℕ
 with_index text = if ends_with_slash text then text ++ codes "index.html" else text
 
--- the path of a file that is read: the rest, its escapes decoded once
+-- the path of a file that is read: the rest, its escapes decoded once (RFC 3986, section 2.1)
 abbrev pub read_path : List ℕ → Option (List ℕ)
 read_path rest = if_path (with_index (percent_decode rest))
 

@@ -1,5 +1,5 @@
--- The JSON texts of replies: compact, members in the order of their bytes.
-use Rattle.std.specs.Prelude.{ℕ, List, [], ◌++◌, map, Option, Some, None, codes, decimal}
+-- The JSON texts of replies (RFC 8259): compact, members in the order of their bytes.
+use Rattle.std.specs.Prelude.{ℕ, Bool, true, false, List, [], ◌++◌, map, Option, Some, None, codes, decimal}
 use Rattle.std.specs.List.{join_with_byte}
 use Rattle.std.specs.Str.{byte}
 use Rattle.hex.specs.Hex.{encode_lower}
@@ -28,13 +28,19 @@ number_or_null (Some n) = decimal n
 abbrev pub digest_list : List Digest → List ℕ
 digest_list digests = join_with_byte (byte ",") (map (λ d. quoted (encode_lower d.0)) digests)
 
--- what stands before the name of a refusal
+-- what comes before the name of a refusal
 abbrev pub detail_of : Refusal → List ℕ
 detail_of (NotComplete digest) = codes "\"digest\":" ++ quoted (encode_lower digest.0) ++ codes ","
 detail_of (DeployInUse name) = codes "\"alias\":" ++ quoted name.0 ++ codes ","
 detail_of (Clash change cell) = codes "\"cell\":" ++ compact_text (string (cell_text cell)) ++ codes ",\"change\":" ++ decimal change ++ codes ","
 detail_of refusal = codes ""
 
+-- whether the text of a refusal names a cell; the others take no memory
+abbrev pub has_cell : Refusal → Bool
+has_cell (Clash change cell) = true
+has_cell refusal = false
+
+-- an opened deploy; one that published at once names that entry
 abbrev pub opened_text : ℕ → Option ℕ → List Digest → List ℕ
 opened_text id published required =
     codes "{\"id\":\"" ++ decimal id ++ codes "\",\"published\":" ++ number_or_null published
@@ -57,9 +63,11 @@ deploy_text id site required state =
     codes "{\"id\":\"" ++ decimal id ++ codes "\",\"required\":[" ++ digest_list required
     ++ codes "],\"site\":\"" ++ site.0 ++ codes "\",\"state\":\"" ++ state ++ codes "\"}"
 
+-- the text of a refusal
 abbrev pub refused_text : Refusal → List ℕ
 refused_text refusal = codes "{" ++ detail_of refusal ++ codes "\"error\":\"" ++ name_of refusal ++ codes "\"}"
 
+-- the text of a reply
 abbrev pub told_text : Told → List ℕ
 told_text (Opened id published required) = opened_text id published required
 told_text (Uploaded published digest) = uploaded_text published digest

@@ -34,7 +34,7 @@ pub enum Ask {
     Changes {
         site: SiteName,
     },
-    /// How a deploy stands.
+    /// The state of a deploy.
     Deploy {
         deploy: u64,
     },
@@ -42,7 +42,7 @@ pub enum Ask {
     RemoveDeploy {
         deploy: u64,
     },
-    /// That an open deploy be given up, in the site that has it.
+    /// That an open deploy be cancelled, in the site that has it.
     Cancel {
         deploy: u64,
     },
@@ -83,7 +83,7 @@ fn undo(alloc: Global, site: SiteName, body: &[u8]) -> Result<Ask, Refusal>
     }
 }
 
-/// The deploy that a body lets an alias stand for.
+/// The deploy that a body lets an alias name.
 fn move_alias(alloc: Global, site: SiteName, name: AliasName, body: &[u8]) -> Result<Ask, Refusal>
     ensures ok { IfOk result (λ ask. alias_ask site name body.now ≡ Ok ask) }
     ensures refused { IfErr result (λ refusal. refusal ≢ Refusal.OutOfMemory →
@@ -124,31 +124,10 @@ pub fn ask_of(alloc: Global, route: Route, body: &[u8]) -> Result<Ask, Refusal>
     ensures memory { IsErrOf result Refusal.OutOfMemory → IsTrue (is_parsed route body.now) }
 {
     match route {
-        Route::Read {
-            site,
-            version,
-            path,
-        } => Ok(Ask::Read {
-            site,
-            version,
-            path,
-        }),
+        Route::Ready(ask) => Ok(ask),
         Route::Open { site } => open(alloc, site, body),
-        Route::Restore { site, deploy } => Ok(Ask::Command(Command::Restore {
-            site,
-            number: deploy,
-        })),
         Route::MoveAlias { site, alias } => move_alias(alloc, site, alias, body),
-        Route::RemoveAlias { site, alias } => {
-            Ok(Ask::Command(Command::RemoveAlias { site, name: alias }))
-        }
         Route::Rename { site } => rename(alloc, site, body),
-        Route::Remove { site, path } => Ok(Ask::Command(Command::Remove { site, path })),
         Route::Undo { site } => undo(alloc, site, body),
-        Route::Changes { site } => Ok(Ask::Changes { site }),
-        Route::Deploy { deploy } => Ok(Ask::Deploy { deploy }),
-        Route::RemoveDeploy { deploy } => Ok(Ask::RemoveDeploy { deploy }),
-        Route::Cancel { deploy } => Ok(Ask::Cancel { deploy }),
-        Route::Upload { deploy, path } => Ok(Ask::Upload { deploy, path }),
     }
 }

@@ -15,11 +15,11 @@ pub enum ChangeKind {
     Open,
     /// It publishes a deploy.
     Publish,
-    /// It gives an open deploy up.
+    /// It cancels an open deploy.
     Cancel,
-    /// It makes an alias stand for a deploy.
+    /// It lets an alias name a deploy.
     Alias,
-    /// It gives an alias up.
+    /// It removes an alias.
     Unalias,
     /// It serves the file of one path at another.
     Rename,
@@ -115,7 +115,7 @@ impl From<Vec<ChangeLine>> for ChangeLines {
     }
 }
 
-// So many bytes hold what stands around the lines of a list.
+// So many bytes hold what is around the lines of a list.
 const ROOM: usize = 14;
 
 // So many bytes hold a line and a comma, whatever its numbers are.
@@ -143,7 +143,7 @@ fn push_line(text: &mut String, line: &ChangeLine) -> Result<(), AllocError>
     }
 }
 
-/// Appends lines, each behind a comma.
+/// Appends lines, each after a comma.
 fn push_others(text: &mut String, lines: &[ChangeLine]) -> Result<(), AllocError>
     ensures { OnOk result (string_bytes text.new ≡ string_bytes text.old ++ flat_map (λ line. codes "," ++ spec.line_text line) lines.now) }
 {

@@ -9,7 +9,7 @@ use host_names::Digest;
 use std::alloc::AllocError;
 
 /// Appends a digest, in quotes.
-pub(crate) fn push_digest(text: &mut String, digest: &Digest) -> Result<(), AllocError>
+fn push_digest(text: &mut String, digest: &Digest) -> Result<(), AllocError>
     ensures { OnOk result (string_bytes text.new ≡ string_bytes text.old ++ quoted (encode_lower digest.now.0)) }
 {
     text.push_str("\"")?;
@@ -17,7 +17,7 @@ pub(crate) fn push_digest(text: &mut String, digest: &Digest) -> Result<(), Allo
     text.push_str("\"")
 }
 
-/// Appends digests, each behind a comma.
+/// Appends digests, each after a comma.
 fn push_others(text: &mut String, digests: &[Digest]) -> Result<(), AllocError>
     ensures { OnOk result (string_bytes text.new ≡ string_bytes text.old ++ flat_map (λ d. codes "," ++ quoted (encode_lower d.0)) digests.now) }
 {

@@ -21,7 +21,7 @@ pub enum Refusal {
     SamePath,
     /// There is no such alias.
     NoSuchAlias,
-    /// An alias stands for the deploy; of several the least is named.
+    /// An alias names the deploy; of several the least is told.
     DeployInUse(AliasName),
     /// The deploy lists more than 10,000 paths.
     TooManyFiles,
@@ -61,73 +61,69 @@ pub enum Refusal {
 }
 
 impl Refusal {
-    ghost use Rattle.std.specs.Prelude.{◌≡◌};
-    ghost use Rattle.host_api.specs.Refusals.{name_of, status_of};
+    ghost use Rattle.std.specs.Prelude.{◌≡◌, ◌≤◌, false, length};
+    ghost use Rattle.host_api.specs.Refusals.{name_of, status_of, is_of_change};
 
-    /// The name that a reply gives to it.
-    pub fn name(&self) -> &'static str
-        ensures { result.now ≡ name_of self.now }
+    // What a reply says of it: its name, and the status code.
+    fn shown(&self) -> (&'static str, StatusCode)
+        ensures name { result.0.now ≡ name_of self.now }
+        ensures status { result.1 ≡ status_of self.now }
     {
         match self {
-            Refusal::NoSuchDraft => "NoSuchDraft",
-            Refusal::NotComplete(_) => "NotComplete",
-            Refusal::NoSuchDeploy => "NoSuchDeploy",
-            Refusal::NoSuchFile => "NoSuchFile",
-            Refusal::PathTaken => "PathTaken",
-            Refusal::SamePath => "SamePath",
-            Refusal::NoSuchAlias => "NoSuchAlias",
-            Refusal::DeployInUse(_) => "DeployInUse",
-            Refusal::TooManyFiles => "TooManyFiles",
-            Refusal::HistoryFull => "HistoryFull",
-            Refusal::NoSuchChange => "NoSuchChange",
-            Refusal::NotAChange => "NotAChange",
-            Refusal::AlreadyUndone => "AlreadyUndone",
-            Refusal::Clash { .. } => "Clash",
-            Refusal::BadName => "BadName",
-            Refusal::BadPath => "BadPath",
-            Refusal::BadDigest => "BadDigest",
-            Refusal::BadBody => "BadBody",
-            Refusal::NotListed => "NotListed",
-            Refusal::WrongDigest => "WrongDigest",
-            Refusal::OutOfMemory => "OutOfMemory",
-            Refusal::NoRoute => "NoRoute",
-            Refusal::BadMethod(_) => "BadMethod",
-            Refusal::BadHead => "BadHead",
-            Refusal::NotSatisfiable(_) => "NotSatisfiable",
+            Refusal::NoSuchDraft => ("NoSuchDraft", StatusCode::NOT_FOUND),
+            Refusal::NotComplete(_) => ("NotComplete", StatusCode::CONFLICT),
+            Refusal::NoSuchDeploy => ("NoSuchDeploy", StatusCode::NOT_FOUND),
+            Refusal::NoSuchFile => ("NoSuchFile", StatusCode::NOT_FOUND),
+            Refusal::PathTaken => ("PathTaken", StatusCode::CONFLICT),
+            Refusal::SamePath => ("SamePath", StatusCode::CONFLICT),
+            Refusal::NoSuchAlias => ("NoSuchAlias", StatusCode::NOT_FOUND),
+            Refusal::DeployInUse(_) => ("DeployInUse", StatusCode::CONFLICT),
+            Refusal::TooManyFiles => ("TooManyFiles", StatusCode::PAYLOAD_TOO_LARGE),
+            Refusal::HistoryFull => ("HistoryFull", StatusCode::INSUFFICIENT_STORAGE),
+            Refusal::NoSuchChange => ("NoSuchChange", StatusCode::NOT_FOUND),
+            Refusal::NotAChange => ("NotAChange", StatusCode::CONFLICT),
+            Refusal::AlreadyUndone => ("AlreadyUndone", StatusCode::CONFLICT),
+            Refusal::Clash { .. } => ("Clash", StatusCode::CONFLICT),
+            _ => self.shown_of_request(),
         }
+    }
+
+    // The same of a reason for which no change or undo is refused.
+    fn shown_of_request(&self) -> (&'static str, StatusCode)
+        requires { is_of_change self.now ≡ false }
+        ensures name { result.0.now ≡ name_of self.now }
+        ensures status { result.1 ≡ status_of self.now }
+    {
+        match self {
+            Refusal::BadName => ("BadName", StatusCode::BAD_REQUEST),
+            Refusal::BadPath => ("BadPath", StatusCode::BAD_REQUEST),
+            Refusal::BadDigest => ("BadDigest", StatusCode::BAD_REQUEST),
+            Refusal::BadBody => ("BadBody", StatusCode::BAD_REQUEST),
+            Refusal::NotListed => ("NotListed", StatusCode::NOT_FOUND),
+            Refusal::WrongDigest => ("WrongDigest", StatusCode::UNPROCESSABLE_ENTITY),
+            Refusal::OutOfMemory => ("OutOfMemory", StatusCode::SERVICE_UNAVAILABLE),
+            Refusal::NoRoute => ("NoRoute", StatusCode::NOT_FOUND),
+            Refusal::BadMethod(_) => ("BadMethod", StatusCode::METHOD_NOT_ALLOWED),
+            Refusal::BadHead => ("BadHead", StatusCode::BAD_REQUEST),
+            Refusal::NotSatisfiable(_) => ("NotSatisfiable", StatusCode::RANGE_NOT_SATISFIABLE),
+            _ => unreachable!(),
+        }
+    }
+
+    /// The name that a reply gives to it.
+    #[tactic(auto, using(crate::proofs::RefusalNames::short_name))]
+    pub fn name(&self) -> &'static str
+        ensures value { result.now ≡ name_of self.now }
+        ensures short { length result.now ≤ 14 }
+    {
+        self.shown().0
     }
 
     /// The status code of the reply (RFC 9110, section 15).
     pub fn status(&self) -> StatusCode
         ensures { result ≡ status_of self.now }
     {
-        match self {
-            Refusal::BadName
-            | Refusal::BadPath
-            | Refusal::BadDigest
-            | Refusal::BadBody
-            | Refusal::BadHead => StatusCode::BAD_REQUEST,
-            Refusal::NoSuchDraft
-            | Refusal::NoSuchDeploy
-            | Refusal::NoSuchFile
-            | Refusal::NoSuchAlias
-            | Refusal::NoSuchChange
-            | Refusal::NotListed
-            | Refusal::NoRoute => StatusCode::NOT_FOUND,
-            Refusal::BadMethod(_) => StatusCode::METHOD_NOT_ALLOWED,
-            Refusal::NotComplete(_)
-            | Refusal::PathTaken
-            | Refusal::SamePath
-            | Refusal::DeployInUse(_)
-            | Refusal::NotAChange
-            | Refusal::AlreadyUndone
-            | Refusal::Clash { .. } => StatusCode::CONFLICT,
-            Refusal::TooManyFiles => StatusCode::PAYLOAD_TOO_LARGE,
-            Refusal::NotSatisfiable(_) => StatusCode::RANGE_NOT_SATISFIABLE,
-            Refusal::WrongDigest => StatusCode::UNPROCESSABLE_ENTITY,
-            Refusal::OutOfMemory => StatusCode::SERVICE_UNAVAILABLE,
-            Refusal::HistoryFull => StatusCode::INSUFFICIENT_STORAGE,
-        }
+        self.shown().1
     }
 }
 

@@ -1,218 +1,192 @@
 //! Which route a request takes.
 ghost use Rattle.std.specs.Prelude.{◌≡◌, ◌≢◌, Ok, Err, IsTrue, IfOk, IfErr, IsErrOf};
-ghost use Rattle.host_api.specs.Routes.{routed, takes_path};
+ghost use Rattle.host_api.specs.Routes.{routed, has_path};
 ghost use Rattle.host_api.specs.Routes as spec;
-ghost use Rattle.host_api.specs.Targets as targets;
-ghost use Rattle.host_api.specs.Patterns.{bindings_of, is_rest, site_on, alias_on, routed_alike, GivesRoute};
+ghost use Rattle.host_api.specs.Numbers as numbers;
+ghost use Rattle.host_api.specs.Patterns.{bindings_of, is_rest, named_in, named_route, GivesRoute};
 
+use crate::bodies::Ask;
 use crate::numbers::number_of;
 use crate::refusals::Refusal;
-use crate::resources::Resource;
+use crate::resources::{AliasResource, DeployResource, Resource, SiteResource};
 use crate::table::find;
 use crate::target_paths::{read_path, written_path};
 use crate::targets::{Bindings, has_hash, path_of};
 use crate::versions::Version;
-use host_names::{AliasName, FilePath, SiteName};
+use host_names::{AliasName, SiteName};
+use site_change::Command;
 use std::alloc::Global;
 
 /// The route of a request, with what its target says. A number of a deploy is 0, which names nothing, where the target
 /// writes none.
 #[derive(Drop)]
 pub enum Route {
-    /// Reads a file of a site.
-    Read {
-        site: SiteName,
-        version: Version,
-        path: FilePath,
-    },
-    /// Opens a deploy.
-    Open {
-        site: SiteName,
-    },
-    /// Restores a deploy.
-    Restore {
-        site: SiteName,
-        deploy: u64,
-    },
-    /// Lets an alias stand for a deploy.
-    MoveAlias {
-        site: SiteName,
-        alias: AliasName,
-    },
-    /// Removes an alias.
-    RemoveAlias {
-        site: SiteName,
-        alias: AliasName,
-    },
-    /// Renames a file.
-    Rename {
-        site: SiteName,
-    },
-    /// Removes a file.
-    Remove {
-        site: SiteName,
-        path: FilePath,
-    },
-    /// Undoes a change.
-    Undo {
-        site: SiteName,
-    },
-    /// Lists the changes of a site.
-    Changes {
-        site: SiteName,
-    },
-    /// Shows a deploy.
-    Deploy {
-        deploy: u64,
-    },
-    /// Removes a deploy that was published whole.
-    RemoveDeploy {
-        deploy: u64,
-    },
-    /// Gives an open deploy up.
-    Cancel {
-        deploy: u64,
-    },
-    /// Uploads a file of a deploy.
-    Upload {
-        deploy: u64,
-        path: FilePath,
-    },
+    /// The target says all that is asked for, whatever the body is.
+    Ready(Ask),
+    /// Opens a deploy, which the body describes.
+    Open { site: SiteName },
+    /// Lets an alias name a deploy, which the body names.
+    MoveAlias { site: SiteName, alias: AliasName },
+    /// Renames a file; the body has its paths.
+    Rename { site: SiteName },
+    /// Undoes a change, which the body names.
+    Undo { site: SiteName },
 }
 
-// The site of a name, where it is one and no `#` stands in the path that names it.
-fn site_of(name: &str, path: &str) -> Result<SiteName, Refusal>
-    ensures { result ≡ site_on path.now name.now }
+// A resource with the names that its target has.
+#[derive(Drop)]
+enum Named {
+    Site(SiteResource, SiteName),
+    Alias(AliasResource, SiteName, AliasName),
+    Deploy(DeployResource),
+}
+
+// A resource with its names, where each is a name.
+fn with_names(resource: Resource, bindings: Bindings<'_>) -> Result<Named, Refusal>
+    ensures { result ≡ named_in resource (bindings_of bindings.entry) }
 {
-    let Ok(site) = SiteName::new(name) else {
-        return Err(Refusal::BadName);
-    };
-    if has_hash(path) {
-        return Err(Refusal::BadPath);
+    match resource {
+        Resource::OfSite(resource) => {
+            let Ok(site) = SiteName::new(bindings.site) else {
+                return Err(Refusal::BadName);
+            };
+            Ok(Named::Site(resource, site))
+        }
+        Resource::OfAlias(resource) => {
+            let Ok(site) = SiteName::new(bindings.site) else {
+                return Err(Refusal::BadName);
+            };
+            let Ok(alias) = AliasName::new(bindings.alias) else {
+                return Err(Refusal::BadName);
+            };
+            Ok(Named::Alias(resource, site, alias))
+        }
+        Resource::OfDeploy(resource) => Ok(Named::Deploy(resource)),
     }
-    Ok(site)
 }
 
-// The site and the alias of two names, where both are names and no `#` stands in the path that has them.
-fn alias_of(name: &str, alias: &str, path: &str) -> Result<(SiteName, AliasName), Refusal>
-    ensures { result ≡ alias_on path.now name.now alias.now }
+// The reading of a file of a version of a site.
+fn read(alloc: Global, site: SiteName, version: Version, rest: &str) -> Result<Route, Refusal>
+    requires { IsTrue (is_rest rest.now) }
+    ensures { GivesRoute result (spec.read_route site version rest.now) }
 {
-    let Ok(site) = SiteName::new(name) else {
-        return Err(Refusal::BadName);
-    };
-    let Ok(alias) = AliasName::new(alias) else {
-        return Err(Refusal::BadName);
-    };
-    if has_hash(path) {
-        return Err(Refusal::BadPath);
-    }
-    Ok((site, alias))
-}
-
-// The reading of a live file.
-fn live_file(alloc: Global, path: &str, bindings: Bindings<'_>) -> Result<Route, Refusal>
-    requires { IsTrue (is_rest bindings.rest.now) }
-    ensures { GivesRoute path.now result (routed_alike path.now Resource.LiveFile (bindings_of bindings.entry)) }
-{
-    let site = site_of(bindings.site, path)?;
-    let path = read_path(alloc, bindings.rest)?;
-    Ok(Route::Read {
+    let path = read_path(alloc, rest)?;
+    Ok(Route::Ready(Ask::Read {
         site,
-        version: Version::Live,
+        version,
         path,
-    })
-}
-
-// The reading of a file of the deploy that an alias stands for.
-fn alias_file(alloc: Global, path: &str, bindings: Bindings<'_>) -> Result<Route, Refusal>
-    requires { IsTrue (is_rest bindings.rest.now) }
-    ensures { GivesRoute path.now result (routed_alike path.now Resource.AliasFile (bindings_of bindings.entry)) }
-{
-    let (site, alias) = alias_of(bindings.site, bindings.alias, path)?;
-    let path = read_path(alloc, bindings.rest)?;
-    Ok(Route::Read {
-        site,
-        version: Version::Alias(alias),
-        path,
-    })
-}
-
-// The reading of a file of a deploy.
-fn kept_file(alloc: Global, path: &str, bindings: Bindings<'_>) -> Result<Route, Refusal>
-    requires { IsTrue (is_rest bindings.rest.now) }
-    ensures { GivesRoute path.now result (routed_alike path.now Resource.KeptFile (bindings_of bindings.entry)) }
-{
-    let site = site_of(bindings.site, path)?;
-    let path = read_path(alloc, bindings.rest)?;
-    Ok(Route::Read {
-        site,
-        version: Version::Kept(number_of(bindings.number)),
-        path,
-    })
+    }))
 }
 
 // The removal of a file.
-fn site_file(alloc: Global, path: &str, bindings: Bindings<'_>) -> Result<Route, Refusal>
-    requires { IsTrue (is_rest bindings.rest.now) }
-    ensures { GivesRoute path.now result (routed_alike path.now Resource.SiteFile (bindings_of bindings.entry)) }
+fn remove(alloc: Global, site: SiteName, rest: &str) -> Result<Route, Refusal>
+    requires { IsTrue (is_rest rest.now) }
+    ensures { GivesRoute result (spec.remove_route site rest.now) }
 {
-    let site = site_of(bindings.site, path)?;
-    let path = written_path(alloc, bindings.rest)?;
-    Ok(Route::Remove { site, path })
+    let path = written_path(alloc, rest)?;
+    Ok(Route::Ready(Ask::Command(Command::Remove { site, path })))
 }
 
 // The upload of a file.
-fn deploy_file(alloc: Global, path: &str, bindings: Bindings<'_>) -> Result<Route, Refusal>
-    requires { IsTrue (is_rest bindings.rest.now) }
-    ensures { GivesRoute path.now result (routed_alike path.now Resource.DeployFile (bindings_of bindings.entry)) }
+fn upload(alloc: Global, deploy: u64, rest: &str) -> Result<Route, Refusal>
+    requires { IsTrue (is_rest rest.now) }
+    ensures { GivesRoute result (spec.upload_route deploy rest.now) }
 {
-    if has_hash(path) {
-        return Err(Refusal::BadPath);
-    }
-    Ok(Route::Upload {
-        deploy: number_of(bindings.number),
-        path: written_path(alloc, bindings.rest)?,
-    })
+    let path = written_path(alloc, rest)?;
+    Ok(Route::Ready(Ask::Upload { deploy, path }))
 }
 
-// What is done to an alias.
-fn alias(method: &str, path: &str, bindings: Bindings<'_>) -> Result<Route, Refusal>
-    ensures { result ≡ spec.routed_at method.now path.now Resource.Alias (bindings_of bindings.entry) }
+// The route to a resource of a site.
+fn to_site(
+    alloc: Global,
+    resource: SiteResource,
+    site: SiteName,
+    deploy: u64,
+    rest: &str,
+) -> Result<Route, Refusal>
+    requires { IsTrue (is_rest rest.now) }
+    ensures { GivesRoute result (spec.site_route resource site deploy rest.now) }
 {
-    let (site, alias) = alias_of(bindings.site, bindings.alias, path)?;
-    if method == "PUT" {
-        return Ok(Route::MoveAlias { site, alias });
+    match resource {
+        SiteResource::LiveFile => read(alloc, site, Version::Live, rest),
+        SiteResource::KeptFile => read(alloc, site, Version::Kept(deploy), rest),
+        SiteResource::File => remove(alloc, site, rest),
+        SiteResource::Deploys => Ok(Route::Open { site }),
+        SiteResource::Restore => Ok(Route::Ready(Ask::Command(Command::Restore {
+            site,
+            number: deploy,
+        }))),
+        SiteResource::Rename => Ok(Route::Rename { site }),
+        SiteResource::Undo => Ok(Route::Undo { site }),
+        SiteResource::Changes => Ok(Route::Ready(Ask::Changes { site })),
     }
-    Ok(Route::RemoveAlias { site, alias })
 }
 
-// What is done to a deploy.
-fn deploy(method: &str, path: &str, bindings: Bindings<'_>) -> Result<Route, Refusal>
-    ensures { result ≡ spec.routed_at method.now path.now Resource.Deploy (bindings_of bindings.entry) }
+// The route of a method to a resource of an alias.
+fn to_alias(
+    alloc: Global,
+    method: &str,
+    resource: AliasResource,
+    site: SiteName,
+    alias: AliasName,
+    rest: &str,
+) -> Result<Route, Refusal>
+    requires { IsTrue (is_rest rest.now) }
+    ensures { GivesRoute result (spec.alias_route resource method.now site alias rest.now) }
 {
-    if has_hash(path) {
-        return Err(Refusal::BadPath);
+    match resource {
+        AliasResource::File => read(alloc, site, Version::Alias(alias), rest),
+        AliasResource::Itself if method == "PUT" => Ok(Route::MoveAlias { site, alias }),
+        AliasResource::Itself => Ok(Route::Ready(Ask::Command(Command::RemoveAlias {
+            site,
+            name: alias,
+        }))),
     }
-    let deploy = number_of(bindings.number);
-    if method == "DELETE" {
-        return Ok(Route::RemoveDeploy { deploy });
-    }
-    Ok(Route::Deploy { deploy })
 }
 
-// The giving up of an open deploy.
-fn cancel(path: &str, bindings: Bindings<'_>) -> Result<Route, Refusal>
-    ensures { result ≡ routed_alike path.now Resource.Cancel (bindings_of bindings.entry) }
+// The route of a method to a resource of a deploy.
+fn to_deploy(
+    alloc: Global,
+    method: &str,
+    resource: DeployResource,
+    deploy: u64,
+    rest: &str,
+) -> Result<Route, Refusal>
+    requires { IsTrue (is_rest rest.now) }
+    ensures { GivesRoute result (spec.deploy_route resource method.now deploy rest.now) }
 {
-    if has_hash(path) {
-        return Err(Refusal::BadPath);
+    match resource {
+        DeployResource::File => upload(alloc, deploy, rest),
+        DeployResource::Cancel => Ok(Route::Ready(Ask::Cancel { deploy })),
+        DeployResource::Itself if method == "DELETE" => {
+            Ok(Route::Ready(Ask::RemoveDeploy { deploy }))
+        }
+        DeployResource::Itself => Ok(Route::Ready(Ask::Deploy { deploy })),
     }
-    Ok(Route::Cancel {
-        deploy: number_of(bindings.number),
-    })
 }
 
-// The route to a resource on a path, or the first reason why there is none.
+// The route of a method to a resource with its names, by the number and the rest of its target.
+fn route_to(
+    alloc: Global,
+    method: &str,
+    named: Named,
+    number: &str,
+    rest: &str,
+) -> Result<Route, Refusal>
+    requires { IsTrue (is_rest rest.now) }
+    ensures { GivesRoute result (named_route named method.now (numbers.number_of number.now) rest.now) }
+{
+    let deploy = number_of(number);
+    match named {
+        Named::Site(resource, site) => to_site(alloc, resource, site, deploy, rest),
+        Named::Alias(resource, site, alias) => {
+            to_alias(alloc, method, resource, site, alias, rest)
+        }
+        Named::Deploy(resource) => to_deploy(alloc, method, resource, deploy, rest),
+    }
+}
+
+// The route to a resource on a path, or the first reason why there is none: the names, the path.
 fn route_at(
     alloc: Global,
     method: &str,
@@ -221,34 +195,13 @@ fn route_at(
     bindings: Bindings<'_>,
 ) -> Result<Route, Refusal>
     requires { IsTrue (is_rest bindings.rest.now) }
-    ensures { GivesRoute path.now result (spec.routed_at method.now path.now resource (bindings_of bindings.entry)) }
+    ensures { GivesRoute result (spec.routed_at method.now path.now resource (bindings_of bindings.entry)) }
 {
-    match resource {
-        Resource::LiveFile => live_file(alloc, path, bindings),
-        Resource::AliasFile => alias_file(alloc, path, bindings),
-        Resource::KeptFile => kept_file(alloc, path, bindings),
-        Resource::SiteFile => site_file(alloc, path, bindings),
-        Resource::DeployFile => deploy_file(alloc, path, bindings),
-        Resource::Alias => alias(method, path, bindings),
-        Resource::Deploy => deploy(method, path, bindings),
-        Resource::Cancel => cancel(path, bindings),
-        Resource::Deploys => Ok(Route::Open {
-            site: site_of(bindings.site, path)?,
-        }),
-        Resource::Restore => Ok(Route::Restore {
-            site: site_of(bindings.site, path)?,
-            deploy: number_of(bindings.number),
-        }),
-        Resource::Rename => Ok(Route::Rename {
-            site: site_of(bindings.site, path)?,
-        }),
-        Resource::Undo => Ok(Route::Undo {
-            site: site_of(bindings.site, path)?,
-        }),
-        Resource::Changes => Ok(Route::Changes {
-            site: site_of(bindings.site, path)?,
-        }),
+    let named = with_names(resource, bindings)?;
+    if has_hash(path) {
+        return Err(Refusal::BadPath);
     }
+    route_to(alloc, method, named, bindings.number, bindings.rest)
 }
 
 /// The route of a method and a target, or the first reason why there is none.
@@ -256,8 +209,7 @@ fn route_at(
 pub fn route_of(alloc: Global, method: &str, target: &str) -> Result<Route, Refusal>
     ensures ok { IfOk result (λ route. routed method.now target.now ≡ Ok route) }
     ensures refused { IfErr result (λ refusal. refusal ≢ Refusal.OutOfMemory → routed method.now target.now ≡ Err refusal) }
-    ensures memory { IsErrOf result Refusal.OutOfMemory
-        → IsTrue (takes_path (targets.path_of target.now) (routed method.now target.now)) }
+    ensures memory { IsErrOf result Refusal.OutOfMemory → IsTrue (has_path (routed method.now target.now)) }
 {
     let path = path_of(target);
     let Some((resource, bindings)) = find(path) else {

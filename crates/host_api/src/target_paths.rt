@@ -1,26 +1,40 @@
-//! The paths of files that targets write.
-ghost use Rattle.std.specs.Prelude.{◌≡◌, Some, None, false, IsTrue, IfOk, IfErr, IsErrOf, drop};
+//! The paths of files that targets write (RFC 3986, section 3.3). They are decoded and judged without the heap, so that
+//! memory is taken for a path alone.
+ghost use Rattle.std.specs.Prelude.{◌≡◌, ◌<◌, ◌++◌, IsTrue, IfOk, IfErr, MatchOption, MatchResult, codes, drop, length};
+ghost use Rattle.std.specs.List.{list_any};
 ghost use Rattle.std.specs.Str.{is_utf8};
-ghost use Rattle.std.specs.Cow.{cow_str_bytes};
 ghost use Rattle.percent_encoding.specs.Percent as percent;
+ghost use Rattle.host_names.specs.Path.{with_slash};
 ghost use Rattle.host_api.specs.Targets as spec;
-ghost use Rattle.host_api.specs.Patterns.{is_rest};
+ghost use Rattle.host_api.specs.Patterns.{is_rest, has_percent, KeepsPath};
 
+use arrayvec::{ArrayString, ArrayVec};
 use host_names::{FilePath, PathError};
-use percent_encoding::{DecodeError, percent_decode};
+use percent_encoding::percent_decode;
 use std::alloc::Global;
-use std::borrow::CowStr;
+use std::str;
 
-// The text with its escapes decoded.
-fn decode(alloc: Global, text: &str) -> Result<CowStr<'_, Global>, PathError>
-    ensures ok { IfOk result (λ decoded. cow_str_bytes decoded ≡ percent.percent_decode text.now) }
-    ensures bad { IsErrOf result PathError.BadPath → is_utf8 (percent.percent_decode text.now) ≡ false }
+/// The greatest length of a path with its leading slash, in bytes.
+const LONGEST: usize = 1024;
+
+// Whether the text may have an escape.
+fn may_escape(text: &str) -> bool
+    ensures { result ≡ has_percent text.now }
 {
-    match percent_decode(text.as_bytes()).decode_utf8(alloc) {
-        Ok(decoded) => Ok(decoded),
-        Err(DecodeError::Utf8(_)) => Err(PathError::BadPath),
-        Err(DecodeError::OutOfMemory) => Err(PathError::OutOfMemory),
+    text.as_bytes().contains(&b'%')
+}
+
+// The bytes of a text, its escapes decoded (RFC 3986, section 2.1); but none where they are more than a path has.
+fn decode(text: &str) -> Option<ArrayVec<u8, LONGEST>>
+    ensures { MatchOption result (LONGEST < length (percent.percent_decode text.now)) (λ bytes. bytes.items ≡ percent.percent_decode text.now) }
+{
+    let mut bytes = ArrayVec::new();
+    for byte in percent_decode(text.as_bytes()) {
+        if bytes.try_push(byte).is_err() {
+            return None;
+        }
     }
+    Some(bytes)
 }
 
 // Whether the text ends in a slash.
@@ -30,44 +44,90 @@ fn ends_with_slash(text: &str) -> bool
     text.ends_with('/')
 }
 
-// The text, with the name of a folder's page behind it where it is a folder's.
-fn with_index(alloc: Global, text: CowStr<'_, Global>) -> Result<CowStr<'_, Global>, PathError>
-    ensures ok { IfOk result (λ page. cow_str_bytes page ≡ spec.with_index (cow_str_bytes text.entry)) }
-    ensures full { IfErr result (λ error. error ≡ PathError.OutOfMemory) }
+// The name of a folder's page; but none where it is longer than a path.
+fn index_of(folder: &str) -> Option<ArrayString<LONGEST>>
+    ensures { MatchOption result (LONGEST < length (folder.now ++ codes "index.html")) (λ page. page.bytes ≡ folder.now ++ codes "index.html") }
 {
-    if !ends_with_slash(text.as_str()) {
-        return Ok(text);
+    let mut page = ArrayString::from(folder).ok()?;
+    page.try_push_str("index.html").ok()?;
+    Some(page)
+}
+
+// The path that a text is, with a slash put before it where it has none.
+fn kept(alloc: Global, text: &str) -> Result<FilePath, PathError>
+    ensures { KeepsPath (spec.if_path (with_slash text.now)) result }
+{
+    FilePath::read(alloc, text)
+}
+
+// The path of the page that a text names.
+fn page(alloc: Global, text: &str) -> Result<FilePath, PathError>
+    requires { IsTrue (is_rest text.now) }
+    ensures { KeepsPath (spec.if_path (spec.with_index text.now)) result }
+{
+    if !ends_with_slash(text) {
+        return kept(alloc, text);
     }
-    let mut page = text.into_owned(alloc).map_err(|_| PathError::OutOfMemory)?;
-    page.push_str("index.html")
-        .map_err(|_| PathError::OutOfMemory)?;
-    Ok(CowStr::Owned(page))
+    match index_of(text) {
+        Some(page) => kept(alloc, page.as_str()),
+        None => Err(PathError::BadPath),
+    }
+}
+
+// The path of the page that a text names, its escapes decoded.
+fn decoded_page(alloc: Global, rest: &str) -> Result<FilePath, PathError>
+    requires { IsTrue (is_rest rest.now) }
+    ensures { KeepsPath (spec.read_path rest.now) result }
+{
+    let Some(bytes) = decode(rest) else {
+        return Err(PathError::BadPath);
+    };
+    match str::from_utf8(bytes.as_slice()) {
+        Ok(text) => page(alloc, text),
+        Err(_) => Err(PathError::BadPath),
+    }
 }
 
 /// The path of a file that is read: the rest of its target, its escapes decoded once.
 pub fn read_path(alloc: Global, rest: &str) -> Result<FilePath, PathError>
     requires { IsTrue (is_rest rest.now) }
-    ensures ok { IfOk result (λ path. spec.read_path rest.now ≡ Some path) }
-    ensures bad { IsErrOf result PathError.BadPath → spec.read_path rest.now ≡ None }
+    ensures { KeepsPath (spec.read_path rest.now) result }
 {
-    let page = with_index(alloc, decode(alloc, rest)?)?;
-    FilePath::read(alloc, page.as_str())
+    if may_escape(rest) {
+        return decoded_page(alloc, rest);
+    }
+    page(alloc, rest)
 }
 
 // What follows the slash of a rest.
-fn behind_slash(rest: &str) -> &str
+fn after_slash(rest: &str) -> &str
     requires { IsTrue (is_rest rest.now) }
     ensures { result.now ≡ drop 1 rest.now }
 {
     rest.strip_prefix('/').unwrap_or(rest)
 }
 
+// The path that a text is, its escapes decoded.
+fn decoded(alloc: Global, text: &str) -> Result<FilePath, PathError>
+    ensures { KeepsPath (spec.if_path (with_slash (percent.percent_decode text.now))) result }
+{
+    let Some(bytes) = decode(text) else {
+        return Err(PathError::BadPath);
+    };
+    match str::from_utf8(bytes.as_slice()) {
+        Ok(text) => kept(alloc, text),
+        Err(_) => Err(PathError::BadPath),
+    }
+}
+
 /// The path of a file that is written: what follows the slash of the rest of its target, its escapes decoded once.
 pub fn written_path(alloc: Global, rest: &str) -> Result<FilePath, PathError>
     requires { IsTrue (is_rest rest.now) }
-    ensures ok { IfOk result (λ path. spec.written_path rest.now ≡ Some path) }
-    ensures bad { IsErrOf result PathError.BadPath → spec.written_path rest.now ≡ None }
+    ensures { KeepsPath (spec.written_path rest.now) result }
 {
-    let text = decode(alloc, behind_slash(rest))?;
-    FilePath::read(alloc, text.as_str())
+    let text = after_slash(rest);
+    if may_escape(text) {
+        return decoded(alloc, text);
+    }
+    kept(alloc, text)
 }

@@ -1,9 +1,9 @@
-//! The target of a request, in its parts.
+//! The target of a request, in its parts (RFC 9112, section 3.2; RFC 3986, sections 3.3 to 3.5).
 ghost use Rattle.std.specs.Prelude.{◌≡◌, ◌<◌, [], IsTrue, IfSome, map, option_map};
 ghost use Rattle.host_api.specs.Targets as spec;
-ghost use Rattle.host_api.specs.Patterns.{part_of, bindings_of, may_bind, with_part, next_segment, is_rest};
+ghost use Rattle.host_api.specs.Patterns.{part_of, bindings_of, may_bind, next_segment, is_rest};
 
-/// What stands between two slashes of a target.
+/// What is between two slashes of a target.
 #[derive(Clone, Copy)]
 pub enum Part {
     /// This word, with no escapes.
@@ -38,21 +38,21 @@ fn cut_at(text: &str, mark: char) -> (&str, &str)
     }
 }
 
-/// The target without its query.
+/// The target without its query (RFC 3986, section 3.4).
 pub fn path_of(target: &str) -> &str
     ensures { result.now ≡ spec.path_of target.now }
 {
     cut_at(target, '?').0
 }
 
-/// Whether a `#` stands in the path, which then is none.
+/// Whether there is a `#` in the path, which then is none: a target has no fragment (RFC 3986, section 3.5).
 pub fn has_hash(path: &str) -> bool
     ensures { result ≡ spec.has_hash path.now }
 {
     path.as_bytes().contains(&b'#')
 }
 
-// The segment behind the slash that the text begins with, and what follows it.
+// The segment after the slash that the text begins with, and what follows it.
 fn take_segment(text: &str) -> Option<(&str, &str)>
     ensures { option_map (λ s. (s.0.now, s.1.now)) result ≡ next_segment text.now }
 {
@@ -77,7 +77,7 @@ fn fit_rest(has_rest: bool, text: &str) -> Option<Bindings<'_>>
     })
 }
 
-// Whether a segment may stand in the place of a part.
+// Whether a segment may be in the place of a part.
 fn may_stand(part: &Part, segment: &str) -> bool
     ensures { result ≡ may_bind (part_of part.now) segment.now }
 {
@@ -87,9 +87,9 @@ fn may_stand(part: &Part, segment: &str) -> bool
     }
 }
 
-// What is found with the segment that stands in the place of a part.
+// What is found with the segment in the place of a part.
 fn with_segment<'t>(part: &Part, segment: &'t str, found: Bindings<'t>) -> Bindings<'t>
-    ensures value { bindings_of result ≡ with_part (part_of part.now) segment.now (bindings_of found.entry) }
+    ensures value { bindings_of result ≡ spec.with_part (part_of part.now) segment.now (bindings_of found.entry) }
     ensures rest { result.rest.now ≡ found.entry.rest.now }
 {
     match part {
@@ -109,7 +109,7 @@ fn with_segment<'t>(part: &Part, segment: &'t str, found: Bindings<'t>) -> Bindi
     }
 }
 
-/// What stands in the open places of a pattern, where the text fits it: segments of these parts, each behind a
+/// What is in the open places of a pattern, where the text fits it: segments of these parts, each after a
 /// slash, and then nothing, or a rest that begins with a slash.
 pub fn fit<'t>(parts: &[Part], has_rest: bool, text: &'t str) -> Option<Bindings<'t>>
     ensures value { option_map bindings_of result ≡ spec.fit (map part_of parts.now) has_rest text.now }
@@ -118,10 +118,10 @@ pub fn fit<'t>(parts: &[Part], has_rest: bool, text: &'t str) -> Option<Bindings
     let Some((part, others)) = parts.split_first() else {
         return fit_rest(has_rest, text);
     };
-    let (segment, behind) = take_segment(text)?;
+    let (segment, rest) = take_segment(text)?;
     if !may_stand(part, segment) {
         return None;
     }
-    let found = fit(others, has_rest, behind)?;
+    let found = fit(others, has_rest, rest)?;
     Some(with_segment(part, segment, found))
 }

@@ -1,16 +1,13 @@
-//! The texts of replies.
+//! The texts of replies, as JSON (RFC 8259).
 ghost use Rattle.std.specs.Prelude.{◌≡◌, ◌++◌, [], IfOk, OnOk};
 ghost use Rattle.std.specs.String.{string_bytes};
-ghost use Rattle.host_names.specs.Cells.{cell_text};
-ghost use Rattle.serde_json.specs.Data.{string};
-ghost use Rattle.serde_json.specs.Written.{compact_text};
-ghost use Rattle.host_api.specs.Texts.{number_or_null, detail_of, state_name, required_of, opened_text, uploaded_text, refused_text, deploy_text, told_text};
+ghost use Rattle.host_api.specs.Texts.{number_or_null, state_name, required_of, opened_text, uploaded_text, deploy_text, told_text};
 
 use crate::change_lines::{ChangeLines, list_text};
-use crate::digest_texts::{push_digest, push_digests};
+use crate::digest_texts::push_digests;
+use crate::refusal_texts::refusal_text;
 use crate::refusals::Refusal;
-use host_names::{Cell, Digest, SiteName};
-use serde_json::Value;
+use host_names::{Digest, SiteName};
 use std::alloc::{AllocError, Global};
 use std::marker::Model;
 
@@ -46,7 +43,7 @@ impl From<Vec<Digest>> for Digests {
     }
 }
 
-/// How a deploy stands.
+/// The state of a deploy.
 #[derive(Drop)]
 pub enum DeployState {
     /// It is open, and these of its files were not uploaded.
@@ -95,7 +92,7 @@ pub enum Told {
     Entered {
         number: u64,
     },
-    /// A deploy: its number, its site, and how it stands.
+    /// A deploy: its number, its site, and its state.
     Deploy {
         id: u64,
         site: SiteName,
@@ -107,13 +104,13 @@ pub enum Told {
     Refused(Refusal),
 }
 
-// So many bytes hold what a text says beside its list of digests, but for the path of a clash.
+// So many bytes hold what a text says besides its list of digests.
 const ROOM: usize = 132;
 
 // So many bytes hold a digest of a list: its digits, the quotes and a comma.
 const DIGEST_ROOM: usize = 43;
 
-/// An empty text, with room for a list of digests and for what stands around it.
+/// An empty text, with room for a list of digests and for what is around it.
 fn text_around(alloc: Global, digests: &[Digest]) -> Result<String, AllocError>
     ensures { IfOk result (λ text. string_bytes text ≡ []) }
 {
@@ -131,33 +128,6 @@ fn push_number(text: &mut String, number: Option<u64>) -> Result<(), AllocError>
     match number {
         Some(number) => write!(text, "{number}"),
         None => text.push_str("null"),
-    }
-}
-
-/// The text of a cell as a JSON string. A path may hold what has to be escaped.
-fn cell_string(alloc: Global, cell: &Cell) -> Result<String, AllocError>
-    ensures { IfOk result (λ text. string_bytes text ≡ compact_text (string (cell_text cell.now))) }
-{
-    let text = format!(in alloc; "{cell}")?;
-    Value::String(text).to_string(alloc)
-}
-
-/// Appends what stands before the name of a refusal.
-fn push_detail(alloc: Global, text: &mut String, refusal: &Refusal) -> Result<(), AllocError>
-    ensures { OnOk result (string_bytes text.new ≡ string_bytes text.old ++ detail_of refusal.now) }
-{
-    match refusal {
-        Refusal::NotComplete(digest) => {
-            text.push_str("\"digest\":")?;
-            push_digest(text, digest)?;
-            text.push_str(",")
-        }
-        Refusal::DeployInUse(name) => write!(text, "\"alias\":\"{name}\","),
-        Refusal::Clash { change, cell } => {
-            let cell = cell_string(alloc, cell)?;
-            write!(text, "\"cell\":{cell},\"change\":{change},")
-        }
-        _ => Ok(()),
     }
 }
 
@@ -209,18 +179,6 @@ fn deploy(
     Ok(text)
 }
 
-/// The text of a refused request.
-fn refused(alloc: Global, refusal: &Refusal) -> Result<String, AllocError>
-    ensures { IfOk result (λ text. string_bytes text ≡ refused_text refusal.now) }
-{
-    let mut text = String::with_capacity(alloc, ROOM)?;
-    text.push_str("{")?;
-    push_detail(alloc, &mut text, refusal)?;
-    let name = refusal.name();
-    write!(text, "\"error\":\"{name}\"}}")?;
-    Ok(text)
-}
-
 /// The text of a reply, as JSON.
 pub fn text(alloc: Global, told: &Told) -> Result<String, AllocError>
     ensures { IfOk result (λ text. string_bytes text ≡ told_text told.now) }
@@ -241,6 +199,6 @@ pub fn text(alloc: Global, told: &Told) -> Result<String, AllocError>
             state.name(),
         ),
         Told::Changes(lines) => list_text(alloc, lines.as_slice()),
-        Told::Refused(refusal) => refused(alloc, refusal),
+        Told::Refused(refusal) => refusal_text(alloc, refusal),
     }
 }

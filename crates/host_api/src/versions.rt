@@ -6,7 +6,7 @@ use host_names::AliasName;
 pub enum Version {
     /// The one that the site serves now.
     Live,
-    /// The deploy that the alias stands for.
+    /// The deploy that the alias names.
     Alias(AliasName),
     /// The deploy of this number, which was published whole; 0, which names nothing, where the target writes none.
     Kept(u64),

@@ -10,7 +10,7 @@ use Rattle.hex.specs.Hex.{decode_of, decode_pairs, decode_sized, digit_or_error,
 use Rattle.hex.specs.declared.error.FromHexError.{FromHexError}
 use Rattle.hex.proofs.HexLemmas.{decode_sized-ok, decode_sized-twice, decode_of-even}
 
--- a digit's value is a place of the table, and what stands there is the digit in lower case
+-- a digit's value is a place of the table, and what is there is the digit in lower case
 abbrev agrees : ℕ → Option ℕ → Bool
 agrees c None = true
 agrees c (Some v) = nat_lt v 16 && slice_index lower_digits v == to_ascii_lowercase c
@@ -53,7 +53,7 @@ digit_read c i None v h = cc h
 pair_again : (high low : ℕ) → low < 16 → ((high * 16 + low) / 16 ≡ high) × ((high * 16 + low) % 16 ≡ low)
 pair_again high low h = (omega arith, omega arith)
 
--- the two digits of a byte stand before those of the bytes after it
+-- the two digits of a byte come before those of the bytes after it
 written_pair : (a b high low n : ℕ) (bytes : List ℕ) (digits : List ℕ) → slice_index lower_digits high ≡ a → slice_index lower_digits low ≡ b
     → low < 16 → high * 16 + low ≡ n → encode_lower bytes ≡ digits → encode_lower (n ∷ bytes) ≡ a ∷ b ∷ digits
 unfolding encode_with

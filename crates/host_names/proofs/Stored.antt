@@ -1,5 +1,5 @@
--- What the entries of a map from digests to files stand for.
-use Rattle.std.proofs.Common.{◌≡◌, ℕ, Bool, true, false, cond, Result, Ok, Err, OnOk, OnErr, IfOk, List, [], ◌∷◌, map, Option, Some, None, is_some, option_map, refl, sym, ap, subst, ◌∙◌}
+-- What the entries of a map from digests to files mean.
+use Rattle.std.proofs.Common.{◌≡◌, ℕ, Bool, true, false, cond, List, [], ◌∷◌, map, Option, Some, None, option_map, refl, sym, ap, subst, ◌∙◌}
 use Rattle.std.specs.BTreeMap.{is_at}
 use Rattle.std.specs.FinMap.{get, find, insert, get-from_entries, get-insert, get-empty, same_map}
 use Rattle.std.specs.Map.{lookup}
@@ -21,7 +21,7 @@ is_eq-true Less e = cc e
 is_eq-true Equal e = refl
 is_eq-true Greater e = cc e
 
--- a map with a file more is digested, where the file stands under its own digest
+-- a map with a file more is digested, where the file is under its own digest
 pub AreDigested-insert : (files : Contents) (bytes : List ℕ) → AreDigested files → AreDigested (insert files (digest_of bytes) bytes)
 AreDigested-insert files bytes h digest found e =
     let here = sym (get-insert digest_cmp_total files (digest_of bytes) bytes digest) ∙ e in
@@ -60,64 +60,20 @@ module _ {File : Type 0} (bytes : File → List ℕ) where
   same_digest : (digest : Digest) (text : List ℕ) → digest.0 ≡ sha.sha1 text → digest ≡ digest_of text
   same_digest digest text e = ap (λ (d : List ℕ). record { 0 = d }) e
 
-  -- a file under the digest of these bytes is known already
-  pub known_file : (files : List (Digest × File)) (kept : Contents) (digest : Digest) (text : List ℕ) (file : File)
-      → stored bytes files ≡ kept → digest.0 ≡ sha.sha1 text → Some file ≡ lookup (is_at (digest_cmp digest)) files
-      → (kept ≡ with_file kept text) × (get kept (digest_of text) ≡ Some (bytes file))
-  known_file files kept digest text file is named found =
-      let at : get kept (digest_of text) ≡ Some (bytes file) =
-      ap (λ k. get k (digest_of text)) (sym is) ∙ ap (get (stored bytes files)) (sym (same_digest digest text named))
-      ∙ get-stored files digest ∙ ap (option_map bytes) (sym found) in
-      (rw at refl, at)
-
-  -- no file under the digest of these bytes is known
-  pub unknown_file : (files : List (Digest × File)) (kept : Contents) (digest : Digest) (text : List ℕ)
-      → stored bytes files ≡ kept → digest.0 ≡ sha.sha1 text → lookup (is_at (digest_cmp digest)) files ≡ None → get kept (digest_of text) ≡ None
-  unknown_file files kept digest text is named absent =
-      ap (λ k. get k (digest_of text)) (sym is) ∙ ap (get (stored bytes files)) (sym (same_digest digest text named))
-      ∙ get-stored files digest ∙ ap (option_map bytes) absent
-
   -- the file of these bytes is new
   pub new_file : (old new : List (Digest × File)) (kept : Contents) (digest : Digest) (text : List ℕ) (file : File)
       → stored bytes old ≡ kept → AreDigested (stored bytes old) → digest.0 ≡ sha.sha1 text → bytes file ≡ text
-      → lookup (is_at (digest_cmp digest)) old ≡ None
+      → get kept digest ≡ None
       → ((q : Digest) → lookup (is_at (digest_cmp q)) new ≡ cond (is_at (digest_cmp digest) q) (Some file) (lookup (is_at (digest_cmp q)) old))
-      → (stored bytes new ≡ with_file kept text) × (get (stored bytes new) (digest_of text) ≡ Some (bytes file)) × AreDigested (stored bytes new)
+      → (stored bytes new ≡ with_file kept text) × AreDigested (stored bytes new)
   new_file old new kept digest text file is digested named holds absent updates =
       let at = same_digest digest text named in
-      let none : get kept (digest_of text) ≡ None =
-      ap (λ k. get k (digest_of text)) (sym is) ∙ ap (get (stored bytes old)) (sym at) ∙ get-stored old digest ∙ ap (option_map bytes) absent in
+      let none : get kept (digest_of text) ≡ None = ap (get kept) (sym at) ∙ absent in
       let more : stored bytes new ≡ insert (stored bytes old) digest (bytes file) = stored-insert old new digest file updates in
       let added : stored bytes new ≡ insert kept (digest_of text) text =
       more ∙ ap (λ k. insert k digest (bytes file)) is ∙ ap (λ d. insert kept d (bytes file)) at ∙ ap (insert kept (digest_of text)) holds in
-      let same : stored bytes new ≡ with_file kept text = rw none added in
-      let tie : eq_by_cmp digest_cmp (digest_of text) (digest_of text) ≡ true = (eq_by_cmp_equiv digest_cmp_total).refl (digest_of text) in (
+      let same : stored bytes new ≡ with_file kept text = rw none added in (
         same,
-        ap (λ k. get k (digest_of text)) added ∙ get-insert digest_cmp_total kept (digest_of text) text (digest_of text)
-            ∙ ap (λ b. cond b (Some text) (get kept (digest_of text))) tie ∙ ap Some (sym holds),
         let P : Contents → Type 0 = AreDigested in
             subst P (sym added) (AreDigested-insert kept text (subst P is digested)),
       )
-
--- a file that is new is found afterwards
-pub with_file-found : (kept : Contents) (text : List ℕ) → get kept (digest_of text) ≡ None → get (with_file kept text) (digest_of text) ≡ Some text
-with_file-found kept text none =
-    let tie : eq_by_cmp digest_cmp (digest_of text) (digest_of text) ≡ true = (eq_by_cmp_equiv digest_cmp_total).refl (digest_of text) in
-    ap (λ o. get (cond (is_some o) kept (insert kept (digest_of text) text)) (digest_of text)) none
-    ∙ get-insert digest_cmp_total kept (digest_of text) text (digest_of text)
-    ∙ ap (λ b. cond b (Some text) (get kept (digest_of text))) tie
-
--- what holds in any case holds at `Ok`
-pub on_ok : {A E : Type 0} {P : Type 0} (r : Result A E) → P → OnOk r P
-on_ok (Ok x) p = p
-on_ok (Err e) p = tt
-
--- and at `Err`
-pub on_err : {A E : Type 0} {P : Type 0} (r : Result A E) → P → OnErr r P
-on_err (Ok x) p = tt
-on_err (Err e) p = p
-
--- what is found where the first of two equal values is
-pub if_ok_same : {A B E : Type 0} (f : A → B) (r : Result A E) (x : B) (found : Option B) → IfOk r (λ y. f y ≡ x) → found ≡ Some x → IfOk r (λ y. found ≡ Some (f y))
-if_ok_same f (Ok y) x found same e = e ∙ ap Some (sym same)
-if_ok_same f (Err e) x found same h = tt

@@ -13,11 +13,11 @@ digest_of bytes = record { 0 = sha.sha1 bytes }
 abbrev pub Contents : Type 0
 Contents = FinMap digest_cmp (List ℕ)
 
--- each file stands under its own digest
+-- each file is under its own digest
 abbrev pub AreDigested : Contents → Type 0
 AreDigested files = (digest : Digest) (bytes : List ℕ) → get files digest ≡ Some bytes → digest.0 ≡ sha.sha1 bytes
 
--- the files with one more, unless its digest stands for a file already, which it then keeps
+-- the files with one more; a digest that names a file already keeps that file
 abbrev pub with_file : Contents → List ℕ → Contents
 with_file files bytes = if contains_key files (digest_of bytes) then files else insert files (digest_of bytes) bytes
 

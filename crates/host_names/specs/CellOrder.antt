@@ -12,6 +12,7 @@ use Rattle.host_names.specs.declared.cells.Cell.{Cell}
 use Rattle.host_names.specs.declared.cells.Cell.TheVariants.{Live, Kept, Alias, Draft}
 use Rattle.host_names.specs.Cells.{cell_cmp, site_of, rank_of, text_of, number_of}
 
+-- the order of cells is total
 pub cell_cmp_total : IsTotalOrder cell_cmp
 cell_cmp_total =
     then_total (on_total (λ c. (site_of c).0) nat_list_cmp_total) (then_total (on_total rank_of nat_cmp_total)
@@ -38,6 +39,7 @@ same_parts (Kept s m) b site rank text number = absurd (omega arith)
 same_parts (Alias s x) b site rank text number = absurd (omega arith)
 same_parts (Draft s m) b site rank text number = absurd (omega arith)
 
+-- cells that tie are one
 pub cell_cmp-IsAntisymmetric : IsAntisymmetric cell_cmp
 cell_cmp-IsAntisymmetric a b e =
     let at_site = ties _ _ e in

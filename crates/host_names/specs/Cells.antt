@@ -1,11 +1,13 @@
--- The order of cells, and their printed text.
-use Rattle.std.specs.Prelude.{ℕ, List, [], ◌++◌, codes, decimal}
+-- Cells: their parts, their order, and their printed text.
+use Rattle.std.specs.Prelude.{ℕ, Bool, true, false, List, [], ◌++◌, codes, decimal}
 use Rattle.std.specs.declared.cmp.Ordering.{Ordering}
 use Rattle.std.specs.Ordering.{nat_cmp, on, then_cmp}
 use Rattle.std.specs.Cmp.Lexicographic.{slice_cmp}
 use Rattle.host_names.specs.declared.names.SiteName.{SiteName}
 use Rattle.host_names.specs.declared.cells.Cell.{Cell}
 use Rattle.host_names.specs.declared.cells.Cell.TheVariants.{Live, Kept, Alias, Draft}
+use Rattle.host_names.specs.declared.cells.CellRef.{CellRef}
+use Rattle.host_names.specs.declared.cells.CellRef.TheVariants as borrowed
 
 -- the site that the cell belongs to
 abbrev pub site_of : Cell → SiteName
@@ -34,6 +36,20 @@ number_of (Live site path) = 0
 number_of (Kept site n) = n
 number_of (Alias site name) = 0
 number_of (Draft site n) = n
+
+-- whether the cell is a path, at which a file may be served
+abbrev pub is_live : Cell → Bool
+is_live (Live site path) = true
+is_live (Kept site n) = false
+is_live (Alias site name) = false
+is_live (Draft site n) = false
+
+-- the cell of borrowed parts
+abbrev pub cell_of : CellRef → Cell
+cell_of (borrowed.Live site path) = Live site.now path.now
+cell_of (borrowed.Kept site n) = Kept site.now n
+cell_of (borrowed.Alias site name) = Alias site.now name.now
+cell_of (borrowed.Draft site n) = Draft site.now n
 
 -- by site, then by kind, then by path, name or number
 abbrev pub cell_cmp : Cell → Cell → Ordering

@@ -14,6 +14,7 @@ use Rattle.host_names.specs.declared.digests.Digest.{Digest}
 abbrev pub digest_cmp : Digest → Digest → Ordering
 digest_cmp = on (λ d. d.0) (slice_cmp nat_cmp)
 
+-- their order is total
 pub digest_cmp_total : IsTotalOrder digest_cmp
 digest_cmp_total = on_total (λ d. d.0) nat_list_cmp_total
 

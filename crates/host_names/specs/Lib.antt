@@ -1,7 +1,9 @@
+-- what public clauses say
 pub mod Name
 pub mod Path
 pub mod Hex
 pub mod Digests
 pub mod Cells
-pub mod CellOrder
 pub mod Blobs
+-- what the comparisons of cells show of their order
+pub mod CellOrder

@@ -3,19 +3,19 @@ use Rattle.std.specs.Prelude.{ℕ, Bool, false, List, [], ◌∷◌, length, not
 use Rattle.std.specs.List.{list_all, slice_split}
 use Rattle.std.specs.Str.{byte, bytes_eq}
 
--- what may stand in a path: all but NUL, `#`, `?` and the backslash (92)
+-- what may be in a path: all but NUL, `#`, `?` and the backslash (92)
 abbrev pub is_path_byte : ℕ → Bool
 is_path_byte b = not (b == 0 || b == byte "#" || b == byte "?" || b == 92)
 
--- what may stand between two slashes: not nothing, and neither `.` nor `..`
+-- what may be between two slashes: not nothing, and neither `.` nor `..`
 abbrev pub is_segment : List ℕ → Bool
 is_segment s = not (length s == 0) && not (bytes_eq s (codes ".")) && not (bytes_eq s (codes ".."))
 
--- the parts round the slashes
+-- the parts around the slashes
 abbrev pub segments : List ℕ → List (List ℕ)
 segments text = slice_split (λ b. b == byte "/") text
 
--- what may follow a path's leading slash: lawful segments, which are with the slash from 2 to 1,024 bytes
+-- what may follow a path's leading slash: valid segments, with the slash from 2 to 1,024 bytes
 abbrev pub is_relative_path : List ℕ → Bool
 is_relative_path text = nat_le 1 (length text) && nat_le (length text) 1023 && list_all is_path_byte text && list_all is_segment (segments text)
 

@@ -1,13 +1,11 @@
 //! Uploaded files.
-ghost use Rattle.std.specs.Prelude.{◌≡◌, Some, IfOk, OnOk, OnErr, option_map};
+ghost use Rattle.std.specs.Prelude.{◌≡◌, IfOk, option_map};
 ghost use Rattle.std.specs.FinMap as map;
 ghost use Rattle.sha1.specs.Sha1 as sha;
-ghost use Rattle.host_names.specs.Digests.{digest_cmp};
-ghost use Rattle.host_names.specs.Blobs.{AreDigested, Contents, with_file};
+ghost use Rattle.host_names.specs.Blobs.{AreDigested, Contents};
 
 use crate::digests::Digest;
 use std::alloc::{AllocError, Global};
-use std::collections::BTreeMap;
 use std::marker::Model;
 use std::sync::Arc;
 

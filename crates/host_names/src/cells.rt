@@ -13,74 +13,123 @@ pub enum Cell {
     Live(SiteName, FilePath),
     /// The files of a published deploy, by the deploy's number.
     Kept(SiteName, u64),
-    /// The deploy that an alias stands for.
+    /// The deploy that an alias names.
     Alias(SiteName, AliasName),
     /// An open deploy, by its number.
     Draft(SiteName, u64),
 }
 
-impl Cell {
-    ghost use Rattle.std.specs.Prelude.{◌≡◌};
-    ghost use Rattle.host_names.specs.Cells.{site_of, rank_of, text_of, number_of};
+/// A cell, by borrowed parts of it: what is compared or looked up needs no copy of a path or a name.
+#[derive(Clone, Copy)]
+pub enum CellRef<'a> {
+    Live(&'a SiteName, &'a FilePath),
+    Kept(&'a SiteName, u64),
+    Alias(&'a SiteName, &'a AliasName),
+    Draft(&'a SiteName, u64),
+}
+
+impl<'a> CellRef<'a> {
+    ghost use Rattle.std.specs.Prelude.{◌≡◌, true, IfOk, OnErr};
+    ghost use Rattle.host_names.specs.Cells.{cell_cmp, cell_of, is_live, site_of, rank_of, text_of, number_of};
 
     /// The site that it belongs to.
-    pub fn site(&self) -> &SiteName
-        ensures { result.now ≡ site_of self.now }
+    pub fn site(self) -> &'a SiteName
+        ensures { result.now ≡ site_of (cell_of self.entry) }
     {
         match self {
-            Cell::Live(site, _) => site,
-            Cell::Kept(site, _) => site,
-            Cell::Alias(site, _) => site,
-            Cell::Draft(site, _) => site,
+            CellRef::Live(site, _) => site,
+            CellRef::Kept(site, _) => site,
+            CellRef::Alias(site, _) => site,
+            CellRef::Draft(site, _) => site,
         }
     }
 
     /// The place of its kind among the kinds.
-    fn rank(&self) -> u8
-        ensures { result ≡ rank_of self.now }
+    fn rank(self) -> u8
+        ensures { result ≡ rank_of (cell_of self.entry) }
     {
         match self {
-            Cell::Live(..) => 0,
-            Cell::Kept(..) => 1,
-            Cell::Alias(..) => 2,
-            Cell::Draft(..) => 3,
+            CellRef::Live(..) => 0,
+            CellRef::Kept(..) => 1,
+            CellRef::Alias(..) => 2,
+            CellRef::Draft(..) => 3,
         }
     }
 
     /// Its path or name, if it has one.
-    fn text(&self) -> &str
-        ensures { result.now ≡ text_of self.now }
+    fn text(self) -> &'a str
+        ensures { result.now ≡ text_of (cell_of self.entry) }
     {
         match self {
-            Cell::Live(_, path) => path.as_str(),
-            Cell::Alias(_, name) => name.as_str(),
-            Cell::Kept(..) | Cell::Draft(..) => "",
+            CellRef::Live(_, path) => path.as_str(),
+            CellRef::Alias(_, name) => name.as_str(),
+            CellRef::Kept(..) | CellRef::Draft(..) => "",
         }
     }
 
     /// Its deploy's number, if it has one.
-    fn number(&self) -> u64
-        ensures { result ≡ number_of self.now }
+    fn number(self) -> u64
+        ensures { result ≡ number_of (cell_of self.entry) }
     {
         match self {
-            Cell::Kept(_, number) | Cell::Draft(_, number) => *number,
-            Cell::Live(..) | Cell::Alias(..) => 0,
+            CellRef::Kept(_, number) | CellRef::Draft(_, number) => number,
+            CellRef::Live(..) | CellRef::Alias(..) => 0,
+        }
+    }
+
+    /// In the order of cells: by site, then by kind as listed, then by path, number or name.
+    pub fn compare(self, other: CellRef<'_>) -> Ordering
+        ensures { result ≡ cell_cmp (cell_of self.entry) (cell_of other.entry) }
+    {
+        self.site()
+            .cmp(other.site())
+            .then(self.rank().cmp(&other.rank()))
+            .then(self.text().cmp(other.text()))
+            .then(self.number().cmp(&other.number()))
+    }
+
+    /// The cell, with copies of its parts. Only a path takes memory, whose text copies share.
+    pub fn to_cell(self) -> Result<Cell, AllocError>
+        ensures copy { IfOk result (λ cell. cell ≡ cell_of self.entry) }
+        ensures memory { OnErr result (is_live (cell_of self.entry) ≡ true) }
+    {
+        match self {
+            CellRef::Live(site, path) => Ok(Cell::Live(site.copied(), path.clone()?)),
+            CellRef::Kept(site, number) => Ok(Cell::Kept(site.copied(), number)),
+            CellRef::Alias(site, name) => Ok(Cell::Alias(site.copied(), name.copied())),
+            CellRef::Draft(site, number) => Ok(Cell::Draft(site.copied(), number)),
         }
     }
 }
 
-impl Clone for Cell {
+impl Cell {
     ghost use Rattle.std.specs.Prelude.{◌≡◌};
+    ghost use Rattle.host_names.specs.Cells.{cell_of};
+
+    /// The same cell, by borrowed parts.
+    pub fn as_ref(&self) -> CellRef<'_>
+        ensures { cell_of result ≡ self.now }
+    {
+        match self {
+            Cell::Live(site, path) => CellRef::Live(site, path),
+            Cell::Kept(site, number) => CellRef::Kept(site, *number),
+            Cell::Alias(site, name) => CellRef::Alias(site, name),
+            Cell::Draft(site, number) => CellRef::Draft(site, *number),
+        }
+    }
+}
+
+/// A copy takes memory only of a path, whose text copies share.
+impl Clone for Cell {
+    ghost use Rattle.std.specs.Prelude.{◌≡◌, false};
+    ghost use Rattle.host_names.specs.Cells.{is_live};
 
     ghost is_clone = { λ cell copy. copy ≡ cell };
 
+    ghost is_infallible = { λ cell. is_live cell ≡ false };
+
     fn clone(&self) -> Result<Cell, AllocError> {
-        match self {
-            Cell::Live(site, path) => Ok(Cell::Live(site.clone()?, path.clone()?)),
-            Cell::Kept(site, number) => Ok(Cell::Kept(site.clone()?, *number)),
-            Cell::Alias(site, name) => Ok(Cell::Alias(site.clone()?, name.clone()?)),
-            Cell::Draft(site, number) => Ok(Cell::Draft(site.clone()?, *number)),
-        }
+        self.as_ref().to_cell()
     }
 }
 
@@ -136,11 +185,7 @@ impl Ord for Cell {
     ghost matches_eq = { λ a b. refl };
 
     fn cmp(&self, other: &Cell) -> Ordering {
-        self.site()
-            .cmp(other.site())
-            .then(self.rank().cmp(&other.rank()))
-            .then(self.text().cmp(other.text()))
-            .then(self.number().cmp(&other.number()))
+        self.as_ref().compare(other.as_ref())
     }
 }
 

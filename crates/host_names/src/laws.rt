@@ -3,7 +3,7 @@ ghost use Rattle.std.specs.Cmp.{IsTotalOrder};
 ghost use Rattle.std.specs.FinMap.{IsAntisymmetric};
 ghost use Rattle.host_names.specs.Cells.{cell_cmp};
 
-/// Cells stand in one order: it is total, and cells that it does not tell apart are one cell.
+/// Cells have one order: it is total, and cells that it does not tell apart are one cell.
 pub fn cells_have_one_order()
     ensures total { IsTotalOrder cell_cmp }
     ensures exact { IsAntisymmetric cell_cmp }

@@ -11,7 +11,7 @@ mod paths;
 mod uploads;
 
 pub use blobs::{BlobInfo, Uploads};
-pub use cells::Cell;
+pub use cells::{Cell, CellRef};
 pub use digests::{BadDigest, Digest};
 pub use laws::cells_have_one_order;
 pub use names::{AliasName, BadName, Name, SiteName};

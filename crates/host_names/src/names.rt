@@ -78,6 +78,13 @@ impl Name {
     {
         self.text.as_str()
     }
+
+    /// A copy, which takes no memory.
+    pub fn copied(&self) -> Name
+        ensures { result ≡ self.now }
+    {
+        Name { text: self.text }
+    }
 }
 
 impl Clone for Name {
@@ -86,7 +93,7 @@ impl Clone for Name {
     ghost is_infallible = { λ _. Unit {0} };
 
     fn clone(&self) -> Result<Name, AllocError> {
-        Ok(Name { text: self.text })
+        Ok(self.copied())
     }
 }
 
@@ -162,9 +169,16 @@ impl SiteName {
     {
         self.0.as_str()
     }
+
+    /// A copy, which takes no memory.
+    pub fn copied(&self) -> SiteName
+        ensures { result ≡ self.now }
+    {
+        SiteName(self.0.copied())
+    }
 }
 
-/// The name of an alias, which stands for a kept deploy of its site.
+/// The name of an alias, which names a kept deploy of its site.
 #[derive(Clone, Debug, PartialEq, Eq, PartialOrd, Ord, Drop)]
 pub struct AliasName(pub Name);
 
@@ -183,6 +197,13 @@ impl AliasName {
         ensures lawful { IsTrue (is_name self.now.0) }
     {
         self.0.as_str()
+    }
+
+    /// A copy, which takes no memory.
+    pub fn copied(&self) -> AliasName
+        ensures { result ≡ self.now }
+    {
+        AliasName(self.0.copied())
     }
 }
 

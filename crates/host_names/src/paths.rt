@@ -91,7 +91,7 @@ fn without_slash(text: &str) -> &str
     }
 }
 
-/// A text behind a slash.
+/// A text after a slash.
 fn slashed(alloc: Global, text: &str) -> Result<String, AllocError>
     requires { length text.now ≤ LONGEST }
     ensures { IfOk result (λ path. string_bytes path ≡ 47 ∷ text.now) }

@@ -1,5 +1,5 @@
 //! Uploads that are kept in memory.
-ghost use Rattle.std.specs.Prelude.{◌≡◌, Some, None, IfOk, OnOk, OnErr};
+ghost use Rattle.std.specs.Prelude.{◌≡◌, None, IfOk, OnOk, OnErr};
 ghost use Rattle.std.specs.FinMap as map;
 ghost use Rattle.host_names.specs.Blobs.{AreDigested, digest_of, with_file};
 
@@ -13,6 +13,7 @@ use std::sync::Arc;
 /// Files that were uploaded into memory. Contracts see the bytes of each, under its digest.
 #[derive(Drop)]
 pub struct MemoryUploads {
+    alloc: Global,
     files: BTreeMap<Digest, Arc<BlobInfo>>,
 }
 
@@ -37,27 +38,25 @@ impl MemoryUploads {
         ensures { result ≡ map.empty }
     {
         MemoryUploads {
+            alloc,
             files: BTreeMap::new(alloc),
         }
     }
 
-    /// Adds the file of these bytes, and answers the file under their digest. A digest that is known keeps its
-    /// file. Without memory nothing changes.
-    pub fn add(&mut self, alloc: Global, bytes: Vec<u8>) -> Result<Arc<BlobInfo>, AllocError>
+    /// Adds the file of these bytes, and answers its digest. A digest that is known keeps its file, and takes no
+    /// memory. Without memory nothing changes.
+    pub fn add(&mut self, bytes: Vec<u8>) -> Result<Digest, AllocError>
         ensures ok { OnOk result (self.new ≡ with_file self.old bytes.items) }
-        ensures file { IfOk result (λ file. map.get self.new (digest_of bytes.items) ≡ Some file.value) }
+        ensures digest { IfOk result (λ digest. digest ≡ digest_of bytes.items) }
         ensures err { OnErr result (self.new ≡ self.old) }
+        ensures memory { OnErr result (map.get self.old (digest_of bytes.items) ≡ None) }
     {
         let info = BlobInfo::from(bytes);
         let digest = info.digest();
-        match self.files.get(&digest) {
-            Some(known) => Arc::try_clone(known),
-            None => {
-                let file = Arc::new(alloc, info)?;
-                self.keep(Arc::try_clone(&file)?)?;
-                Ok(file)
-            }
+        if self.find(&digest).is_none() {
+            self.keep(Arc::new(self.alloc, info)?)?;
         }
+        Ok(digest)
     }
 
     /// Adds a file that was uploaded elsewhere, which is then shared. A digest that is known keeps its file, and
@@ -68,13 +67,11 @@ impl MemoryUploads {
         ensures memory { OnErr result (map.get self.old (digest_of file.value) ≡ None) }
     {
         let digest = file.digest();
-        match self.files.get(&digest) {
-            Some(_) => Ok(()),
-            None => {
-                self.files.insert(digest, file)?;
-                Ok(())
-            }
+        if self.find(&digest).is_some() {
+            return Ok(());
         }
+        self.files.insert(digest, file)?;
+        Ok(())
     }
 }
 

@@ -14,16 +14,16 @@ use Rattle.host_server.specs.Reasons.{commit_refusal}
 abbrev pub IsNoOpening : Command → Type 0
 IsNoOpening command = (site : SiteName) (files : Listed) (auto : Bool) → command ≡ command_of.Open site files auto → ⊥
 
-none_required : (uploads : Contents) (command : Command) → IsNoOpening command → AreRequired uploads command []
-none_required uploads (command_of.Open site files auto) other = absurd (other site files auto refl)
-none_required uploads (command_of.Publish site m) other = refl
-none_required uploads (command_of.Cancel site m) other = refl
-none_required uploads (command_of.Remove site path) other = refl
-none_required uploads (command_of.Rename site source target) other = refl
-none_required uploads (command_of.MoveAlias site name m) other = refl
-none_required uploads (command_of.RemoveAlias site name) other = refl
-none_required uploads (command_of.Restore site m) other = refl
-none_required uploads (command_of.RemoveDeploy site m) other = refl
+none_required : (uploads : Contents) (command : Command) (refusal : Option Refusal) → IsNoOpening command → AreRequired uploads command refusal []
+none_required uploads (command_of.Open site files auto) refusal other = absurd (other site files auto refl)
+none_required uploads (command_of.Publish site m) refusal other = refl
+none_required uploads (command_of.Cancel site m) refusal other = refl
+none_required uploads (command_of.Remove site path) refusal other = refl
+none_required uploads (command_of.Rename site source target) refusal other = refl
+none_required uploads (command_of.MoveAlias site name m) refusal other = refl
+none_required uploads (command_of.RemoveAlias site name) refusal other = refl
+none_required uploads (command_of.Restore site m) refusal other = refl
+none_required uploads (command_of.RemoveDeploy site m) refusal other = refl
 
 same_outcome : (host : Host) (command : Command) (refusal : Option Refusal) → IsNoOpening command → commit_outcome host command [] refusal ≡ enter_outcome host command refusal
 same_outcome host command (Some reason) other = refl
@@ -42,4 +42,4 @@ pub enter_done : (result : Result Told Refusal) (next host : Host) (command : Co
 enter_done result next host command other (inl none) = inl none
 enter_done result next host command other (inr done) =
     let same = same_outcome host command (commit_refusal host command) other in
-    inr ([], none_required host.uploads command other, done.0 ∙ ap (λ (o : Outcome). o.told) (sym same), done.1 ∙ ap (λ (o : Outcome). o.host) (sym same))
+    inr ([], none_required host.uploads command (commit_refusal host command) other, done.0 ∙ ap (λ (o : Outcome). o.told) (sym same), done.1 ∙ ap (λ (o : Outcome). o.host) (sym same))

@@ -1,4 +1,4 @@
-pub mod Leaving
+pub mod Telling
 mod Memory
 pub mod Kept
 pub mod Refusing
@@ -8,3 +8,5 @@ pub mod Growing
 pub mod Turns
 pub mod Served
 pub mod Lines
+pub mod TimedTurns
+pub mod TimedConnections

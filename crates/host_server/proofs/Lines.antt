@@ -1,10 +1,10 @@
 -- The lines of the last entries, found from the newest on.
-use Rattle.std.proofs.Common.{◌≡◌, ◌⊎◌, inl, inr, ℕ, zero, suc, ◌+◌, ◌-◌, ◌<◌, ◌≤◌, ◌==◌, List, [], ◌∷◌, ◌++◌, length, take, drop, reverse, slice_get, Bool, true, false, cond, Option, Some, None, refl, sym, ap, subst, ◌∙◌, arith}
+use Rattle.std.proofs.Common.{◌≡◌, ◌≢◌, ◌⊎◌, inl, inr, ℕ, zero, suc, ◌+◌, ◌-◌, ◌<◌, ◌≤◌, ◌==◌, List, [], ◌∷◌, ◌++◌, length, take, drop, reverse, slice_get, true, false, cond, Some, None, refl, sym, ap, subst, ◌∙◌, arith}
 use Rattle.std.specs.Prelude.{option_and_then}
 use Rattle.std.specs.List.{cons_option, enumerate_from, filter_map}
 use Rattle.std.proofs.lemmas.Bool.{eqb-true}
 use Rattle.std.proofs.Math.Seq.{drop-append_seam}
-use Rattle.std.proofs.lemmas.List.{take-append-drop, length-append, length-reverse, reverse-append}
+use Rattle.std.proofs.lemmas.List.{take-append-drop, length-append, length-drop, length-reverse, reverse-append}
 use Rattle.std.proofs.lemmas.List.Elements.{filter_map-append}
 use Rattle.host_names.specs.declared.names.SiteName.{SiteName}
 use Rattle.change_undo.specs.declared.entries.Entry.{Entry}
@@ -69,7 +69,7 @@ one_more host site k some within =
 
 -- ---- the loop
 
--- these lines, the newest first, are all from the entry behind this number on, and not too many
+-- these lines, the newest first, are all from the entry after this number on, and not too many
 abbrev pub AreFound : Host → SiteName → List ChangeLine → ℕ → Type 0
 AreFound host site items k = (reverse items ≡ lines_from host site k) × (length items ≤ most_lines) × (k ≤ length host.entries)
 
@@ -126,3 +126,20 @@ all_shown host site items k found (inl none) =
 all_shown host site items k found (inr full) =
     let long = length-reverse items in
     lines_shown host site k (reverse items) found.0 (omega (arith, long, found.1)) (inr (omega (arith, long, found.1, full)))
+
+-- a line that is there is shown, or one after it
+pub some_shown : (host : Host) (site : SiteName) (line : ChangeLine) (k : ℕ) → 0 < k → k ≤ length host.entries → line_at host site k ≡ Some line
+    → shown_lines host site ≢ []
+some_shown host site line k some within is = λ none.
+    let f = line_in site (undone host.entries) in
+    let all = enumerate_from 1 host.entries in
+    let front = filter_map f (take (k - 1) all) in
+    let more = lines_from host site k in
+    let parts : lines_of host site ≡ front ++ lines_from host site (k - 1) =
+    ap (filter_map f) (sym (take-append-drop (k - 1) all)) ∙ filter_map-append f (take (k - 1) all) (drop (k - 1) all) in
+    let here : lines_from host site (k - 1) ≡ line ∷ more = one_more host site k some within ∙ ap (λ o. cons_option o more) is in
+    let long : length (lines_of host site) ≡ length front + length (line ∷ more) =
+    ap length (parts ∙ ap (λ ls. front ++ ls) here) ∙ length-append front (line ∷ more) in
+    let left = length-drop (length (lines_of host site) - most_lines) (lines_of host site) in
+    let empty : length (shown_lines host site) ≡ 0 = ap length none in
+    absurd (omega (arith, long, left, empty))

@@ -1,5 +1,5 @@
 -- A deploy that was opened, and published if it was ready.
-use Rattle.std.proofs.Common.{◌≡◌, inl, inr, ℕ, List, Option, None, Result, Ok, Err, OnErr, refl, sym, ap, subst, ◌∙◌}
+use Rattle.std.proofs.Common.{◌≡◌, inl, inr, ℕ, List, [], Option, Some, None, Result, Ok, Err, OnErr, refl, sym, ap, subst, ◌∙◌}
 use Rattle.host_names.specs.Blobs.{Contents}
 use Rattle.host_names.specs.declared.digests.Digest.{Digest}
 use Rattle.host_names.specs.declared.names.SiteName.{SiteName}
@@ -11,7 +11,7 @@ use Rattle.host_api.specs.declared.refusals.Refusal.{Refusal}
 use Rattle.host_api.specs.declared.texts.Told.{Told}
 use Rattle.host_api.specs.declared.texts.Told.TheVariants.{Opened}
 use Rattle.host_server.specs.Hosts.{Host, next_number, with_entry}
-use Rattle.host_server.specs.Outcomes.{Outcome, Publishes, DoesCommit, published_if_ready, then_published, told_of, told_by, commit_outcome}
+use Rattle.host_server.specs.Outcomes.{Outcome, AreRequired, Publishes, DoesCommit, published_if_ready, then_published, told_of, told_by, commit_outcome}
 use Rattle.host_server.specs.Reasons.{commit_refusal}
 
 -- what is known whatever is answered is known on an error
@@ -39,9 +39,22 @@ open_done old after next lent owner site files auto id required entry same lacki
     let there : outcome after owner id required ≡ commit_outcome old (Open site files auto) required (commit_refusal old (Open site files auto)) =
     ap (λ o. outcome after o id required) named ∙ ap (λ a. outcome a site id required) is ∙ ap (λ i. outcome (with_entry old (Change (Open site files auto))) site i required) at
     ∙ sym (ap (commit_outcome old (Open site files auto) required) ok) in
+    let opening = Open site files auto in
     inr (
       required,
-      subst (λ uploads. AreMissing uploads files.1 required) same lacking,
+      subst (λ refusal. AreRequired old.uploads opening refusal required) (sym ok) (subst (λ uploads. AreMissing uploads files.1 required) same lacking),
       told_by_answer id required entry ∙ ap (λ e. told_of e (λ p. Opened id p required)) done.0 ∙ ap (λ (o : Outcome). o.told) there,
       done.1 ∙ ap (λ (o : Outcome). o.host) there,
+    )
+
+-- a refused opening does nothing
+pub open_refused : (host : Host) (site : SiteName) (files : Listed) (auto : _) (reason : Refusal) → commit_refusal host (Open site files auto) ≡ Some reason
+    → DoesCommit (Err reason) host host (Open site files auto)
+open_refused host site files auto reason is =
+    let opening = Open site files auto in
+    inr (
+      [],
+      subst (λ refusal. AreRequired host.uploads opening refusal []) (sym is) refl,
+      sym (ap (λ refusal. (commit_outcome host opening [] refusal).told) is),
+      sym (ap (λ refusal. (commit_outcome host opening [] refusal).host) is),
     )

@@ -1,6 +1,7 @@
 -- The reasons of the layers below, and those that a host answers.
 use Rattle.std.proofs.Common.{◌≡◌, ◌↔◌, inl, inr, ℕ, ◌+◌, ◌<◌, ◌≤◌, true, false, cond, length, nat_le, Option, Some, None, option_map, unwrap_or, Result, Ok, Err, OnOk, IfErr, MatchResult, IsErrAnd, refl, sym, ap, subst, ◌∙◌, arith, leb-true, le-leb}
 use Rattle.host_names.specs.Blobs.{Contents}
+use Rattle.host_names.specs.declared.names.SiteName.{SiteName}
 use Rattle.site_change.specs.Changes.{refusal}
 use Rattle.site_change.specs.declared.commands.Command.{Command}
 use Rattle.site_change.specs.declared.commands.Refusal.{Refusal as ChangeRefusal}
@@ -16,7 +17,7 @@ use Rattle.host_api.specs.declared.refusals.Refusal.{Refusal}
 use Rattle.host_api.specs.declared.refusals.Refusal.TheVariants as reason
 use Rattle.std.specs.FinMap as map
 use Rattle.host_server.specs.Hosts.{IsKept, host_of}
-use Rattle.host_server.specs.Reasons.{IsReason, IsUndoReason, may_take_memory, commit_refusal, of_change, of_undo, reason_of_commit, reason_of_undo}
+use Rattle.host_server.specs.Reasons.{IsReason, IsUndoReason, may_take_memory, commit_refusal, undo_refusal, of_change, of_undo, reason_of_commit, reason_of_undo}
 
 not_le : (limit len : ℕ) → (limit ≤ len → ⊥) → nat_le limit len ≡ false
 not_le limit len h =
@@ -68,7 +69,7 @@ takes_memory (Some undo_reason.HistoryFull) h = cc h
 takes_memory (Some undo_reason.NoSuchChange) h = cc h
 takes_memory (Some undo_reason.NotAChange) h = cc h
 takes_memory (Some undo_reason.AlreadyUndone) h = cc h
-takes_memory (Some (undo_reason.Clash change cell)) h = refl
+takes_memory (Some (undo_reason.Clash change cell)) h = h
 
 pub undo_told : (e : UndoError) (r : Result ℕ UndoError) (first : Option UndoRefusal) → r ≡ Err e
     → ((x : UndoRefusal) → r ≡ Err (undo.Refused x) → first ≡ Some x) → (r ≡ Err undo.OutOfMemory → histories.may_take_memory first ≡ true)
@@ -135,12 +136,19 @@ undo_answer : (r : Result ℕ UndoError) (first : Option UndoRefusal) → OnOk r
 undo_answer (Ok n) first accepted refused memory = (ap (option_map of_undo) accepted, tt)
 undo_answer (Err e) first accepted refused memory = (tt, undo_told e (Err e) first refl refused memory)
 
--- the same over uploads that give the same first reason
-pub undo_answers : (r : Result ℕ UndoError) (s : Result ℕ Refusal) (found first : Option UndoRefusal) → first ≡ found
-    → MatchResult r (λ x. s ≡ Ok x) (λ e. IsErrAnd s (λ d. d ≡ reason_of_undo e)) → OnOk r (found ≡ None)
-    → ((x : UndoRefusal) → r ≡ Err (undo.Refused x) → found ≡ Some x) → (r ≡ Err undo.OutOfMemory → histories.may_take_memory found ≡ true)
-    → IsUndoAnswered s (option_map of_undo first)
-undo_answers r s found first same mapped accepted refused memory =
-    let P : Result ℕ Refusal → Type 0 = λ s. IsUndoAnswered s (option_map of_undo first) in
-    let Q : Option UndoRefusal → Type 0 = λ o. IsUndoAnswered (told_undo r) (option_map of_undo o) in
-    subst P (sym (mapped_undo r s mapped)) (subst Q (sym same) (undo_answer r found accepted refused memory))
+on_ok : {A E P Q : Type 0} (r : Result A E) → (P → Q) → OnOk r P → OnOk r Q
+on_ok (Ok x) f h = f h
+on_ok (Err e) f h = tt
+
+-- the same of the uploads that the host has
+pub undo_answers : (r : Result ℕ UndoError) (s : Result ℕ Refusal) (past : Past) (uploads : Contents) (site : SiteName) (k : ℕ) → IsKept past uploads
+    → MatchResult r (λ x. s ≡ Ok x) (λ e. IsErrAnd s (λ d. d ≡ reason_of_undo e))
+    → OnOk r ((u : Contents) → IsKept past u → histories.undo_refusal u past.limit past.entries site k ≡ None)
+    → ((x : UndoRefusal) → r ≡ Err (undo.Refused x) → (u : Contents) → IsKept past u → histories.undo_refusal u past.limit past.entries site k ≡ Some x)
+    → (r ≡ Err undo.OutOfMemory → (u : Contents) → IsKept past u → histories.may_take_memory (histories.undo_refusal u past.limit past.entries site k) ≡ true)
+    → IsUndoAnswered s (undo_refusal (host_of past uploads) site k)
+undo_answers r s past uploads site k kept mapped accepted refused memory =
+    let P : Result ℕ Refusal → Type 0 = λ s. IsUndoAnswered s (undo_refusal (host_of past uploads) site k) in
+    subst P (sym (mapped_undo r s mapped))
+    (undo_answer r (histories.undo_refusal uploads past.limit past.entries site k) (on_ok r (λ ok. ok uploads kept) accepted)
+    (λ x is. refused x is uploads kept) (λ is. memory is uploads kept))

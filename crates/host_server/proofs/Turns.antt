@@ -9,7 +9,7 @@ use Rattle.http_wire.specs.Requests.{RequestParts}
 use Rattle.http_wire.specs.Wires.{ServesHead}
 use Rattle.host_api.specs.declared.refusals.Refusal.TheVariants.{BadHead, OutOfMemory}
 use Rattle.host_server.specs.Hosts.{Host}
-use Rattle.host_server.specs.Replies.{Answer, IsAnswer, closes, refused_answer, sent_text}
+use Rattle.host_server.specs.Replies.{Answer, IsAnswer, closes, refused_answer, sent_for, sent_text}
 use Rattle.host_server.specs.Serving.{Stream, limit_of, TakesRequest, IsAnswered, IsNotRead, IsFrontSent, IsSent, HeadStops, BodyStops, Stops, Sends, Refuses, Exchanges, Turns}
 use Rattle.host_server.specs.declared.connections.ConnectionFault.{ConnectionFault}
 use Rattle.host_server.specs.declared.connections.ConnectionFault.TheVariants as fault
@@ -20,9 +20,9 @@ use Rattle.host_server.specs.declared.connections.Stop.TheVariants as stop
 
 -- the text of an answer is sent
 pub is_sent : (close head_only : Bool) (host next : Host) (parts : RequestParts) (body : List ℕ) (answer : Answer)
-    → head_only ≡ bytes_eq parts.method (codes "HEAD") → IsAnswer close host parts body answer next → IsSent close host parts body (sent_text head_only answer) next
+    → head_only ≡ bytes_eq parts.method (codes "HEAD") → IsAnswer host parts body answer next → IsSent close host parts body (sent_text close head_only answer) next
 is_sent close head_only host next parts body answer named right =
-    record { answer = answer; is_answer = right; sent_is = ap (λ h. sent_text h answer) named }
+    record { answer = answer; is_answer = right; sent_is = ap (λ h. sent_text close h answer) named }
 
 -- whether the connection ends next
 abbrev is_end : Next → Bool
@@ -55,8 +55,8 @@ answered close is_last request_last host next old new parts body sent request sa
   request = request;
   closing = ap (closes parts) (sym same) ∙ closing;
   answer = s.answer;
-  is_answer = subst (λ c. IsAnswer c host parts body s.answer next) closing s.is_answer;
-  sent_is = s.sent_is;
+  is_answer = s.is_answer;
+  sent_is = s.sent_is ∙ ap (λ c. sent_for c parts.method s.answer) closing;
 }
 
 cut : (close is_last request_last : Bool) (host next : Host) (old new : Stream) (parts : RequestParts) (body sent rest : List ℕ)
@@ -151,7 +151,7 @@ body_stopped read_fails old mid parts (stop.BadHead head_only) head none = inr (
   head = head.1;
   says = head.2;
   none = none.1;
-  sent_is = ap (λ h. sent_text h (refused_answer true BadHead)) none.0;
+  sent_is = ap (λ h. sent_text true h (refused_answer BadHead)) none.0;
 }))
 body_stopped read_fails old mid parts (stop.OutOfMemory head_only) head none = inr (inr (inr (record {
   parts = parts;
@@ -160,8 +160,9 @@ body_stopped read_fails old mid parts (stop.OutOfMemory head_only) head none = i
   head = head.1;
   says = head.2;
   size = none.1.0;
-  announced = none.1.1;
-  sent_is = ap (λ h. sent_text h (refused_answer true OutOfMemory)) none.0;
+  some = none.1.1;
+  announced = none.1.2;
+  sent_is = ap (λ h. sent_text true h (refused_answer OutOfMemory)) none.0;
 })))
 
 pub taken : (old mid new : Stream) (parts : RequestParts) (body : List ℕ) (size : ℕ) → size ≡ length body → ServesHead old mid parts

@@ -1,5 +1,5 @@
--- What a reply of the code stands for.
-use Rattle.std.specs.Prelude.{ℕ, List, Some, option_map, is_some, length}
+-- What a reply of the code means.
+use Rattle.std.specs.Prelude.{ℕ, List, option_map}
 use Rattle.std.specs.String.{string_bytes}
 use Rattle.hex.specs.Hex.{encode_lower}
 use Rattle.host_server.specs.declared.replies.Body.{Body}
@@ -7,22 +7,20 @@ use Rattle.host_server.specs.declared.replies.Body.TheVariants as body
 use Rattle.host_server.specs.declared.replies.Reply.{Reply}
 use Rattle.host_server.specs.Replies.{Answer}
 
+-- the bytes of a body
 abbrev pub bytes_of : Body → List ℕ
 bytes_of (body.Text text) = string_bytes text
+bytes_of (body.Short text) = text.bytes
 bytes_of (body.Fixed text) = text.now
 bytes_of (body.Part part) = part
 
+-- what a reply says: its answer
 abbrev pub answer_of : Reply → Answer
 answer_of r = record {
-  fields = record {
-    status = r.status;
-    content_type = Some r.content_type.now;
-    content_length = Some (length (bytes_of r.body));
-    etag = option_map (λ d. encode_lower d.0) r.etag;
-    accept_ranges = is_some r.etag;
-    content_range = r.content_range;
-    allow = option_map (λ t. t.now) r.allow;
-    close = r.close;
-  };
+  status = r.status;
+  content_type = r.content_type.now;
+  etag = option_map (λ d. encode_lower d.0) r.etag;
+  content_range = r.content_range;
+  allow = option_map (λ t. t.now) r.allow;
   body = bytes_of r.body;
 }

@@ -1,12 +1,12 @@
 -- What a host has: its entries and its uploads.
-use Rattle.std.specs.Prelude.{◌≡◌, ℕ, ◌+◌, List, [], ◌∷◌, ◌++◌, length, Some, unwrap_or, refl}
+use Rattle.std.specs.Prelude.{ℕ, ◌+◌, List, [], ◌∷◌, ◌++◌, length, unwrap_or, refl}
 use Rattle.std.specs.Coded.{Coded, code_by, coded×, coded_ℕ}
 use Rattle.std.specs.FinMap as map
 use Rattle.host_names.specs.Blobs.{Contents, with_file}
 use Rattle.site_state.specs.States.{State}
-use Rattle.site_change.specs.Changes.{IsWithin}
 use Rattle.change_undo.specs.declared.entries.Entry.{Entry}
 use Rattle.change_undo.specs.Histories.{Past, run, IsLegal}
+use Rattle.change_undo.specs.Plans.{IsHistoryOver}
 
 -- the history, how many entries it may have, and the bytes that were uploaded
 pub record Host : Type 0 where
@@ -22,12 +22,15 @@ state_of host = unwrap_or (run host.uploads host.entries) map.empty
 abbrev pub next_number : Host → ℕ
 next_number host = length host.entries + 1
 
+-- the host with one entry more
 abbrev pub with_entry : Host → Entry → Host
 with_entry host entry = record { limit = host.limit; entries = host.entries ++ entry ∷ []; uploads = host.uploads }
 
+-- the host with these entries
 abbrev pub with_entries : Host → List Entry → Host
 with_entries host entries = record { limit = host.limit; entries = entries; uploads = host.uploads }
 
+-- the host with these bytes uploaded too; a digest that is known keeps its file
 abbrev pub with_upload : Host → List ℕ → Host
 with_upload host bytes = record { limit = host.limit; entries = host.entries; uploads = with_file host.uploads bytes }
 
@@ -37,6 +40,7 @@ IsLawful host = IsLegal host.uploads host.entries
 
 -- ---- how it is kept
 
+-- the host that a history and the uploads make
 abbrev pub host_of : Past → Contents → Host
 host_of past uploads = record { limit = past.limit; entries = past.entries; uploads = uploads }
 
@@ -46,8 +50,6 @@ coded_host entries uploads =
     code_by (ℕ × (List Entry × Contents)) (coded× coded_ℕ (coded× entries uploads))
     (λ h. (h.limit, (h.entries, h.uploads))) (λ t. record { limit = t.0; entries = t.1.0; uploads = t.1.1 }) (λ _. refl)
 
--- What the history found is among the uploads, over which its entries are legal and give its state.
-pub record IsKept (past : Past) (uploads : Contents) : Type 0 where
-  pub within : IsWithin past.found uploads
-  pub legal : IsLegal uploads past.entries
-  pub ran : run uploads past.entries ≡ Some past.state
+-- the uploads are some over which the history is what it is
+abbrev pub IsKept : Past → Contents → Type 0
+IsKept past uploads = IsHistoryOver uploads past

@@ -1,10 +1,16 @@
+-- what a host has, and what changes it
 pub mod Hosts
 pub mod Reasons
 pub mod Outcomes
-pub mod Replies
-pub mod Bodies
-pub mod Answers
-pub mod Serving
-pub mod Solo
+pub mod Memory
+-- what is read of it
 pub mod Versions
 pub mod Shown
+-- what is answered, and what a connection and a run of the program do
+pub mod Replies
+pub mod Serving
+pub mod Timing
+pub mod Solo
+-- what the values and the calls of the code mean: `answer_of` and `Grows` for callers, the others for private functions
+pub mod Bodies
+pub mod Answers

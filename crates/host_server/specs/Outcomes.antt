@@ -19,13 +19,14 @@ use Rattle.host_api.specs.declared.refusals.Refusal.TheVariants.{NoSuchDeploy, N
 use Rattle.host_api.specs.declared.texts.Told.{Told}
 use Rattle.host_api.specs.declared.texts.Told.TheVariants.{Opened, Uploaded, Entered, Refused}
 use Rattle.host_server.specs.Hosts.{Host, state_of, next_number, with_entry, with_upload}
-use Rattle.host_server.specs.Reasons.{commit_refusal, undo_refusal}
+use Rattle.host_server.specs.Reasons.{commit_refusal}
 
 -- what the host tells, and what it has then
 pub record Outcome : Type 0 where
   pub told : Told
   pub host : Host
 
+-- the reason is told, and the host stays as it is
 abbrev pub refused : Host → Refusal → Outcome
 refused host reason = record { told = Refused reason; host = host }
 
@@ -36,6 +37,7 @@ abbrev pub is_ready_draft : Contents → Option Draft → Bool
 is_ready_draft uploads None = false
 is_ready_draft uploads (Some draft) = draft.auto && is_none (least_missing_of uploads draft.files.1)
 
+-- whether the deploy of a number publishes itself now
 abbrev pub is_ready : Host → SiteName → ℕ → Bool
 is_ready host site n = is_ready_draft host.uploads (draft_at (state_of host) site n)
 
@@ -44,16 +46,19 @@ pub record Publishing : Type 0 where
   pub entry : Result (Option ℕ) Refusal
   pub host : Host
 
+-- the publishing by this command, where this is the first reason against it
 abbrev pub publishing : Host → Command → Option Refusal → Publishing
 publishing host command (Some reason) = record { entry = Err reason; host = host }
 publishing host command None = record { entry = Ok (Some (next_number host)); host = with_entry host (Change command) }
 
+-- what comes of the deploy of a number: its publishing where it is ready, else nothing
 abbrev pub published_if_ready : Host → SiteName → ℕ → Publishing
 published_if_ready host site n =
     if is_ready host site n
     then publishing host (Publish site n) (commit_refusal host (Publish site n))
     else record { entry = Ok None; host = host }
 
+-- what is told of the entry that published, or of the reason against it
 abbrev pub told_of : Result (Option ℕ) Refusal → (Option ℕ → Told) → Told
 told_of (Ok published) tell = tell published
 told_of (Err reason) tell = Refused reason
@@ -68,25 +73,28 @@ then_published p tell = record { told = told_of p.entry tell; host = p.host }
 
 -- ---- commands
 
--- what an opened deploy lists and is not uploaded; of other commands nothing is asked
-abbrev pub AreRequired : Contents → Command → List Digest → Type 0
-AreRequired uploads (Open site files auto) required = AreMissing uploads files.1 required
-AreRequired uploads command required = required ≡ []
+-- what a deploy lists and is not uploaded, where a command that is not refused opens it; else nothing
+abbrev pub AreRequired : Contents → Command → Option Refusal → List Digest → Type 0
+AreRequired uploads (Open site files auto) None required = AreMissing uploads files.1 required
+AreRequired uploads command refusal required = required ≡ []
 
 -- the command's entry, whose number is told
 abbrev pub entering : Host → Command → Outcome
 entering host command = record { told = Entered (next_number host); host = with_entry host (Change command) }
 
+-- what comes of a command that opens nothing, where this is the first reason against it
 abbrev pub enter_outcome : Host → Command → Option Refusal → Outcome
 enter_outcome host command (Some reason) = refused host reason
 enter_outcome host command None = entering host command
 
+-- what comes of a command that is not refused: an opening also publishes what it leaves ready
 abbrev pub committed : Host → Command → List Digest → Outcome
 committed host (Open site files auto) required =
     then_published (published_if_ready (with_entry host (Change (Open site files auto))) site (next_number host))
     (λ published. Opened (next_number host) published required)
 committed host command required = entering host command
 
+-- what comes of a command, where this is the first reason against it
 abbrev pub commit_outcome : Host → Command → List Digest → Option Refusal → Outcome
 commit_outcome host command required (Some reason) = refused host reason
 commit_outcome host command required None = committed host command required
@@ -98,15 +106,18 @@ abbrev pub site_of_deploy : Option Entry → Option SiteName
 site_of_deploy (Some (Change (Open site files auto))) = Some site
 site_of_deploy entry = None
 
+-- what comes of a command on the deploy of this site
 abbrev pub outcome_on : Host → (SiteName → Command) → Option SiteName → Outcome
 outcome_on host command None = refused host NoSuchDeploy
 outcome_on host command (Some site) = enter_outcome host (command site) (commit_refusal host (command site))
 
+-- what comes of a command on the deploy of a number, which an entry opened
 abbrev pub deploy_outcome : Host → ℕ → (SiteName → Command) → Outcome
 deploy_outcome host n command = outcome_on host command (site_of_deploy (entry_at host.entries n))
 
 -- ---- undos
 
+-- what comes of the undo of a change, where this is the first reason against it
 abbrev pub undone : Host → SiteName → ℕ → Option Refusal → Outcome
 undone host site k (Some reason) = refused host reason
 undone host site k None = record { told = Entered (next_number host); host = with_entry host (Undo site k) }
@@ -125,10 +136,12 @@ judge_listed None bytes = Err NoSuchDeploy
 judge_listed (Some None) bytes = Err NotListed
 judge_listed (Some (Some digest)) bytes = if digest_eq digest (digest_of bytes) then Ok digest else Err WrongDigest
 
+-- the site too, where there is no reason against the bytes
 abbrev pub with_site : SiteName → Result Digest Refusal → Result (SiteName × Digest) Refusal
 with_site site (Ok digest) = Ok (site, digest)
 with_site site (Err reason) = Err reason
 
+-- the same at a path of the deploy of this site
 abbrev pub judge_at : Host → Option SiteName → ℕ → List ℕ → List ℕ → Result (SiteName × Digest) Refusal
 judge_at host None n path bytes = Err NoSuchDeploy
 judge_at host (Some site) n path bytes =
@@ -144,10 +157,11 @@ uploaded host n bytes (Ok at) =
     then_published (published_if_ready (with_upload host bytes) at.0 n) (λ published. Uploaded published at.1)
 uploaded host n bytes (Err reason) = refused host reason
 
+-- what comes of an upload of these bytes to a path of the deploy of a number
 abbrev pub upload_outcome : Host → ℕ → List ℕ → List ℕ → Outcome
 upload_outcome host n path bytes = uploaded host n bytes (judge_upload host n path bytes)
 
--- ---- where memory gives out
+-- ---- what is done first
 
 -- the entry of the command alone, without that which publishes what it opened
 abbrev pub entered : Host → Command → Option Refusal → Host
@@ -159,35 +173,12 @@ abbrev pub kept : Host → List ℕ → Result (SiteName × Digest) Refusal → 
 kept host bytes (Ok at) = with_upload host bytes
 kept host bytes (Err reason) = host
 
--- A command may leave what was there, or its entry alone, or all that it does, whatever digests are told as required.
-abbrev pub CommandMayLeave : Host → Command → Host → Type 0
-CommandMayLeave host command next =
-    (next ≡ host)
-    ⊎ (next ≡ entered host command (commit_refusal host command))
-    ⊎ (next ≡ (commit_outcome host command [] (commit_refusal host command)).host)
-
-abbrev pub UndoMayLeave : Host → SiteName → ℕ → Host → Type 0
-UndoMayLeave host site k next = (next ≡ host) ⊎ (next ≡ (undone host site k (undo_refusal host site k)).host)
-
-abbrev pub DeployMayLeave : Host → ℕ → (SiteName → Command) → Host → Type 0
-DeployMayLeave host n command next = (next ≡ host) ⊎ (next ≡ (deploy_outcome host n command).host)
-
--- An upload may leave what was there, or its bytes alone, or all that it does.
-abbrev pub UploadMayLeave : Host → ℕ → List ℕ → List ℕ → Host → Type 0
-UploadMayLeave host n path bytes next =
-    (next ≡ host)
-    ⊎ (next ≡ kept host bytes (judge_upload host n path bytes))
-    ⊎ (next ≡ (upload_outcome host n path bytes).host)
-
 -- ---- answers of calls
 
+-- whether a refusal is told
 abbrev pub is_refusal : Told → Bool
 is_refusal (Refused reason) = true
 is_refusal told = false
-
-abbrev pub is_opening : Command → Bool
-is_opening (Open site files auto) = true
-is_opening command = false
 
 -- what is told where a call answers so
 abbrev pub told_by : Result Told Refusal → Told
@@ -202,6 +193,6 @@ Does result host out = (result ≡ Err OutOfMemory) ⊎ ((told_by result ≡ out
 abbrev pub DoesCommit : Result Told Refusal → Host → Host → Command → Type 0
 DoesCommit result next host command =
     (result ≡ Err OutOfMemory)
-    ⊎ ((required : List Digest) × AreRequired host.uploads command required
+    ⊎ ((required : List Digest) × AreRequired host.uploads command (commit_refusal host command) required
     × (told_by result ≡ (commit_outcome host command required (commit_refusal host command)).told)
     × (next ≡ (commit_outcome host command required (commit_refusal host command)).host))

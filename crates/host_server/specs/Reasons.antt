@@ -16,6 +16,7 @@ use Rattle.host_api.specs.declared.refusals.Refusal.{Refusal}
 use Rattle.host_api.specs.declared.refusals.Refusal.TheVariants as reason
 use Rattle.host_server.specs.Hosts.{Host, state_of, next_number}
 
+-- why a command is refused, as a reply names it
 abbrev pub of_change : ChangeRefusal → Refusal
 of_change change.NoSuchDraft = reason.NoSuchDraft
 of_change (change.NotComplete digest) = reason.NotComplete digest
@@ -27,6 +28,7 @@ of_change change.NoSuchAlias = reason.NoSuchAlias
 of_change (change.DeployInUse name) = reason.DeployInUse name
 of_change change.TooManyFiles = reason.TooManyFiles
 
+-- why an undo is refused, as a reply names it
 abbrev pub of_undo : UndoRefusal → Refusal
 of_undo undo.HistoryFull = reason.HistoryFull
 of_undo undo.NoSuchChange = reason.NoSuchChange
@@ -50,6 +52,7 @@ reason_of_commit commit_error.HistoryFull = reason.HistoryFull
 reason_of_commit (commit_error.Refused r) = of_change r
 reason_of_commit commit_error.OutOfMemory = reason.OutOfMemory
 
+-- why it was not undone
 abbrev pub reason_of_undo : UndoError → Refusal
 reason_of_undo (undo_error.Refused r) = of_undo r
 reason_of_undo undo_error.OutOfMemory = reason.OutOfMemory
@@ -58,12 +61,12 @@ reason_of_undo undo_error.OutOfMemory = reason.OutOfMemory
 abbrev pub IsReason : Option Refusal → Refusal → Type 0
 IsReason first answered = (first ≡ Some answered) ⊎ ((first ≡ None) × (answered ≡ reason.OutOfMemory))
 
--- what may find no memory: an undo that is not refused, and the cell of a clash
+-- what may be out of memory: an undo that is not refused, and one whose clash is at a path
 abbrev pub may_take_memory : Option Refusal → Bool
 may_take_memory None = true
-may_take_memory (Some (reason.Clash change cell)) = true
+may_take_memory (Some (reason.Clash change cell)) = histories.is_path cell
 may_take_memory (Some other) = false
 
--- the same of an undo, where there may be no memory to name the cell of a clash either
+-- the same of an undo, which may also be out of memory where its clash is at a path
 abbrev pub IsUndoReason : Option Refusal → Refusal → Type 0
 IsUndoReason first answered = (first ≡ Some answered) ⊎ ((may_take_memory first ≡ true) × (answered ≡ reason.OutOfMemory))

@@ -1,9 +1,10 @@
 -- What a request is answered, and what the host has then.
-use Rattle.std.specs.Prelude.{◌≡◌, ◌⊎◌, ℕ, ◌+◌, List, [], ◌∷◌, Bool, true, false, ◌||◌, Option, Some, None, Result, Ok, Err, length, slice_range, if◌then◌else◌, codes}
+use Rattle.std.specs.Prelude.{◌≡◌, ◌⊎◌, ℕ, ◌+◌, List, [], ◌∷◌, Bool, true, false, ◌||◌, Option, Some, None, Result, Ok, Err, IsTrue, is_some, length, slice_range, if◌then◌else◌, codes}
 use Rattle.std.specs.Str.{bytes_eq}
 use Rattle.hex.specs.Hex.{encode_lower}
 use Rattle.host_names.specs.Blobs.{digest_of}
 use Rattle.host_names.specs.declared.digests.Digest.{Digest}
+use Rattle.host_names.specs.declared.names.SiteName.{SiteName}
 use Rattle.range_spec.specs.declared.grammar.Asked.{Asked}
 use Rattle.range_spec.specs.declared.grammar.Asked.TheVariants.{Ignore, Specs}
 use Rattle.range_spec.specs.declared.selection.Choice.{Choice}
@@ -18,32 +19,38 @@ use Rattle.http_wire.specs.declared.replies.ContentRange.{ContentRange}
 use Rattle.http_wire.specs.declared.replies.ContentRange.TheVariants.{Of, Unsatisfied}
 use Rattle.site_change.specs.declared.commands.Command.{Command}
 use Rattle.site_change.specs.declared.commands.Command.TheVariants.{Cancel, RemoveDeploy}
-use Rattle.host_api.specs.Bodies.{asked}
+use Rattle.host_api.specs.Bodies.{asked, then_with}
 use Rattle.host_api.specs.Methods.{allow_text}
 use Rattle.host_api.specs.Refusals.{status_of}
 use Rattle.host_api.specs.Routes.{routed}
-use Rattle.host_api.specs.Texts.{told_text}
+use Rattle.host_api.specs.Texts.{has_cell, told_text}
 use Rattle.host_api.specs.Types.{type_of}
 use Rattle.host_api.specs.declared.bodies.Ask.{Ask}
 use Rattle.host_api.specs.declared.bodies.Ask.TheVariants as ask
 use Rattle.host_api.specs.declared.refusals.Refusal.{Refusal}
 use Rattle.host_api.specs.declared.refusals.Refusal.TheVariants.{BadMethod, NotSatisfiable, OutOfMemory}
-use Rattle.host_api.specs.declared.routes.Route.{Route}
+use Rattle.host_api.specs.declared.versions.Version.{Version}
 use Rattle.host_api.specs.declared.texts.Told.{Told}
 use Rattle.host_api.specs.declared.texts.Told.TheVariants.{Opened, Uploaded, Entered, Deploy, Changes, Refused}
 use Rattle.host_server.specs.Hosts.{Host, state_of}
-use Rattle.host_server.specs.Outcomes.{Outcome, AreRequired, CommandMayLeave, DeployMayLeave, UndoMayLeave, UploadMayLeave, commit_outcome, deploy_outcome, undone, upload_outcome}
+use Rattle.host_server.specs.Memory.{CommandRunsOut, UndoRunsOut, DeployRunsOut, UploadRunsOut, TextRunsOut, asking_takes, takes_text}
+use Rattle.host_server.specs.Outcomes.{Outcome, AreRequired, commit_outcome, deploy_outcome, undone, upload_outcome}
 use Rattle.host_server.specs.Reasons.{commit_refusal, undo_refusal}
-use Rattle.host_server.specs.Shown.{ShowsDeploy, shown_lines}
+use Rattle.host_server.specs.Shown.{ShowsDeploy, is_open, shown_lines}
 use Rattle.host_server.specs.Versions.{file_of}
 
--- the fields of a reply, and its body as GET has it
+-- what a reply says, and its body as GET has it
 pub record Answer : Type 0 where
-  pub fields : HeadFields
+  pub status : ℕ
+  pub content_type : List ℕ
+  pub etag : Option (List ℕ)
+  pub content_range : Option ContentRange
+  pub allow : Option (List ℕ)
   pub body : List ℕ
 
 -- ---- replies with JSON
 
+-- the status code of the reply (RFC 9110, section 15)
 abbrev pub status_told : Told → ℕ
 status_told (Opened id published required) = 200
 status_told (Uploaded published digest) = 200
@@ -57,6 +64,7 @@ abbrev pub range_refused : Refusal → Option ContentRange
 range_refused (NotSatisfiable size) = Some (Unsatisfied size)
 range_refused refusal = None
 
+-- the same of what is told
 abbrev pub range_told : Told → Option ContentRange
 range_told (Refused refusal) = range_refused refusal
 range_told told = None
@@ -66,43 +74,36 @@ abbrev pub allow_refused : Refusal → Option (List ℕ)
 allow_refused (BadMethod resource) = Some (allow_text resource)
 allow_refused refusal = None
 
+-- the same of what is told
 abbrev pub allow_told : Told → Option (List ℕ)
 allow_told (Refused refusal) = allow_refused refusal
 allow_told told = None
 
-abbrev pub told_answer : Bool → Told → Answer
-told_answer close told = record {
-  fields = record {
-    status = status_told told;
-    content_type = Some (codes "application/json");
-    content_length = Some (length (told_text told));
-    etag = None;
-    accept_ranges = false;
-    content_range = range_told told;
-    allow = allow_told told;
-    close = close;
-  };
+-- the reply that tells this, as JSON
+abbrev pub told_answer : Told → Answer
+told_answer told = record {
+  status = status_told told;
+  content_type = codes "application/json";
+  etag = None;
+  content_range = range_told told;
+  allow = allow_told told;
   body = told_text told;
 }
 
-abbrev pub refused_answer : Bool → Refusal → Answer
-refused_answer close refusal = told_answer close (Refused refusal)
+-- the reply that refuses a request
+abbrev pub refused_answer : Refusal → Answer
+refused_answer refusal = told_answer (Refused refusal)
 
 -- ---- files
 
--- this part of the file at the path, which has these bytes
-abbrev pub part_answer : Bool → ℕ → List ℕ → List ℕ → Option ContentRange → List ℕ → Answer
-part_answer close status path file range part = record {
-  fields = record {
-    status = status;
-    content_type = Some (type_of path);
-    content_length = Some (length part);
-    etag = Some (encode_lower (digest_of file).0);
-    accept_ranges = true;
-    content_range = range;
-    allow = None;
-    close = close;
-  };
+-- this part of the file at the path, which has these bytes; its entity tag is the digest of the whole (RFC 9110, section 8.8.3)
+abbrev pub part_answer : ℕ → List ℕ → List ℕ → Option ContentRange → List ℕ → Answer
+part_answer status path file range part = record {
+  status = status;
+  content_type = type_of path;
+  etag = Some (encode_lower (digest_of file).0);
+  content_range = range;
+  allow = None;
   body = part;
 }
 
@@ -110,23 +111,27 @@ part_answer close status path file range part = record {
 abbrev pub slice : List ℕ → ℕ → ℕ → List ℕ
 slice file first last = slice_range file first (last + 1)
 
--- several ranges are not served in parts yet, but as the whole file; no value that is read asks for several
-abbrev pub file_answer : Bool → List ℕ → List ℕ → Choice → Answer
-file_answer close path file Whole = part_answer close 200 path file None file
-file_answer close path file (One first last) =
-    part_answer close 206 path file (Some (Of first last (length file))) (slice file first last)
-file_answer close path file (Many intervals) = part_answer close 200 path file None file
-file_answer close path file None416 = refused_answer close (NotSatisfiable (length file))
+-- what is chosen of the file (RFC 9110, sections 15.3.7 and 15.5.17); several ranges are not served in parts yet, but as the
+-- whole file: no value that is read asks for several
+abbrev pub file_answer : List ℕ → List ℕ → Choice → Answer
+file_answer path file Whole = part_answer 200 path file None file
+file_answer path file (One first last) =
+    part_answer 206 path file (Some (Of first last (length file))) (slice file first last)
+file_answer path file (Many intervals) = part_answer 200 path file None file
+file_answer path file None416 = refused_answer (NotSatisfiable (length file))
 
+-- what is chosen of a file of this size
 abbrev pub choice_in : Asked → ℕ → Choice
 choice_in Ignore size = Whole
 choice_in (Specs specs) size = chosen specs size
 
-abbrev pub read_answer : Bool → List ℕ → Asked → Result (List ℕ) Refusal → Answer
-read_answer close path range (Err refusal) = refused_answer close refusal
-read_answer close path range (Ok file) = file_answer close path file (choice_in range (length file))
+-- the reply to a read of this file, or of none for this reason
+abbrev pub read_answer : List ℕ → Asked → Result (List ℕ) Refusal → Answer
+read_answer path range (Err refusal) = refused_answer refusal
+read_answer path range (Ok file) = file_answer path file (choice_in range (length file))
 
--- what these values of Range and If-Range ask for: a lone Range of a GET, without an If-Range, which is not read yet
+-- what these values of Range and If-Range ask for (RFC 9110, sections 13.1.5 and 14.2): a lone Range of a GET, without an
+-- If-Range, which is not read yet
 abbrev pub AskedBy : Bool → List (List ℕ) → List (List ℕ) → Asked → Type 0
 AskedBy true (value ∷ []) [] range = IsUnderstoodAs value range
 AskedBy true (value ∷ []) (condition ∷ conditions) range = range ≡ Ignore
@@ -134,89 +139,134 @@ AskedBy true (value ∷ other ∷ values) conditions range = range ≡ Ignore
 AskedBy true [] conditions range = range ≡ Ignore
 AskedBy false values conditions range = range ≡ Ignore
 
+-- what a request of these parts asks for by its Range
 abbrev pub AsksRange : RequestParts → Asked → Type 0
 AsksRange parts range =
     AskedBy (bytes_eq parts.method (codes "GET")) (values_of (codes "range") parts.fields) (values_of (codes "if-range") parts.fields) range
 
 -- ---- requests
 
+-- what a request of these parts and this body asks for, or the first reason why it asks for nothing
+abbrev pub asked_for : RequestParts → List ℕ → Result Ask Refusal
+asked_for parts body = then_with (routed parts.method parts.target) (λ route. asked route body)
+
 -- the reply, and what the host has then
-abbrev pub IsTold : Bool → Outcome → Answer → Host → Type 0
-IsTold close out answer next = (answer ≡ told_answer close out.told) × (next ≡ out.host)
+abbrev pub IsTold : Outcome → Answer → Host → Type 0
+IsTold out answer next = (answer ≡ told_answer out.told) × (next ≡ out.host)
 
-abbrev pub IsCommitTold : Bool → Host → Command → Answer → Host → Type 0
-IsCommitTold close host command answer next =
-    (required : List Digest) × AreRequired host.uploads command required
-    × IsTold close (commit_outcome host command required (commit_refusal host command)) answer next
+-- the same of a command: whichever list of missing digests is told, it is the right one
+abbrev pub IsCommitTold : Host → Command → Answer → Host → Type 0
+IsCommitTold host command answer next =
+    (required : List Digest) × AreRequired host.uploads command (commit_refusal host command) required
+    × IsTold (commit_outcome host command required (commit_refusal host command)) answer next
 
-abbrev pub IsReplyToAsk : Bool → Host → RequestParts → List ℕ → Result Ask Refusal → Answer → Host → Type 0
-IsReplyToAsk close host parts body (Err refusal) answer next = (answer ≡ refused_answer close refusal) × (next ≡ host)
-IsReplyToAsk close host parts body (Ok (ask.Read site version path)) answer next =
-    (range : Asked) × AsksRange parts range × (answer ≡ read_answer close path range (file_of (state_of host) site version path)) × (next ≡ host)
-IsReplyToAsk close host parts body (Ok (ask.Command command)) answer next = IsCommitTold close host command answer next
-IsReplyToAsk close host parts body (Ok (ask.Undo site change)) answer next =
-    IsTold close (undone host site change (undo_refusal host site change)) answer next
-IsReplyToAsk close host parts body (Ok (ask.Changes site)) answer next =
-    (answer ≡ told_answer close (Changes (shown_lines host site))) × (next ≡ host)
-IsReplyToAsk close host parts body (Ok (ask.Deploy deploy)) answer next =
-    (told : Told) × ShowsDeploy host deploy told × (answer ≡ told_answer close told) × (next ≡ host)
-IsReplyToAsk close host parts body (Ok (ask.RemoveDeploy deploy)) answer next =
-    IsTold close (deploy_outcome host deploy (λ site. RemoveDeploy site deploy)) answer next
-IsReplyToAsk close host parts body (Ok (ask.Cancel deploy)) answer next =
-    IsTold close (deploy_outcome host deploy (λ site. Cancel site deploy)) answer next
-IsReplyToAsk close host parts body (Ok (ask.Upload deploy path)) answer next =
-    IsTold close (upload_outcome host deploy path body) answer next
+-- the reply to what a request asks for, and what the host has then
+abbrev pub IsReplyToAsk : Host → RequestParts → List ℕ → Result Ask Refusal → Answer → Host → Type 0
+IsReplyToAsk host parts body (Err refusal) answer next = (answer ≡ refused_answer refusal) × (next ≡ host)
+IsReplyToAsk host parts body (Ok (ask.Read site version path)) answer next =
+    (range : Asked) × AsksRange parts range × (answer ≡ read_answer path range (file_of (state_of host) site version path)) × (next ≡ host)
+IsReplyToAsk host parts body (Ok (ask.Command command)) answer next = IsCommitTold host command answer next
+IsReplyToAsk host parts body (Ok (ask.Undo site change)) answer next =
+    IsTold (undone host site change (undo_refusal host site change)) answer next
+IsReplyToAsk host parts body (Ok (ask.Changes site)) answer next =
+    (answer ≡ told_answer (Changes (shown_lines host site))) × (next ≡ host)
+IsReplyToAsk host parts body (Ok (ask.Deploy deploy)) answer next =
+    (told : Told) × ShowsDeploy host deploy told × (answer ≡ told_answer told) × (next ≡ host)
+IsReplyToAsk host parts body (Ok (ask.RemoveDeploy deploy)) answer next =
+    IsTold (deploy_outcome host deploy (λ site. RemoveDeploy site deploy)) answer next
+IsReplyToAsk host parts body (Ok (ask.Cancel deploy)) answer next =
+    IsTold (deploy_outcome host deploy (λ site. Cancel site deploy)) answer next
+IsReplyToAsk host parts body (Ok (ask.Upload deploy path)) answer next =
+    IsTold (upload_outcome host deploy path body) answer next
 
-abbrev pub IsReplyOnRoute : Bool → Host → RequestParts → List ℕ → Result Route Refusal → Answer → Host → Type 0
-IsReplyOnRoute close host parts body (Err refusal) answer next = (answer ≡ refused_answer close refusal) × (next ≡ host)
-IsReplyOnRoute close host parts body (Ok route) answer next = IsReplyToAsk close host parts body (asked route body) answer next
+-- the reply to a request of these parts and this body, and what the host has then
+abbrev pub IsReply : Host → RequestParts → List ℕ → Answer → Host → Type 0
+IsReply host parts body answer next = IsReplyToAsk host parts body (asked_for parts body) answer next
 
--- the reply to a request of these parts and this body, which closes the connection or not, and what the host has then
-abbrev pub IsReply : Bool → Host → RequestParts → List ℕ → Answer → Host → Type 0
-IsReply close host parts body answer next = IsReplyOnRoute close host parts body (routed parts.method parts.target) answer next
+-- ---- where memory runs out
 
--- ---- where memory gives out
+-- whether bytes of a file are lent, which takes memory: neither where there is no such file, nor none of the bytes asked for
+abbrev pub gives_bytes : Choice → Bool
+gives_bytes None416 = false
+gives_bytes choice = true
 
-abbrev pub AskMayLeave : Host → List ℕ → Result Ask Refusal → Host → Type 0
-AskMayLeave host body (Err refusal) next = next ≡ host
-AskMayLeave host body (Ok (ask.Read site version path)) next = next ≡ host
-AskMayLeave host body (Ok (ask.Command command)) next = CommandMayLeave host command next
-AskMayLeave host body (Ok (ask.Undo site change)) next = UndoMayLeave host site change next
-AskMayLeave host body (Ok (ask.Changes site)) next = next ≡ host
-AskMayLeave host body (Ok (ask.Deploy deploy)) next = next ≡ host
-AskMayLeave host body (Ok (ask.RemoveDeploy deploy)) next = DeployMayLeave host deploy (λ site. RemoveDeploy site deploy) next
-AskMayLeave host body (Ok (ask.Cancel deploy)) next = DeployMayLeave host deploy (λ site. Cancel site deploy) next
-AskMayLeave host body (Ok (ask.Upload deploy path)) next = UploadMayLeave host deploy path body next
+-- the same of what is read: a file, or the reason why there is none
+abbrev pub lends : Asked → Result (List ℕ) Refusal → Bool
+lends range (Err refusal) = false
+lends range (Ok file) = gives_bytes (choice_in range (length file))
 
-abbrev pub RouteMayLeave : Host → List ℕ → Result Route Refusal → Host → Type 0
-RouteMayLeave host body (Err refusal) next = next ≡ host
-RouteMayLeave host body (Ok route) next = AskMayLeave host body (asked route body) next
+-- a read takes memory, since it lends bytes
+abbrev pub ReadRunsOut : Host → RequestParts → SiteName → Version → List ℕ → Type 0
+ReadRunsOut host parts site version path =
+    (range : Asked) × AsksRange parts range × IsTrue (lends range (file_of (state_of host) site version path))
 
--- what a request may leave: what was there; or what it does first, an Open or an upload; or all that it does
-abbrev pub MayLeave : Host → RequestParts → List ℕ → Host → Type 0
-MayLeave host parts body next = RouteMayLeave host body (routed parts.method parts.target) next
+-- the digests of an open deploy are listed, or what is told of a deploy takes a text
+abbrev pub ShowingRunsOut : Host → ℕ → Type 0
+ShowingRunsOut host n = IsTrue (is_open host n) ⊎ ((told : Told) × ShowsDeploy host n told × IsTrue (takes_text told))
 
-abbrev pub IsWithoutMemory : Bool → Host → RequestParts → List ℕ → Answer → Host → Type 0
-IsWithoutMemory close host parts body answer next = (answer ≡ refused_answer close OutOfMemory) × MayLeave host parts body next
+-- what the host has where the carrying out of what is asked for runs out of memory, or the text that tells it
+abbrev pub AskRunsOut : Host → RequestParts → List ℕ → Result Ask Refusal → Host → Type 0
+AskRunsOut host parts body (Err refusal) next = (next ≡ host) × IsTrue (has_cell refusal)
+AskRunsOut host parts body (Ok (ask.Read site version path)) next = (next ≡ host) × ReadRunsOut host parts site version path
+AskRunsOut host parts body (Ok (ask.Command command)) next =
+    CommandRunsOut host command next
+    ⊎ ((required : List Digest) × AreRequired host.uploads command (commit_refusal host command) required
+    × TextRunsOut (commit_outcome host command required (commit_refusal host command)) next)
+AskRunsOut host parts body (Ok (ask.Undo site change)) next =
+    UndoRunsOut host site change next ⊎ TextRunsOut (undone host site change (undo_refusal host site change)) next
+AskRunsOut host parts body (Ok (ask.Changes site)) next = next ≡ host
+AskRunsOut host parts body (Ok (ask.Deploy deploy)) next = (next ≡ host) × ShowingRunsOut host deploy
+AskRunsOut host parts body (Ok (ask.RemoveDeploy deploy)) next =
+    DeployRunsOut host deploy (λ site. RemoveDeploy site deploy) next
+    ⊎ TextRunsOut (deploy_outcome host deploy (λ site. RemoveDeploy site deploy)) next
+AskRunsOut host parts body (Ok (ask.Cancel deploy)) next =
+    DeployRunsOut host deploy (λ site. Cancel site deploy) next
+    ⊎ TextRunsOut (deploy_outcome host deploy (λ site. Cancel site deploy)) next
+AskRunsOut host parts body (Ok (ask.Upload deploy path)) next =
+    UploadRunsOut host deploy path body next ⊎ TextRunsOut (upload_outcome host deploy path body) next
+
+-- What the host has where a request runs out of memory: what was there, where it takes memory to find what is asked for;
+-- or what the carrying out leaves.
+abbrev pub RunsOut : Host → RequestParts → List ℕ → Host → Type 0
+RunsOut host parts body next =
+    ((next ≡ host) × IsTrue (asking_takes parts body)) ⊎ AskRunsOut host parts body (asked_for parts body) next
+
+-- the reply that there is no memory, and what the host has then
+abbrev pub IsWithoutMemory : Host → RequestParts → List ℕ → Answer → Host → Type 0
+IsWithoutMemory host parts body answer next = (answer ≡ refused_answer OutOfMemory) × RunsOut host parts body next
 
 -- the answer to a request: the reply to it, or that there is no memory
-abbrev pub IsAnswer : Bool → Host → RequestParts → List ℕ → Answer → Host → Type 0
-IsAnswer close host parts body answer next =
-    IsReply close host parts body answer next ⊎ IsWithoutMemory close host parts body answer next
+abbrev pub IsAnswer : Host → RequestParts → List ℕ → Answer → Host → Type 0
+IsAnswer host parts body answer next = IsReply host parts body answer next ⊎ IsWithoutMemory host parts body answer next
 
 -- ---- what is sent
 
--- whether the connection is closed behind the reply: where the request asks for it, and at the last that is answered
+-- whether the connection is closed after the reply: where the request asks for it, and at the last that is answered
+-- (RFC 9112, section 9.6)
 abbrev pub closes : RequestParts → Bool → Bool
 closes parts is_last = is_last || asks_close parts.fields
 
--- what is sent of the body: to HEAD nothing
+-- the fields of the reply, which closes the connection or not
+abbrev pub fields_for : Bool → Answer → HeadFields
+fields_for close answer = record {
+  status = answer.status;
+  content_type = Some answer.content_type;
+  content_length = Some (length answer.body);
+  etag = answer.etag;
+  accept_ranges = is_some answer.etag;
+  content_range = answer.content_range;
+  allow = answer.allow;
+  close = close;
+}
+
+-- what is sent of the body: to HEAD nothing (RFC 9110, section 9.3.2)
 abbrev pub sent_body : Bool → Answer → List ℕ
 sent_body head_only answer = if head_only then [] else answer.body
 
 -- the reply as it is sent
-abbrev pub sent_text : Bool → Answer → List ℕ
-sent_text head_only answer = reply_text answer.fields (sent_body head_only answer)
+abbrev pub sent_text : Bool → Bool → Answer → List ℕ
+sent_text close head_only answer = reply_text (fields_for close answer) (sent_body head_only answer)
 
-abbrev pub sent_for : List ℕ → Answer → List ℕ
-sent_for method answer = sent_text (bytes_eq method (codes "HEAD")) answer
+-- the reply to a request of this method, as it is sent
+abbrev pub sent_for : Bool → List ℕ → Answer → List ℕ
+sent_for close method answer = sent_text close (bytes_eq method (codes "HEAD")) answer

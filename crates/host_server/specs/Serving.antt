@@ -36,19 +36,19 @@ pub record TakesRequest (old new : Stream) (parts : RequestParts) (body : List �
   pub announced : AnnouncesBody parts.fields (limit_of parts) (length body)
   pub taken : Consumes old new (text ++ body)
 
--- a request is taken, and its reply sent; the connection ends behind it or not
+-- a request is taken, and its reply sent; the connection ends after it or not
 pub record IsAnswered (host : Host) (is_last close : Bool) (old : Stream) (sent : List ℕ) (next : Host) (new : Stream) : Type 0 where
   pub parts : RequestParts
   pub body : List ℕ
   pub request : TakesRequest old new parts body
   pub closing : closes parts is_last ≡ close
   pub answer : Answer
-  pub is_answer : IsAnswer close host parts body answer next
-  pub sent_is : sent ≡ sent_for parts.method answer
+  pub is_answer : IsAnswer host parts body answer next
+  pub sent_is : sent ≡ sent_for close parts.method answer
 
 -- the head is not one that is served, and the reply has its body, since the method is not known
 abbrev pub IsHeadRefused : Stream → List ℕ → Type 0
-IsHeadRefused old sent = (new : Stream) × RefusesHead old new × (sent ≡ sent_text false (refused_answer true BadHead))
+IsHeadRefused old sent = (new : Stream) × RefusesHead old new × (sent ≡ sent_text true false (refused_answer BadHead))
 
 -- the head announces no body that is read
 pub record IsBodyRefused (old : Stream) (sent : List ℕ) : Type 0 where
@@ -58,11 +58,11 @@ pub record IsBodyRefused (old : Stream) (sent : List ℕ) : Type 0 where
   pub head : TakesHead old new text
   pub says : Says text parts
   pub none : (n : ℕ) → ¬ (AnnouncesBody parts.fields (limit_of parts) n)
-  pub sent_is : sent ≡ sent_for parts.method (refused_answer true BadHead)
+  pub sent_is : sent ≡ sent_for true parts.method (refused_answer BadHead)
 
--- there is no memory for the head that stands there, and the reply has its body, since the method is not known
+-- there is no memory for the head that is there, and the reply has its body, since the method is not known
 abbrev pub IsHeadWithoutMemory : Stream → List ℕ → Type 0
-IsHeadWithoutMemory old sent = HasWholeHead old × (sent ≡ sent_text false (refused_answer true OutOfMemory))
+IsHeadWithoutMemory old sent = HasWholeHead old × (sent ≡ sent_text true false (refused_answer OutOfMemory))
 
 -- there is no memory for the body that the head announces
 pub record IsBodyWithoutMemory (old : Stream) (sent : List ℕ) : Type 0 where
@@ -72,14 +72,15 @@ pub record IsBodyWithoutMemory (old : Stream) (sent : List ℕ) : Type 0 where
   pub head : TakesHead old new text
   pub says : Says text parts
   pub size : ℕ
+  pub some : 0 < size
   pub announced : AnnouncesBody parts.fields (limit_of parts) size
-  pub sent_is : sent ≡ sent_for parts.method (refused_answer true OutOfMemory)
+  pub sent_is : sent ≡ sent_for true parts.method (refused_answer OutOfMemory)
 
 -- the request is not read whole, and this is sent
 abbrev pub IsNotRead : Stream → List ℕ → Type 0
 IsNotRead old sent = IsHeadRefused old sent ⊎ IsBodyRefused old sent ⊎ IsHeadWithoutMemory old sent ⊎ IsBodyWithoutMemory old sent
 
--- the exchange behind which the connection ends
+-- the exchange after which the connection ends
 abbrev pub IsLast : Host → Bool → Stream → List ℕ → Host → Type 0
 IsLast host is_last old sent next =
     ((new : Stream) × IsAnswered host is_last true old sent next new) ⊎ (IsNotRead old sent × (next ≡ host))
@@ -105,7 +106,7 @@ IsCut old = IfSome old CutShort ⊎ IsBodyCut old
 
 -- ---- where a write failed
 
--- a front of the reply was sent, and some of it was not; what its request did stands
+-- a front of the reply was sent, and some of it was not; what its request did remains
 pub record IsFrontSent (host : Host) (is_last : Bool) (old : Stream) (sent : List ℕ) (next : Host) : Type 0 where
   pub rest : List ℕ
   pub some : 0 < length rest
@@ -133,7 +134,7 @@ Ends read_fails write_fails (Err fault.OutputFault) n host old sent next =
 Ends read_fails write_fails (Err fault.OutOfMemory) n host old sent next = (n ≡ 1) × (sent ≡ []) × (next ≡ host)
 
 -- What a connection does: it sends the replies to the requests of its stream, each over what the host has by then,
--- up to the first behind which it ends. It ends earlier only where the stream does, where a read or a write fails, or
+-- up to the first after which it ends. It ends earlier only where the stream does, where a read or a write fails, or
 -- where there is no memory to begin.
 pub record Serves (read_fails write_fails : Type 0) (result : Result (Unit {0}) ConnectionFault)
     (host next : Host) (stream held new_held : Stream) : Type 0 where
@@ -151,8 +152,8 @@ pub record Serves (read_fails write_fails : Type 0) (result : Result (Unit {0}) 
 abbrev pub HeadStops : (read_fails : Type 0) → Stream → Stop → Type 0
 HeadStops read_fails old stop.Ended = IfSome old CutShort
 HeadStops read_fails old stop.ReadFault = read_fails
-HeadStops read_fails old (stop.BadHead head_only) = IsHeadRefused old (sent_text head_only (refused_answer true BadHead))
-HeadStops read_fails old (stop.OutOfMemory head_only) = IsHeadWithoutMemory old (sent_text head_only (refused_answer true OutOfMemory))
+HeadStops read_fails old (stop.BadHead head_only) = IsHeadRefused old (sent_text true head_only (refused_answer BadHead))
+HeadStops read_fails old (stop.OutOfMemory head_only) = IsHeadWithoutMemory old (sent_text true head_only (refused_answer OutOfMemory))
 
 -- why it gives no body that the head announces
 abbrev pub BodyStops : (read_fails : Type 0) → Stream → RequestParts → Stop → Type 0
@@ -161,14 +162,14 @@ BodyStops read_fails old parts stop.ReadFault = read_fails
 BodyStops read_fails old parts (stop.BadHead head_only) =
     (head_only ≡ bytes_eq parts.method (codes "HEAD")) × ((n : ℕ) → ¬ (AnnouncesBody parts.fields (limit_of parts) n))
 BodyStops read_fails old parts (stop.OutOfMemory head_only) =
-    (head_only ≡ bytes_eq parts.method (codes "HEAD")) × ((size : ℕ) × AnnouncesBody parts.fields (limit_of parts) size)
+    (head_only ≡ bytes_eq parts.method (codes "HEAD")) × ((size : ℕ) × (0 < size) × AnnouncesBody parts.fields (limit_of parts) size)
 
 -- why it gives no request
 abbrev pub Stops : (read_fails : Type 0) → Stream → Stop → Type 0
 Stops read_fails old stop.Ended = IsCut old
 Stops read_fails old stop.ReadFault = read_fails
-Stops read_fails old (stop.BadHead head_only) = IsNotRead old (sent_text head_only (refused_answer true BadHead))
-Stops read_fails old (stop.OutOfMemory head_only) = IsNotRead old (sent_text head_only (refused_answer true OutOfMemory))
+Stops read_fails old (stop.BadHead head_only) = IsNotRead old (sent_text true head_only (refused_answer BadHead))
+Stops read_fails old (stop.OutOfMemory head_only) = IsNotRead old (sent_text true head_only (refused_answer OutOfMemory))
 
 -- ---- what is sent of a text
 
@@ -188,17 +189,17 @@ abbrev pub Refuses : (write_fails : Type 0) → Result (Unit {0}) ConnectionFaul
 Refuses write_fails result stop.Ended held new_held = (result ≡ Ok tt) × (new_held ≡ held)
 Refuses write_fails result stop.ReadFault held new_held = (result ≡ Err fault.InputFault) × (new_held ≡ held)
 Refuses write_fails result (stop.BadHead head_only) held new_held =
-    Sends write_fails result (sent_text head_only (refused_answer true BadHead)) held new_held
+    Sends write_fails result (sent_text true head_only (refused_answer BadHead)) held new_held
 Refuses write_fails result (stop.OutOfMemory head_only) held new_held =
-    Sends write_fails result (sent_text head_only (refused_answer true OutOfMemory)) held new_held
+    Sends write_fails result (sent_text true head_only (refused_answer OutOfMemory)) held new_held
 
 -- ---- the parts of an exchange
 
 -- the reply to a request is this
 pub record IsSent (close : Bool) (host : Host) (parts : RequestParts) (body sent : List ℕ) (next : Host) : Type 0 where
   pub answer : Answer
-  pub is_answer : IsAnswer close host parts body answer next
-  pub sent_is : sent ≡ sent_for parts.method answer
+  pub is_answer : IsAnswer host parts body answer next
+  pub sent_is : sent ≡ sent_for close parts.method answer
 
 -- what the answering of a request does
 abbrev pub Exchanges : (write_fails : Type 0) → Result Next ConnectionFault → Bool → Host → RequestParts → List ℕ → Stream → Stream → Host → Type 0

@@ -1,5 +1,5 @@
 -- What a host shows of its deploys and its changes.
-use Rattle.std.specs.Prelude.{◌≡◌, ℕ, ◌-◌, List, length, drop, not, Bool, false, ◌||◌, is_some, Option, Some, None, Result, Ok, Err, option_and_then, if◌then◌else◌}
+use Rattle.std.specs.Prelude.{◌≡◌, ℕ, ◌-◌, List, length, drop, not, Bool, false, is_some, Option, Some, None, Result, Ok, Err, option_and_then, if◌then◌else◌}
 use Rattle.std.specs.List.{enumerate_from, filter_map}
 use Rattle.host_names.specs.Blobs.{Contents}
 use Rattle.host_names.specs.declared.digests.Digest.{Digest}
@@ -25,38 +25,39 @@ use Rattle.host_server.specs.Outcomes.{site_of_deploy}
 
 -- ---- a deploy
 
--- how a deploy stands that is open, or kept, or neither
+-- the state of a deploy that is open, or kept, or neither
 abbrev pub Stands : Contents → Option Draft → Option (Paths (List ℕ)) → Result DeployState Refusal → Type 0
 Stands uploads (Some draft) tree standing =
     (required : List Digest) × AreMissing uploads draft.files.1 required × (standing ≡ Ok (state.Open required))
 Stands uploads None (Some tree) standing = standing ≡ Ok state.Kept
 Stands uploads None None standing = standing ≡ Err NoSuchDeploy
 
+-- the state of the deploy of a number, in the site
 abbrev pub StandsIn : Host → SiteName → ℕ → Result DeployState Refusal → Type 0
 StandsIn host site n standing = Stands host.uploads (draft_at (state_of host) site n) (kept_at (state_of host) site n) standing
 
--- what is told of a deploy that stands so
+-- what is told of a deploy in this state
 abbrev pub shown : ℕ → SiteName → Result DeployState Refusal → Told
 shown n site (Ok standing) = Deploy n site standing
 shown n site (Err reason) = Refused reason
 
+-- what is told of the deploy of a number whose site is this, or which has none
 abbrev pub ShowsOn : Host → ℕ → Option SiteName → Told → Type 0
 ShowsOn host n None told = told ≡ Refused NoSuchDeploy
 ShowsOn host n (Some site) told = (standing : Result DeployState Refusal) × StandsIn host site n standing × (told ≡ shown n site standing)
 
+-- what is told of the deploy of a number
 abbrev pub ShowsDeploy : Host → ℕ → Told → Type 0
 ShowsDeploy host n told = ShowsOn host n (site_of_deploy (entry_at host.entries n)) told
 
--- whether the deploy is open or kept
-abbrev pub is_standing : Option Draft → Option (Paths (List ℕ)) → Bool
-is_standing draft tree = is_some draft || is_some tree
+-- whether the deploy of a number is open in this site
+abbrev pub is_open_in : Host → ℕ → Option SiteName → Bool
+is_open_in host n None = false
+is_open_in host n (Some site) = is_some (draft_at (state_of host) site n)
 
-abbrev pub is_shown_in : Host → ℕ → Option SiteName → Bool
-is_shown_in host n None = false
-is_shown_in host n (Some site) = is_standing (draft_at (state_of host) site n) (kept_at (state_of host) site n)
-
-abbrev pub is_shown : Host → ℕ → Bool
-is_shown host n = is_shown_in host n (site_of_deploy (entry_at host.entries n))
+-- whether the deploy is open: then its missing digests are listed, which takes memory
+abbrev pub is_open : Host → ℕ → Bool
+is_open host n = is_open_in host n (site_of_deploy (entry_at host.entries n))
 
 -- ---- the changes of a site
 
@@ -85,5 +86,6 @@ last_of n xs = drop (length xs - n) xs
 abbrev pub most_lines : ℕ
 most_lines = 1000
 
+-- the last 1,000 lines of a site, the oldest first
 abbrev pub shown_lines : Host → SiteName → List ChangeLine
 shown_lines host site = last_of most_lines (lines_of host site)

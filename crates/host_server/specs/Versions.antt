@@ -13,7 +13,7 @@ abbrev pub kept_file : Option (Paths (List ℕ)) → List ℕ → Result (List �
 kept_file None path = Err NoSuchDeploy
 kept_file (Some tree) path = ok_or (at_path tree path) NoSuchFile
 
--- the same of the deploy that an alias stands for, which every state keeps (`State::aliases_are_named`)
+-- the same of the deploy that an alias names, which every state keeps (`State::aliases_are_named`)
 abbrev pub alias_file : State → SiteName → Option ℕ → List ℕ → Result (List ℕ) Refusal
 alias_file state site None path = Err NoSuchAlias
 alias_file state site (Some n) path = kept_file (kept_at state site n) path

@@ -1,5 +1,5 @@
 //! What a request is answered.
-ghost use Rattle.std.specs.Prelude.{◌≡◌, ◌⊎◌, ◌+◌, All, List, [], ◌∷◌, ◌++◌, Ok, Err, IfOk, IfErr, length};
+ghost use Rattle.std.specs.Prelude.{◌≡◌, ◌⊎◌, ℕ, ◌+◌, All, List, [], ◌∷◌, ◌++◌, false, Ok, Err, IsTrue, IfOk, IfErr, length};
 ghost use Rattle.change_undo.specs.declared.entries.Entry.{Entry as Line};
 ghost use Rattle.change_undo.specs.declared.entries.Entry.TheVariants as entry;
 ghost use Rattle.host_names.specs.declared.names.SiteName.{SiteName as Site};
@@ -7,13 +7,15 @@ ghost use Rattle.site_change.specs.declared.commands.Command.{Command as Change}
 ghost use Rattle.host_server.specs.Bodies.{answer_of};
 ghost use Rattle.host_server.specs.Hosts.{state_of, with_entries};
 ghost use Rattle.range_spec.specs.Chosen.{LiesWithin, intervals_in};
-ghost use Rattle.host_server.specs.Answers.{Grows, Gives, Reads, RepliesBy};
-ghost use Rattle.host_server.specs.Answers as asks;
+ghost use Rattle.host_api.specs.Texts.{has_cell};
+ghost use Rattle.host_server.specs.Answers.{AnswersAsk, Grows, Reads, Tells};
+ghost use Rattle.host_server.specs.Memory.{asking_takes};
+ghost use Rattle.host_server.specs.Shown.{shown_lines};
 ghost use Rattle.host_server.specs.Outcomes.{told_by};
 ghost use Rattle.host_server.specs.Replies as spec;
-ghost use Rattle.host_server.specs.Replies.{AsksRange, IsAnswer, told_answer};
+ghost use Rattle.host_server.specs.Replies.{AsksRange, IsAnswer};
 
-use crate::houses::SoloHouse;
+use crate::host::{HostView, SoloHouse, file, list_changes, show_deploy};
 use crate::replies::Reply;
 use host_api::{Ask, Refusal, Told, Version, ask_of, route_of};
 use host_names::{FilePath, SiteName};
@@ -33,7 +35,7 @@ impl Request {
     ghost use Rattle.std.specs.Prelude.{◌≡◌};
     ghost use Rattle.host_server.specs.Replies as spec;
 
-    /// Whether the connection ends behind the reply.
+    /// Whether the connection ends after the reply (RFC 9112, section 9.6).
     pub(crate) fn closes(&self) -> bool
         ensures { result ≡ spec.closes self.now.head self.now.is_last }
     {
@@ -41,7 +43,8 @@ impl Request {
     }
 }
 
-/// What a request asks for by its Range: of a GET with one such field and without an If-Range, which is not read yet.
+/// What a request asks for by its Range (RFC 9110, section 14.2): of a GET with one such field and without an If-Range
+/// (section 13.1.5), which is not read yet.
 fn range_asked(head: &Head) -> Asked
     ensures { AsksRange head.now result }
 {
@@ -66,77 +69,92 @@ fn choice_in(range: &Asked, size: u64) -> Choice
     }
 }
 
-/// The reply to the reading of a file.
-fn read(
-    house: &SoloHouse,
+/// The reply with what is read of a file, or why there is none.
+fn read_file<H: HostView>(
+    host: &H,
     head: &Head,
     site: &SiteName,
     version: &Version,
     path: &FilePath,
-    close: bool,
 ) -> Result<Reply, Refusal>
-    ensures { Reads close house.now head.now site.now version.now path.now result }
+    ensures reads { Reads (H.host host.now) head.now site.now version.now path.now result }
+    ensures plain { IfErr result (λ reason. has_cell reason ≡ false) }
 {
     let range = range_asked(head);
-    let file = house.file(site, version, path)?;
+    let file = file(host, site, version, path)?;
     let choice = choice_in(&range, file.bytes().len() as u64);
-    Reply::of_file(path, file, &choice, close)
+    Reply::of_file(path, file, &choice)
+}
+
+/// The reply to the reading of a file.
+fn read<H: HostView>(
+    alloc: Global,
+    host: &H,
+    head: &Head,
+    site: &SiteName,
+    version: &Version,
+    path: &FilePath,
+) -> Reply
+    ensures { (body : List ℕ) → AnswersAsk (H.host host.now) head.now body (Ok (Ask.Read site.now version.now path.now)) (answer_of result) (H.host host.now) }
+{
+    match read_file(host, head, site, version, path) {
+        Ok(reply) => reply,
+        Err(reason) => Reply::of_told(alloc, &Told::Refused(reason)),
+    }
 }
 
 /// The reply that tells what a call told, or the call's reason to refuse.
-fn tell(alloc: Global, told: Result<Told, Refusal>, close: bool) -> Result<Reply, Refusal>
-    ensures gives { Gives close result (told_answer close (told_by told)) }
-    ensures refused { IfErr told (λ reason. result ≡ Err reason) }
+fn tell(alloc: Global, told: Result<Told, Refusal>) -> Reply
+    ensures { Tells (told_by told) (answer_of result) }
 {
-    Ok(Reply::of_told(alloc, &told?, close)?)
+    match told {
+        Ok(told) => Reply::of_told(alloc, &told),
+        Err(reason) => Reply::of_told(alloc, &Told::Refused(reason)),
+    }
+}
+
+/// The changes of a site, as they are told.
+fn told_changes<H: HostView>(alloc: Global, host: &H, site: &SiteName) -> Result<Told, Refusal>
+    ensures { (result ≡ Err Refusal.OutOfMemory) ⊎ (result ≡ Ok (Told.Changes (shown_lines (H.host host.now) site.now))) }
+{
+    Ok(Told::Changes(list_changes(alloc, host, site)?))
 }
 
 /// What a request asks for, or the first reason why it asks for nothing.
 fn asked_for(alloc: Global, head: &Head, body: &[u8]) -> Result<Ask, Refusal>
-    ensures ok { IfOk result (λ ask. asks.asked_for head.now body.now ≡ Ok ask) }
-    ensures refused { IfErr result (λ reason. (reason ≡ Refusal.OutOfMemory) ⊎ (asks.asked_for head.now body.now ≡ Err reason)) }
+    ensures ok { IfOk result (λ ask. spec.asked_for head.now body.now ≡ Ok ask) }
+    ensures refused { IfErr result (λ reason. ((reason ≡ Refusal.OutOfMemory) × IsTrue (asking_takes head.now body.now))
+        ⊎ (spec.asked_for head.now body.now ≡ Err reason)) }
 {
     let route = route_of(alloc, head.method().as_str(), head.target())?;
     ask_of(alloc, route, body)
 }
 
-/// The reply to a request, and what it does to the host.
-fn respond(
-    alloc: Global,
-    head: &Head,
-    body: Vec<u8>,
-    house: &mut SoloHouse,
-    close: bool,
-) -> Result<Reply, Refusal>
-    ensures replied { RepliesBy close house.old head.now body.items result house.new }
+/// The reply to what a request asks for, and what that does to the host.
+fn respond(alloc: Global, head: &Head, body: Vec<u8>, house: &mut SoloHouse, ask: Ask) -> Reply
+    ensures replied { AnswersAsk house.old head.now body.items (Ok ask) (answer_of result) house.new }
     ensures grows { Grows house.old house.new }
 {
-    let ask = asked_for(alloc, head, body.as_slice())?;
     match ask {
         Ask::Read {
             site,
             version,
             path,
-        } => read(house, head, &site, &version, &path, close),
-        Ask::Command(command) => tell(alloc, house.change(alloc, command), close),
-        Ask::Undo { site, change } => tell(alloc, house.take_back(alloc, &site, change), close),
-        Ask::Changes { site } => {
-            let lines = house.changes(alloc, &site)?;
-            tell(alloc, Ok(Told::Changes(lines)), close)
-        }
-        Ask::Deploy { deploy } => tell(alloc, house.deploy(alloc, deploy), close),
-        Ask::RemoveDeploy { deploy } => tell(alloc, house.remove_deploy(alloc, deploy), close),
-        Ask::Cancel { deploy } => tell(alloc, house.cancel(alloc, deploy), close),
-        Ask::Upload { deploy, path } => {
-            tell(alloc, house.upload(alloc, deploy, &path, body), close)
-        }
+        } => read(alloc, house, head, &site, &version, &path),
+        Ask::Command(command) => tell(alloc, house.change(alloc, command)),
+        Ask::Undo { site, change } => tell(alloc, house.take_back(alloc, &site, change)),
+        Ask::Changes { site } => tell(alloc, told_changes(alloc, house, &site)),
+        Ask::Deploy { deploy } => tell(alloc, show_deploy(alloc, house, deploy)),
+        Ask::RemoveDeploy { deploy } => tell(alloc, house.remove_deploy(alloc, deploy)),
+        Ask::Cancel { deploy } => tell(alloc, house.cancel(alloc, deploy)),
+        Ask::Upload { deploy, path } => tell(alloc, house.upload(alloc, deploy, &path, body)),
     }
 }
 
 /// The reply to a request, and what it does to the host. Where there is no memory the reply says so; then the request
 /// may have done nothing, or what it does first (an Open without its publish, an upload), or all that it does.
 pub fn answer(alloc: Global, request: Request, house: &mut SoloHouse) -> Reply
-    ensures replied { IsAnswer (spec.closes request.head request.is_last) house.old request.head request.body.items (answer_of result) house.new }
+    ensures replied { IsAnswer house.old request.head request.body.items (answer_of result) house.new }
     ensures grows { Grows house.old house.new }
     // Where an accepted change is undone next, the state is the one before it.
     ensures undone { (before : List Line) (command : Change) (site : Site)
@@ -145,10 +163,9 @@ pub fn answer(alloc: Global, request: Request, house: &mut SoloHouse) -> Reply
         → state_of house.new ≡ state_of (with_entries house.old before) }
 {
     house.lawful();
-    let close = request.closes();
     let Request { head, body, .. } = request;
-    match respond(alloc, &head, body, house, close) {
-        Ok(reply) => reply,
-        Err(refusal) => Reply::refused(alloc, refusal, close),
+    match asked_for(alloc, &head, body.as_slice()) {
+        Ok(ask) => respond(alloc, &head, body, house, ask),
+        Err(reason) => Reply::of_told(alloc, &Told::Refused(reason)),
     }
 }

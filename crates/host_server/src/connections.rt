@@ -1,19 +1,21 @@
 //! One connection: requests in, and a reply to each.
-ghost use Rattle.std.specs.Prelude.{◌≡◌, vec_len, codes, IfOk, IfErr};
+ghost use Rattle.std.specs.Prelude.{◌≡◌, [], vec_len, codes};
 ghost use Rattle.std.specs.Io.KnownBytes.{Consumes};
 ghost use Rattle.std.specs.Str.{bytes_eq};
 ghost use Rattle.http_wire.specs.Fields.{AnnouncesBody};
-ghost use Rattle.http_wire.specs.Wires.{ServesHead};
+ghost use Rattle.http_wire.specs.Timing.{NoRead, Ran};
+ghost use Rattle.http_wire.specs.Wires.{AwaitsHead, ServesHead};
 ghost use Rattle.host_server.specs.Answers.{Grows};
 ghost use Rattle.host_server.specs.Bodies.{answer_of};
 ghost use Rattle.host_server.specs.Replies.{closes, sent_text};
-ghost use Rattle.host_server.specs.Serving.{limit_of, TakesRequest, HeadStops, BodyStops, Stops, Sends, Refuses, Exchanges, Turns, Serves};
+ghost use Rattle.host_server.specs.Serving.{limit_of, TakesRequest, HeadStops, BodyStops, Stops, Serves};
+ghost use Rattle.host_server.specs.Timing.{AwaitsAnnounced, AwaitsRequest, IsCaughtUp, ReadsAs, SendsAs, RefusesAs, ExchangesAs, TurnsAs, Connects};
 
 use crate::answers::{Request, answer};
-use crate::houses::SoloHouse;
+use crate::host::SoloHouse;
 use crate::replies::Reply;
 use host_api::body_limit;
-use http_wire::{BodyFault, Head, HeadFault, Sink, Source, Wire, check_body};
+use http_wire::{BodyFault, Duplex, Head, HeadFault, Wire, check_body};
 use std::alloc::Global;
 use thiserror::Error;
 
@@ -55,11 +57,11 @@ enum Next {
 }
 
 /// Reads a head.
-fn read_head<S: Source>(alloc: Global, wire: &mut Wire<S>) -> Result<Head, Stop>
-    ensures ok { IfOk result (ServesHead wire.old wire.new) }
-    ensures stopped { IfErr result (HeadStops S.may_fail wire.old) }
+fn read_head<D: Duplex>(alloc: Global, wire: &mut Wire, duplex: &mut D) -> Result<Head, Stop>
+    ensures { Ran D.saw (AwaitsHead wire.old) duplex.old duplex.new
+        (ReadsAs result (λ parts old new. ServesHead old new parts) HeadStops wire.old wire.new) }
 {
-    match wire.read_head(alloc) {
+    match wire.read_head(alloc, duplex) {
         Ok(head) => Ok(head),
         Err(HeadFault::Ended) => Err(Stop::Ended),
         Err(HeadFault::ReadFault) => Err(Stop::ReadFault),
@@ -76,10 +78,15 @@ fn is_head_only(head: &Head) -> bool
 }
 
 /// Reads the body that a head announces.
-fn read_body<S: Source>(alloc: Global, wire: &mut Wire<S>, head: &Head) -> Result<Vec<u8>, Stop>
-    ensures ok { IfOk result (λ body. AnnouncesBody head.now.fields (limit_of head.now) (vec_len body)
-        × Consumes wire.old wire.new body.items) }
-    ensures stopped { IfErr result (BodyStops S.may_fail wire.old head.now) }
+fn read_body<D: Duplex>(
+    alloc: Global,
+    wire: &mut Wire,
+    duplex: &mut D,
+    head: &Head,
+) -> Result<Vec<u8>, Stop>
+    ensures { Ran D.saw (AwaitsAnnounced head.now wire.old) duplex.old duplex.new
+        (ReadsAs result (λ body old new. AnnouncesBody head.now.fields (limit_of head.now) (vec_len body) × Consumes old new body.items)
+        (λ read_fails old. BodyStops read_fails old head.now) wire.old wire.new) }
 {
     let limit = body_limit(head.method().as_str(), head.target());
     let Ok(size) = check_body(head, limit) else {
@@ -87,7 +94,7 @@ fn read_body<S: Source>(alloc: Global, wire: &mut Wire<S>, head: &Head) -> Resul
             head_only: is_head_only(head),
         });
     };
-    match wire.read_body(alloc, size) {
+    match wire.read_body(alloc, duplex, size) {
         Ok(body) => Ok(body),
         Err(BodyFault::Ended) => Err(Stop::Ended),
         Err(BodyFault::ReadFault) => Err(Stop::ReadFault),
@@ -98,17 +105,18 @@ fn read_body<S: Source>(alloc: Global, wire: &mut Wire<S>, head: &Head) -> Resul
 }
 
 /// Reads a request.
-fn read_request<S: Source>(
+fn read_request<D: Duplex>(
     alloc: Global,
-    wire: &mut Wire<S>,
+    wire: &mut Wire,
+    duplex: &mut D,
     is_last: bool,
 ) -> Result<Request, Stop>
-    ensures ok { IfOk result (λ request. TakesRequest wire.old wire.new request.head request.body.items
-        × (request.is_last ≡ is_last)) }
-    ensures stopped { IfErr result (Stops S.may_fail wire.old) }
+    ensures { Ran D.saw (AwaitsRequest wire.old) duplex.old duplex.new
+        (ReadsAs result (λ request old new. TakesRequest old new request.head request.body.items × (request.is_last ≡ is_last))
+        Stops wire.old wire.new) }
 {
-    let head = read_head(alloc, wire)?;
-    let body = read_body(alloc, wire, &head)?;
+    let head = read_head(alloc, wire, duplex)?;
+    let body = read_body(alloc, wire, duplex, &head)?;
     Ok(Request {
         head,
         body,
@@ -117,42 +125,47 @@ fn read_request<S: Source>(
 }
 
 /// Sends a reply.
-fn send<W: Sink>(sink: &mut W, reply: Reply, head_only: bool) -> Result<(), ConnectionFault>
-    ensures { Sends W.may_fail result (sent_text head_only (answer_of reply)) (W.held sink.old) (W.held sink.new) }
+fn send<D: Duplex>(
+    duplex: &mut D,
+    reply: Reply,
+    close: bool,
+    head_only: bool,
+) -> Result<(), ConnectionFault>
+    ensures { Ran D.saw NoRead duplex.old duplex.new (SendsAs result (sent_text close head_only (answer_of reply))) }
 {
-    match reply.send(sink, head_only) {
+    match reply.send(duplex, close, head_only) {
         Ok(()) => Ok(()),
         Err(_) => Err(ConnectionFault::OutputFault),
     }
 }
 
-/// Sends the reply where no request was read, if one is sent. The connection ends behind it.
-fn refuse<W: Sink>(sink: &mut W, stop: Stop) -> Result<(), ConnectionFault>
-    ensures { Refuses W.may_fail result stop (W.held sink.old) (W.held sink.new) }
+/// Sends the reply where no request was read, if one is sent. The connection ends after it.
+fn refuse<D: Duplex>(duplex: &mut D, stop: Stop) -> Result<(), ConnectionFault>
+    ensures { Ran D.saw NoRead duplex.old duplex.new (RefusesAs result stop) }
 {
     match stop {
         Stop::Ended => Ok(()),
         Stop::ReadFault => Err(ConnectionFault::InputFault),
-        Stop::BadHead { head_only } => send(sink, Reply::bad_head(), head_only),
-        Stop::OutOfMemory { head_only } => send(sink, Reply::out_of_memory(true), head_only),
+        Stop::BadHead { head_only } => send(duplex, Reply::bad_head(), true, head_only),
+        Stop::OutOfMemory { head_only } => send(duplex, Reply::out_of_memory(), true, head_only),
     }
 }
 
 /// Answers a request.
-fn exchange<W: Sink>(
+fn exchange<D: Duplex>(
     alloc: Global,
-    sink: &mut W,
+    duplex: &mut D,
     house: &mut SoloHouse,
     request: Request,
 ) -> Result<Next, ConnectionFault>
-    ensures exchanged { Exchanges W.may_fail result (closes request.head request.is_last) house.old request.head
-        request.body.items (W.held sink.old) (W.held sink.new) house.new }
+    ensures exchanged { Ran D.saw NoRead duplex.old duplex.new
+        (ExchangesAs result (closes request.head request.is_last) house.old request.head request.body.items house.new) }
     ensures grows { Grows house.old house.new }
 {
     let head_only = is_head_only(&request.head);
     let close = request.closes();
     let reply = answer(alloc, request, house);
-    send(sink, reply, head_only)?;
+    send(duplex, reply, close, head_only)?;
     if close {
         Ok(Next::End)
     } else {
@@ -161,45 +174,62 @@ fn exchange<W: Sink>(
 }
 
 /// Reads a request and answers it.
-fn serve_next<S: Source, W: Sink>(
+fn serve_next<D: Duplex>(
     alloc: Global,
-    wire: &mut Wire<S>,
-    sink: &mut W,
+    wire: &mut Wire,
+    duplex: &mut D,
     house: &mut SoloHouse,
     is_last: bool,
 ) -> Result<Next, ConnectionFault>
-    ensures turned { Turns S.may_fail W.may_fail result is_last house.old wire.old wire.new (W.held sink.old)
-        (W.held sink.new) house.new }
+    ensures turned { Ran D.saw (AwaitsRequest wire.old) duplex.old duplex.new
+        (TurnsAs result is_last house.old house.new wire.old wire.new) }
     ensures grows { Grows house.old house.new }
 {
-    match read_request(alloc, wire, is_last) {
-        Ok(request) => exchange(alloc, sink, house, request),
+    match read_request(alloc, wire, duplex, is_last) {
+        Ok(request) => exchange(alloc, duplex, house, request),
         Err(stop) => {
-            refuse(sink, stop)?;
+            refuse(duplex, stop)?;
             Ok(Next::End)
         }
     }
 }
 
-/// Serves one connection: answers the requests of the source, one after another, into the sink, until the source ends
-/// or a reply ends the connection, at the latest that to the 100th request.
-pub fn serve_connection<S: Source + Drop, W: Sink>(
+/// Answers requests, one after another.
+fn serve_requests<D: Duplex>(
     alloc: Global,
-    source: S,
-    sink: &mut W,
+    wire: &mut Wire,
+    duplex: &mut D,
     house: &mut SoloHouse,
 ) -> Result<(), ConnectionFault>
-    ensures served { Serves S.may_fail W.may_fail result house.old house.new (S.left source) (W.held sink.old) (W.held sink.new) }
+    requires { wire.old ≡ [] }
+    ensures connected { Ran D.saw (IsCaughtUp house.old) duplex.old duplex.new (Connects result house.old house.new) }
     ensures grows { Grows house.old house.new }
 {
-    let Ok(mut wire) = Wire::new(alloc, source) else {
-        return Err(ConnectionFault::OutOfMemory);
-    };
     'requests: for number in 1..=MOST_REQUESTS {
-        match serve_next(alloc, &mut wire, sink, house, number == MOST_REQUESTS)? {
+        match serve_next(alloc, wire, duplex, house, number == MOST_REQUESTS)? {
             Next::Exchange => {}
             Next::End => return Ok(()),
         }
     }
     Ok(())
+}
+
+/// Serves one connection: answers the requests of its stream, one after another, until the stream ends or a reply ends
+/// the connection, at the latest that to the 100th request.
+///
+/// It reads only where all whole requests that came are answered, and their replies are written by then; nothing is
+/// read or written after the end of the stream, a fault or a reply that ends the connection.
+pub fn serve_connection<D: Duplex>(
+    alloc: Global,
+    duplex: &mut D,
+    house: &mut SoloHouse,
+) -> Result<(), ConnectionFault>
+    ensures served { Serves D.read_fails D.write_fails result house.old house.new (D.left duplex.old) (D.held duplex.old) (D.held duplex.new) }
+    ensures timely { Ran D.saw (IsCaughtUp house.old) duplex.old duplex.new (Connects result house.old house.new) }
+    ensures grows { Grows house.old house.new }
+{
+    let Ok(mut wire) = Wire::new(alloc) else {
+        return Err(ConnectionFault::OutOfMemory);
+    };
+    serve_requests(alloc, &mut wire, duplex, house)
 }

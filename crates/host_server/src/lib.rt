@@ -2,18 +2,13 @@
 #![tactic(auto)]
 
 mod answers;
-mod changes;
 mod connections;
-mod filling;
-mod houses;
-mod reasons;
+mod host;
 mod replies;
-mod shown;
 mod solo;
-mod versions;
 
 pub use answers::{Request, answer};
 pub use connections::{ConnectionFault, serve_connection};
-pub use houses::SoloHouse;
+pub use host::{HostView, SoloHouse, list_changes, show_deploy};
 pub use replies::Reply;
 pub use solo::run_solo;

@@ -1,20 +1,23 @@
 //! Replies, before they are written.
-ghost use Rattle.std.specs.Prelude.{◌≡◌, ◌≢◌, ◌≤◌, ◌⊎◌, All, length, true, Some, None, IfOk, IfErr, OnOk, OnErr, slice_range, option_map};
-ghost use Rattle.std.specs.Io.KnownBytes.{Appends};
+ghost use Rattle.std.specs.Prelude.{◌≡◌, ◌≢◌, ◌≤◌, ◌⊎◌, All, length, true, false, Some, None, IsTrue, IfOk, IfErr, OnErr, Err, IsErrOf, MatchOption, slice_range, option_map};
 ghost use Rattle.http_wire.specs.Replies.{fields_of};
-ghost use Rattle.http_wire.specs.Sending.{SentFront};
+ghost use Rattle.http_wire.specs.Sending.{WritesText};
+ghost use Rattle.http_wire.specs.Timing.{NoRead, Ran};
 ghost use Rattle.range_spec.specs.declared.selection.Choice.TheVariants.{One};
-ghost use Rattle.host_api.specs.Texts.{told_text};
+ghost use Rattle.host_api.specs.Texts.{has_cell, told_text};
 ghost use Rattle.host_api.specs.declared.refusals.Refusal.TheVariants.{BadHead, OutOfMemory};
 ghost use Rattle.host_server.specs.Bodies.{answer_of, bytes_of};
 ghost use Rattle.host_server.specs.Replies as spec;
-ghost use Rattle.host_server.specs.Replies.{told_answer, refused_answer, file_answer, part_answer, sent_text};
+ghost use Rattle.host_server.specs.Answers.{Tells};
+ghost use Rattle.host_server.specs.Memory.{takes_text};
+ghost use Rattle.host_server.specs.Replies.{told_answer, refused_answer, file_answer, part_answer, gives_bytes, fields_for, sent_text};
 ghost use Rattle.range_spec.specs.Chosen.{LiesWithin, intervals_in};
 
-use host_api::{Refusal, Told, content_type, text};
+use arrayvec::ArrayString;
+use host_api::{Refusal, SHORT_TEXT, Told, content_type, short_text, text};
 use host_names::{Digest, FilePath};
 use http::StatusCode;
-use http_wire::{ContentRange, ReplyHead, Sink, WriteFault, write_reply};
+use http_wire::{ContentRange, Duplex, ReplyHead, WriteFault, write_reply};
 use range_spec::Choice;
 use site_state::File;
 use std::alloc::{AllocError, Global};
@@ -39,7 +42,7 @@ impl Model for FilePart {
 }
 
 impl FilePart {
-    /// The bytes from the first place on that stand before the end.
+    /// The bytes from the first place on, up to the end, which is left out.
     fn new(file: &File, first: usize, end: usize) -> Result<FilePart, AllocError>
         requires rising { first ≤ end }
         requires within { end ≤ length file.now }
@@ -65,7 +68,9 @@ impl FilePart {
 pub enum Body {
     /// A text that was made for the reply.
     Text(String),
-    /// A text that takes no memory.
+    /// The text of a refusal, which takes no memory.
+    Short(ArrayString<SHORT_TEXT>),
+    /// A text that the program has.
     Fixed(&'static str),
     /// A part of a file.
     Part(FilePart),
@@ -77,6 +82,7 @@ impl Body {
     {
         match self {
             Body::Text(text) => text.as_bytes(),
+            Body::Short(text) => text.as_str().as_bytes(),
             Body::Fixed(text) => text.as_bytes(),
             Body::Part(part) => part.bytes(),
         }
@@ -92,7 +98,6 @@ pub struct Reply {
     etag: Option<Digest>,
     content_range: Option<ContentRange>,
     allow: Option<&'static str>,
-    close: bool,
     body: Body,
 }
 
@@ -128,11 +133,32 @@ fn allow_told(told: &Told) -> Option<&'static str>
     }
 }
 
+/// The text of a refusal, where it takes no memory.
+fn short_body(told: &Told) -> Option<Body>
+    ensures { MatchOption result (IsTrue (takes_text told.now)) (λ body. bytes_of body ≡ told_text told.now) }
+{
+    match told {
+        Told::Refused(refusal) => Some(Body::Short(short_text(refusal)?)),
+        _ => None,
+    }
+}
+
+/// The text of what is told.
+fn body_of(alloc: Global, told: &Told) -> Result<Body, AllocError>
+    ensures ok { IfOk result (λ body. bytes_of body ≡ told_text told.now) }
+    ensures memory { OnErr result (IsTrue (takes_text told.now)) }
+{
+    if let Some(body) = short_body(told) {
+        return Ok(body);
+    }
+    Ok(Body::Text(text(alloc, told)?))
+}
+
 impl Reply {
     /// A reply with JSON.
-    fn with_json(told: &Told, body: Body, close: bool) -> Reply
+    fn with_json(told: &Told, body: Body) -> Reply
         requires { bytes_of body ≡ told_text told.now }
-        ensures { answer_of result ≡ told_answer close told.now }
+        ensures { answer_of result ≡ told_answer told.now }
     {
         Reply {
             status: status_told(told),
@@ -140,55 +166,46 @@ impl Reply {
             etag: None,
             content_range: range_told(told),
             allow: allow_told(told),
-            close,
             body,
         }
     }
 
-    /// The reply that tells something.
-    pub(crate) fn of_told(alloc: Global, told: &Told, close: bool) -> Result<Reply, AllocError>
-        ensures { IfOk result (λ reply. answer_of reply ≡ told_answer close told.now) }
+    /// The reply that tells something, or the one where there is no memory for its text.
+    pub(crate) fn of_told(alloc: Global, told: &Told) -> Reply
+        ensures { Tells told.now (answer_of result) }
     {
-        let body = Body::Text(text(alloc, told)?);
-        Ok(Reply::with_json(told, body, close))
-    }
-
-    /// The reply where there was no memory. It takes none.
-    pub(crate) fn out_of_memory(close: bool) -> Reply
-        ensures { answer_of result ≡ refused_answer close OutOfMemory }
-    {
-        let body = Body::Fixed("{\"error\":\"OutOfMemory\"}");
-        Reply::with_json(&Told::Refused(Refusal::OutOfMemory), body, close)
-    }
-
-    /// The reply to a head that is not answered, behind which the connection ends. It takes no memory.
-    pub(crate) fn bad_head() -> Reply
-        ensures { answer_of result ≡ refused_answer true BadHead }
-    {
-        let body = Body::Fixed("{\"error\":\"BadHead\"}");
-        Reply::with_json(&Told::Refused(Refusal::BadHead), body, true)
-    }
-
-    /// The reply that refuses a request, or the one where there was no memory.
-    pub(crate) fn refused(alloc: Global, refusal: Refusal, close: bool) -> Reply
-        ensures { (answer_of result ≡ refused_answer close refusal) ⊎ (answer_of result ≡ refused_answer close OutOfMemory) }
-    {
-        match Reply::of_told(alloc, &Told::Refused(refusal), close) {
-            Ok(reply) => reply,
-            Err(_) => Reply::out_of_memory(close),
+        match body_of(alloc, told) {
+            Ok(body) => Reply::with_json(told, body),
+            Err(_) => Reply::out_of_memory(),
         }
     }
 
-    /// The reply with a part of the file at a path, or with the whole of it.
+    /// The reply where there is no memory. It takes none.
+    pub(crate) fn out_of_memory() -> Reply
+        ensures { answer_of result ≡ refused_answer OutOfMemory }
+    {
+        let body = Body::Fixed("{\"error\":\"OutOfMemory\"}");
+        Reply::with_json(&Told::Refused(Refusal::OutOfMemory), body)
+    }
+
+    /// The reply to a head that is not answered. It takes no memory.
+    pub(crate) fn bad_head() -> Reply
+        ensures { answer_of result ≡ refused_answer BadHead }
+    {
+        let body = Body::Fixed("{\"error\":\"BadHead\"}");
+        Reply::with_json(&Told::Refused(Refusal::BadHead), body)
+    }
+
+    /// The reply with a part of the file at a path, or with the whole of it. Its entity tag is the digest of the whole
+    /// (RFC 9110, section 8.8.3).
     fn of_part(
         status: StatusCode,
         path: &FilePath,
         file: &File,
         range: Option<ContentRange>,
         part: FilePart,
-        close: bool,
     ) -> Reply
-        ensures { answer_of result ≡ part_answer close status path.now file.now range part }
+        ensures { answer_of result ≡ part_answer status path.now file.now range part }
     {
         Reply {
             status,
@@ -196,29 +213,22 @@ impl Reply {
             etag: Some(file.digest()),
             content_range: range,
             allow: None,
-            close,
             body: Body::Part(part),
         }
     }
 
     /// The reply with the whole file at a path.
-    fn of_whole(path: &FilePath, file: &File, close: bool) -> Result<Reply, AllocError>
-        ensures { IfOk result (λ reply. answer_of reply ≡ part_answer close 200 path.now file.now None file.now) }
+    fn of_whole(path: &FilePath, file: &File) -> Result<Reply, AllocError>
+        ensures { IfOk result (λ reply. answer_of reply ≡ part_answer 200 path.now file.now None file.now) }
     {
         let part = FilePart::new(file, 0, file.bytes().len())?;
-        Ok(Reply::of_part(StatusCode::OK, path, file, None, part, close))
+        Ok(Reply::of_part(StatusCode::OK, path, file, None, part))
     }
 
-    /// The reply with the bytes of the file at a path from the first to the last.
-    fn of_range(
-        path: &FilePath,
-        file: &File,
-        first: u64,
-        last: u64,
-        close: bool,
-    ) -> Result<Reply, AllocError>
+    /// The reply with the bytes of the file at a path from the first to the last (RFC 9110, section 15.3.7).
+    fn of_range(path: &FilePath, file: &File, first: u64, last: u64) -> Result<Reply, AllocError>
         requires { LiesWithin (length file.now) (first, last) }
-        ensures { IfOk result (λ reply. answer_of reply ≡ file_answer close path.now file.now (One first last)) }
+        ensures { IfOk result (λ reply. answer_of reply ≡ file_answer path.now file.now (One first last)) }
     {
         let length = file.bytes().len() as u64;
         let part = FilePart::new(file, first as usize, last as usize + 1)?;
@@ -227,39 +237,28 @@ impl Reply {
             last,
             length,
         };
-        Ok(Reply::of_part(
-            StatusCode::PARTIAL_CONTENT,
-            path,
-            file,
-            Some(range),
-            part,
-            close,
-        ))
+        Ok(Reply::of_part(StatusCode::PARTIAL_CONTENT, path, file, Some(range), part))
     }
 
-    /// The reply with what was chosen of the file at a path.
-    pub(crate) fn of_file(
-        path: &FilePath,
-        file: &File,
-        choice: &Choice,
-        close: bool,
-    ) -> Result<Reply, Refusal>
+    /// The reply with what was chosen of the file at a path (RFC 9110, sections 15.3.7 and 15.5.17).
+    pub(crate) fn of_file(path: &FilePath, file: &File, choice: &Choice) -> Result<Reply, Refusal>
         requires { All (LiesWithin (length file.now)) (intervals_in choice.now) }
-        ensures ok { IfOk result (λ reply. answer_of reply ≡ file_answer close path.now file.now choice.now) }
-        ensures refused { IfErr result (λ refusal. refusal ≢ OutOfMemory
-            → refused_answer close refusal ≡ file_answer close path.now file.now choice.now) }
+        ensures ok { IfOk result (λ reply. answer_of reply ≡ file_answer path.now file.now choice.now) }
+        ensures refused { IfErr result (λ refusal. refusal ≢ OutOfMemory → refused_answer refusal ≡ file_answer path.now file.now choice.now) }
+        ensures memory { IsErrOf result OutOfMemory → IsTrue (gives_bytes choice.now) }
+        ensures plain { IfErr result (λ refusal. has_cell refusal ≡ false) }
     {
         match choice {
-            Choice::Whole | Choice::Many(_) => Ok(Reply::of_whole(path, file, close)?),
-            Choice::One(first, last) => Ok(Reply::of_range(path, file, *first, *last, close)?),
+            Choice::Whole | Choice::Many(_) => Ok(Reply::of_whole(path, file)?),
+            Choice::One(first, last) => Ok(Reply::of_range(path, file, *first, *last)?),
             Choice::None416 => Err(Refusal::NotSatisfiable(file.bytes().len() as u64)),
         }
     }
 
     /// Its head, with the text of its entity tag.
-    fn head<'a>(&'a self, etag: Option<&'a str>) -> ReplyHead<'a>
-        requires { option_map (λ t. t.now) etag ≡ (answer_of self.now).fields.etag }
-        ensures { fields_of result ≡ (answer_of self.now).fields }
+    fn head<'a>(&'a self, etag: Option<&'a str>, close: bool) -> ReplyHead<'a>
+        requires { option_map (λ t. t.now) etag ≡ (answer_of self.now).etag }
+        ensures { fields_of result ≡ fields_for close (answer_of self.now) }
     {
         ReplyHead {
             status: self.status,
@@ -269,7 +268,7 @@ impl Reply {
             accept_ranges: self.etag.is_some(),
             content_range: self.content_range,
             allow: self.allow,
-            close: self.close,
+            close,
         }
     }
 
@@ -280,14 +279,18 @@ impl Reply {
         if head_only { &[] } else { self.body.bytes() }
     }
 
-    /// Writes it, without its body where only the head is wanted.
-    pub(crate) fn send<W: Sink>(&self, sink: &mut W, head_only: bool) -> Result<(), WriteFault>
-        ensures ok { OnOk result (Appends (W.held sink.old) (W.held sink.new) (sent_text head_only (answer_of self.now))) }
-        ensures fault { IfErr result (λ fault. SentFront (W.held sink.old) (W.held sink.new) (sent_text head_only (answer_of self.now)) fault.0) }
-        ensures cause { OnErr result W.may_fail }
+    /// Writes it, without its body where only the head is wanted (RFC 9110, section 9.3.2); its head says whether the
+    /// connection closes.
+    pub(crate) fn send<D: Duplex>(
+        &self,
+        duplex: &mut D,
+        close: bool,
+        head_only: bool,
+    ) -> Result<(), WriteFault>
+        ensures { Ran D.saw NoRead duplex.old duplex.new (WritesText result (sent_text close head_only (answer_of self.now))) }
     {
         let etag = self.etag.map(|digest| digest.to_hex());
-        let head = self.head(etag.as_ref().map(|hex| hex.as_str()));
-        write_reply(sink, &head, self.sent_body(head_only))
+        let head = self.head(etag.as_ref().map(|hex| hex.as_str()), close);
+        write_reply(duplex, &head, self.sent_body(head_only))
     }
 }

@@ -5,10 +5,10 @@ ghost use Rattle.command_line.specs.CommandLine.{AskForSolo};
 ghost use Rattle.host_server.specs.Solo.{Runs, status_of};
 
 use crate::connections::{ConnectionFault, serve_connection};
-use crate::houses::SoloHouse;
+use crate::host::SoloHouse;
 use change_undo::GREATEST_LIMIT;
 use command_line::{Refusal, Wanted, read};
-use http_wire::{Sink, Source};
+use http_wire::Duplex;
 use std::alloc::Global;
 use std::convert::AsStr;
 use std::io::Write;
@@ -56,21 +56,20 @@ fn status_after<E: Write>(errors: &mut E, ended: Result<(), ConnectionFault>) ->
     }
 }
 
-/// Runs the program for the words behind its name, and answers its exit status: `solo` serves one connection, over
+/// Runs the program for the words after its name, and answers its exit status: `solo` serves one connection, over
 /// an empty host. Where the status isn't 0, `errors` is told why.
-pub fn run_solo<S: AsStr, R: Source + Drop, W: Sink, E: Write>(
+pub fn run_solo<S: AsStr, D: Duplex, E: Write>(
     alloc: Global,
     words: &[S],
-    source: R,
-    sink: &mut W,
+    duplex: &mut D,
     errors: &mut E,
 ) -> u8
-    ensures { Runs R.may_fail W.may_fail (map S.text words.now) result (R.left source) (W.held sink.old) (W.held sink.new) }
+    ensures { Runs D.read_fails D.write_fails (map S.text words.now) result (D.left duplex.old) (D.held duplex.old) (D.held duplex.new) }
 {
     match wanted(alloc, words, errors) {
         Ok(Wanted::Solo) => {
             let mut house = SoloHouse::new(alloc, GREATEST_LIMIT);
-            let ended = serve_connection(alloc, source, sink, &mut house);
+            let ended = serve_connection(alloc, duplex, &mut house);
             status_after(errors, ended)
         }
         Err(status) => status,

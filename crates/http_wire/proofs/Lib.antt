@@ -8,3 +8,8 @@ pub mod Searches
 pub mod SentParts
 pub mod Taking
 pub mod Windows
+pub mod Trails
+pub mod HeadReads
+pub mod BodyReads
+pub mod StreamReads
+pub mod Writes

@@ -1,8 +1,9 @@
 -- The search for the end of a head in bytes that come in pieces.
-use Rattle.std.proofs.Common.{◌≡◌, ◌≢◌, ℕ, ◌+◌, ◌<◌, ◌≤◌, ◌⊎◌, inl, inr, true, false, List, [], ◌∷◌, ◌++◌, length, length-append, length-drop, take, drop, Option, Some, None, IfSome, refl, sym, ap, ◌∙◌, subst, append_assoc, append-nil, arith}
+use Rattle.std.proofs.Common.{◌≡◌, ◌≢◌, ℕ, ◌+◌, ◌<◌, ◌≤◌, ◌⊎◌, inl, inr, true, false, List, [], ◌∷◌, ◌++◌, length, length-append, length-drop, take, drop, slice_range, Option, Some, None, IfSome, refl, sym, ap, ◌∙◌, subst, append_assoc, append-nil, arith}
 use Rattle.std.specs.Io.KnownBytes.{Keeps, IsAtEnd, Consumes, prepend_known}
 use Rattle.std.proofs.lemmas.Bool.{both_ways, cases_lt}
 use Rattle.std.proofs.lemmas.List.{take-append-drop, drop-append-le, drop_all, drop-drop, append_cancel_right, take_at, take-append-le, nil_from_length}
+use Rattle.std.proofs.lemmas.Slice.{between_to_end}
 use Rattle.http_wire.specs.declared.scans.State.{State}
 use Rattle.http_wire.specs.declared.scans.State.TheVariants.{Before}
 use Rattle.http_wire.specs.HeadText.{IsHeadText, HasHead, CutShort, Overlong, head_limit}
@@ -58,6 +59,23 @@ scanned_more bytes piece state next scanned count h nd within through same = rec
       ∙ same more
       ∙ ap (λ u. rest_from next (u ++ more)) (drop-drop count scanned (bytes ++ piece));
 }
+
+-- the same, of the bytes as they are shown
+pub scanned_shown : (bytes piece whole shown : List ℕ) (state after : State) (scanned count : ℕ) → whole ≡ bytes ++ piece → shown ≡ whole
+    → HasScanned bytes state scanned → is_done state ≡ false
+    → count ≤ length (slice_range shown scanned (length shown))
+    → (is_done after ≡ true) ⊎ (count ≡ length (slice_range shown scanned (length shown)))
+    → ((more : List ℕ) → rest_from state (slice_range shown scanned (length shown) ++ more) ≡ rest_from after (drop count (slice_range shown scanned (length shown)) ++ more))
+    → HasScanned whole after (scanned + count)
+scanned_shown bytes piece whole shown state after scanned count longer is h nd within through same =
+    let fits : scanned ≤ length shown = omega (arith, ap length is, ap length longer, length-append bytes piece, h.within) in
+    let rest : slice_range shown scanned (length shown) ≡ drop scanned (bytes ++ piece) =
+    between_to_end shown scanned (length shown) (omega arith) ∙ ap (drop scanned) (is ∙ longer) in
+    subst (λ u. HasScanned u after (scanned + count)) (sym longer)
+    (scanned_more bytes piece state after scanned count h nd
+    (subst (λ u. count ≤ length u) rest within)
+    (subst (λ u. (is_done after ≡ true) ⊎ (count ≡ length u)) rest through)
+    (λ more. subst (λ u. rest_from state (u ++ more) ≡ rest_from after (drop count u ++ more)) rest (same more)))
 
 -- a head at the front of a longer stream that lies in the bytes is a head of the bytes
 head_within : (bytes more text rest : List ℕ) → HasHead (bytes ++ more) text rest → length text ≤ length bytes → rest_from Before bytes ≢ None

@@ -12,7 +12,7 @@ abbrev pub trim_front : List ℕ → List ℕ
 trim_front [] = []
 trim_front (c ∷ text) = if is_blank c then trim_front text else c ∷ text
 
--- the text without the blanks before and behind it
+-- the text without the blanks before and after it
 abbrev pub trim_blanks : List ℕ → List ℕ
 trim_blanks text = reverse (trim_front (reverse (trim_front text)))
 

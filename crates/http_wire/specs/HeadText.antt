@@ -13,11 +13,11 @@ line_feed = 10
 abbrev pub carriage_return : ℕ
 carriage_return = 13
 
--- a line as it stands in the stream: a CR before the LF belongs to its end
+-- a line as it is in the stream: a CR before the LF belongs to its end
 abbrev pub ended : List ℕ → List ℕ
 ended line = line ++ line_feed ∷ []
 
--- nothing stands before the line's end
+-- nothing is before the line's end
 abbrev pub IsEmptyLine : List ℕ → Type 0
 IsEmptyLine line = (line ≡ []) ⊎ (line ≡ carriage_return ∷ [])
 

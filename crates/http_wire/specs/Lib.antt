@@ -1,3 +1,4 @@
+pub mod Timing
 pub mod HeadText
 pub mod Scanning
 pub mod Requests

@@ -14,7 +14,7 @@ crlf = 13 ∷ 10 ∷ []
 unfoldable pub status_line : ℕ → List ℕ
 status_line code = codes "HTTP/1.1 " ++ (code_digits code ++ (codes " " ++ (unwrap_or (reason_phrase code) [] ++ crlf)))
 
--- a field line, where its value is there: what stands before the value, the value, and what stands behind it
+-- a field line, where its value is there: what comes before the value, the value, and what comes after it
 abbrev pub line_of : List ℕ → Option (List ℕ) → List ℕ → List ℕ
 line_of before None behind = []
 line_of before (Some value) behind = before ++ (value ++ behind)
@@ -61,6 +61,6 @@ head_text h =
     ++ (line_of (codes "Connection: ") (then_some h.close (codes "close")) crlf
     ++ crlf)))))))
 
--- a head and the body behind it
+-- a head and the body after it
 abbrev pub reply_text : HeadFields → List ℕ → List ℕ
 reply_text h body = head_text h ++ body

@@ -1,10 +1,12 @@
 //! Bodies of requests.
-ghost use Rattle.std.specs.Prelude.{◌≡◌, ◌≢◌, ◌+◌, ◌≤◌, ◌<◌, ◌⊎◌, ℕ, List, [], ◌++◌, length, take, IfErr, IsErrOf, OnOk, OnErr, IfSome};
-ghost use Rattle.std.specs.Io.KnownBytes.{Consumes, IsAtEnd, prepend_known};
+ghost use Rattle.std.specs.Prelude.{◌≡◌, ◌≤◌, ◌⊎◌, [], ◌++◌, length, take};
+ghost use Rattle.http_wire.specs.Timing.{Ran};
+ghost use Rattle.http_wire.specs.Wires.{AwaitsBody, ReadsBody, RestRead, PlaceRead};
 
 use crate::buffers::{Buffer, read_behind};
+use crate::duplexes::Duplex;
 use crate::faults::BodyFault;
-use crate::sources::Source;
+use std::alloc::Global;
 
 // Moves the front of the buffer to the front of the body, as much as there is and as fits.
 fn move_front(buffer: &mut Buffer, body: &mut [u8]) -> usize
@@ -19,18 +21,15 @@ fn move_front(buffer: &mut Buffer, body: &mut [u8]) -> usize
     count
 }
 
-// Reads the body from `start` on.
-fn read_rest<S: Source>(source: &mut S, body: &mut [u8], start: usize) -> Result<(), BodyFault>
-    requires { start ≤ length body.old }
-    ensures ok { OnOk result ((bytes : List ℕ) × (body.new ≡ take start body.old ++ bytes) × Consumes (S.left source.old) (S.left source.new) bytes) }
-    ensures part { OnErr result ((bytes : List ℕ) × (start + length bytes < length body.old) × Consumes (S.left source.old) (S.left source.new) bytes) }
-    ensures ended { IsErrOf result BodyFault.Ended → IsAtEnd (S.left source.new) }
-    ensures failed { IsErrOf result BodyFault.ReadFault → S.may_fail }
-    ensures no_memory_needed { IfErr result (λ e. e ≢ BodyFault.OutOfMemory) }
+// Reads into the place from `start` on, until it is full.
+fn read_rest<D: Duplex>(duplex: &mut D, place: &mut [u8], start: usize) -> Result<(), BodyFault>
+    requires { start ≤ length place.old }
+    ensures { Ran D.saw (AwaitsBody (take start place.old) (length place.old)) duplex.old duplex.new
+        (RestRead result start place.old place.new) }
 {
     let mut at = start;
-    'reads: while at < body.len() {
-        let Ok(count) = read_behind(source, body, at) else {
+    'reads: while at < place.len() {
+        let Ok(count) = read_behind(duplex, place, at) else {
             return Err(BodyFault::ReadFault);
         };
         if count == 0 {
@@ -41,20 +40,34 @@ fn read_rest<S: Source>(source: &mut S, body: &mut [u8], start: usize) -> Result
     Ok(())
 }
 
-/// Reads a body that fills its place, from the buffer and then from the source behind it.
-pub fn read_into<S: Source>(
+// Fills a place, from the buffer and then from the stream after it.
+fn read_into<D: Duplex>(
     buffer: &mut Buffer,
-    source: &mut S,
-    body: &mut [u8],
+    duplex: &mut D,
+    place: &mut [u8],
 ) -> Result<(), BodyFault>
-    ensures ok { OnOk result (Consumes (prepend_known buffer.old (S.left source.old)) (prepend_known buffer.new (S.left source.new)) body.new) }
-    ensures part { OnErr result ((bytes : List ℕ) × (length bytes < length body.old)
-        × Consumes (prepend_known buffer.old (S.left source.old)) (prepend_known buffer.new (S.left source.new)) bytes) }
-    ensures ended { IsErrOf result BodyFault.Ended → IsAtEnd (prepend_known buffer.new (S.left source.new))
-        × IfSome (prepend_known buffer.old (S.left source.old)) (λ left. length left < length body.old) }
-    ensures failed { IsErrOf result BodyFault.ReadFault → S.may_fail }
-    ensures no_memory_needed { IfErr result (λ e. e ≢ BodyFault.OutOfMemory) }
+    ensures { Ran D.saw (AwaitsBody buffer.old (length place.old)) duplex.old duplex.new
+        (PlaceRead result buffer.old buffer.new (length place.old) place.new) }
 {
-    let start = move_front(buffer, body);
-    read_rest(source, body, start)
+    let start = move_front(buffer, place);
+    read_rest(duplex, place, start)
+}
+
+/// Reads a body of so many bytes, from the buffer and then from the stream after it.
+pub fn read_body<D: Duplex>(
+    alloc: Global,
+    buffer: &mut Buffer,
+    duplex: &mut D,
+    count: u64,
+) -> Result<Vec<u8>, BodyFault>
+    ensures { Ran D.saw (AwaitsBody buffer.old count) duplex.old duplex.new (ReadsBody result count buffer.old buffer.new) }
+{
+    if count == 0 {
+        return Ok(Vec::new(alloc));
+    }
+    let mut body = vec![in alloc; 0; count as usize]?;
+    match read_into(buffer, duplex, &mut body) {
+        Ok(()) => Ok(body),
+        Err(fault) => Err(fault),
+    }
 }

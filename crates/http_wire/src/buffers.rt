@@ -1,8 +1,9 @@
 //! Bytes that were read and not yet taken.
-ghost use Rattle.std.specs.Prelude.{◌≡◌, ℕ, ◌≤◌, ◌<◌, ◌+◌, ◌-◌, List, [], ◌++◌, length, take, drop, Ok, IfOk, OnErr, slice_range, vec_len};
-ghost use Rattle.std.specs.Io.KnownBytes.{Consumes, Keeps, IsAtEnd};
+ghost use Rattle.std.specs.Prelude.{◌≡◌, ℕ, ◌≤◌, ◌<◌, ◌+◌, ◌-◌, List, [], ◌++◌, length, take, drop, IfOk, OnErr, slice_range, vec_len};
+ghost use Rattle.http_wire.specs.Timing.{ReadFails, read_of};
 
-use crate::sources::{ReadFailed, Source};
+use crate::duplexes::Duplex;
+use crate::sources::ReadFailed;
 use std::alloc::{AllocError, Global};
 use std::marker::Model;
 
@@ -53,18 +54,16 @@ impl Buffer {
         self.start += count;
     }
 
-    /// Reads more bytes behind the others; none come only at the end. A failure changes nothing.
-    pub fn fill<S: Source>(&mut self, source: &mut S) -> Result<usize, ReadFailed>
+    /// Reads more bytes after the others, by one read; none come only at the end. A failure changes nothing.
+    pub fn fill<D: Duplex>(&mut self, duplex: &mut D) -> Result<usize, ReadFailed>
         requires room { length self.old < HEAD_LIMIT }
-        ensures grown { IfOk result (λ count. (bytes : List ℕ) × (self.new ≡ self.old ++ bytes) × (length bytes ≡ count)
-            × Consumes (S.left source.old) (S.left source.new) bytes) }
-        ensures end { result ≡ Ok 0 → IsAtEnd (S.left source.new) }
-        ensures err { OnErr result ((self.new ≡ self.old) × Keeps (S.left source.old) (S.left source.new)) }
-        ensures cause { OnErr result S.may_fail }
+        ensures grown { IfOk result (λ count. (piece : List ℕ) × (self.new ≡ self.old ++ piece) × (length piece ≡ count)
+            × D.saw duplex.old (read_of piece) duplex.new) }
+        ensures err { OnErr result ((self.new ≡ self.old) × D.saw duplex.old ReadFails duplex.new) }
     {
         self.end = pack(&mut self.bytes, self.start, self.end);
         self.start = 0;
-        let count = read_behind(source, &mut self.bytes, self.end)?;
+        let count = read_behind(duplex, &mut self.bytes, self.end)?;
         self.end += count;
         Ok(count)
     }
@@ -84,20 +83,18 @@ fn pack(bytes: &mut Vec<u8>, start: usize, end: usize) -> usize
     end - start
 }
 
-/// Reads some bytes into the room from `end` on.
-pub fn read_behind<S: Source>(
-    source: &mut S,
+/// Reads some bytes into the room from `end` on, by one read.
+pub fn read_behind<D: Duplex>(
+    duplex: &mut D,
     bytes: &mut [u8],
     end: usize,
 ) -> Result<usize, ReadFailed>
     requires { end < length bytes.old }
     ensures grown { IfOk result (λ count. (piece : List ℕ) × (take (end + count) bytes.new ≡ take end bytes.old ++ piece)
-        × (length piece ≡ count) × Consumes (S.left source.old) (S.left source.new) piece) }
+        × (length piece ≡ count) × D.saw duplex.old (read_of piece) duplex.new) }
     ensures within { IfOk result (λ count. end + count ≤ length bytes.old) }
-    ensures end { result ≡ Ok 0 → IsAtEnd (S.left source.new) }
-    ensures err { OnErr result ((take end bytes.new ≡ take end bytes.old) × Keeps (S.left source.old) (S.left source.new)) }
-    ensures cause { OnErr result S.may_fail }
+    ensures err { OnErr result ((take end bytes.new ≡ take end bytes.old) × D.saw duplex.old ReadFails duplex.new) }
 {
-    let count = source.read_some(&mut bytes[end..])?;
+    let count = duplex.read_some(&mut bytes[end..])?;
     Ok(count)
 }

@@ -25,7 +25,7 @@ fn trim_front(text: &[u8]) -> &[u8]
     rest
 }
 
-// A text without the blanks behind it.
+// A text without the blanks after it.
 fn trim_back(text: &[u8]) -> &[u8]
     ensures { result.now ≡ reverse (connections.trim_front (reverse text.now)) }
 {
@@ -39,7 +39,7 @@ fn trim_back(text: &[u8]) -> &[u8]
     rest
 }
 
-// Whether an element is `close`, with blanks round it or without.
+// Whether an element is `close`, with blanks around it or without.
 fn is_close(element: &[u8]) -> bool
     ensures { result ≡ connections.is_close element.now }
 {

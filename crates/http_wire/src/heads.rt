@@ -121,7 +121,7 @@ impl Head {
         }
     }
 
-    /// The target, as it stands in the head.
+    /// The target, as it is in the head.
     pub fn target(&self) -> &str
         ensures { result.now ≡ self.now.target }
     {

@@ -5,11 +5,12 @@ ghost use Rattle.std.specs.List.{flat_map};
 ghost use Rattle.arrayvec.specs.ArrayVec.{array_vec_len};
 ghost use Rattle.http_wire.specs.Replies.{crlf, range_text, line_of, fields_of, head_text, reply_text};
 ghost use Rattle.std.specs.Io.KnownBytes.{Appends};
-ghost use Rattle.http_wire.specs.Sending.{SentFront};
+ghost use Rattle.http_wire.specs.Sending.{SentFront, WritesText};
+ghost use Rattle.http_wire.specs.Timing.{NoRead, Ran};
 
+use crate::duplexes::Duplex;
 use crate::faults::WriteFault;
 use crate::sends::write_pieces;
-use crate::sinks::Sink;
 use arrayvec::{ArrayString, ArrayVec};
 use http::StatusCode;
 
@@ -22,7 +23,7 @@ pub enum ContentRange {
     Unsatisfied { length: u64 },
 }
 
-/// The head of a reply. Its fields stand in this order, those that are there.
+/// The head of a reply. Its fields are written in this order, those that are there.
 #[derive(Clone, Copy, Debug)]
 pub struct ReplyHead<'a> {
     /// The status code, which brings its phrase.
@@ -34,9 +35,9 @@ pub struct ReplyHead<'a> {
     /// Whether ranges of bytes are served.
     pub accept_ranges: bool,
     pub content_range: Option<ContentRange>,
-    /// The methods that the target has, parted by commas.
+    /// The methods that the target has, separated by commas.
     pub allow: Option<&'a str>,
-    /// Whether the connection ends behind the reply.
+    /// Whether the connection ends after the reply.
     pub close: bool,
 }
 
@@ -165,8 +166,8 @@ fn push_status<'a>(pieces: &mut Pieces<'a>, code: &'a str, phrase: &'a str)
 }
 
 // Writes a reply whose numbers are written out.
-fn write_texts<'a, W: Sink>(
-    writer: &mut W,
+fn write_texts<'a, D: Duplex>(
+    duplex: &mut D,
     head: &'a ReplyHead<'a>,
     length: Option<&'a str>,
     range: Option<&'a str>,
@@ -174,33 +175,32 @@ fn write_texts<'a, W: Sink>(
 ) -> Result<(), WriteFault>
     requires length_is { option_map (λ v. v.now) length ≡ option_map decimal head.now.content_length }
     requires range_is { option_map (λ v. v.now) range ≡ option_map range_text head.now.content_range }
-    ensures ok { OnOk result (Appends (W.held writer.old) (W.held writer.new) (reply_text (fields_of head.now) body.now)) }
-    ensures fault { IfErr result (λ fault. SentFront (W.held writer.old) (W.held writer.new) (reply_text (fields_of head.now) body.now) fault.0) }
-    ensures cause { OnErr result W.may_fail }
+    ensures { Ran D.saw NoRead duplex.old duplex.new (WritesText result (reply_text (fields_of head.now) body.now)) }
 {
     let mut pieces = ArrayVec::new();
     push_head(&mut pieces, head, length, range);
     pieces.push(body);
-    write_pieces(writer, pieces.as_slice())
+    write_pieces(duplex, pieces.as_slice())
 }
 
-/// Writes a reply: its head and then the body, which is empty where the request was HEAD.
+/// Writes a reply: its head and then the body, which is empty where the request was HEAD. Reads nothing.
 ///
-/// It takes no memory. A write that takes no byte is a fault, and so is one that fails.
-pub fn write_reply<W: Sink>(
-    writer: &mut W,
+/// It takes no memory. A write that takes no byte is a fault, and so is one that fails. Nothing is written after it.
+pub fn write_reply<D: Duplex>(
+    duplex: &mut D,
     head: &ReplyHead<'_>,
     body: &[u8],
 ) -> Result<(), WriteFault>
-    ensures ok { OnOk result (Appends (W.held writer.old) (W.held writer.new) (reply_text (fields_of head.now) body.now)) }
+    ensures ok { OnOk result (Appends (D.held duplex.old) (D.held duplex.new) (reply_text (fields_of head.now) body.now)) }
 
-    // Of a reply that is cut short the first so many bytes went out, and not all.
-    ensures fault { IfErr result (λ fault. SentFront (W.held writer.old) (W.held writer.new) (reply_text (fields_of head.now) body.now) fault.0) }
-    ensures cause { OnErr result W.may_fail }
+    // Of a reply that is cut short the first so many bytes were written, and not all.
+    ensures fault { IfErr result (λ fault. SentFront (D.held duplex.old) (D.held duplex.new) (reply_text (fields_of head.now) body.now) fault.0) }
+    ensures cause { OnErr result D.write_fails }
+    ensures ran { Ran D.saw NoRead duplex.old duplex.new (WritesText result (reply_text (fields_of head.now) body.now)) }
 {
     let length = head.content_length.map(decimal_text);
     let range = head.content_range.map(range_value);
     let length = length.as_ref().map(|text| text.as_str());
     let range = range.as_ref().map(|text| text.as_str());
-    write_texts(writer, head, length, range, body)
+    write_texts(duplex, head, length, range, body)
 }

@@ -1,33 +1,30 @@
-//! Texts on their way to a sink.
-ghost use Rattle.std.specs.Prelude.{◌≡◌, ℕ, ◌≤◌, ◌<◌, ◌-◌, ◌^◌, min, List, Option, [], ◌++◌, length, take, IfErr, OnOk, OnErr, MatchBool};
+//! Texts on their way out.
+ghost use Rattle.std.specs.Prelude.{◌≡◌, ℕ, List, Option, [], ◌++◌, OnOk, MatchBool};
 ghost use Rattle.std.specs.List.{flat_map};
-ghost use Rattle.std.specs.Io.KnownBytes.{Appends, Keeps};
-ghost use Rattle.http_wire.specs.Sending.{Sent, SentFront};
+ghost use Rattle.http_wire.specs.Sending.{Sent, WritesText, WritesAll, WritesOn};
+ghost use Rattle.http_wire.specs.Timing.{NoRead, Ran};
 
+use crate::duplexes::Duplex;
 use crate::faults::WriteFault;
-use crate::sinks::Sink;
 use arrayvec::ArrayVec;
 
 // How many bytes are gathered before they are written.
 const ROOM: usize = 2048;
 
-/// What was put and not yet written, and how many bytes went out before it.
+/// What was put and not yet written, and how many bytes were written before it.
 #[derive(Drop)]
 pub struct Outgoing {
     pending: ArrayVec<u8, ROOM>,
     sent: u64,
 }
 
-// Writes all the bytes, or answers how many went out.
-fn send<W: Sink>(writer: &mut W, bytes: &[u8]) -> Result<(), usize>
-    ensures ok { OnOk result (Appends (W.held writer.old) (W.held writer.new) bytes.now) }
-    ensures err { IfErr result (λ count. (count < length bytes.now)
-        × Appends (W.held writer.old) (W.held writer.new) (take count bytes.now)) }
-    ensures cause { OnErr result W.may_fail }
+// Writes all the bytes, or answers how many were written.
+fn send<D: Duplex>(duplex: &mut D, bytes: &[u8]) -> Result<(), usize>
+    ensures { Ran D.saw NoRead duplex.old duplex.new (WritesAll result bytes.now) }
 {
     let mut at = 0;
     'writes: while at < bytes.len() {
-        let Ok(count) = writer.write_some(&bytes[at..]) else {
+        let Ok(count) = duplex.write_some(&bytes[at..]) else {
             return Err(at);
         };
         at += count;
@@ -36,14 +33,10 @@ fn send<W: Sink>(writer: &mut W, bytes: &[u8]) -> Result<(), usize>
 }
 
 // Writes the rest of what was put.
-fn send_rest<W: Sink>(writer: &mut W, sent: &mut u64, rest: &[u8]) -> Result<(), WriteFault>
-    ensures ok { (start : Option (List ℕ)) (text : List ℕ) → Sent start (W.held writer.old) text sent.old rest.now
-        → OnOk result (Sent start (W.held writer.new) text sent.new []) }
-    ensures err { (start : Option (List ℕ)) (text : List ℕ) → Sent start (W.held writer.old) text sent.old rest.now
-        → IfErr result (λ fault. SentFront start (W.held writer.new) text fault.0) }
-    ensures cause { OnErr result W.may_fail }
+fn send_rest<D: Duplex>(duplex: &mut D, sent: &mut u64, rest: &[u8]) -> Result<(), WriteFault>
+    ensures { Ran D.saw NoRead duplex.old duplex.new (WritesOn result [] sent.old sent.new rest.now []) }
 {
-    match send(writer, rest) {
+    match send(duplex, rest) {
         Ok(()) => {
             *sent = sent.saturating_add(rest.len() as u64);
             Ok(())
@@ -64,15 +57,11 @@ impl Outgoing {
     }
 
     /// Writes all that was put.
-    pub fn flush<W: Sink>(&mut self, writer: &mut W) -> Result<(), WriteFault>
-        ensures ok { (start : Option (List ℕ)) (text : List ℕ) → Sent start (W.held writer.old) text self.old.sent self.old.pending.items
-            → OnOk result (Sent start (W.held writer.new) text self.new.sent []) }
+    pub fn flush<D: Duplex>(&mut self, duplex: &mut D) -> Result<(), WriteFault>
+        ensures ran { Ran D.saw NoRead duplex.old duplex.new (WritesOn result [] self.old.sent self.new.sent self.old.pending.items []) }
         ensures empty { OnOk result (self.new.pending.items ≡ []) }
-        ensures err { (start : Option (List ℕ)) (text : List ℕ) → Sent start (W.held writer.old) text self.old.sent self.old.pending.items
-            → IfErr result (λ fault. SentFront start (W.held writer.new) text fault.0) }
-        ensures cause { OnErr result W.may_fail }
     {
-        send_rest(writer, &mut self.sent, self.pending.as_slice())?;
+        send_rest(duplex, &mut self.sent, self.pending.as_slice())?;
         self.pending.clear();
         Ok(())
     }
@@ -86,33 +75,28 @@ impl Outgoing {
     }
 
     /// Puts one more piece, and writes as much as it takes to make room for it.
-    pub fn put<W: Sink>(&mut self, writer: &mut W, piece: &[u8]) -> Result<(), WriteFault>
-        ensures ok { (start : Option (List ℕ)) (text : List ℕ) → Sent start (W.held writer.old) text self.old.sent self.old.pending.items
-            → OnOk result (Sent start (W.held writer.new) (text ++ piece.now) self.new.sent self.new.pending.items) }
-        ensures err { (start : Option (List ℕ)) (text : List ℕ) → Sent start (W.held writer.old) text self.old.sent self.old.pending.items
-            → IfErr result (λ fault. SentFront start (W.held writer.new) (text ++ piece.now) fault.0) }
-        ensures cause { OnErr result W.may_fail }
+    pub fn put<D: Duplex>(&mut self, duplex: &mut D, piece: &[u8]) -> Result<(), WriteFault>
+        ensures { Ran D.saw NoRead duplex.old duplex.new
+            (WritesOn result piece.now self.old.sent self.new.sent self.old.pending.items self.new.pending.items) }
     {
         if self.gather(piece) {
             return Ok(());
         }
-        self.flush(writer)?;
+        self.flush(duplex)?;
         if self.gather(piece) {
             return Ok(());
         }
-        send_rest(writer, &mut self.sent, piece)
+        send_rest(duplex, &mut self.sent, piece)
     }
 }
 
 /// Writes the pieces, one after another.
-pub fn write_pieces<W: Sink>(writer: &mut W, pieces: &[&[u8]]) -> Result<(), WriteFault>
-    ensures ok { OnOk result (Appends (W.held writer.old) (W.held writer.new) (flat_map (λ p. p.now) pieces.now)) }
-    ensures err { IfErr result (λ fault. SentFront (W.held writer.old) (W.held writer.new) (flat_map (λ p. p.now) pieces.now) fault.0) }
-    ensures cause { OnErr result W.may_fail }
+pub fn write_pieces<D: Duplex>(duplex: &mut D, pieces: &[&[u8]]) -> Result<(), WriteFault>
+    ensures { Ran D.saw NoRead duplex.old duplex.new (WritesText result (flat_map (λ p. p.now) pieces.now)) }
 {
     let mut out = Outgoing::new();
     for piece in pieces {
-        out.put(writer, piece)?;
+        out.put(duplex, piece)?;
     }
-    out.flush(writer)
+    out.flush(duplex)
 }

@@ -1,5 +1,5 @@
 //! Where the bytes of a connection go.
-ghost use Rattle.std.specs.Prelude.{ℕ, List, Option, ⊤, ◌<◌, ◌≤◌, length, IfOk, OnErr};
+ghost use Rattle.std.specs.Prelude.{ℕ, List, Option, None, ⊤, ◌<◌, ◌≤◌, length, IfOk, OnErr};
 ghost use Rattle.std.specs.Io.KnownBytes.{WriteAppends};
 
 use std::io::Write;
@@ -41,5 +41,20 @@ impl<W: Write> Sink for Writing<W> {
             Ok(count) => Ok(count),
             Err(_) => Err(WriteFailed),
         }
+    }
+}
+
+/// How many bytes were written. They are kept nowhere, so a write never fails.
+#[derive(Debug, Drop)]
+pub struct Counting(pub u64);
+
+impl Sink for Counting {
+    ghost held = { λ _. None };
+
+    ghost may_fail = { ⊥ };
+
+    fn write_some(&mut self, bytes: &[u8]) -> Result<usize, WriteFailed> {
+        self.0 = self.0.saturating_add(bytes.len() as u64);
+        Ok(bytes.len())
     }
 }

@@ -98,7 +98,7 @@ module _ (test : Cell → Bool) (f g f' g' : Reading) (c : Cell) (b a : Option V
 abbrev pub AllLater : Cell → List (Cell × Value) → Type 0
 AllLater c entries = AllByRecursion (λ d. cell_cmp c d ≡ Less) (map (λ e. e.0) entries)
 
--- what stands in later cells alone isn't found elsewhere
+-- what is in later cells alone isn't found elsewhere
 pub found_later : (c d : Cell) (entries : List (Cell × Value)) → AllLater c entries → (cell_cmp c d ≡ Less → ⊥) → in_list entries d ≡ None
 found_later c d [] h not_later = refl
 found_later c d (e ∷ entries) h not_later =

@@ -1,4 +1,4 @@
--- What stands in each cell after a change.
+-- What is in each cell after a change.
 use Rattle.std.proofs.Common.{◌≡◌, ℕ, true, false, not, cond, List, [], ◌∷◌, Option, Some, None, option_map, refl, sym, ap, ◌∙◌}
 use Rattle.std.specs.FinMap as map
 use Rattle.std.specs.Ordering.{is_eq, nat_cmp, ordering_then}
@@ -103,7 +103,7 @@ or_else-None : {A : Type 0} (o : Option A) → or_else o None ≡ o
 or_else-None (Some x) = refl
 or_else-None None = refl
 
--- what stands in a cell where the site comes to serve these files
+-- what is in a cell where the site comes to serve these files
 pub get-served : (site : SiteName) (tree : Paths (List ℕ)) (state : State) (c : Cell)
     → map.get (with_served site tree state) c ≡ cond (is_live_of site c) (option_map value.Live (at_path tree (text_of c))) (map.get state c)
 get-served site tree base c =
@@ -119,7 +119,7 @@ get-served site tree base c =
           get-with_live_other site tree (without_live site base) c e ∙ get-without_live site base c ∙ ap (λ t. cond (not t) (map.get base c) None) e
     ] refl
 
--- what stands in a cell after a publish
+-- what is in a cell after a publish
 abbrev pub published_value : SiteName → ℕ → Paths (List ℕ) → State → Cell → Option Value
 published_value site m tree state c =
     cond (is_live_of site c) (option_map value.Live (at_path tree (text_of c)))

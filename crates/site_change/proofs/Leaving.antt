@@ -83,7 +83,7 @@ module _ (uploads : Contents) where
 
   -- ---- a patch
 
-  -- what stands at a path for which this is listed
+  -- what is at a path for which this is listed
   abbrev listed_or : Option (Option Digest) → Option Value → Option Value
   listed_or (Some listed) old = option_map value.Live (file_at uploads listed)
   listed_or None old = old

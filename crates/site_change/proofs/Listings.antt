@@ -40,7 +40,7 @@ uploaded_at uploads files k d none lt is =
     ap (λ (f : List ℕ × Option Digest). if_lacking uploads f.1) is
     ∙ All-from_recursion (λ (f : List ℕ × Option Digest). if_lacking uploads f.1 ≡ None) files (all_uploaded uploads files none) k d lt
 
--- the listed file, as it stands in a tree
+-- the listed file, as it is in a tree
 abbrev pub in_tree : Contents → List ℕ × Option Digest → Option (List ℕ × List ℕ)
 in_tree uploads f = option_map (λ bytes. (f.0, bytes)) (file_at uploads f.1)
 

@@ -40,7 +40,7 @@ or_true b = refl
 
 -- ---- a publish, by the draft that it finds
 
--- what it leaves in a cell depends on what stood there alone
+-- what it leaves in a cell depends on what was there alone
 publish_reads : (site : SiteName) (m : ℕ) (uploads : Contents) (state other : State) (draft : Option Draft) (c : Cell) → map.get other c ≡ map.get state c
     → map.get (published site m uploads other draft) c ≡ map.get (published site m uploads state draft) c
 publish_reads site m uploads state other None c same = same

@@ -45,7 +45,7 @@ live_at_site site f = bytes_eq-itself site.0
 some_not_none : {A : Type 0} (x : A) → Some x ≢ None
 some_not_none x e = cc e
 
--- what stands there and is no longer in the tree
+-- what is there and is no longer in the tree
 pub step_removed : (site : SiteName) (e : Cell × Value) (live : Live) (tree : Files) → AreSides site (e ∷ live) tree → AllLater e.0 (live_cells site tree)
     → IsStep site (e ∷ live) tree (Some (record { cell = e.0; before = Some e.1; after = None })) live tree
 step_removed site e live tree sides later =
@@ -57,7 +57,7 @@ step_removed site e live tree sides later =
           (Sets-cons e live) (Sets-later e.0 _ later) (differ_later e.0 _ _ above later) rest (some_not_none e.1) are;
     }
 
--- what the tree has and doesn't stand there
+-- what the tree has and isn't there
 pub step_added : (site : SiteName) (live : Live) (f : List ℕ × List ℕ) (tree : Files) → AreSides site live (f ∷ tree) → AllLater (cell_at site f) live
     → IsStep site live (f ∷ tree) (Some (record { cell = cell_at site f; before = None; after = Some (value.Live f.1) })) live tree
 step_added site live f tree sides later =
@@ -149,13 +149,13 @@ pub removed_last : (site : SiteName) (live : Live) (tree : Files) (e : Cell × V
 removed_last site live tree e left change sides is made ends =
     removed_at site live tree e left change sides is made (let P : Files → Type 0 = λ t. AllLater e.0 (live_cells site t) in subst P (sym (no_items tree ends)) tt)
 
--- what stands there is at its end
+-- what is there is at its end
 pub added_last : (site : SiteName) (live : Live) (tree : Files) (f : List ℕ × List ℕ) (left : Files) (change : Change) → AreSides site live tree → tree ≡ f ∷ left → change ≡ addition site f
     → length live ≡ 0 → IsStep site live tree (Some change) live left
 added_last site live tree f left change sides is made ends =
     added_at site live tree f left change sides is made (let P : Live → Type 0 = λ l. AllLater (cell_at site f) l in subst P (sym (no_items live ends)) tt)
 
--- what stands there comes first
+-- what is there comes first
 pub removed_first : (site : SiteName) (live : Live) (tree : Files) (e : Cell × Value) (live_left : Live) (f : List ℕ × List ℕ) (tree_left : Files) (change : Change)
     → AreSides site live tree → live ≡ e ∷ live_left → tree ≡ f ∷ tree_left → change ≡ removal e → cell_cmp e.0 (cell_at site f) ≡ Less
     → IsStep site live tree (Some change) live_left tree
@@ -201,7 +201,7 @@ kept_first site live tree e live_left f tree_left sides live_is tree_is tie same
     subst R (sym live_is) (subst S (sym tree_is)
     (step_kept site e live_left f tree_left (subst Q tree_is (subst P live_is sides)) (cell_cmp-IsAntisymmetric e.0 (cell_at site f) tie) alike))
 
--- once both are gone through, the changes behind which the rest would stand are all
+-- once both are gone through, the changes after which the rest would come are all
 pub at_ends : (site : SiteName) (live : Live) (tree : Files) (live_left : Live) (tree_left : Files) (changes : List Change)
     → ((rest : List Change) → AreLiveChanges site live_left tree_left rest → AreLiveChanges site live tree (changes ++ rest))
     → live_left ≡ [] → tree_left ≡ [] → AreLiveChanges site live tree changes

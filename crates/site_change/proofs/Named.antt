@@ -1,5 +1,5 @@
 -- A command that is accepted leaves each alias with a kept deploy.
-use Rattle.std.proofs.Common.{◌≡◌, ℕ, true, false, cond, List, [], ◌∷◌, Option, Some, None, Result, Ok, Err, OnOk, option_map, refl, sym, ap, ◌∙◌}
+use Rattle.std.proofs.Common.{◌≡◌, ℕ, true, false, cond, List, [], ◌∷◌, Option, Some, None, option_map, refl, sym, ap, ◌∙◌}
 use Rattle.std.specs.Option.{is_some}
 use Rattle.host_names.specs.Blobs.{Contents}
 use Rattle.host_names.specs.declared.cells.Cell.TheVariants as cell
@@ -73,8 +73,3 @@ named_applied (RemoveAlias site name) n state uploads named accepted = named_wit
 named_applied (Restore site m) n state uploads named accepted = named_restore site m uploads state (kept_at state site m) (draft_at state site m) named
 named_applied (RemoveDeploy site m) n state uploads named accepted =
     named_without_kept state named site m (no_alias (kept_at state site m) (alias_for state site m) accepted)
-
--- what follows of an accepted command holds where there is a plan
-pub on_plan : {T E P Q : Type 0} (result : Result T E) → (P → Q) → OnOk result P → OnOk result Q
-on_plan (Ok plan) follows accepted = follows accepted
-on_plan (Err e) follows accepted = tt

@@ -1,5 +1,5 @@
--- What a command writes is of its cell's kind.
-use Rattle.std.proofs.Common.{◌≡◌, ℕ, Bool, true, false, cond, ◌⊎◌, inl, inr, IsTrue, List, [], ◌∷◌, Option, Some, None, Result, Ok, Err, IfOk, option_map, refl, sym, ap, ◌∙◌}
+-- What a command writes is of its cell's kind, and what follows of a decision.
+use Rattle.std.proofs.Common.{◌≡◌, ℕ, true, false, cond, ◌⊎◌, inl, inr, IsTrue, List, [], ◌∷◌, Option, Some, None, Result, Ok, Err, IfOk, OnOk, option_map, refl, sym, ap, ◌∙◌}
 use Rattle.std.specs.FinMap as map
 use Rattle.std.specs.List.{AllByRecursion}
 use Rattle.std.proofs.lemmas.List.Elements.{All-from_recursion}
@@ -10,19 +10,20 @@ use Rattle.host_names.specs.declared.cells.Cell.{Cell}
 use Rattle.host_names.specs.declared.cells.Cell.TheVariants as cell
 use Rattle.host_names.specs.declared.digests.Digest.{Digest}
 use Rattle.site_state.specs.Files.{Paths, at_path}
-use Rattle.site_state.specs.States.{State, with_cell, live_at, kept_at, draft_at, is_live_of, may_stand}
+use Rattle.site_state.specs.States.{State, AreOfKind, with_cell, live_at, kept_at, draft_at, is_live_of, may_stand}
 use Rattle.site_state.specs.declared.values.Draft.{Draft}
 use Rattle.site_state.specs.declared.values.Value.{Value}
 use Rattle.site_state.specs.declared.values.Value.TheVariants as value
 use Rattle.site_change.specs.declared.commands.Command.{Command}
 use Rattle.site_change.specs.declared.commands.Command.TheVariants.{Open, Publish, Cancel, Remove, Rename, MoveAlias, RemoveAlias, Restore, RemoveDeploy}
-use Rattle.site_change.specs.declared.commands.Refusal.{Refusal}
 use Rattle.site_change.specs.declared.commands.DecideError.{DecideError}
 use Rattle.site_change.specs.declared.plans.Change.{Change}
 use Rattle.site_change.specs.declared.plans.Plan.{Plan}
 use Rattle.site_change.specs.Decisions.{IsDecision}
-use Rattle.site_change.specs.Changes.{same_cell, tree_of, with_served, with_published, with_listed, with_patch, published, restored, applied}
-use Rattle.site_change.specs.Plans.{IsChange, IsDifference, WritesOfKind}
+use Rattle.site_change.specs.Changes.{same_cell, refusal, site_of_command, touches, tree_of, with_served, with_published, with_listed, with_patch, published, restored, applied}
+use Rattle.site_change.specs.Plans.{IsChange, IsDifference, ReplacesOfKind, WritesOfKind}
+use Rattle.site_state.specs.Named.{AliasesNamed}
+use Rattle.site_change.proofs.Named.{named_applied}
 use Rattle.site_change.proofs.Patches.{get-with_listed, listed_fits}
 use Rattle.site_change.proofs.Effects.{one_cell, get-with_cell, live_of, get-served, get-published, published_value}
 
@@ -140,12 +141,30 @@ changes_fit : (state next : State) → ((c : Cell) → IsLeftOrFits state next c
 changes_fit state next each [] h = tt
 changes_fit state next each (d ∷ changes) h = (change_fits state next d (each d.cell) h.0, changes_fit state next each changes h.1)
 
-pub writes_of_kind : (command : Command) (n : ℕ) (state : State) (uploads : Contents) (changes : List Change) → IsDifference state (applied command n state uploads) changes → WritesOfKind changes
-writes_of_kind command n state uploads changes is =
-    All-from_recursion (λ (change : Change). IsTrue (may_stand change.cell change.after)) changes
-    (changes_fit state (applied command n state uploads) (command_fits command n state uploads) changes is.each)
+replaced_fit : (state next : State) → AreOfKind state → (changes : List Change) → AllByRecursion (IsChange state next) changes → AllByRecursion (λ change. IsTrue (may_stand change.cell change.before)) changes
+replaced_fit state next kinds [] h = tt
+replaced_fit state next kinds (d ∷ changes) h = (ap (may_stand d.cell) h.0.0 ∙ kinds d.cell, replaced_fit state next kinds changes h.1)
 
-pub decided_of_kind : (command : Command) (n : ℕ) (state : State) (uploads : Contents) (reason : Option Refusal) (site : SiteName) (test : Cell → Bool) (result : Result Plan DecideError)
-    → IsDecision reason site test state (applied command n state uploads) result → IfOk result (λ plan. WritesOfKind plan.changes.items)
-decided_of_kind command n state uploads reason site test (Ok plan) is = writes_of_kind command n state uploads plan.changes.items is.1
-decided_of_kind command n state uploads reason site test (Err e) is = tt
+-- what follows of the definition's decision
+module _ (command : Command) (n : ℕ) (state : State) (uploads : Contents) where
+  abbrev pub IsDecided : Result Plan DecideError → Type 0
+  IsDecided = IsDecision (refusal command n state uploads) (site_of_command command) (touches command n state) state (applied command n state uploads)
+
+  pub writes_of_kind : (changes : List Change) → IsDifference state (applied command n state uploads) changes → WritesOfKind changes
+  writes_of_kind changes is =
+      All-from_recursion (λ (change : Change). IsTrue (may_stand change.cell change.after)) changes
+      (changes_fit state (applied command n state uploads) (command_fits command n state uploads) changes is.each)
+
+  pub decided_of_kind : (result : Result Plan DecideError) → IsDecided result → IfOk result (λ plan. WritesOfKind plan.changes.items)
+  decided_of_kind (Ok plan) is = writes_of_kind plan.changes.items is.1
+  decided_of_kind (Err e) is = tt
+
+  pub decided_of_kind_before : AreOfKind state → (result : Result Plan DecideError) → IsDecided result → IfOk result (λ plan. ReplacesOfKind plan.changes.items)
+  decided_of_kind_before kinds (Ok plan) is =
+      All-from_recursion (λ (change : Change). IsTrue (may_stand change.cell change.before)) plan.changes.items
+      (replaced_fit state (applied command n state uploads) kinds plan.changes.items is.1.each)
+  decided_of_kind_before kinds (Err e) is = tt
+
+  pub decided_named : AliasesNamed state → (result : Result Plan DecideError) → IsDecided result → OnOk result (AliasesNamed (applied command n state uploads))
+  decided_named named (Ok plan) is = named_applied command n state uploads named is.0
+  decided_named named (Err e) is = tt

@@ -32,7 +32,7 @@ use Rattle.site_change.proofs.Effects.{one_cell, same_cell-itself, get-with_cell
 abbrev pub Listings : Type 0
 Listings = Paths (Option Digest)
 
--- ---- what stands in each cell afterwards
+-- ---- what is in each cell afterwards
 
 abbrev pub listed_value : SiteName → Contents → Listings → Cell → Option Value → Option Value
 listed_value site uploads [] c old = old
@@ -61,7 +61,7 @@ module _ (site : SiteName) (uploads : Contents) where
   file_fits path None = refl
   file_fits path (Some bytes) = refl
 
-  -- and else a file stands there, or nothing
+  -- and else a file is there, or nothing
   pub listed_fits : (files : Listings) (c : Cell) (old : Option Value)
       → (listed_value site uploads files c old ≡ old) ⊎ (may_stand c (listed_value site uploads files c old) ≡ true)
   listed_fits [] c old = inl refl
@@ -73,7 +73,7 @@ module _ (site : SiteName) (uploads : Contents) where
         | false ↦ λ _. listed_fits files c old
       ] refl
 
-  -- at each listed path stands what is listed for it
+  -- at each listed path is what is listed for it
   pub listed_at : (files : Listings) (i : ℕ) (d : List ℕ × Option Digest) (old : Option Value) → IsByPath files → i < length files
       → listed_value site uploads files (cell.Live site (get_or files i d).0) old ≡ option_map value.Live (file_at uploads (get_or files i d).1)
   unfolding IsStrictlySortedBy
@@ -86,7 +86,7 @@ module _ (site : SiteName) (uploads : Contents) where
       let other : same_cell here (cell.Live site f.0) ≡ false = later_is_other (cell.Live site f.0) here (path_before site f.0 (get_or files i d).0 less) in
       ap (λ t. cond t (option_map value.Live (file_at uploads f.1)) (listed_value site uploads files here old)) other ∙ listed_at files i d old by_path.1 (omega (arith, lt))
 
--- ---- where the listed cells stand
+-- ---- where the listed cells are
 
 module _ (site : SiteName) where
   -- they are those of the paths

@@ -24,7 +24,7 @@ module _ {X : Type 0} where
   behind_all [] q x sorted below = (tt, tt)
   behind_all (e ∷ es) q x sorted below = (before_new e.0 q x es sorted.0 below.0, behind_all es q x sorted.1 below.1)
 
-  -- a path behind the last goes to the end
+  -- a path after the last goes to the end
   pub by_path_push : (es : Paths X) (q : List ℕ) (x : X) → IsByPath es → ((d : List ℕ × X) → 0 < length es → slice_cmp nat_cmp (get_or es (length es - 1) d).0 q ≡ Less)
       → IsByPath (es ++ (q, x) ∷ [])
   by_path_push es q x sorted last =

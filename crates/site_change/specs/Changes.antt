@@ -23,11 +23,13 @@ use Rattle.site_change.specs.declared.commands.Command.TheVariants.{Open, Publis
 use Rattle.site_change.specs.declared.commands.Refusal.{Refusal}
 use Rattle.site_change.specs.declared.commands.Refusal.TheVariants.{NoSuchDraft, NotComplete, NoSuchDeploy, NoSuchFile, PathTaken, SamePath, NoSuchAlias, DeployInUse, TooManyFiles}
 
+-- whether two cells are one
 abbrev pub same_cell : Cell → Cell → Bool
 same_cell = eq_by_cmp cell_cmp
 
 -- ---- whether a command is accepted
 
+-- the reasons against a publish, by what is open under the number
 abbrev pub publish_refusal : Contents → Option Draft → Option Refusal
 publish_refusal uploads None = Some NoSuchDraft
 publish_refusal uploads (Some draft) = option_map NotComplete (least_missing_of uploads draft.files.1)
@@ -50,7 +52,7 @@ restore_refusal uploads (Some tree) draft = None
 restore_refusal uploads None (Some draft) = publish_refusal uploads (Some draft)
 restore_refusal uploads None None = Some NoSuchDeploy
 
--- the reasons against the removal of a deploy, by what is kept under the number and the least alias that stands for it
+-- the reasons against the removal of a deploy, by what is kept under the number and the least alias that names it
 abbrev pub removal_refusal : Option (Paths (List ℕ)) → Option AliasName → Option Refusal
 removal_refusal None alias = Some NoSuchDeploy
 removal_refusal (Some tree) alias = option_map DeployInUse alias
@@ -106,6 +108,7 @@ with_listed site uploads (f ∷ files) state =
 abbrev pub with_patch : SiteName → ℕ → Contents → Paths (Option Digest) → State → State
 with_patch site m uploads files state = with_cell (with_listed site uploads files state) (cell.Draft site m) None
 
+-- the state after the publish of what is open under the number
 abbrev pub published : SiteName → ℕ → Contents → State → Option Draft → State
 published site m uploads state None = state
 published site m uploads state (Some draft) =
@@ -116,7 +119,7 @@ abbrev pub restored : SiteName → ℕ → Contents → State → Option (Paths 
 restored site m uploads state (Some tree) draft = with_served site tree state
 restored site m uploads state None draft = published site m uploads state draft
 
--- the state in which the file at the one path stands at the other
+-- the state in which the file at the one path is at the other
 abbrev pub renamed : SiteName → List ℕ → List ℕ → State → Option (List ℕ) → State
 renamed site source target state file = with_cell (with_cell state (cell.Live site source) None) (cell.Live site target) (option_map value.Live file)
 
@@ -176,12 +179,13 @@ touches (Restore site m) n state c =
     || (same_cell c (cell.Kept site m) || restore_touches site m (kept_at state site m) (draft_at state site m) c)
 touches (RemoveDeploy site m) n state c = same_cell c (cell.Kept site m) || is_alias_of site c
 
--- whether it changes what stands in the cell; that nothing stands there counts as a value
+-- whether it changes what is in the cell; that nothing is there counts as a value
 abbrev pub changes : Command → ℕ → State → Contents → Cell → Bool
 changes command n state uploads c = not (same_value (map.get state c) (map.get (applied command n state uploads) c))
 
 -- ---- commands in a row, each under its number
 
+-- this, unless there is a reason to refuse
 abbrev pub if_accepted : Option Refusal → Option State → Option State
 if_accepted None then_state = then_state
 if_accepted (Some reason) then_state = None

@@ -18,7 +18,7 @@ use Rattle.site_state.specs.declared.values.Value.TheVariants as value
 use Rattle.site_change.specs.declared.plans.Change.{Change}
 use Rattle.site_change.specs.Changes.{same_cell, is_listed, with_listed}
 
--- what stands in each cell
+-- what is in each cell
 abbrev pub Reading : Type 0
 Reading = Cell → Option Value
 

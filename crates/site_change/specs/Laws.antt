@@ -71,12 +71,13 @@ pub record IsLocal (command : Command) (n : ℕ) (state : State) (uploads : Cont
   pub changed : (c : Cell) → changes command n state uploads c ≡ true → touches command n state c ≡ true
 
 -- Without a change, whose changed cells no later one touches, the later ones are accepted as before. In those cells the state
--- then has what stood there before the change; in all others it has what it has with the change.
+-- then has what was there before the change; in all others it has what it has with the change.
 abbrev pub CanBeLeftOut : Contents → State → ℕ × Command → List (ℕ × Command) → State → Type 0
 CanBeLeftOut uploads state change later with_it =
     (without : State) × (run_from uploads state later ≡ Some without)
     × ((c : Cell) → map.get without c ≡ (if changes change.1 change.0 state uploads c then map.get state c else map.get with_it c))
 
+-- A change can be left out of any run that begins with it, where no later change of the run touches what it changed.
 abbrev pub LeavesOut : Contents → State → ℕ × Command → List (ℕ × Command) → Type 0
 LeavesOut uploads state change later =
     (with_it : State) → run_from uploads state (change ∷ later) ≡ Some with_it

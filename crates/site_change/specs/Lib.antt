@@ -1,6 +1,8 @@
+-- what public clauses say
 pub mod Changes
 pub mod Decisions
-pub mod Differences
 pub mod Laws
 pub mod Plans
 pub mod TouchedCells
+-- what only private functions need: how two readings of cells differ
+pub mod Differences

@@ -19,6 +19,10 @@ pub record IsDifference (state after : State) (changes : List Change) : Type 0 w
   pub each : AllByRecursion (IsChange state after) changes
   pub others : (c : Cell) → list_all (λ change. not (same_cell c change.cell)) changes ≡ true → map.get after c ≡ map.get state c
 
+-- each value that was in a cell before the changes is of the cell's kind
+abbrev pub ReplacesOfKind : List Change → Type 0
+ReplacesOfKind = All (λ change. IsTrue (may_stand change.cell change.before))
+
 -- each value that the changes write is of its cell's kind
 abbrev pub WritesOfKind : List Change → Type 0
 WritesOfKind = All (λ change. IsTrue (may_stand change.cell change.after))

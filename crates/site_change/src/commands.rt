@@ -7,7 +7,7 @@ use site_state::Listing;
 use std::alloc::AllocError;
 use thiserror::Error;
 
-/// A change that is asked for. The number of the entry that it becomes is told beside it.
+/// A change that is asked for. The number of the entry that it becomes is told with it.
 #[derive(Drop)]
 pub enum Command {
     /// Opens a deploy of what is listed, whose number is the entry's own.
@@ -22,7 +22,7 @@ pub enum Command {
         site: SiteName,
         number: u64,
     },
-    /// Gives an open deploy up.
+    /// Cancels an open deploy.
     Cancel {
         site: SiteName,
         number: u64,
@@ -38,13 +38,13 @@ pub enum Command {
         source: FilePath,
         target: FilePath,
     },
-    /// Makes an alias stand for a kept deploy.
+    /// Makes an alias name a kept deploy.
     MoveAlias {
         site: SiteName,
         name: AliasName,
         number: u64,
     },
-    /// Gives an alias up.
+    /// Removes an alias.
     RemoveAlias {
         site: SiteName,
         name: AliasName,
@@ -55,7 +55,7 @@ pub enum Command {
         site: SiteName,
         number: u64,
     },
-    /// Keeps a deploy no longer, for which no alias stands.
+    /// Keeps a deploy no longer, which no alias names.
     RemoveDeploy {
         site: SiteName,
         number: u64,
@@ -105,7 +105,7 @@ pub enum Refusal {
     /// There is no such alias.
     #[error("no such alias")]
     NoSuchAlias,
-    /// An alias stands for the deploy; of several the least is named.
+    /// An alias names the deploy; of several the least is told.
     #[error("the deploy is in use")]
     DeployInUse(AliasName),
     /// The deploy lists more than 10,000 paths.

@@ -8,22 +8,23 @@ ghost use Rattle.site_change.specs.declared.commands.Refusal.TheVariants.{TooMan
 ghost use Rattle.site_change.specs.declared.commands.Command.TheVariants as command_of;
 ghost use Rattle.site_change.specs.Changes.{applied, refusal, site_of_command, touches};
 ghost use Rattle.site_change.specs.Decisions.{IsDecision, IsRefusedBy};
-ghost use Rattle.site_change.specs.Plans.{IsDifference, WritesOfKind};
+ghost use Rattle.site_change.specs.Plans.{IsDifference, ReplacesOfKind, WritesOfKind};
 ghost use Rattle.site_change.specs.TouchedCells.{AreTouched};
 
-use crate::cells::draft_cell;
+use crate::cell_commands::{
+    cancel, move_alias, plan_one, remove, remove_alias, remove_deploy, rename,
+};
 use crate::commands::{Command, DecideError, Refusal};
-use crate::few_cells::{cancel, move_alias, plan_one, remove, remove_alias, remove_deploy, rename};
 use crate::plans::Plan;
 use crate::publishing::{publish, restore};
-use host_names::{SiteName, Uploads};
+use host_names::{Cell, SiteName, Uploads};
 use site_state::{Draft, Listing, State, Value};
 use std::alloc::{AllocError, Global};
 
 /// The greatest number of paths that a deploy lists.
-const MOST_FILES: usize = 10_000;
+pub const MOST_FILES: usize = 10_000;
 
-/// An open deploy of these files, as what stands in its cell.
+/// An open deploy of these files, as the value of its cell.
 fn opened(files: &Listing, auto: bool) -> Result<Value, AllocError>
     ensures { IfOk result (λ v. v ≡ value.Draft (record { auto = auto; files = files.now })) }
 {
@@ -49,30 +50,24 @@ fn open(
     if files.entries().len() > MOST_FILES {
         return Err(DecideError::Refused(Refusal::TooManyFiles));
     }
-    let cell = draft_cell(site, number)?;
+    let cell = Cell::Draft(site.copied(), number);
     let draft = opened(files, auto)?;
     Ok(plan_one(alloc, state, site, cell, Some(draft))?)
 }
 
-/// Decides a command that would become the entry of this number: what it changes in the state, with what was
-/// uploaded, and what it touches, or why it is refused. It fails for want of memory only where it isn't refused.
-pub fn decide<U: Uploads>(
+/// Decides a command by its kind.
+fn decision<U: Uploads>(
     alloc: Global,
     state: &State,
     uploads: &U,
     number: u64,
     command: &Command,
 ) -> Result<Plan, DecideError>
-    ensures refused { IsRefusedBy (refusal command.now number state.now (U.contents uploads.now)) result }
-    ensures accepted { OnOk result (refusal command.now number state.now (U.contents uploads.now) ≡ None) }
-    ensures plan { IfOk result (λ plan. IsDifference state.now
-        (applied command.now number state.now (U.contents uploads.now)) plan.changes.items) }
-    ensures touched { IfOk result (λ plan. AreTouched (site_of_command command.now)
-        (touches command.now number state.now) plan.touched) }
-    ensures of_kind { IfOk result (λ plan. WritesOfKind plan.changes.items) }
-    ensures named { OnOk result (AliasesNamed (applied command.now number state.now (U.contents uploads.now))) }
+    ensures { IsDecision (refusal command.now number state.now (U.contents uploads.now))
+        (site_of_command command.now) (touches command.now number state.now) state.now
+        (applied command.now number state.now (U.contents uploads.now))
+        result }
 {
-    state.aliases_are_named();
     match command {
         Command::Open { site, files, auto } => open(alloc, state, number, site, files, *auto),
         Command::Publish { site, number } => publish(alloc, state, uploads, site, *number),
@@ -90,4 +85,28 @@ pub fn decide<U: Uploads>(
         Command::Restore { site, number } => restore(alloc, state, uploads, site, *number),
         Command::RemoveDeploy { site, number } => remove_deploy(alloc, state, site, *number),
     }
+}
+
+/// Decides a command that would become the entry of this number: what it changes in the state, with what was
+/// uploaded, and what it touches, or why it is refused. It is out of memory only where it isn't refused.
+pub fn decide<U: Uploads>(
+    alloc: Global,
+    state: &State,
+    uploads: &U,
+    number: u64,
+    command: &Command,
+) -> Result<Plan, DecideError>
+    ensures refused { IsRefusedBy (refusal command.now number state.now (U.contents uploads.now)) result }
+    ensures accepted { OnOk result (refusal command.now number state.now (U.contents uploads.now) ≡ None) }
+    ensures plan { IfOk result (λ plan. IsDifference state.now
+        (applied command.now number state.now (U.contents uploads.now)) plan.changes.items) }
+    ensures touched { IfOk result (λ plan. AreTouched (site_of_command command.now)
+        (touches command.now number state.now) plan.touched) }
+    ensures of_kind { IfOk result (λ plan. WritesOfKind plan.changes.items) }
+    ensures of_kind_before { IfOk result (λ plan. ReplacesOfKind plan.changes.items) }
+    ensures named { OnOk result (AliasesNamed (applied command.now number state.now (U.contents uploads.now))) }
+{
+    state.aliases_are_named();
+    state.values_are_of_kind();
+    decision(alloc, state, uploads, number, command)
 }

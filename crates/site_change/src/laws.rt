@@ -25,7 +25,7 @@ pub fn commands_are_local()
 
 /// A change can be left out of a row of accepted commands where no later one touches a cell that it changed: the
 /// later ones are then accepted as before, and the state differs in those cells alone, each of which has what
-/// stood there before the change.
+/// was there before the change.
 pub fn a_change_can_be_left_out()
     ensures { (uploads : Contents) (state : State) (change : ℕ × Command) (later : List (ℕ × Command)) →
         LeavesOut uploads state change later }
@@ -106,9 +106,9 @@ pub fn the_removal_of_a_deploy_touches_it_and_the_aliases()
         ↔ ((c ≡ cell.Kept site m) ⊎ ((name : AliasName) × (c ≡ cell.Alias site name))) }
 {}
 
-/// What the commands of few cells touch, each those of its row and no others: the giving up of a deploy its draft; a
+/// What the commands of few cells touch, each those of its row and no others: the cancelling of a deploy its draft; a
 /// removal its path; a renaming both paths; the moving of an alias that alias and the kept deploy, which it reads; and the
-/// giving up of an alias that alias.
+/// removal of an alias that alias.
 pub fn commands_of_few_cells_touch_them_alone()
     ensures cancelled { (site : SiteName) (m number : ℕ) (state : State) (c : Cell) →
         (touches (Cancel site m) number state c ≡ true) ↔ (c ≡ cell.Draft site m) }

@@ -1,10 +1,9 @@
 //! What a command does to the state, and when it is refused.
 #![tactic(auto)]
 
-mod cells;
+mod cell_commands;
 mod commands;
 mod decisions;
-mod few_cells;
 mod laws;
 mod live;
 mod plans;
@@ -13,7 +12,7 @@ mod touched;
 mod trees;
 
 pub use commands::{Command, DecideError, Refusal};
-pub use decisions::decide;
+pub use decisions::{MOST_FILES, decide};
 pub use laws::{
     a_change_can_be_left_out, a_publish_touches_its_deploy_alone,
     a_published_deploy_is_served_and_kept, a_published_patch_changes_what_it_lists,

@@ -1,4 +1,4 @@
-//! The changes of the files that a site serves, from those that stand there to those of a tree.
+//! The changes of the files that a site serves, from those that are there to those of a tree.
 ghost use Rattle.std.specs.Prelude.{◌≡◌, IfOk, IsTrue, MatchOption, [], option_to_list, true};
 ghost use Rattle.std.specs.List.{AllByRecursion};
 ghost use Rattle.host_names.specs.Cells.{cell_cmp};
@@ -8,14 +8,13 @@ ghost use Rattle.site_state.specs.Values.{value_eq};
 ghost use Rattle.site_state.specs.declared.values.Value.TheVariants as value;
 ghost use Rattle.site_change.specs.Differences.{AreLiveChanges, AreSides, IsStep};
 
-use crate::cells::live_cell;
 use crate::plans::{Change, push_some};
-use host_names::{Cell, FilePath, SiteName};
+use host_names::{Cell, CellRef, FilePath, SiteName};
 use site_state::{File, Value};
 use std::alloc::{AllocError, Global};
 use std::cmp::Ordering;
 
-/// A cell with what stands in it.
+/// A cell with what is in it.
 type Entry = (Cell, Value);
 
 /// A path with the file that a tree has there.
@@ -40,7 +39,7 @@ fn compare_paths(site: &SiteName, entry: &Entry, listed: &Listed) -> Ordering
     }
 }
 
-/// Whether what stands in a cell is this file.
+/// Whether what is in a cell is this file.
 fn is_file(held: &Value, file: &File) -> bool
     ensures { result ≡ value_eq held.now (value.Live file.now) }
 {
@@ -68,7 +67,7 @@ fn added(site: &SiteName, listed: &Listed) -> Result<Change, AllocError>
         ≡ record { cell = cell.Live site.now listed.now.0; before = None; after = Some (value.Live listed.now.1) }) }
 {
     Ok(Change {
-        cell: live_cell(site, &listed.0)?,
+        cell: CellRef::Live(site, &listed.0).to_cell()?,
         before: None,
         after: Some(Value::Live(listed.1.clone()?)),
     })
@@ -141,7 +140,7 @@ impl<'a> Step<'a> {
     }
 }
 
-/// The changes of a site's live cells, from the files that stand there to those of a tree, both in the order of
+/// The changes of a site's live cells, from the files that are there to those of a tree, both in the order of
 /// the paths. Each list is gone through once.
 pub fn live_changes<'a>(
     alloc: Global,

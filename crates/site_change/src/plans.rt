@@ -9,14 +9,14 @@ use host_names::Cell;
 use site_state::{State, Value};
 use std::alloc::AllocError;
 
-/// What changes in one cell. That nothing stands there counts as a value.
+/// What changes in one cell. That nothing is there counts as a value.
 #[derive(Drop)]
 pub struct Change {
     /// The cell.
     pub cell: Cell,
-    /// What stands there before.
+    /// What is there before.
     pub before: Option<Value>,
-    /// What stands there afterwards.
+    /// What is there afterwards.
     pub after: Option<Value>,
 }
 
@@ -30,7 +30,7 @@ pub struct Plan {
     pub touched: Touched,
 }
 
-/// Adds a change, if there is one, behind the others.
+/// Adds a change, if there is one, after the others.
 pub fn push_some(changes: &mut Vec<Change>, change: Option<Change>) -> Result<(), AllocError>
     ensures { OnOk result (changes.new.items ≡ changes.old.items ++ option_to_list change) }
 {
@@ -40,7 +40,7 @@ pub fn push_some(changes: &mut Vec<Change>, change: Option<Change>) -> Result<()
     }
 }
 
-/// Whether what stands in a cell is what will stand there.
+/// Whether what is in a cell is what will be there.
 fn is_same(before: Option<&Value>, after: &Option<Value>) -> bool
     ensures { result ≡ same_value (option_copied before.entry) after.now }
 {
@@ -60,7 +60,7 @@ fn copy_of(held: Option<&Value>) -> Result<Option<Value>, AllocError>
     }
 }
 
-/// What changes where this comes to stand in a cell.
+/// What changes where this is written into a cell.
 pub fn change_in(
     state: &State,
     cell: Cell,
@@ -80,7 +80,7 @@ pub fn change_in(
     }))
 }
 
-/// Adds what changes where this comes to stand in a cell, if anything does, behind the others.
+/// Adds what changes where this is written into a cell, if anything does, after the others.
 pub fn push_change(
     changes: &mut Vec<Change>,
     state: &State,

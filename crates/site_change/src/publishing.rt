@@ -13,13 +13,12 @@ ghost use Rattle.site_change.specs.Differences.{AreListedChanges};
 ghost use Rattle.site_change.specs.Plans.{IsDifference};
 ghost use Rattle.site_change.specs.TouchedCells.{AreTouched, is_of_deploy, is_of_patch};
 
-use crate::cells::{draft_cell, kept_cell, live_cell};
 use crate::commands::{DecideError, Refusal};
 use crate::live::live_changes;
 use crate::plans::{Change, Plan, push_change};
 use crate::touched::Touched;
 use crate::trees::{file_at, tree_of};
-use host_names::{Digest, FilePath, SiteName, Uploads};
+use host_names::{Cell, CellRef, Digest, FilePath, SiteName, Uploads};
 use site_state::{Draft, Listing, State, Tree, Value, least_missing};
 use std::alloc::{AllocError, Global};
 
@@ -35,13 +34,18 @@ fn full_changes(
         (with_published site.now number tree state.now) changes.items) }
 {
     let mut changes = live_changes(alloc, site, state.live(site), tree.entries())?;
-    let kept = kept_cell(site, number)?;
+    let kept = Cell::Kept(site.copied(), number);
     push_change(&mut changes, state, kept, Some(Value::Kept(tree)))?;
-    push_change(&mut changes, state, draft_cell(site, number)?, None)?;
+    push_change(
+        &mut changes,
+        state,
+        Cell::Draft(site.copied(), number),
+        None,
+    )?;
     Ok(changes)
 }
 
-/// A file, as what stands in its cell; nothing for none.
+/// A file, as the value of its cell; nothing for none.
 fn served<U: Uploads>(uploads: &U, listed: &Option<Digest>) -> Result<Option<Value>, AllocError>
     requires { if_lacking (U.contents uploads.now) listed.now ≡ None }
     ensures { IfOk result (λ v. v ≡ option_map value.Live (changes.file_at (U.contents uploads.now) listed.now)) }
@@ -66,7 +70,7 @@ fn listed_changes<U: Uploads>(
 {
     let mut changes = Vec::new(alloc);
     for (path, listed) in entries {
-        let live = live_cell(site, path)?;
+        let live = CellRef::Live(site, path).to_cell()?;
         push_change(&mut changes, state, live, served(uploads, listed)?)?;
     }
     Ok(changes)
@@ -87,7 +91,12 @@ fn patch_changes<U: Uploads>(
         changes.items) }
 {
     let mut changes = listed_changes(alloc, state, uploads, site, files.entries())?;
-    push_change(&mut changes, state, draft_cell(site, number)?, None)?;
+    push_change(
+        &mut changes,
+        state,
+        Cell::Draft(site.copied(), number),
+        None,
+    )?;
     Ok(changes)
 }
 
@@ -212,7 +221,7 @@ fn restore_open<U: Uploads>(
         changes,
         mut touched,
     } = publish_open(alloc, state, uploads, site, number, draft)?;
-    touched.add(kept_cell(site, number)?)?;
+    touched.add(Cell::Kept(site.copied(), number))?;
     Ok(Plan { changes, touched })
 }
 

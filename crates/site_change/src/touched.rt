@@ -7,8 +7,7 @@ ghost use Rattle.site_change.specs.Changes.{same_cell};
 ghost use Rattle.site_change.specs.TouchedCells as spec;
 ghost use Rattle.site_change.specs.TouchedCells.{AddsTouched, AreTouched, is_of_deploy, is_of_patch};
 
-use crate::cells::{draft_cell, kept_cell, live_cell};
-use host_names::{Cell, Digest, FilePath, SiteName};
+use host_names::{Cell, CellRef, Digest, FilePath, SiteName};
 use site_state::{is_alias_of, is_live_of};
 use std::alloc::{AllocError, Global};
 use std::collections::BTreeSet;
@@ -35,9 +34,9 @@ fn patched_cells(
 ) -> Result<BTreeSet<Cell>, AllocError>
     ensures { IfOk result (λ cells. (c : Cell) → list_any (same_cell c) cells.keys ≡ is_of_patch site.now number entries.now c) }
 {
-    let mut cells = BTreeSet::from_array(alloc, [draft_cell(site, number)?])?;
+    let mut cells = BTreeSet::from_array(alloc, [Cell::Draft(site.copied(), number)])?;
     for (path, _) in entries {
-        cells.insert(live_cell(site, path)?)?;
+        cells.insert(CellRef::Live(site, path).to_cell()?)?;
     }
     Ok(cells)
 }
@@ -57,7 +56,7 @@ impl Touched {
         ensures { IfOk result (AreTouched site.now (λ c. same_cell c cell)) }
     {
         Ok(Touched {
-            site: site.clone()?,
+            site: site.copied(),
             cells: BTreeSet::from_array(alloc, [cell])?,
             all_live: false,
             all_aliases: false,
@@ -73,7 +72,7 @@ impl Touched {
         ensures { IfOk result (AreTouched site.now (λ c. same_cell c cell || is_alias_of site.now c)) }
     {
         Ok(Touched {
-            site: site.clone()?,
+            site: site.copied(),
             cells: BTreeSet::from_array(alloc, [cell])?,
             all_live: false,
             all_aliases: true,
@@ -90,7 +89,7 @@ impl Touched {
         ensures { IfOk result (AreTouched site.now (λ c. same_cell c first || same_cell c second)) }
     {
         Ok(Touched {
-            site: site.clone()?,
+            site: site.copied(),
             cells: BTreeSet::from_array(alloc, [first, second])?,
             all_live: false,
             all_aliases: false,
@@ -101,10 +100,10 @@ impl Touched {
     pub(crate) fn deploy(alloc: Global, site: &SiteName, number: u64) -> Result<Touched, AllocError>
         ensures { IfOk result (AreTouched site.now (is_of_deploy site.now number)) }
     {
-        let draft = draft_cell(site, number)?;
-        let kept = kept_cell(site, number)?;
+        let draft = Cell::Draft(site.copied(), number);
+        let kept = Cell::Kept(site.copied(), number);
         Ok(Touched {
-            site: site.clone()?,
+            site: site.copied(),
             cells: BTreeSet::from_array(alloc, [draft, kept])?,
             all_live: true,
             all_aliases: false,
@@ -121,7 +120,7 @@ impl Touched {
         ensures { IfOk result (AreTouched site.now (is_of_patch site.now number entries.now)) }
     {
         Ok(Touched {
-            site: site.clone()?,
+            site: site.copied(),
             cells: patched_cells(alloc, site, number, entries)?,
             all_live: false,
             all_aliases: false,

@@ -34,7 +34,7 @@ pub(crate) fn file_at<U: Uploads>(
     }
 }
 
-/// Adds a file at a path, if there is one, behind the others.
+/// Adds a file at a path, if there is one, after the others.
 fn push_file(
     entries: &mut Vec<(FilePath, File)>,
     path: &FilePath,

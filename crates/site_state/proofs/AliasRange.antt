@@ -1,4 +1,4 @@
--- The aliases of a site stand side by side in the order of cells.
+-- The aliases of a site are side by side in the order of cells.
 use Rattle.std.proofs.Common.{◌≡◌, ⊎_elim, Bool, true, false, List, ℕ, Ordering, Less, Equal, Greater, refl, sym, ap, ◌∙◌, bytes_eq}
 use Rattle.std.specs.Ordering.{ordering_then}
 use Rattle.std.specs.Cmp.Lexicographic.{bytes_decides, nat_list_cmp_total}

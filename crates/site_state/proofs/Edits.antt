@@ -182,7 +182,7 @@ module _ {K X : Type 0} {R : K → K → Ordering} (o : IsTotalOrder R) (same : 
   edited_by-front front es (c ∷ cs) h =
       ap (λ l. edited_by R l cs) (edited-front front es c cs h) ∙ edited_by-front front (edited R es c.0 c.1) cs (Before-tail front c cs h)
 
-  -- the parts of a list round a key, by how the first key compares
+  -- the parts of a list around a key, by how the first key compares
   abbrev parts : K × X → List (K × X) → K → Option X → Ordering → List (K × X)
   parts e es key value r = cond (is_lt r) (e ∷ before_key R key es) [] ++ (listed key value ++ past_key R key (cond (is_lt r) (from_key R key es) (e ∷ es)))
 

@@ -1,32 +1,32 @@
--- The items of a state, and the map that they stand for.
-use Rattle.std.proofs.Common.{◌≡◌, ℕ, cond, List, [], ◌∷◌, get_or, Option, Some, None, Result, Ok, Err, OnOk, OnErr, IsTrue, All, refl, sym, ap, subst, ◌∙◌}
+-- The items of a state, and the map that they mean.
+use Rattle.std.proofs.Common.{◌≡◌, ℕ, true, false, cond, List, [], ◌∷◌, get_or, Option, Some, None, Result, Ok, Err, OnOk, OnErr, IsTrue, All, refl, sym, ap, subst, ◌∙◌}
 use Rattle.std.specs.FinMap as finmap
 use Rattle.std.specs.List.{AllByRecursion}
-use Rattle.std.specs.Ordering.{eq_by_cmp}
+use Rattle.std.specs.Ordering.{eq_by_cmp, is_eq}
 use Rattle.std.proofs.lemmas.List.Elements.{All-from_recursion, recursion_from_All}
 use Rattle.host_names.specs.declared.cells.Cell.{Cell}
 use Rattle.host_names.specs.Cells.{cell_cmp}
 use Rattle.host_names.specs.CellOrder.{cell_cmp_total, cell_cmp-IsAntisymmetric}
 use Rattle.site_state.specs.declared.values.Value.{Value}
-use Rattle.site_state.specs.States.{State, is_of_kind, may_stand, with_cell, with_cells}
+use Rattle.site_state.specs.States.{State, AreOfKind, is_of_kind, may_stand, with_cell, with_cells}
 use Rattle.site_state.specs.Edits.{listed, edited, edited_by}
 use Rattle.site_state.specs.Items.{AreItems, AreOfState}
 use Rattle.site_state.specs.Named.{AliasesNamed}
 use Rattle.site_state.specs.Places.{IsPlace, IsGap}
-use Rattle.site_state.proofs.Edits.{Rises-edited, find-edited, AllByRecursion-edited}
+use Rattle.site_state.proofs.Edits.{equal, Rises-edited, find-edited, AllByRecursion-edited}
 use Rattle.site_state.proofs.Entries.{is_sorted-from, find_at, find_in_gap}
 
 abbrev pub Items : Type 0
 Items = List (Cell × Value)
 
--- the map that items stand for
+-- the map that items mean
 abbrev pub state_of : Items → State
 state_of items = finmap.from_sorted items
 
 pub get-state_of : (items : Items) (cell : Cell) → AreItems items → finmap.get (state_of items) cell ≡ finmap.find cell_cmp cell items
 get-state_of items cell are = finmap.get-from_sorted cell_cmp items cell (is_sorted-from cell_cmp items are.sorted)
 
--- the item at the place of a cell is what stands in the cell
+-- the item at the place of a cell is what is in the cell
 pub found_at : (items : Items) (state : State) (cell : Cell) (i : ℕ) (e : Cell × Value) → AreItems items → state_of items ≡ state
     → IsPlace cell_cmp cell items i → e ≡ get_or items i e → (Some e.1 ≡ finmap.get state cell) × IsTrue (is_of_kind cell e.1)
 found_at items state cell i e are is place at =
@@ -41,6 +41,19 @@ pub nothing_at : (items : Items) (state : State) (cell : Cell) (i : ℕ) → Are
 nothing_at items state cell i are is gap =
     sym (ap (λ s. finmap.get s cell) (sym is) ∙ get-state_of items cell are ∙ find_in_gap cell_cmp cell_cmp_total cell items i gap)
 
+-- what is found in a cell is of the cell's kind
+found_of_kind : (items : Items) (c : Cell) → AllByRecursion (λ e. IsTrue (is_of_kind e.0 e.1)) items → IsTrue (may_stand c (finmap.find cell_cmp c items))
+found_of_kind [] c kinds = refl
+found_of_kind (e ∷ items) c kinds =
+    elim (is_eq (cell_cmp c e.0)) as (λ t. is_eq (cell_cmp c e.0) ≡ t → IsTrue (may_stand c (cond t (Some e.1) (finmap.find cell_cmp c items)))) [
+      | true ↦ λ tie. ap (λ x. is_of_kind x e.1) (cell_cmp-IsAntisymmetric c e.0 (equal (cell_cmp c e.0) tie)) ∙ kinds.0
+      | false ↦ λ _. found_of_kind items c kinds.1
+    ] refl
+
+pub of_kind_as : (items : Items) (state : State) → AreItems items → state_of items ≡ state → AreOfKind state
+of_kind_as items state are is c =
+    ap (λ s. may_stand c (finmap.get s c)) (sym is) ∙ ap (may_stand c) (get-state_of items c are) ∙ found_of_kind items c are.of_kind
+
 -- ---- writes
 
 -- what is got after a write
@@ -48,7 +61,7 @@ pub get-with_cell : (state : State) (cell : Cell) (value : Option Value) (q : Ce
 get-with_cell state cell (Some v) q = finmap.get-insert cell_cmp_total state cell v q
 get-with_cell state cell None q = finmap.get-remove cell_cmp_total state cell q
 
--- the items after a write are items, and stand for the map after it
+-- the items after a write are items, and mean the map after it
 pub AreItems-edited : (items : Items) (cell : Cell) (value : Option Value) → AreItems items → IsTrue (may_stand cell value) → AreItems (edited cell_cmp items cell value)
 AreItems-edited items cell value are kind = record {
   sorted = Rises-edited cell_cmp_total cell_cmp-IsAntisymmetric items cell value are.sorted;

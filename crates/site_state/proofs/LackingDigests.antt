@@ -1,5 +1,5 @@
 -- The digests that are missing, in order, and the least of them.
-use Rattle.std.proofs.Common.{◌≡◌, ◌⊎◌, inl, inr, ⊎_elim, ℕ, zero, suc, ◌+◌, ◌<◌, Bool, true, false, cond, List, [], ◌∷◌, length, get_or, drop, take, option_to_list, ◌++◌, filter, filter_map, Option, Some, None, Contains, IsPermutation, Ordering, Less, Equal, Greater, is_gt, refl, sym, ap, subst, ◌∙◌, arith}
+use Rattle.std.proofs.Common.{◌≡◌, ◌⊎◌, inl, inr, ⊎_elim, ℕ, zero, suc, ◌+◌, ◌<◌, Bool, true, false, cond, List, [], ◌∷◌, length, get_or, drop, take, option_to_list, ◌++◌, filter, filter_map, Option, Some, None, IsSome, Contains, IsPermutation, Ordering, Less, Equal, Greater, is_gt, refl, sym, ap, subst, ◌∙◌, arith}
 use Rattle.std.specs.List.{dedup, slice_get, cons_option}
 use Rattle.std.specs.List.Sorted.{IsSorted}
 use Rattle.std.specs.Ordering.{ordering_reverse}
@@ -133,6 +133,26 @@ least_step contents items files i item least next same lt at is =
     let here : item ≡ get_or files i item = at ∙ ap (λ l. get_or l i item) same in
     ap (λ o. lesser o rest) is ∙ lesser_assoc least (if_lacking contents item.1) rest
     ∙ sym (ap (lesser least) (at_drop_more (least_missing_of contents) files i item within ∙ ap (λ (e : List ℕ × Option Digest). lesser (if_lacking contents e.1) rest) (sym here)))
+
+-- of two digests the lesser is there where either is
+some_left : (a b : Option Digest) → IsSome a → IsSome (lesser a b)
+some_left None b h = cc
+some_left (Some a) None h = refl
+some_left (Some a) (Some b) h = elim (is_gt (digest_cmp a b)) as (λ t. IsSome (cond t (Some b) (Some a))) [ true ↦ refl | false ↦ refl ]
+
+some_right : (a b : Option Digest) → IsSome b → IsSome (lesser a b)
+some_right None b h = h
+some_right (Some a) None h = cc
+some_right (Some a) (Some b) h = some_left (Some a) (Some b) refl
+
+-- where a file at some place is lacking, one is missing
+pub lacking_at : (contents : Contents) (files : Paths (Option Digest)) (k : ℕ) (d : List ℕ × Option Digest) → k < length files → d ≡ get_or files k d
+    → IsSome (if_lacking contents d.1) → IsSome (least_missing_of contents files)
+lacking_at contents [] k d lt is some = absurd (omega arith)
+lacking_at contents (f ∷ files) zero d lt is some =
+    some_left (if_lacking contents f.1) (least_missing_of contents files) (subst (λ (e : List ℕ × Option Digest). IsSome (if_lacking contents e.1)) is some)
+lacking_at contents (f ∷ files) (suc k) d lt is some =
+    some_right (if_lacking contents f.1) (least_missing_of contents files) (lacking_at contents files k d (omega arith) is some)
 
 not_gt_itself : (d : Digest) → is_gt (digest_cmp d d) ≡ false
 not_gt_itself d = ap is_gt (tied_itself digest_cmp_total d)

@@ -1,4 +1,4 @@
--- The first alias of a site that stands for a deploy is the least: its cells strictly rise.
+-- The first alias of a site that names a deploy is the least: its cells strictly rise.
 use Rattle.std.proofs.Common.{◌≡◌, ◌⊎◌, inl, inr, ⊎_elim, ℕ, suc, Bool, true, false, cond, ◌&&◌, ◌==◌, T, List, ◌∷◌, [], get_or, Option, Some, None, Ordering, Less, Equal, Greater, is_eq, refl, sym, ap, subst, ◌∙◌, arith, eq-eqb}
 use Rattle.std.specs.FinMap as map
 use Rattle.std.specs.FinMap.{find, is_sorted}
@@ -26,7 +26,7 @@ tail_passes : (a b : Bool) → T (a && b) → T b
 tail_passes true b p = p
 tail_passes false b p = absurd p
 
--- a cell that is not above the first of some that rise stands in none of the others
+-- a cell that is not above the first of some that rise is in none of the others
 absent : (e : Cell × Value) (es : List (Cell × Value)) (q : Cell) (r : Ordering) → IsStrictlySortedBy cell_cmp (keys_of (e ∷ es)) → cell_cmp q e.0 ≡ r → (r ≡ Less) ⊎ (r ≡ Equal) → find cell_cmp q es ≡ None
 absent e es q r sorted at low = find-absent cell_cmp q es (λ k d lt.
     let above : cell_cmp e.0 (get_or es k d).0 ≡ Less = key_at-less cell_cmp (e ∷ es) 0 (suc k) d sorted (omega arith) (omega arith) in
@@ -39,7 +39,7 @@ absent e es q r sorted at low = find-absent cell_cmp q es (λ k d lt.
 names : (site : SiteName) (a b : AliasName) → cell_cmp (cell.Alias site a) (cell.Alias site b) ≡ ordering_then (texts a.0 b.0) Equal
 names site a b = rw (tied_itself nat_list_cmp_total site.0) refl
 
--- what stands for the deploy is its number
+-- what names the deploy is its number
 is_number : (m : ℕ) (v : Value) → stands_for m v ≡ true → v ≡ value.Alias m
 is_number m (value.Live file) e = cc e
 is_number m (value.Kept tree) e = cc e
@@ -58,12 +58,12 @@ module _ (site : SiteName) (m : ℕ) where
   IsLeastIn es None = (name : AliasName) → at es name ≡ Some (value.Alias m) → ⊥
   IsLeastIn es (Some name) = (at es name ≡ Some (value.Alias m)) × ((other : AliasName) → texts other.0 name.0 ≡ Less → at es other ≡ Some (value.Alias m) → ⊥)
 
-  -- whether this stands for the deploy
+  -- whether this names the deploy
   stands : Option Value → Bool
   stands (Some v) = stands_for m v
   stands None = false
 
-  -- the first entry stands for the deploy
+  -- the first entry names the deploy
   by_first : (name : AliasName) (v : Value) (es : List (Cell × Value)) → IsStrictlySortedBy cell_cmp (keys_of ((cell.Alias site name, v) ∷ es)) → stands_for m v ≡ true
       → IsLeastIn ((cell.Alias site name, v) ∷ es) (Some name)
   unfolding at IsLeastIn
@@ -74,7 +74,7 @@ module _ (site : SiteName) (m : ℕ) where
         cc (sym found ∙ ap (λ r. cond (is_eq r) (Some v) (find cell_cmp (cell.Alias site other) es)) below ∙ absent (cell.Alias site name, v) es (cell.Alias site other) Less sorted below (inl refl)),
   )
 
-  -- an entry that does not stand for it is passed over
+  -- an entry that does not name it is passed over
   from_rest : (e : Cell × Value) (es : List (Cell × Value)) (q : Cell) → stands_for m e.1 ≡ false → find cell_cmp q (e ∷ es) ≡ Some (value.Alias m) → find cell_cmp q es ≡ Some (value.Alias m)
   unfolding stands
   from_rest e es q other = elim (eq_by_cmp cell_cmp q e.0) as (λ t. cond t (Some e.1) (find cell_cmp q es) ≡ Some (value.Alias m) → find cell_cmp q es ≡ Some (value.Alias m)) [
@@ -127,7 +127,7 @@ module _ (site : SiteName) (m : ℕ) where
         | false ↦ λ _ _. rest
       ] refl rising
 
--- what stands in the cell of an alias is found among the aliases
+-- what is in the cell of an alias is found among the aliases
 among : (state : State) (site : SiteName) (name : AliasName) → find cell_cmp (cell.Alias site name) (alias_entries state site) ≡ map.get state (cell.Alias site name)
 among state site name =
     find-where_key cell_cmp (is_alias_of site) (cell.Alias site name) (λ c tie. ap (is_alias_of site) (sym (cell_cmp-IsAntisymmetric (cell.Alias site name) c tie))) (map.entries state)

@@ -1,3 +1,4 @@
+pub mod AtError
 pub mod Entries
 pub mod Items
 pub mod Ranges

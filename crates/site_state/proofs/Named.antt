@@ -20,7 +20,7 @@ use Rattle.site_state.proofs.Edits.{equal}
 use Rattle.site_state.proofs.Items.{get-with_cell}
 use Rattle.site_state.proofs.LeastAlias.{least_alias}
 
--- ---- what stands in a cell after a write
+-- ---- what is in a cell after a write
 
 same : (a b : Cell) → eq_by_cmp cell_cmp a b ≡ true → a ≡ b
 same a b e = cell_cmp-IsAntisymmetric a b (equal (cell_cmp a b) e)
@@ -36,14 +36,14 @@ in_other_cell state at v q other =
       | false ↦ λ e. refl
     ] refl
 
--- where nothing stands there is no alias
+-- where nothing is, no alias is
 pub named_empty : AliasesNamed map.empty
 named_empty site name m stands = cc (sym (ap as_number (map.get-empty cell_cmp (cell.Alias site name))) ∙ stands)
 
 -- ---- writes after which each alias names a kept deploy
 
 module _ (state : State) (named : AliasesNamed state) where
-  -- what stands in an alias that is written is kept, and a deploy that an alias stands for is not removed
+  -- what an alias that is written names is kept, and a deploy that an alias names is not removed
   named_after : (at : Cell) (v : Option Value)
       → ((site : SiteName) (name : AliasName) (m : ℕ) → cell.Alias site name ≡ at → as_number v ≡ Some m → is_some (kept_at state site m) ≡ true)
       → ((site : SiteName) (name : AliasName) (m : ℕ) → cell.Kept site m ≡ at → alias_at state site name ≡ Some m → is_some (as_tree v) ≡ true)
@@ -93,7 +93,7 @@ named_two_live state cells s t p q v w named are =
     let both : AliasesNamed (with_cell (with_cell state (cell.Live s p) v) (cell.Live t q) w) = named_live (with_cell state (cell.Live s p) v) (named_live state named s p v) t q w in
     subst (λ l. AliasesNamed (with_cells state l)) (sym are) both
 
--- ---- what stands in an alias, and a deploy that is removed, where each alias names a kept deploy afterwards
+-- ---- what an alias names, and a deploy that is removed, where each alias names a kept deploy afterwards
 
 module _ (state : State) where
   pub alias_to_kept : (site : SiteName) (name : AliasName) (m : ℕ) → AliasesNamed (with_cell state (cell.Alias site name) (Some (value.Alias m))) → is_some (kept_at state site m) ≡ true

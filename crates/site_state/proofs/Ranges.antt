@@ -1,4 +1,4 @@
--- Items that stand side by side in the order of cells: those between two places.
+-- Items that are side by side in the order of cells: those between two places.
 use Rattle.std.proofs.Common.{◌≡◌, ℕ, suc, ◌+◌, ◌-◌, ◌<◌, ◌≤◌, ⊎_elim, Bool, true, false, cond, List, [], ◌∷◌, ◌++◌, length, get_or, take, drop, filter, Less, refl, sym, ap, subst, ◌∙◌, arith}
 use Rattle.std.specs.List.Sorted.{IsStrictlySortedBy, IsPartitionedBy, IsPartitionPoint}
 use Rattle.std.specs.Map.{keys_of}
@@ -18,7 +18,7 @@ module _ {X : Type 0} (test : X → Bool) where
   filter_all [] h = refl
   filter_all (x ∷ xs) h = ap (λ b. cond b (x ∷ filter test xs) (filter test xs)) (h 0 x (omega arith)) ∙ ap (λ l. x ∷ l) (filter_all xs (λ k d lt. h (suc k) d (omega arith)))
 
--- Cells that pass the test stand side by side: behind those that come before them, and first of the others.
+-- Cells that pass the test are side by side: after those that come before them, and first of the others.
 pub record StandTogether (before test : Cell → Bool) : Type 0 where
   pub falls : (a b : Cell) → cell_cmp a b ≡ Less → before b ≡ true → before a ≡ true
   pub apart : (c : Cell) → before c ≡ true → test c ≡ false

@@ -1,4 +1,4 @@
--- What stands in each cell after many writes.
+-- What is in each cell after many writes.
 use Rattle.std.proofs.Common.{◌≡◌, ◌≢◌, ℕ, ◌<◌, true, false, cond, List, [], ◌∷◌, length, get_or, Option, Some, All, refl, sym, ap, ◌∙◌}
 use Rattle.std.specs.FinMap as finmap
 use Rattle.std.specs.List.Sorted.{IsStrictlySortedBy}
@@ -23,7 +23,7 @@ Writes = List (Cell × Option Value)
 abbrev pub Rise : Writes → Type 0
 Rise cells = IsStrictlySortedBy cell_cmp (keys_of cells)
 
--- in a cell that is listed stands what is listed, and in any other what stood there before
+-- in a cell that is listed is what is listed, and in any other what was there before
 pub get-with_cells : (state : State) (cells : Writes) (q : Cell) → Rise cells → finmap.get (with_cells state cells) q ≡ unwrap_or (finmap.find cell_cmp q cells) (finmap.get state q)
 get-with_cells state [] q rise = refl
 get-with_cells state (c ∷ cells) q rise =
@@ -34,7 +34,7 @@ get-with_cells state (c ∷ cells) q rise =
       | false ↦ λ e. refl
     ] refl
 
--- the write at place i is what stands in its cell
+-- the write at place i is what is in its cell
 pub get-with_cells-at : (state : State) (cells : Writes) (i : ℕ) (d : Cell × Option Value) → Rise cells → i < length cells → finmap.get (with_cells state cells) (get_or cells i d).0 ≡ (get_or cells i d).1
 get-with_cells-at state cells i d rise lt =
     let q = (get_or cells i d).0 in

@@ -1,4 +1,4 @@
--- Where the aliases of a site stand among all cells: behind its paths and its kept deploys.
+-- Where the aliases of a site are among all cells: after its paths and its kept deploys.
 use Rattle.std.specs.Prelude.{Bool, true, false}
 use Rattle.std.specs.Cmp.Lexicographic.{slice_cmp}
 use Rattle.std.specs.Ordering.{nat_cmp}
@@ -22,5 +22,6 @@ by_site Less earlier = true
 by_site Equal earlier = earlier
 by_site Greater earlier = false
 
+-- whether the cell comes before the aliases of the site
 abbrev pub is_before_aliases : Cell → SiteName → Bool
 is_before_aliases c site = by_site (slice_cmp nat_cmp (site_of c).0 site.0) (has_earlier_kind c)

@@ -1,4 +1,4 @@
--- Which alias stands for a deploy.
+-- Which alias names a deploy.
 use Rattle.std.specs.Prelude.{◌≡◌, ℕ, Bool, false, ◌==◌, List, [], ◌∷◌, Option, Some, None, if◌then◌else◌}
 use Rattle.std.specs.Cmp.Lexicographic.{slice_cmp}
 use Rattle.std.specs.Ordering.{nat_cmp}
@@ -11,24 +11,26 @@ use Rattle.site_state.specs.States.{State, alias_at, alias_entries}
 use Rattle.site_state.specs.declared.values.Value.{Value}
 use Rattle.site_state.specs.declared.values.Value.TheVariants as value
 
+-- whether this is the value of an alias that names the deploy
 abbrev pub stands_for : ℕ → Value → Bool
 stands_for m (value.Alias n) = n == m
 stands_for m v = false
 
+-- the name of the alias that the cell is
 abbrev pub name_in : Cell → Option AliasName
 name_in (cell.Alias site name) = Some name
 name_in c = None
 
--- the name of the first of these aliases that stands for the deploy
+-- the name of the first of these aliases that names the deploy
 abbrev pub first_alias : ℕ → List (Cell × Value) → Option AliasName
 first_alias m [] = None
 first_alias m (e ∷ aliases) = if stands_for m e.1 then name_in e.0 else first_alias m aliases
 
--- the least alias of the site that stands for the deploy
+-- the least alias of the site that names the deploy
 abbrev pub alias_for : State → SiteName → ℕ → Option AliasName
 alias_for state site m = first_alias m (alias_entries state site)
 
--- An alias of the site that stands for the deploy, where none before it by name does; or that none does.
+-- An alias of the site that names the deploy, where none before it by name does; or that none does.
 abbrev pub IsLeastAlias : State → SiteName → ℕ → Option AliasName → Type 0
 IsLeastAlias state site m None = (name : AliasName) → alias_at state site name ≡ Some m → ⊥
 IsLeastAlias state site m (Some name) =

@@ -9,7 +9,7 @@ use Rattle.site_state.specs.declared.values.Value.{Value}
 use Rattle.site_state.specs.Named.{AliasesNamed}
 use Rattle.site_state.specs.States.{is_of_kind}
 
--- the cells strictly rise, so that each stands once, and each value is of its cell's kind
+-- the cells strictly rise, so that each is there once, and each value is of its cell's kind
 pub record AreItems (items : List (Cell × Value)) : Type 0 where
   pub sorted : IsStrictlySortedBy cell_cmp (map (λ e. e.0) items)
   pub of_kind : AllByRecursion (λ e. IsTrue (is_of_kind e.0 e.1)) items

@@ -1,4 +1,4 @@
--- How pairs whose keys strictly rise lie round a key.
+-- How pairs whose keys strictly rise lie around a key.
 use Rattle.std.specs.Prelude.{List, [], ◌∷◌, Bool, false, if◌then◌else◌}
 use Rattle.std.specs.declared.cmp.Ordering.{Ordering}
 use Rattle.std.specs.Ordering.{is_lt, is_eq}

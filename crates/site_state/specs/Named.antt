@@ -1,4 +1,4 @@
--- What aliases stand for.
+-- What aliases name.
 use Rattle.std.specs.Prelude.{◌≡◌, ℕ, true, Some, is_some}
 use Rattle.host_names.specs.declared.names.AliasName.{AliasName}
 use Rattle.host_names.specs.declared.names.SiteName.{SiteName}

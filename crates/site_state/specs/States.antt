@@ -1,5 +1,5 @@
--- The state of the host: what stands in each cell.
-use Rattle.std.specs.Prelude.{ℕ, List, [], ◌∷◌, Bool, true, false, Option, Some, None, filter}
+-- The state of the host: what is in each cell.
+use Rattle.std.specs.Prelude.{ℕ, List, [], ◌∷◌, Bool, true, false, Option, Some, None, IsTrue, filter}
 use Rattle.std.specs.FinMap as map
 use Rattle.std.specs.Str.{bytes_eq}
 use Rattle.host_names.specs.Cells.{cell_cmp}
@@ -12,10 +12,11 @@ use Rattle.site_state.specs.declared.values.Value.{Value}
 use Rattle.site_state.specs.declared.values.Value.TheVariants as value
 use Rattle.site_state.specs.Files.{Paths}
 
+-- a finite map from cells to values
 abbrev pub State : Type 0
 State = map.FinMap cell_cmp Value
 
--- a file's bytes stand where a file is served, a deploy's files where it is kept, a number where an alias
+-- a file's bytes are where a file is served, a deploy's files where it is kept, a number where an alias
 -- is, and an open deploy where a draft is
 abbrev pub is_of_kind : Cell → Value → Bool
 is_of_kind (cell.Live site path) (value.Live file) = true
@@ -29,6 +30,10 @@ abbrev pub may_stand : Cell → Option Value → Bool
 may_stand c (Some v) = is_of_kind c v
 may_stand c None = true
 
+-- what is in each cell is of the cell's kind
+abbrev pub AreOfKind : State → Type 0
+AreOfKind state = (c : Cell) → IsTrue (may_stand c (map.get state c))
+
 -- the state with this in the cell, or with nothing in it
 abbrev pub with_cell : State → Cell → Option Value → State
 with_cell state c (Some v) = map.insert state c v
@@ -39,35 +44,39 @@ abbrev pub with_cells : State → List (Cell × Option Value) → State
 with_cells state [] = state
 with_cells state (e ∷ cells) = with_cells (with_cell state e.0 e.1) cells
 
--- the file that is served at the path
+-- what is in a path's cell, as a file
 abbrev pub as_file : Option Value → Option (List ℕ)
 as_file (Some (value.Live file)) = Some file
 as_file v = None
 
+-- the file that is served at the path
 abbrev pub live_at : State → SiteName → List ℕ → Option (List ℕ)
 live_at state site path = as_file (map.get state (cell.Live site path))
 
--- the files of the deploy that is kept under the number
+-- what is in a kept deploy's cell, as files
 abbrev pub as_tree : Option Value → Option (Paths (List ℕ))
 as_tree (Some (value.Kept tree)) = Some tree
 as_tree v = None
 
+-- the files of the deploy that is kept under the number
 abbrev pub kept_at : State → SiteName → ℕ → Option (Paths (List ℕ))
 kept_at state site n = as_tree (map.get state (cell.Kept site n))
 
--- the number of the deploy that the alias stands for
+-- what is in an alias's cell, as a number
 abbrev pub as_number : Option Value → Option ℕ
 as_number (Some (value.Alias n)) = Some n
 as_number v = None
 
+-- the number of the deploy that the alias names
 abbrev pub alias_at : State → SiteName → AliasName → Option ℕ
 alias_at state site name = as_number (map.get state (cell.Alias site name))
 
--- the deploy that is open under the number
+-- what is in a draft's cell, as an open deploy
 abbrev pub as_draft : Option Value → Option Draft
 as_draft (Some (value.Draft draft)) = Some draft
 as_draft v = None
 
+-- the deploy that is open under the number
 abbrev pub draft_at : State → SiteName → ℕ → Option Draft
 draft_at state site n = as_draft (map.get state (cell.Draft site n))
 

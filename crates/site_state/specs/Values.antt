@@ -15,15 +15,19 @@ use Rattle.site_state.specs.Listings.{Listed}
 abbrev pub paths_eq : {X : Type 0} → (X → X → Bool) → Paths X → Paths X → Bool
 paths_eq eq = pointwise (λ a b. bytes_eq a.0 b.0 && eq a.1 b.1)
 
+-- the same bytes
 abbrev pub digest_eq : Digest → Digest → Bool
 digest_eq a b = bytes_eq a.0 b.0
 
+-- both patches or neither, with the same digests and removals at the same paths
 abbrev pub listing_eq : Listed → Listed → Bool
 listing_eq a b = beq a.0 b.0 && paths_eq (option_eq digest_eq) a.1 b.1
 
+-- the same listing, and published by itself both or neither
 abbrev pub draft_eq : Draft → Draft → Bool
 draft_eq a b = beq a.auto b.auto && listing_eq a.files b.files
 
+-- of the same kind, and the same
 abbrev pub value_eq : Value → Value → Bool
 value_eq (value.Live a) (value.Live b) = bytes_eq a b
 value_eq (value.Kept a) (value.Kept b) = paths_eq bytes_eq a b

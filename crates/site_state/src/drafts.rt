@@ -1,5 +1,5 @@
 //! Which files of a deploy have not been uploaded.
-ghost use Rattle.std.specs.Prelude.{◌≡◌, ◌++◌, IfOk, OnOk, filter_map, option_to_list, slice_get};
+ghost use Rattle.std.specs.Prelude.{◌≡◌, ◌++◌, IfOk, IsSome, OnErr, OnOk, filter_map, option_to_list, slice_get};
 ghost use Rattle.site_state.specs.Missing;
 ghost use Rattle.site_state.specs.Missing.{AreMissing, least_missing_of};
 
@@ -23,9 +23,10 @@ fn if_lacking<U: Uploads>(uploads: &U, listed: &Option<Digest>) -> Option<Digest
     }
 }
 
-/// Adds a digest, if there is one, behind the others.
+/// Adds a digest, if there is one, after the others.
 fn push_some(digests: &mut Vec<Digest>, digest: Option<Digest>) -> Result<(), AllocError>
-    ensures { OnOk result (digests.new.items ≡ digests.old.items ++ option_to_list digest) }
+    ensures added { OnOk result (digests.new.items ≡ digests.old.items ++ option_to_list digest) }
+    ensures memory { OnErr result (IsSome digest) }
 {
     match digest {
         Some(digest) => Ok(digests.push(digest)?),
@@ -39,7 +40,8 @@ fn lacking<U: Uploads>(
     files: &[(FilePath, Option<Digest>)],
     uploads: &U,
 ) -> Result<Vec<Digest>, AllocError>
-    ensures { IfOk result (λ digests. digests.items ≡ filter_map (λ f. Missing.if_lacking (U.contents uploads.now) f.1) files.now) }
+    ensures digests { IfOk result (λ digests. digests.items ≡ filter_map (λ f. Missing.if_lacking (U.contents uploads.now) f.1) files.now) }
+    ensures memory { OnErr result (IsSome (least_missing_of (U.contents uploads.now) files.now)) }
 {
     let mut digests = Vec::new(alloc);
     for (_, listed) in files {
@@ -48,7 +50,8 @@ fn lacking<U: Uploads>(
     Ok(digests)
 }
 
-/// The digests of the files that a deploy lists and that were not uploaded, in their order, each once.
+/// The digests of the files that a deploy lists and that were not uploaded, in their order, each once. That takes memory
+/// only where there is one.
 pub fn missing<U: Uploads>(
     alloc: Global,
     draft: &Draft,
@@ -56,6 +59,7 @@ pub fn missing<U: Uploads>(
 ) -> Result<Vec<Digest>, AllocError>
     ensures exactly { IfOk result (λ digests. AreMissing (U.contents uploads.now) draft.now.files.1 digests.items) }
     ensures least_first { IfOk result (λ digests. slice_get digests.items 0 ≡ least_missing_of (U.contents uploads.now) draft.now.files.1) }
+    ensures memory { OnErr result (IsSome (least_missing_of (U.contents uploads.now) draft.now.files.1)) }
 {
     let mut digests = lacking(alloc, draft.files.entries(), uploads)?;
     digests.sort_unstable();

@@ -25,17 +25,11 @@ impl Model for File {
 impl File {
     ghost use Rattle.host_names.specs.Blobs.{digest_of};
 
+    /// The file that was uploaded.
     pub fn new(info: Arc<BlobInfo>) -> File
         ensures { result ≡ info.value }
     {
         File { info }
-    }
-
-    /// What was uploaded.
-    pub fn info(&self) -> &Arc<BlobInfo>
-        ensures { result.now.value ≡ self.now }
-    {
-        &self.info
     }
 
     /// Its bytes.

@@ -14,8 +14,8 @@ pub fn the_least_missing_digest_is_least()
     ensures { (uploads : Contents) (files : Paths (Option Digest)) → IsLeastMissing uploads files (least_missing_of uploads files) }
 {}
 
-/// The alias that is found for a deploy stands for it, and no alias before it by name does; none is found only where no
-/// alias of the site stands for the deploy.
+/// The alias that is found for a deploy names it, and no alias before it by name does; none is found only where no
+/// alias of the site names the deploy.
 pub fn the_alias_for_a_deploy_is_least()
     ensures { (state : State) (site : SiteName) (m : ℕ) → IsLeastAlias state site m (alias_for state site m) }
 {}

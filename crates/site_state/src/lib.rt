@@ -3,18 +3,20 @@
 
 mod drafts;
 mod files;
-mod keys;
 mod laws;
 mod listings;
 mod merge;
 mod paths;
+mod site_cells;
 mod states;
 mod values;
+mod writes;
 
 pub use drafts::{least_missing, missing};
 pub use files::File;
 pub use laws::{the_alias_for_a_deploy_is_least, the_least_missing_digest_is_least};
 pub use listings::{Listing, NotAPatch};
 pub use paths::PathMap;
-pub use states::{State, is_alias_of, is_live_of};
+pub use site_cells::{is_alias_of, is_live_of};
+pub use states::State;
 pub use values::{Draft, Tree, Value};

@@ -44,7 +44,7 @@ impl<T: Drop> PathMap<T> {
         self.entries.as_slice()
     }
 
-    /// What stands at a path.
+    /// What is at a path.
     pub fn get(&self, path: &FilePath) -> Option<&T>
         ensures { option_copied result ≡ at_path self.now path.now }
     {

@@ -1,33 +1,28 @@
 //! The state: a finite map from cells to values.
-ghost use Rattle.std.specs.Prelude.{◌≡◌, true, option_copied, All, Ok, IfOk, IfSome, IfErr, IsTrue, OnOk, OnErr};
+ghost use Rattle.std.specs.Prelude.{◌≡◌, true, option_copied, All, None, IfOk, IfSome, IsSome, IsTrue, OnOk, OnErr};
 ghost use Rattle.std.specs.FinMap as map;
 ghost use Rattle.std.specs.List.Sorted.{IsStrictlySortedBy};
 ghost use Rattle.std.specs.Map.{keys_of};
-ghost use Rattle.host_names.specs.Cells.{cell_cmp};
-ghost use Rattle.site_state.specs.AliasRange;
-ghost use Rattle.site_state.specs.Aliases;
-ghost use Rattle.site_state.specs.Edits.{edited};
-ghost use Rattle.site_state.specs.Keys.{cell_of};
-ghost use Rattle.site_state.specs.LiveRange;
+ghost use Rattle.host_names.specs.Cells.{cell_cmp, cell_of};
 ghost use Rattle.site_state.specs.Named.{AliasesNamed};
-ghost use Rattle.site_state.specs.Places.{IsPlace, IsGap};
-ghost use Rattle.site_state.specs.States;
 
 use crate::files::File;
-use crate::keys::Key;
 use crate::merge::merge;
+use crate::site_cells::{
+    first_alias, is_alias_of, is_before_aliases, is_live_of, is_of_site_before,
+};
 use crate::values::{Draft, Tree, Value};
-use host_names::{AliasName, Cell, FilePath, SiteName};
+use crate::writes::{search, write};
+use host_names::{AliasName, Cell, CellRef, FilePath, SiteName};
 use std::alloc::{AllocError, Global};
-use std::cmp::Ordering;
 use std::marker::Model;
 use std::mem;
 
-/// What stands in each cell. Contracts see a finite map. Each value is of its cell's kind, and each alias names a
+/// What is in each cell. Contracts see a finite map. Each value is of its cell's kind, and each alias names a
 /// deploy of its site that is kept.
 #[derive(Drop)]
 pub struct State {
-    /// By cell; each cell stands once.
+    /// By cell; each cell is there once.
     items: Vec<(Cell, Value)>,
 }
 
@@ -47,112 +42,9 @@ impl Model for State {
     ghost invariant = { λ s. AreOfState s.items.items };
 }
 
-/// Where the cell of these parts is among the items, or where it would go.
-fn search(items: &[(Cell, Value)], key: Key<'_>) -> Result<usize, usize>
-    requires { IsStrictlySortedBy cell_cmp (keys_of items.now) }
-    ensures found { IfOk result (λ place. IsPlace cell_cmp (cell_of key.entry) items.now place) }
-    ensures absent { IfErr result (λ place. IsGap cell_cmp (cell_of key.entry) items.now place) }
-{
-    items.binary_search_by(|item| Key::of(&item.0).compare(key))
-}
-
-/// Puts a value into a cell.
-fn put(items: &mut Vec<(Cell, Value)>, cell: Cell, value: Value) -> Result<(), AllocError>
-    requires { IsStrictlySortedBy cell_cmp (keys_of items.old.items) }
-    ensures ok { OnOk result (items.new.items ≡ edited cell_cmp items.old.items cell (Some value)) }
-    ensures err { OnErr result (items.new.items ≡ items.old.items) }
-{
-    match search(items.as_slice(), Key::of(&cell)) {
-        Ok(place) => {
-            items[place] = (cell, value);
-            Ok(())
-        }
-        Err(place) => Ok(items.insert(place, (cell, value))?),
-    }
-}
-
-/// Leaves a cell with nothing in it.
-fn take(items: &mut Vec<(Cell, Value)>, cell: &Cell)
-    requires { IsStrictlySortedBy cell_cmp (keys_of items.old.items) }
-    ensures { items.new.items ≡ edited cell_cmp items.old.items cell.now None }
-{
-    match search(items.as_slice(), Key::of(cell)) {
-        Ok(place) => {
-            let _ = items.remove(place);
-        }
-        Err(_) => {}
-    }
-}
-
-/// Writes a value into a cell, or nothing.
-fn write(items: &mut Vec<(Cell, Value)>, cell: Cell, value: Option<Value>) -> Result<(), AllocError>
-    requires { IsStrictlySortedBy cell_cmp (keys_of items.old.items) }
-    ensures ok { OnOk result (items.new.items ≡ edited cell_cmp items.old.items cell value) }
-    ensures err { OnErr result (items.new.items ≡ items.old.items) }
-{
-    match value {
-        Some(value) => put(items, cell, value),
-        None => {
-            take(items, &cell);
-            Ok(())
-        }
-    }
-}
-
-fn is_of_site_before(cell: &Cell, site: &SiteName) -> bool
-    ensures { result ≡ LiveRange.is_of_site_before cell.now site.now }
-{
-    cell.site().cmp(site).is_lt()
-}
-
-fn is_before_aliases(cell: &Cell, site: &SiteName) -> bool
-    ensures { result ≡ AliasRange.is_before_aliases cell.now site.now }
-{
-    match cell.site().cmp(site) {
-        Ordering::Less => true,
-        Ordering::Equal => matches!(cell, Cell::Live(..) | Cell::Kept(..)),
-        Ordering::Greater => false,
-    }
-}
-
-/// Whether a cell is an alias of a site.
-pub fn is_alias_of(cell: &Cell, site: &SiteName) -> bool
-    ensures { result ≡ States.is_alias_of site.now cell.now }
-{
-    match cell {
-        Cell::Alias(own, _) => site == own,
-        Cell::Live(..) | Cell::Kept(..) | Cell::Draft(..) => false,
-    }
-}
-
-/// Whether a cell is a path of a site, at which a file may be served.
-pub fn is_live_of(cell: &Cell, site: &SiteName) -> bool
-    ensures { result ≡ States.is_live_of site.now cell.now }
-{
-    match cell {
-        Cell::Live(own, _) => site == own,
-        Cell::Kept(..) | Cell::Alias(..) | Cell::Draft(..) => false,
-    }
-}
-
-/// The first of these aliases that stands for the deploy of a number.
-fn first_alias(aliases: &[(Cell, Value)], number: u64) -> Option<&AliasName>
-    ensures { option_copied result ≡ Aliases.first_alias number aliases.now }
-{
-    'aliases: for (cell, value) in aliases {
-        if matches!(value, Value::Alias(own) if *own == number) {
-            return match cell {
-                Cell::Alias(_, name) => Some(name),
-                Cell::Live(..) | Cell::Kept(..) | Cell::Draft(..) => None,
-            };
-        }
-    }
-    None
-}
-
 impl State {
     ghost use Rattle.site_state.specs.Aliases.{alias_for};
-    ghost use Rattle.site_state.specs.States.{live_at, kept_at, alias_at, alias_entries, draft_at, live_entries, is_of_kind, may_stand, with_cell, with_cells};
+    ghost use Rattle.site_state.specs.States.{live_at, kept_at, alias_at, alias_entries, draft_at, live_entries, AreOfKind, is_of_kind, may_stand, with_cell, with_cells};
 
     /// A state with nothing in it.
     pub fn new(alloc: Global) -> State
@@ -163,30 +55,30 @@ impl State {
         }
     }
 
-    /// What stands in the cell of these parts.
-    fn find(&self, key: Key<'_>) -> Option<&Value>
-        ensures found { option_copied result ≡ map.get self.now (cell_of key.entry) }
-        ensures of_kind { IfSome result (λ value. IsTrue (is_of_kind (cell_of key.entry) value.now)) }
+    /// What is in a cell.
+    fn find(&self, sought: CellRef<'_>) -> Option<&Value>
+        ensures found { option_copied result ≡ map.get self.now (cell_of sought.entry) }
+        ensures of_kind { IfSome result (λ value. IsTrue (is_of_kind (cell_of sought.entry) value.now)) }
     {
-        match search(self.items.as_slice(), key) {
+        match search(self.items.as_slice(), sought) {
             Ok(place) => Some(&self.items[place].1),
             Err(_) => None,
         }
     }
 
-    /// What stands in a cell.
+    /// What is in a cell.
     pub fn value(&self, cell: &Cell) -> Option<&Value>
         ensures found { option_copied result ≡ map.get self.now cell.now }
         ensures of_kind { IfSome result (λ value. IsTrue (is_of_kind cell.now value.now)) }
     {
-        self.find(Key::of(cell))
+        self.find(cell.as_ref())
     }
 
     /// The file that is served at a path.
     pub fn file(&self, site: &SiteName, path: &FilePath) -> Option<&File>
         ensures { option_copied result ≡ live_at self.now site.now path.now }
     {
-        match self.find(Key::Live(site, path)) {
+        match self.find(CellRef::Live(site, path)) {
             Some(Value::Live(file)) => Some(file),
             _ => None,
         }
@@ -207,17 +99,17 @@ impl State {
     pub fn kept(&self, site: &SiteName, number: u64) -> Option<&Tree>
         ensures { option_copied result ≡ kept_at self.now site.now number }
     {
-        match self.find(Key::Kept(site, number)) {
+        match self.find(CellRef::Kept(site, number)) {
             Some(Value::Kept(tree)) => Some(tree),
             _ => None,
         }
     }
 
-    /// The number of the deploy that an alias stands for.
+    /// The number of the deploy that an alias names.
     pub fn alias(&self, site: &SiteName, name: &AliasName) -> Option<u64>
         ensures { result ≡ alias_at self.now site.now name.now }
     {
-        match self.find(Key::Alias(site, name)) {
+        match self.find(CellRef::Alias(site, name)) {
             Some(Value::Alias(number)) => Some(*number),
             _ => None,
         }
@@ -229,12 +121,12 @@ impl State {
     {
         let items = self.items.as_slice();
         let start = items.partition_point(|item| is_before_aliases(&item.0, site));
-        let behind = &items[start..];
-        let count = behind.partition_point(|item| is_alias_of(&item.0, site));
-        &behind[..count]
+        let after = &items[start..];
+        let count = after.partition_point(|item| is_alias_of(&item.0, site));
+        &after[..count]
     }
 
-    /// The first alias of a site, by name, that stands for the deploy of a number.
+    /// The first alias of a site, by name, that names the deploy of a number.
     pub fn alias_for(&self, site: &SiteName, number: u64) -> Option<&AliasName>
         ensures { option_copied result ≡ alias_for self.now site.now number }
     {
@@ -245,7 +137,7 @@ impl State {
     pub fn draft(&self, site: &SiteName, number: u64) -> Option<&Draft>
         ensures { option_copied result ≡ draft_at self.now site.now number }
     {
-        match self.find(Key::Draft(site, number)) {
+        match self.find(CellRef::Draft(site, number)) {
             Some(Value::Draft(draft)) => Some(draft),
             _ => None,
         }
@@ -256,6 +148,13 @@ impl State {
         ensures { AliasesNamed self.now }
     {
         // The proof knows what the type keeps only where a field is used.
+        let _ = &self.items;
+    }
+
+    /// What is in each cell is of the cell's kind.
+    pub fn values_are_of_kind(&self)
+        ensures { AreOfKind self.now }
+    {
         let _ = &self.items;
     }
 
@@ -282,29 +181,28 @@ impl State {
         }
     }
 
-    /// Writes into one cell a value of its kind, or nothing. Without memory nothing changes.
+    /// Writes into one cell a value of its kind, or nothing. That takes memory only where a value comes into an empty
+    /// cell; without memory nothing changes.
     pub fn set_cell(&mut self, cell: Cell, value: Option<Value>) -> Result<(), AllocError>
         requires of_kind { IsTrue (may_stand cell value) }
         requires named { AliasesNamed (with_cell self.old cell value) }
         ensures ok { OnOk result (self.new ≡ with_cell self.old cell value) }
         ensures err { OnErr result (self.new ≡ self.old) }
+        ensures memory { OnErr result (IsSome value × (map.get self.old cell ≡ None)) }
     {
         write(&mut self.items, cell, value)
     }
 
     /// Writes into each of these cells, which strictly rise, a value of its kind, or nothing. All are written,
     /// or, without memory, none. The work is linear in the state and the cells.
-    pub fn set_cells(
-        &mut self,
-        alloc: Global,
-        cells: Vec<(Cell, Option<Value>)>,
-    ) -> Result<(), AllocError>
+    pub fn set_cells(&mut self, cells: Vec<(Cell, Option<Value>)>) -> Result<(), AllocError>
         requires rising { IsStrictlySortedBy cell_cmp (keys_of cells.items) }
         requires of_kind { All (λ e. IsTrue (may_stand e.0 e.1)) cells.items }
         requires named { AliasesNamed (with_cells self.old cells.items) }
         ensures ok { OnOk result (self.new ≡ with_cells self.old cells.items) }
         ensures err { OnErr result (self.new ≡ self.old) }
     {
+        let alloc = *self.items.allocator();
         let mut merged = Vec::with_capacity(alloc, self.items.len() + cells.len())?;
         let items = mem::replace(&mut self.items, Vec::new(alloc));
         merge(items, cells, &mut merged);
@@ -313,11 +211,11 @@ impl State {
     }
 
     /// A copy, which shares the files, the trees and the lists.
-    pub fn copy(&self, alloc: Global) -> Result<State, AllocError>
+    pub fn copy(&self) -> Result<State, AllocError>
         ensures { IfOk result (λ copy. copy ≡ self.now) }
     {
         Ok(State {
-            items: self.items.as_slice().to_vec(alloc)?,
+            items: self.items.as_slice().to_vec(*self.items.allocator())?,
         })
     }
 }

@@ -1,4 +1,4 @@
-//! What stands in a cell.
+//! What is in a cell.
 use crate::files::File;
 use crate::listings::Listing;
 use crate::paths::PathMap;
@@ -16,14 +16,14 @@ pub struct Draft {
     pub files: Listing,
 }
 
-/// What stands in a cell; the kinds are those of cells.
+/// What is in a cell; the kinds are those of cells.
 #[derive(Drop)]
 pub enum Value {
     /// The file that is served.
     Live(File),
     /// The files of a published deploy.
     Kept(Tree),
-    /// The number of the deploy that an alias stands for.
+    /// The number of the deploy that an alias names.
     Alias(u64),
     /// An open deploy.
     Draft(Draft),

@@ -21,7 +21,7 @@ one patch /b /d=abc /e -> 7
 two open /b=hello -> 8
 two publish 8 -> 9";
 
-/// Cells of a site, some of which nothing ever stands in.
+/// Cells of a site, some of which are always empty.
 const CELLS: &str =
     "live /a, live /b, live /c, live /d, live /e, kept 1, kept 3, kept 6, kept 7, kept 8, kept 10, \
     alias later, alias next, draft 1, draft 3, draft 6, draft 7, draft 8, draft 10";
@@ -51,7 +51,7 @@ fn separate(text: &mut String, separator: &str) -> Result<(), AllocError> {
     Ok(())
 }
 
-/// Adds a change: its cell, with what stands there before and what stands there afterwards.
+/// Adds a change: its cell, with what is there before and what is there afterwards.
 fn push_change(text: &mut String, change: &Change) -> Result<(), AllocError> {
     write!(text, "{}: ", change.cell)?;
     push_held(text, &change.before)?;

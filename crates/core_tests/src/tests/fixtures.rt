@@ -35,7 +35,7 @@ pub(crate) fn file(alloc: Global, bytes: &str) -> Result<File, AllocError> {
 pub(crate) fn uploaded(alloc: Global, words: &str) -> Result<MemoryUploads, AllocError> {
     let mut uploads = MemoryUploads::new(alloc);
     for word in words.split(' ') {
-        uploads.add(alloc, Vec::from_slice(alloc, word.as_bytes())?)?;
+        uploads.add(Vec::from_slice(alloc, word.as_bytes())?)?;
     }
     Ok(uploads)
 }
@@ -202,7 +202,7 @@ fn push_drafts(text: &mut String, state: &State, site: &SiteName) -> Result<(), 
     Ok(())
 }
 
-/// Adds what a site has: its files, the deploys below 9 that are kept, the one that `next` stands for, and the deploys
+/// Adds what a site has: its files, the deploys below 9 that are kept, the one that `next` names, and the deploys
 /// below 9 that are open.
 pub(crate) fn push_site(text: &mut String, state: &State, site: &str) -> Result<(), Fail> {
     text.push_str(site)?;

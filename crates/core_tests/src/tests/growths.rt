@@ -1,5 +1,5 @@
 //! A commit and an undo of each kind. Where an allocation is refused in one of them, which scripts/fail-allocations
-//! does in turn, the call ends for want of memory with the history as it was, or in its right answer.
+//! does in turn, the call ends out of memory with the history as it was, or in its right answer.
 use super::fixtures::{halves, push_site};
 use super::hosts::{Host, command, host_of};
 use change_undo::History;
@@ -25,7 +25,7 @@ fn push_clashes(text: &mut String, history: &History) -> Result<(), AllocError> 
     Ok(())
 }
 
-/// What is seen of a history: the number of its entries, what stands at the site `one`, and the clashes of its changes.
+/// What is seen of a history: the number of its entries, what is served at the site `one`, and the clashes of its changes.
 /// It takes memory once, so that few places lie outside what is tested.
 fn seen(alloc: Global, history: &History) -> Result<String, Fail> {
     let mut text = String::with_capacity(alloc, 200)?;
@@ -48,7 +48,7 @@ fn assert_newest(rt: &impl Abort, host: &Host, number: u64, wanted: &str) -> Res
     assert_seen(rt, host, wanted)
 }
 
-/// Commits a command that is accepted, and leaves what is wanted; or leaves what was seen before, for want of memory.
+/// Commits a command that is accepted, and leaves what is wanted; or leaves what was seen before, out of memory.
 fn assert_commit_after(
     rt: &impl Abort,
     host: &mut Host,
@@ -66,7 +66,7 @@ fn assert_commit_after(
     }
 }
 
-/// Commits a command that is accepted, and leaves what is wanted; or leaves all as it was, for want of memory.
+/// Commits a command that is accepted, and leaves what is wanted; or leaves all as it was, out of memory.
 fn assert_commit(rt: &impl Abort, host: &mut Host, words: &str, wanted: &str) -> Result<(), Fail> {
     let before = seen(host.alloc, &host.history)?;
     assert_commit_after(rt, host, words, before.as_str(), wanted)
@@ -85,7 +85,7 @@ fn assert_undo_again(
     Ok(())
 }
 
-/// Undoes a change, which is allowed, and leaves what is wanted; or leaves what was seen before, for want of memory, so
+/// Undoes a change, which is allowed, and leaves what is wanted; or leaves what was seen before, out of memory, so
 /// that the same undo succeeds once there is some.
 fn assert_undo_after(
     rt: &impl Abort,
@@ -104,7 +104,7 @@ fn assert_undo_after(
     }
 }
 
-/// Undoes a change, which is allowed, and leaves what is wanted; or leaves all as it was, for want of memory.
+/// Undoes a change, which is allowed, and leaves what is wanted; or leaves all as it was, out of memory.
 fn assert_undo(rt: &impl Abort, host: &mut Host, change: u64, wanted: &str) -> Result<(), Fail> {
     let before = seen(host.alloc, &host.history)?;
     assert_undo_after(rt, host, change, before.as_str(), wanted)

@@ -107,7 +107,7 @@ one undo 1 -> change 5 needs it, at draft 1";
 /// The clash of a change: the later change, and the cell with its site.
 fn told_clash(alloc: Global, history: &History, change: u64) -> Result<String, AllocError> {
     match history.clash(change) {
-        Some((later, cell)) => format!(in alloc; "{later} at {cell} of {}", cell.site()),
+        Some((later, cell)) => format!(in alloc; "{later} at {cell} of {}", cell.as_ref().site()),
         None => format!(in alloc; "none"),
     }
 }

@@ -1,12 +1,12 @@
 //! Histories with their uploads, and the commands that are put to them, in words.
 ghost use Rattle.std.specs.Prelude.{◌≤◌};
-ghost use Rattle.site_change.specs.Changes.{IsWithin};
 
 use super::fixtures::{assert_text, draft, halves, uploaded};
 use change_undo::{CommitError, GREATEST_LIMIT, History, UndoError};
 use host_names::{AliasName, FilePath, MemoryUploads, SiteName};
 use site_change::Command;
 use std::alloc::Global;
+use std::marker::Model;
 use std::process::Abort;
 use std::test::Fail;
 
@@ -78,7 +78,23 @@ pub(crate) struct Host {
     pub(crate) alloc: Global,
     pub(crate) uploads: MemoryUploads,
     pub(crate) history: History,
-    ghost grown: { IsWithin history.found uploads },
+}
+
+impl Model for Host {
+    ghost use Rattle.std.specs.Coded.{coded×};
+    ghost use Rattle.host_names.specs.Blobs.{Contents};
+    ghost use Rattle.host_names.specs.contracts.uploads.MemoryUploads as memory;
+    ghost use Rattle.change_undo.specs.contracts.histories.History as histories;
+    ghost use Rattle.change_undo.specs.Histories.{Past};
+    ghost use Rattle.change_undo.specs.Plans.{IsHistoryOver};
+
+    ghost Value = { Contents × Past };
+
+    ghost coded = { coded× memory.the_row.coded histories.the_row.coded };
+
+    ghost view = { λ h. (h.uploads, h.history) };
+
+    ghost invariant = { λ h. IsHistoryOver h.uploads h.history };
 }
 
 impl Host {
@@ -133,7 +149,7 @@ fn told(host: &mut Host, asked: &str) -> Result<String, Fail> {
     }
 }
 
-/// Asks for what stands in each row after a site, and asserts what stands after the arrow: the number of the entry
+/// Asks for what is in each row after a site, and asserts what is after the arrow: the number of the entry
 /// that it becomes, or the words of the reason to refuse it.
 pub(crate) fn assert_told(rt: &impl Abort, host: &mut Host, rows: &str) -> Result<(), Fail> {
     for row in rows.lines() {

@@ -138,7 +138,7 @@ fn cells_stand_in_order(rt: HostRuntime) -> Result<(), Fail> {
 /// A copy of a cell of the site `one`, as it is printed.
 fn printed(alloc: Global, words: &str) -> Result<String, Fail> {
     let cell = cell(alloc, "one", words)?;
-    Ok(format!(in alloc; "{} of {}", cell.clone()?, cell.site())?)
+    Ok(format!(in alloc; "{} of {}", cell.clone()?, cell.as_ref().site())?)
 }
 
 #[test]
@@ -159,17 +159,13 @@ fn cells_are_printed_by_their_kinds(rt: HostRuntime) -> Result<(), Fail> {
     Ok(())
 }
 
-fn add(
-    alloc: Global,
-    uploads: &mut MemoryUploads,
-    bytes: &[u8],
-) -> Result<Arc<BlobInfo>, AllocError> {
-    uploads.add(alloc, Vec::from_slice(alloc, bytes)?)
+fn add(alloc: Global, uploads: &mut MemoryUploads, bytes: &[u8]) -> Result<Digest, AllocError> {
+    uploads.add(Vec::from_slice(alloc, bytes)?)
 }
 
-fn keep(alloc: Global, uploads: &mut MemoryUploads, bytes: &[u8]) -> Result<(), AllocError> {
-    let file = Arc::new(alloc, BlobInfo::of(alloc, bytes)?)?;
-    uploads.keep(file)
+/// A file of these bytes, that was uploaded elsewhere.
+fn shared(alloc: Global, bytes: &[u8]) -> Result<Arc<BlobInfo>, AllocError> {
+    Ok(Arc::new(alloc, BlobInfo::of(alloc, bytes)?)?)
 }
 
 /// Asserts which bytes were uploaded under the digest of these.
@@ -181,7 +177,7 @@ fn assert_found(rt: &impl Abort, uploads: &MemoryUploads, bytes: &[u8], wanted: 
 fn add_three(alloc: Global, uploads: &mut MemoryUploads) -> Result<(), AllocError> {
     add(alloc, uploads, b"hello")?;
     add(alloc, uploads, b"")?;
-    keep(alloc, uploads, b"shared")
+    uploads.keep(shared(alloc, b"shared")?)
 }
 
 #[test]
@@ -203,11 +199,13 @@ fn assert_owners(rt: &impl Abort, file: &Arc<BlobInfo>, wanted: usize) {
 #[test]
 fn uploads_keep_one_copy_of_a_file(rt: HostRuntime) -> Result<(), Fail> {
     let mut uploads = MemoryUploads::new(rt.alloc());
-    let first = add(rt.alloc(), &mut uploads, b"hello")?;
+    let first = shared(rt.alloc(), b"hello")?;
+    uploads.keep(Arc::try_clone(&first)?)?;
     assert_owners(&rt, &first, 2);
-    let again = add(rt.alloc(), &mut uploads, b"hello")?;
-    assert_owners(&rt, &first, 3);
-    uploads.keep(again)?;
+    uploads.keep(shared(rt.alloc(), b"hello")?)?;
     assert_owners(&rt, &first, 2);
+    let digest = add(rt.alloc(), &mut uploads, b"hello")?;
+    assert_owners(&rt, &first, 2);
+    assert_eq!(&rt; digest, first.digest());
     Ok(())
 }

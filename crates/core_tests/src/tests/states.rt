@@ -130,7 +130,7 @@ fn a_value_is_found_by_its_cell(rt: HostRuntime) -> Result<(), Fail> {
 /// A copy of a state between two values of a cell.
 fn copy_between(alloc: Global, state: &mut State) -> Result<State, Fail> {
     write_words(alloc, state, "one", "live /a", "file old")?;
-    let copy = state.copy(alloc)?;
+    let copy = state.copy()?;
     write_words(alloc, state, "one", "live /a", "file new")?;
     Ok(copy)
 }
@@ -172,7 +172,7 @@ fn write_two(
     }
     state.aliases_are_named();
     let cells = vec![in alloc; (a, first.2), (b, second.2)]?;
-    state.set_cells(alloc, cells)?;
+    state.set_cells(cells)?;
     Ok(true)
 }
 

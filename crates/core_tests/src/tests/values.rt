@@ -10,7 +10,6 @@ use std::test::Fail;
 
 fn assert_file(rt: &impl Abort, file: &File, bytes: &[u8], digest: &str) {
     assert_eq!(rt; file.bytes(), bytes);
-    assert_eq!(rt; file.info().bytes(), bytes);
     assert_text(rt, "a digest", file.digest().to_hex().as_str(), digest);
 }
 

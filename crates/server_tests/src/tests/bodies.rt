@@ -2,8 +2,8 @@
 
 use super::asserts::assert_number;
 use super::fakes::{NEVER, Trickle};
-use super::wires::{assert_body, assert_head, assert_no_body, assert_no_head};
-use http_wire::{BodyFault, HeadFault, Reading, Source, Wire};
+use super::wires::{Reader, assert_body, assert_head, assert_no_body, assert_no_head, given};
+use http_wire::{BodyFault, Duplex, HeadFault, Reading, Source};
 use std::alloc::Global;
 use std::process::Abort;
 use std::test::Fail;
@@ -17,7 +17,7 @@ fn assert_fails_in_the_head<S: Source + Drop>(
     alloc: Global,
     source: S,
 ) -> Result<(), Fail> {
-    let mut wire = Wire::new(alloc, source)?;
+    let mut wire = Reader::new(alloc, given(source))?;
     assert_no_head(rt, alloc, &mut wire, HeadFault::ReadFault);
     assert_head(rt, alloc, &mut wire, "PUT", "/")?;
     assert_body(rt, alloc, &mut wire, "body")
@@ -40,7 +40,7 @@ fn assert_fails_in_the_body<S: Source + Drop>(
     alloc: Global,
     source: S,
 ) -> Result<(), Fail> {
-    let mut wire = Wire::new(alloc, source)?;
+    let mut wire = Reader::new(alloc, given(source))?;
     assert_head(rt, alloc, &mut wire, "PUT", "/")?;
     assert_no_body(rt, alloc, &mut wire, 4, BodyFault::ReadFault);
     Ok(())
@@ -56,11 +56,11 @@ fn a_read_fails_at_each_byte_of_a_body(rt: HostRuntime) -> Result<(), Fail> {
     Ok(())
 }
 
-/// Asserts that a wire has the body in pieces and reads nothing behind it, where the next read fails.
-fn assert_pieces<S: Source>(
+/// Asserts that a wire has the body in pieces and reads nothing after it, where the next read fails.
+fn assert_pieces<D: Duplex>(
     rt: &impl Abort,
     alloc: Global,
-    wire: &mut Wire<S>,
+    wire: &mut Reader<D>,
 ) -> Result<(), Fail> {
     assert_head(rt, alloc, wire, "PUT", "/")?;
     assert_body(rt, alloc, wire, "bo")?;
@@ -71,14 +71,18 @@ fn assert_pieces<S: Source>(
 }
 
 #[test]
-fn reads_bodies_in_a_row_and_nothing_behind_them(rt: HostRuntime) -> Result<(), Fail> {
+fn reads_bodies_in_a_row_and_nothing_after_them(rt: HostRuntime) -> Result<(), Fail> {
     let alloc = rt.alloc();
     let source = Reading(Trickle::new(STREAM, STREAM.len()));
-    assert_pieces(&rt, alloc, &mut Wire::new(alloc, source)?)
+    assert_pieces(&rt, alloc, &mut Reader::new(alloc, given(source))?)
 }
 
 /// Asserts that a wire ends in a body of 4 bytes, and has no head then.
-fn assert_ends<S: Source>(rt: &impl Abort, alloc: Global, wire: &mut Wire<S>) -> Result<(), Fail> {
+fn assert_ends<D: Duplex>(
+    rt: &impl Abort,
+    alloc: Global,
+    wire: &mut Reader<D>,
+) -> Result<(), Fail> {
     assert_head(rt, alloc, wire, "PUT", "/")?;
     assert_no_body(rt, alloc, wire, 4, BodyFault::Ended);
     assert_no_head(rt, alloc, wire, HeadFault::Ended);
@@ -89,5 +93,5 @@ fn assert_ends<S: Source>(rt: &impl Abort, alloc: Global, wire: &mut Wire<S>) ->
 fn a_body_ends_in_its_midst(rt: HostRuntime) -> Result<(), Fail> {
     let alloc = rt.alloc();
     let source = Reading(Trickle::new(b"PUT / HTTP/1.1\n\nbod", NEVER));
-    assert_ends(&rt, alloc, &mut Wire::new(alloc, source)?)
+    assert_ends(&rt, alloc, &mut Reader::new(alloc, given(source))?)
 }

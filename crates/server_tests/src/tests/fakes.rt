@@ -7,7 +7,7 @@ use std::io::{ErrorKind, Read, Write};
 /// No call has this number.
 pub(crate) const NEVER: usize = usize::MAX;
 
-/// Gives one byte a call. One call fails; those behind it would go on.
+/// Gives one byte a call. One call fails; those after it would go on.
 #[derive(Drop)]
 pub(crate) struct Trickle<'a> {
     bytes: &'a [u8],
@@ -45,7 +45,7 @@ impl Read for Trickle<'_> {
     }
 }
 
-/// Takes some bytes a call. One call fails, or takes no byte; those behind it would go on.
+/// Takes some bytes a call. One call fails, or takes no byte; those after it would go on.
 #[derive(Drop)]
 pub(crate) struct Narrow {
     pub(crate) held: Vec<u8>,

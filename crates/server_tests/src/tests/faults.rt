@@ -7,7 +7,7 @@ use super::talks::{
     joined, new_house,
 };
 use host_server::{ConnectionFault, SoloHouse, serve_connection};
-use http_wire::{Reading, Source, Writing};
+use http_wire::{Pair, Reading, Source, Writing};
 use std::alloc::Global;
 use std::process::Abort;
 use std::test::Fail;
@@ -26,7 +26,7 @@ fn assert_front_answered<S: Source + Drop>(
     assert_history(rt, alloc, house, count)
 }
 
-/// Asserts what comes of the run where this read fails: each before it gave a byte, and nothing is read behind it.
+/// Asserts what comes of the run where this read fails: each before it gave a byte, and nothing is read after it.
 fn assert_read_fails(rt: &impl Abort, alloc: Global, asked: &str, call: usize) -> Result<(), Fail> {
     let whole = count_whole(&REQUESTS, call);
     let mut house = new_house(alloc);
@@ -46,8 +46,8 @@ fn a_read_fails_at_each_call(rt: HostRuntime) -> Result<(), Fail> {
     Ok(())
 }
 
-/// Asserts what comes of the run where the write behind so many bytes fails, or takes none: nothing is written behind
-/// it, and the request stands whose reply is cut.
+/// Asserts what comes of the run where the write after so many bytes fails, or takes none: nothing is written after
+/// it, and what the request did whose reply is cut remains.
 fn assert_cut(
     rt: &impl Abort,
     alloc: Global,
@@ -58,11 +58,14 @@ fn assert_cut(
 ) -> Result<(), Fail> {
     let front = replies.get(..count).ok_or("no such front")?;
     let mut house = new_house(alloc);
-    let mut out = Narrow::new(alloc, 1, count, fails);
-    let ended = serve_connection(alloc, asked.as_bytes(), &mut Writing(&mut out), &mut house);
+    let mut duplex = Pair {
+        source: asked.as_bytes(),
+        sink: Writing(Narrow::new(alloc, 1, count, fails)),
+    };
+    let ended = serve_connection(alloc, &mut duplex, &mut house);
     assert_ended(rt, ended, Err(ConnectionFault::OutputFault));
-    assert_text(rt, out.held.as_slice(), front);
-    assert_number(rt, out.calls, count.saturating_add(1));
+    assert_text(rt, duplex.sink.0.held.as_slice(), front);
+    assert_number(rt, duplex.sink.0.calls, count.saturating_add(1));
     let answered = count_whole(&REPLIES, count).saturating_add(1);
     assert_history(rt, alloc, &house, answered)
 }

@@ -2,9 +2,11 @@
 
 use super::asserts::assert_number;
 use super::fakes::{NEVER, Trickle};
-use super::wires::{assert_body, assert_head, assert_no_head, assert_parts, first_head};
+use super::wires::{
+    Reader, assert_body, assert_head, assert_no_head, assert_parts, first_head, given,
+};
 use http::Version;
-use http_wire::{HEAD_LIMIT, Head, HeadFault, Reading, Source, Wire, check_body};
+use http_wire::{Duplex, HEAD_LIMIT, Head, HeadFault, Reading, check_body};
 use std::alloc::{AllocError, Global};
 use std::process::Abort;
 use std::test::Fail;
@@ -14,7 +16,7 @@ const TWO: &[u8] = b"\r\n\nPUT /a HTTP/1.1\nHost: x\ncontent-LENGTH: 3\n\n\
     abcGET /b?q HTTP/1.1\r\nAccept: */*\r\n\r\n";
 
 /// Asserts that a wire has these two requests and then ends.
-fn assert_two<S: Source>(rt: &impl Abort, alloc: Global, wire: &mut Wire<S>) -> Result<(), Fail> {
+fn assert_two<D: Duplex>(rt: &impl Abort, alloc: Global, wire: &mut Reader<D>) -> Result<(), Fail> {
     assert_head(rt, alloc, wire, "PUT", "/a")?;
     assert_body(rt, alloc, wire, "abc")?;
     assert_head(rt, alloc, wire, "GET", "/b?q")?;
@@ -27,7 +29,8 @@ fn assert_two<S: Source>(rt: &impl Abort, alloc: Global, wire: &mut Wire<S>) -> 
 fn reads_two_requests_one_byte_a_call(rt: HostRuntime) -> Result<(), Fail> {
     let alloc = rt.alloc();
     let mut source = Trickle::new(TWO, NEVER);
-    assert_two(&rt, alloc, &mut Wire::new(alloc, Reading(&mut source))?)?;
+    let duplex = given(Reading(&mut source));
+    assert_two(&rt, alloc, &mut Reader::new(alloc, duplex)?)?;
     assert_number(&rt, source.calls, TWO.len() + 1);
     Ok(())
 }
@@ -35,18 +38,18 @@ fn reads_two_requests_one_byte_a_call(rt: HostRuntime) -> Result<(), Fail> {
 const REFUSED: &[u8] = b"GET / HTTP/1.0\r\n\r\nGET a HTTP/1.1\r\n\r\nGET / HTTP/1.1\nno colon\n\n\
     \rGET / HTTP/1.1\n\nGET /last HTTP/1.1\n\n";
 
-// A connection ends behind the first of them.
+// A connection ends after the first of them.
 #[test]
 fn takes_heads_that_are_not_served_whole(rt: HostRuntime) -> Result<(), Fail> {
     let alloc = rt.alloc();
-    let mut wire = Wire::new(alloc, REFUSED)?;
+    let mut wire = Reader::new(alloc, given(REFUSED))?;
     for _ in 0..4u8 {
         assert_no_head(&rt, alloc, &mut wire, HeadFault::BadHead);
     }
     assert_head(&rt, alloc, &mut wire, "GET", "/last")
 }
 
-/// A head of one byte too many before its end, and a byte behind it.
+/// A head of one byte too many before its end, and a byte after it.
 fn long_head(alloc: Global) -> Result<String, AllocError> {
     let mut text = String::from_str(alloc, "GET / HTTP/1.1\r\nLong: ")?;
     for _ in text.len()..HEAD_LIMIT {
@@ -57,10 +60,10 @@ fn long_head(alloc: Global) -> Result<String, AllocError> {
 }
 
 /// Asserts that a wire refuses a head again and again, and then has these bytes.
-fn assert_refuses<S: Source>(
+fn assert_refuses<D: Duplex>(
     rt: &impl Abort,
     alloc: Global,
-    wire: &mut Wire<S>,
+    wire: &mut Reader<D>,
     left: &str,
 ) -> Result<(), Fail> {
     assert_no_head(rt, alloc, wire, HeadFault::BadHead);
@@ -73,10 +76,11 @@ fn leaves_a_head_that_is_too_long_in_the_stream(rt: HostRuntime) -> Result<(), F
     let alloc = rt.alloc();
     let text = long_head(alloc)?;
     let stream = text.as_bytes();
-    assert_refuses(&rt, alloc, &mut Wire::new(alloc, stream)?, text.as_str())
+    let mut wire = Reader::new(alloc, given(stream))?;
+    assert_refuses(&rt, alloc, &mut wire, text.as_str())
 }
 
-/// A head with a field that comes twice, an empty one, and blanks round values.
+/// A head with a field that comes twice, an empty one, and blanks around values.
 const FIELDS: &[u8] =
     b"OPTIONS /a?b#c HTTP/1.1\nA:1\ncontent-length: 018446744073709551615\na:\t3 \nC:\n\n";
 

@@ -6,7 +6,7 @@ use super::talks::{
     joined, new_house,
 };
 use host_server::{SoloHouse, serve_connection};
-use http_wire::Writing;
+use http_wire::{Pair, Writing};
 use std::alloc::Global;
 use std::process::Abort;
 use std::test::Fail;
@@ -76,7 +76,7 @@ const ENTRIES: [&str; 10] = [
     "POST /api/v1/sites/one/undo HTTP/1.1\r\nContent-Length: 12\r\n\r\n{\"change\":5}",
 ];
 
-/// Six entries, behind which each of these could be the next.
+/// Six entries, after which each of these could be the next.
 const FILLING: [&str; 5] = [
     OPENING,
     "POST /api/v1/sites/one/deploys HTTP/1.1\r\nContent-Length: 62\r\n\r\n\
@@ -100,8 +100,11 @@ fn enter(
     requests: &[&str],
 ) -> Result<(), Fail> {
     let stream = joined(alloc, requests)?;
-    let mut out = Vec::new(alloc);
-    let ended = serve_connection(alloc, stream.as_bytes(), &mut Writing(&mut out), house);
+    let mut duplex = Pair {
+        source: stream.as_bytes(),
+        sink: Writing(Vec::new(alloc)),
+    };
+    let ended = serve_connection(alloc, &mut duplex, house);
     assert_ended(rt, ended, Ok(()));
     Ok(())
 }

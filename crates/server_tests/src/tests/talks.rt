@@ -4,8 +4,8 @@ use super::asserts::assert_text;
 use change_undo::GREATEST_LIMIT;
 use host_api::{Told, text};
 use host_names::{Digest, SiteName, Uploads};
-use host_server::{ConnectionFault, SoloHouse, serve_connection};
-use http_wire::{Source, Writing};
+use host_server::{ConnectionFault, SoloHouse, list_changes, serve_connection};
+use http_wire::{Pair, Source, Writing};
 use std::alloc::{AllocError, Global};
 use std::process::Abort;
 use std::test::Fail;
@@ -111,9 +111,12 @@ pub(crate) fn assert_serves<S: Source + Drop>(
     wanted: &str,
     ending: Result<(), ConnectionFault>,
 ) {
-    let mut out = Vec::new(alloc);
-    let ended = serve_connection(alloc, source, &mut Writing(&mut out), house);
-    assert_text(rt, out.as_slice(), wanted);
+    let mut duplex = Pair {
+        source,
+        sink: Writing(Vec::new(alloc)),
+    };
+    let ended = serve_connection(alloc, &mut duplex, house);
+    assert_text(rt, duplex.sink.0.as_slice(), wanted);
     assert_ended(rt, ended, ending);
 }
 
@@ -133,7 +136,7 @@ pub(crate) fn assert_answers(
 
 /// The entries of the site `one`.
 pub(crate) fn entries(alloc: Global, house: &SoloHouse) -> Result<String, Fail> {
-    let lines = house.changes(alloc, &SiteName::new("one")?)?;
+    let lines = list_changes(alloc, house, &SiteName::new("one")?)?;
     Ok(text(alloc, &Told::Changes(lines))?)
 }
 

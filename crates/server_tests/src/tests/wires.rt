@@ -1,15 +1,23 @@
 //! What a wire answers, asserted.
 
 use super::asserts::assert_text;
-use http_wire::{BodyFault, Head, HeadFault, Source, Wire};
-use std::alloc::Global;
+use http_wire::{BodyFault, Counting, Duplex, Head, HeadFault, Pair, Wire};
+use std::alloc::{AllocError, Global};
 use std::process::Abort;
 use std::test::Fail;
 
+/// A stream that gives what this source does, and whose writes are only counted.
+pub(crate) fn given<R>(source: R) -> Pair<R, Counting> {
+    Pair {
+        source,
+        sink: Counting(0),
+    }
+}
+
 /// The first head of these bytes.
 pub(crate) fn first_head(alloc: Global, bytes: &[u8]) -> Result<Head, HeadFault> {
-    let mut wire = Wire::new(alloc, bytes)?;
-    wire.read_head(alloc)
+    let mut wire = Wire::new(alloc)?;
+    wire.read_head(alloc, &mut given(bytes))
 }
 
 /// Asserts the method and the target of a head.
@@ -18,48 +26,70 @@ pub(crate) fn assert_parts(rt: &impl Abort, head: &Head, method: &str, target: &
     assert_text(rt, head.target().as_bytes(), target);
 }
 
+/// A wire and the stream that it reads.
+#[derive(Drop)]
+pub(crate) struct Reader<D> {
+    wire: Wire,
+    duplex: D,
+}
+
+impl<D> Reader<D> {
+    pub(crate) fn new(alloc: Global, duplex: D) -> Result<Reader<D>, AllocError>
+    where
+        D: Drop,
+    {
+        Ok(Reader {
+            wire: Wire::new(alloc)?,
+            duplex,
+        })
+    }
+}
+
 /// Asserts the method and the target of the next head.
-pub(crate) fn assert_head<S: Source>(
+pub(crate) fn assert_head<D: Duplex>(
     rt: &impl Abort,
     alloc: Global,
-    wire: &mut Wire<S>,
+    reader: &mut Reader<D>,
     method: &str,
     target: &str,
 ) -> Result<(), Fail> {
-    let head = wire.read_head(alloc)?;
+    let head = reader.wire.read_head(alloc, &mut reader.duplex)?;
     assert_parts(rt, &head, method, target);
     Ok(())
 }
 
 /// Asserts that there is no next head, for this reason.
-pub(crate) fn assert_no_head<S: Source>(
+pub(crate) fn assert_no_head<D: Duplex>(
     rt: &impl Abort,
     alloc: Global,
-    wire: &mut Wire<S>,
+    reader: &mut Reader<D>,
     fault: HeadFault,
 ) {
-    assert_eq!(rt; wire.read_head(alloc).err(), Some(fault));
+    let read = reader.wire.read_head(alloc, &mut reader.duplex);
+    assert_eq!(rt; read.err(), Some(fault));
 }
 
 /// Asserts the next body, of as many bytes as this text.
-pub(crate) fn assert_body<S: Source>(
+pub(crate) fn assert_body<D: Duplex>(
     rt: &impl Abort,
     alloc: Global,
-    wire: &mut Wire<S>,
+    reader: &mut Reader<D>,
     wanted: &str,
 ) -> Result<(), Fail> {
-    let body = wire.read_body(alloc, wanted.len() as u64)?;
+    let size = wanted.len() as u64;
+    let body = reader.wire.read_body(alloc, &mut reader.duplex, size)?;
     assert_text(rt, body.as_slice(), wanted);
     Ok(())
 }
 
 /// Asserts that there is no next body of so many bytes, for this reason.
-pub(crate) fn assert_no_body<S: Source>(
+pub(crate) fn assert_no_body<D: Duplex>(
     rt: &impl Abort,
     alloc: Global,
-    wire: &mut Wire<S>,
+    reader: &mut Reader<D>,
     count: u64,
     fault: BodyFault,
 ) {
-    assert_eq!(rt; wire.read_body(alloc, count).err(), Some(fault));
+    let read = reader.wire.read_body(alloc, &mut reader.duplex, count);
+    assert_eq!(rt; read.err(), Some(fault));
 }

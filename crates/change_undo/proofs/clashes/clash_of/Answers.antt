@@ -1,6 +1,6 @@
 use Rattle.std.proofs.Common.{◌≡◌, inl, inr, ℕ, zero, suc, ◌+◌, ◌-◌, ◌<◌, drop, Some, None, sym, ap, ◌∙◌, arith}
 use Rattle.std.specs.FinMap as map
-use Rattle.change_undo.specs.declared.logged.Logged.{Logged}
+use Rattle.change_undo.specs.declared.planned_entries.PlannedEntry.{PlannedEntry}
 use Rattle.change_undo.specs.Kept.{cells_of, kept_touch}
 use Rattle.change_undo.proofs.KeptClash.{plan_clash, clash-absent, clash-kept}
 use Rattle.change_undo.proofs.clashes.clash_of.Goals as goal
@@ -21,7 +21,7 @@ returns-in-Some c = λ uploads planned.
     let some = above_zero c.args.change c.if-change-eq0.false in
     let place : c.args.change ≡ 1 + (c.args.change - 1) = omega (arith, some) in
     let next : suc (c.args.change - 1) ≡ c.args.change = omega (arith, some) in
-    let plan : c.index-logged-change.result.plan ≡ Some c.in-Some.plan = ap (λ (l : Logged). l.plan) c.index-logged-change.is ∙ c.in-Some.is in
+    let plan : c.index-logged-change.result.plan ≡ Some c.in-Some.plan = ap (λ (l : PlannedEntry). l.plan) c.index-logged-change.is ∙ c.in-Some.is in
     c.kept_touch.ensures
     ∙ (λ i. kept_touch (cells_of (c.as_slice.ensures.value i)) (c.args.change + 1) (c.split_at.ensures.back i))
     ∙ ap (λ o. plan_clash o (c.args.change + 1) (drop c.args.change c.args.logged.now)) (sym plan)
@@ -33,7 +33,7 @@ pub returns-in-None : goal.returns-in-None
 returns-in-None c = λ uploads planned.
     let some = above_zero c.args.change c.if-change-eq0.false in
     let place : c.args.change ≡ 1 + (c.args.change - 1) = omega (arith, some) in
-    let plan : c.index-logged-change.result.plan ≡ None = ap (λ (l : Logged). l.plan) c.index-logged-change.is ∙ c.in-None.is in
+    let plan : c.index-logged-change.result.plan ≡ None = ap (λ (l : PlannedEntry). l.plan) c.index-logged-change.is ∙ c.in-None.is in
     sym (clash-kept uploads c.args.change 1 (c.args.change - 1) map.empty c.args.logged.now c.index-logged-change.result place
     (omega (arith, some, c.if-logged-change.false)) c.index-logged-change.is planned
     ∙ ap (λ o. plan_clash o (c.args.change + 1) (drop (suc (c.args.change - 1)) c.args.logged.now)) plan)

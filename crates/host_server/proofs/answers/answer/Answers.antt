@@ -1,21 +1,27 @@
-use Rattle.std.proofs.Common.{Bool, subst}
+use Rattle.std.proofs.Common.{Ok}
 use Rattle.host_server.specs.Bodies.{answer_of}
-use Rattle.host_server.specs.Replies.{IsAnswer}
-use Rattle.host_server.proofs.Growing.{undone_at_once}
-use Rattle.host_server.proofs.Leaving.{refused_is_answer}
+use Rattle.host_server.proofs.Growing.{itself, undone_at_once}
+use Rattle.host_server.proofs.Telling.{answered, unasked}
 use Rattle.host_server.proofs.answers.answer.Goals as goal
 
-pub returns-in-Ok-clause-undone : goal.returns-in-Ok-clause-undone
-returns-in-Ok-clause-undone c = λ before command site is undone.
-    undone_at_once c.args.house.now c.respond.new.house before command site c.lawful.ensures c.respond.ensures.grows is undone
-
-pub returns-clause-undone : goal.returns-clause-undone
-returns-clause-undone c = λ before command site is undone.
-    undone_at_once c.args.house.now c.respond.new.house before command site c.lawful.ensures c.respond.ensures.grows is undone
-
-pub returns-clause-replied : goal.returns-clause-replied
-returns-clause-replied c =
+pub returns-in-Ok : goal.returns-in-Ok
+returns-in-Ok c =
     let request = c.args.request in
-    let P : Bool → Type 0 = λ close. IsAnswer close c.args.house.now request.head request.body.items (answer_of c.refused.result) c.respond.new.house in
-    subst P c.closes-close.ensures (refused_is_answer c.closes-close.result c.args.house.now c.respond.new.house request.head request.body.items c.in-Err.refusal
-    (answer_of c.refused.result) c.in-Err.ensures.replied c.refused.ensures)
+    record {
+      replied = answered c.args.house.now c.respond.new.house request.head c.as_slice.result.now request.body.items (Ok c.in-Ok.ask) (answer_of c.respond.result)
+          c.as_slice.ensures.value c.in-Ok.ensures.ok c.respond.ensures.replied;
+      grows = c.respond.ensures.grows;
+      undone = λ before command site is undone.
+          undone_at_once c.args.house.now c.respond.new.house before command site c.lawful.ensures c.respond.ensures.grows is undone;
+    }
+
+pub returns : goal.returns
+returns c =
+    let request = c.args.request in
+    record {
+      replied = unasked c.args.house.now request.head c.as_slice.result.now request.body.items c.in-Err.reason (answer_of c.of_told.result)
+          c.as_slice.ensures.value c.in-Err.ensures.refused c.of_told.ensures;
+      grows = itself c.args.house.now;
+      undone = λ before command site is undone.
+          undone_at_once c.args.house.now c.args.house.now before command site c.lawful.ensures (itself c.args.house.now) is undone;
+    }

@@ -1,51 +1,61 @@
-use Rattle.std.proofs.Common.{rules, ◌≡◌, Result, Err, subst, sym, ◌∙◌}
+use Rattle.std.proofs.Common.{rules, ◌≡◌, [], Some, Bool, Result, Err, subst, sym, ◌∙◌}
+use Rattle.http_wire.specs.Timing.{WriteFails, IsLatest, all_put, NoRead, Ran}
 use Rattle.host_server.specs.Bodies.{answer_of}
 use Rattle.host_server.specs.Replies.{closes, sent_text}
-use Rattle.host_server.specs.Serving.{Exchanges}
+use Rattle.host_server.specs.Serving.{IsSent}
+use Rattle.host_server.specs.Timing.{ExchangesAs}
 use Rattle.host_server.specs.declared.connections.ConnectionFault.{ConnectionFault}
 use Rattle.host_server.specs.declared.connections.Next.{Next}
 use Rattle.host_server.specs.declared.connections.Next.TheVariants as next_is
+use Rattle.host_server.proofs.TimedTurns.{ran_as}
 use Rattle.host_server.proofs.Turns.{is_sent, exchange_sent, exchange_cut}
 use Rattle.host_server.proofs.connections.exchange.Goals as goal
 
-pub returns-in_err-send : goal.returns-in_err-send
-returns-in_err-send g c =
+pub returns-in_err-send-clause-exchanged : goal.returns-in_err-send-clause-exchanged
+returns-in_err-send-clause-exchanged g c =
     let request = c.args.request in
     let close = closes request.head request.is_last in
-    let text = sent_text c.is_head_only-head_only.result (answer_of c.answer-reply.result) in
-    let sent = is_sent close c.is_head_only-head_only.result c.args.house.now c.answer-reply.new.house request.head request.body.items (answer_of c.answer-reply.result)
-    c.is_head_only-head_only.ensures c.answer-reply.ensures.replied in
-    let P : Result Next ConnectionFault → Type 0 = λ r. Exchanges g.W.Sink.may_fail r close c.args.house.now request.head request.body.items
-    (g.W.Sink.held c.args.sink.now) (g.W.Sink.held c.send.new.sink) c.answer-reply.new.house in
-    let is : c.from_residual.result ≡ Err c.in_err-send.field-0.0 = search rules in
-    record {
-      exchanged = subst P (sym is) (exchange_cut g.W.Sink.may_fail c.in_err-send.field-0.0 close c.args.house.now c.answer-reply.new.house request.head request.body.items
-          text (g.W.Sink.held c.args.sink.now) (g.W.Sink.held c.send.new.sink) sent c.in_err-send.ensures);
-      grows = c.answer-reply.ensures.grows;
-    }
+    let text = sent_text c.closes-close.result c.is_head_only-head_only.result (answer_of c.answer-reply.result) in
+    let S : Bool → Type 0 = λ b. IsSent close c.args.house.now request.head request.body.items
+    (sent_text b c.is_head_only-head_only.result (answer_of c.answer-reply.result)) c.answer-reply.new.house in
+    let sent = subst S (sym c.closes-close.ensures) (is_sent close c.is_head_only-head_only.result c.args.house.now c.answer-reply.new.house request.head request.body.items
+    (answer_of c.answer-reply.result) c.is_head_only-head_only.ensures c.answer-reply.ensures.replied) in
+    let why = c.in_err-send.field-0.0 in
+    let P : Result Next ConnectionFault → Type 0 = λ r. Ran g.D.Duplex.saw NoRead c.args.duplex.now c.send.new.duplex
+    (ExchangesAs r close c.args.house.now request.head request.body.items c.answer-reply.new.house) in
+    let is : c.from_residual.result ≡ Err why = search rules in
+    subst P (sym is) (ran_as g.D.Duplex.saw NoRead c.args.duplex.now c.send.new.duplex _ _ (λ events s. record {
+      exchanges = exchange_cut (IsLatest WriteFails events) why close c.args.house.now c.answer-reply.new.house request.head request.body.items
+          text (Some []) (Some (all_put events)) sent s.sends;
+      goes_on = tt;
+    }) c.in_err-send.ensures)
 
-pub returns-then-close : goal.returns-then-close
-returns-then-close g c =
+pub returns-then-close-clause-exchanged : goal.returns-then-close-clause-exchanged
+returns-then-close-clause-exchanged g c =
     let request = c.args.request in
     let close = closes request.head request.is_last in
-    let text = sent_text c.is_head_only-head_only.result (answer_of c.answer-reply.result) in
-    let sent = is_sent close c.is_head_only-head_only.result c.args.house.now c.answer-reply.new.house request.head request.body.items (answer_of c.answer-reply.result)
-    c.is_head_only-head_only.ensures c.answer-reply.ensures.replied in
-    record {
-      exchanged = exchange_sent g.W.Sink.may_fail next_is.End close c.args.house.now c.answer-reply.new.house request.head request.body.items text
-          (g.W.Sink.held c.args.sink.now) (g.W.Sink.held c.send.new.sink) (sym c.closes-close.ensures ∙ c.if-close.true) sent c.in_ok-send.ensures;
-      grows = c.answer-reply.ensures.grows;
-    }
+    let text = sent_text c.closes-close.result c.is_head_only-head_only.result (answer_of c.answer-reply.result) in
+    let S : Bool → Type 0 = λ b. IsSent close c.args.house.now request.head request.body.items
+    (sent_text b c.is_head_only-head_only.result (answer_of c.answer-reply.result)) c.answer-reply.new.house in
+    let sent = subst S (sym c.closes-close.ensures) (is_sent close c.is_head_only-head_only.result c.args.house.now c.answer-reply.new.house request.head request.body.items
+    (answer_of c.answer-reply.result) c.is_head_only-head_only.ensures c.answer-reply.ensures.replied) in
+    ran_as g.D.Duplex.saw NoRead c.args.duplex.now c.send.new.duplex _ _ (λ events s. record {
+      exchanges = exchange_sent (IsLatest WriteFails events) next_is.End close c.args.house.now c.answer-reply.new.house request.head request.body.items text
+          (Some []) (Some (all_put events)) (sym c.closes-close.ensures ∙ c.if-close.true) sent s.sends;
+      goes_on = s.goes_on;
+    }) c.in_ok-send.ensures
 
-pub returns-else-close : goal.returns-else-close
-returns-else-close g c =
+pub returns-else-close-clause-exchanged : goal.returns-else-close-clause-exchanged
+returns-else-close-clause-exchanged g c =
     let request = c.args.request in
     let close = closes request.head request.is_last in
-    let text = sent_text c.is_head_only-head_only.result (answer_of c.answer-reply.result) in
-    let sent = is_sent close c.is_head_only-head_only.result c.args.house.now c.answer-reply.new.house request.head request.body.items (answer_of c.answer-reply.result)
-    c.is_head_only-head_only.ensures c.answer-reply.ensures.replied in
-    record {
-      exchanged = exchange_sent g.W.Sink.may_fail next_is.Exchange close c.args.house.now c.answer-reply.new.house request.head request.body.items text
-          (g.W.Sink.held c.args.sink.now) (g.W.Sink.held c.send.new.sink) (sym c.closes-close.ensures ∙ c.if-close.false) sent c.in_ok-send.ensures;
-      grows = c.answer-reply.ensures.grows;
-    }
+    let text = sent_text c.closes-close.result c.is_head_only-head_only.result (answer_of c.answer-reply.result) in
+    let S : Bool → Type 0 = λ b. IsSent close c.args.house.now request.head request.body.items
+    (sent_text b c.is_head_only-head_only.result (answer_of c.answer-reply.result)) c.answer-reply.new.house in
+    let sent = subst S (sym c.closes-close.ensures) (is_sent close c.is_head_only-head_only.result c.args.house.now c.answer-reply.new.house request.head request.body.items
+    (answer_of c.answer-reply.result) c.is_head_only-head_only.ensures c.answer-reply.ensures.replied) in
+    ran_as g.D.Duplex.saw NoRead c.args.duplex.now c.send.new.duplex _ _ (λ events s. record {
+      exchanges = exchange_sent (IsLatest WriteFails events) next_is.Exchange close c.args.house.now c.answer-reply.new.house request.head request.body.items text
+          (Some []) (Some (all_put events)) (sym c.closes-close.ensures ∙ c.if-close.false) sent s.sends;
+      goes_on = s.goes_on;
+    }) c.in_ok-send.ensures

@@ -5,8 +5,8 @@ use Rattle.host_server.proofs.solo.run_solo.Goals as goal
 
 pub returns-in-Ok-Solo : goal.returns-in-Ok-Solo
 returns-in-Ok-Solo g c =
-    let P : Host → Type 0 = λ host. Serves g.R.Source.may_fail g.W.Sink.may_fail c.serve_connection-ended.result host c.serve_connection-ended.new.house
-    (g.R.Source.left c.args.source) (g.W.Sink.held c.args.sink.now) (g.W.Sink.held c.serve_connection-ended.new.sink) in
+    let P : Host → Type 0 = λ host. Serves g.D.Duplex.read_fails g.D.Duplex.write_fails c.serve_connection-ended.result host c.serve_connection-ended.new.house
+    (g.D.Duplex.left c.args.duplex.now) (g.D.Duplex.held c.args.duplex.now) (g.D.Duplex.held c.serve_connection-ended.new.duplex) in
     inr (inr (record {
       asked = search rules;
       ended = c.serve_connection-ended.result;

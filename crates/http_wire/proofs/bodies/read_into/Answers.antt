@@ -1,19 +1,10 @@
-use Rattle.std.proofs.Common.{◌≡◌, ◌++◌, inl, inr, length-append, take, arith, []}
-use Rattle.std.proofs.lemmas.Result.{on_err_weaker}
-use Rattle.std.proofs.lemmas.List.{length-take-le}
-use Rattle.http_wire.proofs.Taking.{all_taken}
+use Rattle.std.proofs.Common.{rules, arith, length}
+use Rattle.http_wire.proofs.BodyReads.{place_read}
 use Rattle.http_wire.proofs.bodies.read_into.Goals as goal
 
-pub returns-clause-part : goal.returns-clause-part
-returns-clause-part g c =
+pub returns : goal.returns
+returns g c =
     let moved = c.move_front-start in
-    let body = moved.new.body in
-    on_err_weaker c.read_rest.result
-    (λ part.
-    let front = take moved.result body in
-    let none : moved.new.buffer ≡ [] = elim moved.ensures.all [ inl full ↦ absurd (omega (arith, part.1, moved.auto.body)) | inr e ↦ e ] in (
-      front ++ part.0,
-      omega (arith, part.1, moved.auto.body, length-append front part.0, length-take-le moved.result body (omega arith)),
-      all_taken _ _ c.args.buffer.now front moved.new.buffer part.0 moved.ensures.moved none part.2,
-    ))
-    c.read_rest.ensures.part
+    place_read g.D.Duplex.saw c.args.duplex.now c.read_rest.new.duplex c.read_rest.result moved.result c.args.buffer.now moved.new.buffer moved.new.body c.read_rest.new.place
+    (length c.args.place.now) (omega (arith, moved.auto.body)) (omega (arith, moved.auto.body, moved.ensures.within)) (omega (arith, c.read_rest.auto.place)) moved.ensures.moved
+    (search (rules, arith)) c.read_rest.ensures

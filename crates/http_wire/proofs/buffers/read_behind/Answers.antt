@@ -11,5 +11,5 @@ returns-clause-grown g c =
       take count c.read_some.new.buf,
       take_written end count c.args.bytes.now c.read_some.new.buf _ (omega arith) fits,
       length-take-le count c.read_some.new.buf fits,
-      c.in_ok-count.ensures.bytes.0,
+      c.in_ok-count.ensures.seen,
     )

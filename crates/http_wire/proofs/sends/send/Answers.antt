@@ -1,13 +1,18 @@
-use Rattle.std.proofs.Common.{arith, ◌-◌, ◌≤◌, length, drop}
-use Rattle.std.proofs.lemmas.List.{length-take, length-drop}
-use Rattle.http_wire.proofs.SentParts.{writes_further}
+use Rattle.std.proofs.Common.{arith}
+use Rattle.http_wire.proofs.Writes.{none_written, write_more, all_written, write_failed}
 use Rattle.http_wire.proofs.sends.send.Goals as goal
+
+pub writes-init : goal.writes-init
+writes-init g c = none_written g.D.Duplex.saw c.args.duplex.now c.args.bytes.now
 
 pub writes-preserved : goal.writes-preserved
 writes-preserved g c =
-    let bytes = c.args.bytes.now in
-    let at = c.writes.at in
-    let fits : at ≤ length bytes = c.writes.invariant.0 in (
-      omega (arith, c.in-Ok.ensures.bound, length-take (length bytes - at) (drop at bytes), length-drop at bytes),
-      writes_further _ _ _ bytes at c.in-Ok.count fits c.writes.invariant.1 c.in-Ok.ensures.bytes,
-    )
+    write_more g.D.Duplex.saw c.args.duplex.now c.writes.duplex c.write_some.new.self c.args.bytes.now c.writes.at c.in-Ok.count c.writes.invariant c.writes-test.true
+    c.in-Ok.ensures.bound c.in-Ok.ensures.some c.in-Ok.ensures.seen
+
+pub returns-in_default : goal.returns-in_default
+returns-in_default g c =
+    write_failed g.D.Duplex.saw c.args.duplex.now c.writes.duplex c.write_some.new.self c.args.bytes.now c.writes.at c.writes.invariant c.writes-test.true c.in_default.ensures.seen
+
+pub returns : goal.returns
+returns g c = all_written g.D.Duplex.saw c.args.duplex.now c.writes.duplex c.args.bytes.now c.writes.at c.writes.invariant (omega (arith, c.writes-test.false))

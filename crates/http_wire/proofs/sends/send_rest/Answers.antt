@@ -1,18 +1,8 @@
-use Rattle.std.proofs.Common.{drop, arith}
-use Rattle.std.proofs.lemmas.List.{length-drop}
-use Rattle.http_wire.proofs.SentParts.{sent_all, sent_some}
+use Rattle.http_wire.proofs.Writes.{rest_written, rest_cut}
 use Rattle.http_wire.proofs.sends.send_rest.Goals as goal
 
-pub returns-in-Ok-clause-ok : goal.returns-in-Ok-clause-ok
-returns-in-Ok-clause-ok g c start text s =
-    rw c.saturating_add.ensures (sent_all start _ _ text c.args.sent.now c.args.rest.now s c.in-Ok.ensures.ok)
+pub returns-in-Ok : goal.returns-in-Ok
+returns-in-Ok g c = rest_written g.D.Duplex.saw c.args.duplex.now c.send.new.duplex c.args.rest.now c.args.sent.now _ c.saturating_add.ensures c.in-Ok.ensures
 
-pub returns-in-Err-clause-err : goal.returns-in-Err-clause-err
-returns-in-Err-clause-err g c start text s =
-    let part = c.in-Err.ensures.err in
-    let rest = c.args.rest.now in
-    let count = c.in-Err.count in (
-      drop count rest,
-      omega (arith, part.0, length-drop count rest),
-      rw c.saturating_add-in-Err.ensures (sent_some start _ _ text c.args.sent.now rest count s (omega (arith, part.0)) part.1),
-    )
+pub returns-in-Err : goal.returns-in-Err
+returns-in-Err g c = rest_cut g.D.Duplex.saw c.args.duplex.now c.send.new.duplex c.args.rest.now _ c.args.sent.now _ c.in-Err.count _ c.saturating_add-in-Err.ensures c.in-Err.ensures

@@ -1,49 +1,53 @@
-use Rattle.std.proofs.Common.{◌≤◌, List, ℕ, length, take, drop, sym, subst, arith, inl}
-use Rattle.std.specs.Io.KnownBytes.{prepend_known}
-use Rattle.http_wire.specs.Requests.{Says, SaysNothing}
-use Rattle.http_wire.specs.Wires.{TakesHead}
-use Rattle.http_wire.proofs.Taking.{head_taken}
+use Rattle.std.proofs.Common.{◌≡◌, ◌≤◌, List, ℕ, Result, Err, rules, length, take, sym, subst, arith}
+use Rattle.http_wire.specs.declared.faults.HeadFault.{HeadFault}
+use Rattle.http_wire.specs.declared.faults.HeadFault.TheVariants as head_fault
+use Rattle.http_wire.specs.Requests.{RequestParts, Says, SaysNothing}
+use Rattle.http_wire.specs.Timing.{Ran}
+use Rattle.http_wire.specs.Wires.{AwaitsHead, ReadsHead, FindsHead}
+use Rattle.http_wire.proofs.HeadReads.{ran_as, head_missed, head_served, head_refused, head_without_memory}
 use Rattle.http_wire.proofs.wires.take_head.Goals as goal
 
-pub returns-in_err-parsed-clause-memory : goal.returns-in_err-parsed-clause-memory
-returns-in_err-parsed-clause-memory g c _ =
-    let bytes : List ℕ = c.find_head.new.buffer in
-    let count = c.in_ok-count.count in
-    let found = c.in_ok-count.ensures in
-    let fits : length bytes ≤ 16384 = omega (arith, c.as_slice.ensures.fits) in
-    let says = c.in_err-parsed.ensures.memory in (
-      prepend_known (drop count bytes) (g.S.Source.left c.find_head.new.source),
-      says.0,
-      (
-        take count bytes,
-        head_taken _ _ bytes count found.kept found.within fits found.found,
-        subst (λ (t : List ℕ). Says (take count t) says.0) c.as_slice.ensures.value says.1,
-      ),
-    )
+pub returns-in_err-count : goal.returns-in_err-count
+returns-in_err-count g c =
+    let fault = c.in_err-count.field-0.0 in
+    let old : List ℕ = c.args.buffer.now in
+    let new : List ℕ = c.find_head.new.buffer in
+    let P : Result RequestParts HeadFault → Type 0 = λ r. Ran g.D.Duplex.saw (AwaitsHead old) c.args.duplex.now c.find_head.new.duplex (ReadsHead r old new) in
+    let is : c.from_residual.result ≡ Err fault = search rules in
+    subst P (sym is) (ran_as g.D.Duplex.saw (AwaitsHead old) c.args.duplex.now c.find_head.new.duplex (FindsHead (Err fault) old new) (ReadsHead (Err fault) old new)
+    (head_missed fault old new) c.in_err-count.ensures)
 
-pub returns-in-Some-clause-ok : goal.returns-in-Some-clause-ok
-returns-in-Some-clause-ok g c =
-    let bytes : List ℕ = c.find_head.new.buffer in
+pub returns-in_err-parsed : goal.returns-in_err-parsed
+returns-in_err-parsed g c =
+    let old : List ℕ = c.args.buffer.now in
+    let new : List ℕ = c.find_head.new.buffer in
     let count = c.in_ok-count.count in
-    let found = c.in_ok-count.ensures in
-    let fits : length bytes ≤ 16384 = omega (arith, c.as_slice.ensures.fits) in
-    let says : Says (take count c.as_slice.result.now) c.in-Some.head = rw c.in-Some.is at c.in_ok-parsed.ensures.ok in (
-      take count bytes,
-      subst (λ (b : List ℕ). TakesHead (prepend_known c.args.buffer.now (g.S.Source.left c.args.source.now)) (prepend_known b (g.S.Source.left c.find_head.new.source)) (take count bytes))
-          (sym c.consume.ensures) (head_taken _ _ bytes count found.kept found.within fits found.found),
-      subst (λ (t : List ℕ). Says (take count t) c.in-Some.head) c.as_slice.ensures.value says,
-    )
+    let fits : length new ≤ 16384 = omega (arith, c.as_slice.ensures.fits) in
+    let says = c.in_err-parsed.ensures.memory in
+    let said : Says (take count new) says.0 = subst (λ (t : List ℕ). Says (take count t) says.0) c.as_slice.ensures.value says.1 in
+    let P : Result RequestParts HeadFault → Type 0 = λ r. Ran g.D.Duplex.saw (AwaitsHead old) c.args.duplex.now c.find_head.new.duplex (ReadsHead r old new) in
+    let is : c.from_residual-in_err-parsed.result ≡ Err head_fault.OutOfMemory = search rules in
+    subst P (sym is) (ran_as g.D.Duplex.saw (AwaitsHead old) c.args.duplex.now c.find_head.new.duplex _ (ReadsHead (Err head_fault.OutOfMemory) old new)
+    (λ events finds. head_without_memory says.0 count old new events finds fits said) c.in_ok-count.ensures)
 
-pub returns-in-None-clause-bad : goal.returns-in-None-clause-bad
-returns-in-None-clause-bad g c _ =
-    let bytes : List ℕ = c.find_head.new.buffer in
+pub returns-in-Some : goal.returns-in-Some
+returns-in-Some g c =
+    let old : List ℕ = c.args.buffer.now in
+    let new : List ℕ = c.find_head.new.buffer in
     let count = c.in_ok-count.count in
-    let found = c.in_ok-count.ensures in
-    let fits : length bytes ≤ 16384 = omega (arith, c.as_slice.ensures.fits) in
+    let fits : length new ≤ 16384 = omega (arith, c.as_slice.ensures.fits) in
+    let says : Says (take count c.as_slice.result.now) c.in-Some.head = rw c.in-Some.is at c.in_ok-parsed.ensures.ok in
+    let said : Says (take count new) c.in-Some.head = subst (λ (t : List ℕ). Says (take count t) c.in-Some.head) c.as_slice.ensures.value says in
+    ran_as g.D.Duplex.saw (AwaitsHead old) c.args.duplex.now c.find_head.new.duplex _ _
+    (λ events finds. head_served c.in-Some.head count old new c.consume.new.self events finds fits said c.consume.ensures) c.in_ok-count.ensures
+
+pub returns-in-None : goal.returns-in-None
+returns-in-None g c =
+    let old : List ℕ = c.args.buffer.now in
+    let new : List ℕ = c.find_head.new.buffer in
+    let count = c.in_ok-count.count in
+    let fits : length new ≤ 16384 = omega (arith, c.as_slice.ensures.fits) in
     let refused : SaysNothing (take count c.as_slice.result.now) = rw c.in-None.is at c.in_ok-parsed.ensures.bad in
-    inl (
-      take count bytes,
-      subst (λ (b : List ℕ). TakesHead (prepend_known c.args.buffer.now (g.S.Source.left c.args.source.now)) (prepend_known b (g.S.Source.left c.find_head.new.source)) (take count bytes))
-          (sym c.consume.ensures) (head_taken _ _ bytes count found.kept found.within fits found.found),
-      subst (λ (t : List ℕ). SaysNothing (take count t)) c.as_slice.ensures.value refused,
-    )
+    let said : SaysNothing (take count new) = subst (λ (t : List ℕ). SaysNothing (take count t)) c.as_slice.ensures.value refused in
+    ran_as g.D.Duplex.saw (AwaitsHead old) c.args.duplex.now c.find_head.new.duplex _ _
+    (λ events finds. head_refused count old new c.consume.new.self events finds fits said c.consume.ensures) c.in_ok-count.ensures

@@ -3,7 +3,7 @@ use Rattle.site_change.specs.Differences.{AreLiveChanges, AreSides}
 use Rattle.site_change.specs.declared.plans.Change.{Change}
 use Rattle.site_change.proofs.live.live_changes.Given as goal
 
--- what is left changes the rest, behind what is changed already
+-- what is left changes the rest, after what is changed already
 abbrev pub invariant-loop-changes : goal.invariant-loop-changes
 invariant-loop-changes l = record {
   sides : AreSides l.site l.live_left l.tree_left;

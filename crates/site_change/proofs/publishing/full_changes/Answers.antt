@@ -1,3 +1,6 @@
+use Rattle.std.proofs.Common.{ap}
+use Rattle.host_names.specs.declared.names.SiteName.{SiteName}
+use Rattle.host_names.specs.declared.cells.Cell.TheVariants as cell
 use Rattle.site_change.proofs.Deciding.{sides_of, publish_plan}
 use Rattle.site_change.proofs.publishing.full_changes.Goals as goal
 
@@ -6,6 +9,6 @@ live_changes-requires c = rw (c.live.ensures, c.entries.ensures.pairs) (sides_of
 
 pub returns : goal.returns
 returns c =
-    publish_plan c.args.site.now c.args.number c.args.tree c.args.state.now c.live.result.now c.entries.result.now c.in_ok-kept.kept c.in_ok-draft_cell.field-0
+    publish_plan c.args.site.now c.args.number c.args.tree c.args.state.now c.live.result.now c.entries.result.now (cell.Kept c.copied.result c.args.number) (cell.Draft c.copied-2.result c.args.number)
     c.in_ok-changes.changes.items c.push_change.new.changes.items c.push_change-2.new.changes.items c.live.ensures c.entries.ensures.pairs c.in_ok-changes.ensures
-    c.in_ok-kept.ensures c.in_ok-push_change.ensures c.in_ok-draft_cell.ensures c.in_ok-push_change-2.ensures
+    (ap (λ (s : SiteName). cell.Kept s c.args.number) c.copied.ensures) c.in_ok-push_change.ensures (ap (λ (s : SiteName). cell.Draft s c.args.number) c.copied-2.ensures) c.in_ok-push_change-2.ensures

@@ -12,7 +12,7 @@ served-requires g c =
 pub loop-path-preserved : goal.loop-path-preserved
 loop-path-preserved g c =
     one_changed c.args.site.now (g.U.Uploads.contents c.args.uploads.now) c.args.entries.now c.args.state.now c.loop-path.path-index c.loop-path-item.result c.loop-path.changes.items _
-    c.in_ok-live.live c.in_ok-served.field-0 c.requires.sorted c.loop-path-test.true c.loop-path-item.is c.loop-path.invariant c.in_ok-live.ensures
+    c.in_ok-live.live c.in_ok-served.field-0 c.requires.sorted c.loop-path-test.true c.loop-path-item.is c.loop-path.invariant c.in_ok-live.ensures.copy
     c.in_ok-served.ensures c.in_ok-push_change.ensures
 
 pub returns : goal.returns

@@ -1,22 +1,28 @@
 use Rattle.std.proofs.Common.{◌≡◌, ◌↔◌, ℕ, ◌+◌, ◌<◌, ◌≤◌, length, rules, arith, Some, Result, Err, sym, ap, subst, ◌∙◌}
-use Rattle.site_change.specs.Changes.{IsWithin, refusal}
+use Rattle.site_change.specs.Changes.{refusal}
 use Rattle.change_undo.specs.declared.entries.CommitError.{CommitError}
 use Rattle.change_undo.specs.declared.entries.CommitError.TheVariants as commit
 use Rattle.change_undo.specs.Histories.{Past}
+use Rattle.change_undo.specs.Plans.{IsHistoryOver}
 use Rattle.change_undo.proofs.Sound.{sound-append, told, told-refused, refused_within}
 use Rattle.change_undo.proofs.histories.History.commit.Goals as goal
 use Rattle.change_undo.proofs.histories.History.commit.Goals.{in-Ok, in-Err-Refused, in-Err-OutOfMemory}
 
-pub append-requires : goal.append-requires
-append-requires g c =
-    let P : Past → Type 0 = λ p. IsWithin p.found (g.U.Uploads.contents c.args.uploads.now) in
-    record { within = subst P (sym c.self.view_is) c.requires.grown }
-
 pub invariant_of-self : goal.invariant_of-self
 invariant_of-self g c =
-    sound-append c.append.result c.self.inside.logged.items c.append.new.logged.items c.self.inside.found c.append.new.found (g.U.Uploads.contents c.args.uploads.now)
-    c.self.inside.state c.append.new.state (c.len-2.result + 1) c.args.command c.self.invariant c.append.ensures.kept c.append.ensures.within
-    (search rules) c.append.ensures.entries c.append.ensures.effect c.append.ensures.accepted c.append.ensures.err
+    let uploads = g.U.Uploads.contents c.args.uploads.now in
+    let P : Past → Type 0 = IsHistoryOver uploads in
+    (sound-append c.append.result c.self.inside.limit c.self.inside.logged.items c.append.new.logged.items uploads
+    c.self.inside.state c.append.new.state (c.len-2.result + 1) c.args.command c.self.invariant (subst P (sym c.self.view_is) c.requires.over)
+    (search rules) (omega (arith, c.len.ensures, c.len-2.ensures)) c.append.ensures.entries c.append.ensures.effect c.append.ensures.accepted c.append.ensures.err).0
+
+pub returns-clause-over : goal.returns-clause-over
+returns-clause-over g c =
+    let uploads = g.U.Uploads.contents c.args.uploads.now in
+    let P : Past → Type 0 = IsHistoryOver uploads in
+    (sound-append c.append.result c.self.inside.limit c.self.inside.logged.items c.append.new.logged.items uploads
+    c.self.inside.state c.append.new.state (c.len-2.result + 1) c.args.command c.self.invariant (subst P (sym c.self.view_is) c.requires.over)
+    (search rules) (omega (arith, c.len.ensures, c.len-2.ensures)) c.append.ensures.entries c.append.ensures.effect c.append.ensures.accepted c.append.ensures.err).1
 
 pub returns-clause-refused : goal.returns-clause-refused
 returns-clause-refused g c = λ reason.

@@ -1,76 +1,73 @@
-use Rattle.std.proofs.Common.{◌≡◌, ◌++◌, ◌∷◌, [], Some, arith, sym, ap, subst, ◌∙◌}
-use Rattle.site_change.specs.Changes.{IsWithin}
+use Rattle.std.proofs.Common.{◌≡◌, ◌++◌, ◌∷◌, [], Some, true, arith, refl, sym, ap, subst, ◌∙◌}
 use Rattle.change_undo.specs.declared.entries.Entry.TheVariants as entry
-use Rattle.change_undo.specs.Histories.{Past, run, undo_refusal}
-use Rattle.change_undo.specs.Logged.{entries_of}
-use Rattle.change_undo.proofs.Runs.{named-within, undo_refusal-grows}
-use Rattle.change_undo.proofs.Sound.{length-entries_of, next_number, allowed_by, rerun-is, rerun-runs, clear-of, sound-undo, undone-at_once}
+use Rattle.change_undo.specs.Histories.{Past, may_take_memory}
+use Rattle.change_undo.specs.PlannedEntries.{entries_of}
+use Rattle.change_undo.specs.Past.{past_of}
+use Rattle.change_undo.proofs.Runs.{named-within}
+use Rattle.change_undo.proofs.Sound.{length-entries_of, next_number, allowed_by, over_all, sound-undo, over-undo, effect-over, at_once-over, writable}
 use Rattle.change_undo.proofs.histories.History.undo.Goals as goal
 
-pub undone-requires-clause-next : goal.undone-requires-clause-next
-undone-requires-clause-next c = next_number c.self.inside.logged.items c.self.inside.found c.self.inside.state c.self.invariant
+pub take_back-requires-clause-next : goal.take_back-requires-clause-next
+take_back-requires-clause-next c = next_number c.self.inside.logged.items c.self.invariant.uploads c.self.inside.state c.self.invariant.over
 
-pub undone-requires-clause-within : goal.undone-requires-clause-within
-undone-requires-clause-within c =
-    let named = named-within c.self.inside.found (entries_of c.self.inside.logged.items) c.args.site.now c.args.change
-    (allowed_by c.self.inside.logged.items c.as_slice.result.now c.self.inside.found c.self.inside.state c.self.inside.limit c.args.site.now c.args.change c.in_ok-reason.field-0
-    c.self.invariant c.as_slice.ensures.value c.in_ok-reason.ensures.found c.in_default.is) in
+pub take_back-requires-clause-within : goal.take_back-requires-clause-within
+take_back-requires-clause-within c =
+    let named = named-within c.self.invariant.uploads (entries_of c.self.inside.logged.items) c.args.site.now c.args.change
+    (allowed_by c.self.inside.limit c.self.inside.logged.items c.as_slice.result.now c.self.invariant.uploads c.self.inside.state c.args.site.now c.args.change c.in_ok-reason.field-0
+    c.self.invariant.over c.as_slice.ensures.value c.in_ok-reason.ensures.found c.in_default.is) in
     let same = length-entries_of c.self.inside.logged.items in
     omega (arith, named.1, same)
 
-pub undone-requires-clause-runs : goal.undone-requires-clause-runs
-undone-requires-clause-runs c =
-    rerun-runs c.self.inside.logged.items c.self.inside.found c.self.inside.state c.args.site.now c.args.change c.self.invariant
-    (allowed_by c.self.inside.logged.items c.as_slice.result.now c.self.inside.found c.self.inside.state c.self.inside.limit c.args.site.now c.args.change c.in_ok-reason.field-0
-    c.self.invariant c.as_slice.ensures.value c.in_ok-reason.ensures.found c.in_default.is)
+pub take_back-requires-clause-writable : goal.take_back-requires-clause-writable
+take_back-requires-clause-writable c =
+    writable c.self.inside.limit c.self.inside.logged.items c.self.inside.state c.args.site.now c.args.change c.self.invariant
+    (λ uploads over. allowed_by c.self.inside.limit c.self.inside.logged.items c.as_slice.result.now uploads c.self.inside.state c.args.site.now c.args.change c.in_ok-reason.field-0
+    over c.as_slice.ensures.value c.in_ok-reason.ensures.found c.in_default.is)
 
-pub undone-requires-clause-clear : goal.undone-requires-clause-clear
-undone-requires-clause-clear c =
-    clear-of c.self.inside.logged.items c.self.inside.found c.self.inside.state c.args.site.now c.args.change c.self.invariant
-    (allowed_by c.self.inside.logged.items c.as_slice.result.now c.self.inside.found c.self.inside.state c.self.inside.limit c.args.site.now c.args.change c.in_ok-reason.field-0
-    c.self.invariant c.as_slice.ensures.value c.in_ok-reason.ensures.found c.in_default.is)
+pub returns-in_err-reason-clause-memory : goal.returns-in_err-reason-clause-memory
+returns-in_err-reason-clause-memory c = λ is.
+    over_all (λ r. may_take_memory r ≡ true) c.self.inside.limit c.self.inside.logged.items c.as_slice.result.now c.self.inside.state c.args.site.now c.args.change c.self.invariant.marked
+    c.as_slice.ensures.value c.in_err-reason.ensures.memory c.args.self.now c.self.view_is
+
+pub returns-in-Some-clause-refused : goal.returns-in-Some-clause-refused
+returns-in-Some-clause-refused c = λ reason is uploads over.
+    let found = over_all (λ r. c.in_ok-reason.field-0 ≡ r) c.self.inside.limit c.self.inside.logged.items c.as_slice.result.now c.self.inside.state c.args.site.now c.args.change c.self.invariant.marked
+    c.as_slice.ensures.value c.in_ok-reason.ensures.found c.args.self.now c.self.view_is uploads over in
+    sym found ∙ c.in-Some.is ∙ ap Some (cc is)
+
+pub returns-clause-accepted : goal.returns-clause-accepted
+returns-clause-accepted c = λ uploads over.
+    sym (over_all (λ r. c.in_ok-reason.field-0 ≡ r) c.self.inside.limit c.self.inside.logged.items c.as_slice.result.now c.self.inside.state c.args.site.now c.args.change c.self.invariant.marked
+    c.as_slice.ensures.value c.in_ok-reason.ensures.found c.args.self.now c.self.view_is uploads over) ∙ c.in_default.is
+
+pub returns-in_err-take_back-clause-memory : goal.returns-in_err-take_back-clause-memory
+returns-in_err-take_back-clause-memory c = λ is uploads over.
+    ap may_take_memory (sym (over_all (λ r. c.in_ok-reason.field-0 ≡ r) c.self.inside.limit c.self.inside.logged.items c.as_slice.result.now c.self.inside.state c.args.site.now c.args.change c.self.invariant.marked
+    c.as_slice.ensures.value c.in_ok-reason.ensures.found c.args.self.now c.self.view_is uploads over) ∙ c.in_default.is)
 
 pub invariant_of-self-2 : goal.invariant_of-self-2
 invariant_of-self-2 c =
-    sound-undo c.self.inside.logged.items c.undone.new.logged.items c.self.inside.found c.self.inside.state c.in_ok-self-inside.field-0 c.args.site.now c.args.change c.self.invariant
-    (allowed_by c.self.inside.logged.items c.as_slice.result.now c.self.inside.found c.self.inside.state c.self.inside.limit c.args.site.now c.args.change c.in_ok-reason.field-0
-    c.self.invariant c.as_slice.ensures.value c.in_ok-reason.ensures.found c.in_default.is)
-    c.in_ok-self-inside.ensures.entries c.in_ok-self-inside.ensures.marked c.in_ok-self-inside.ensures.state c.in_ok-self-inside.ensures.planned
+    let inside = c.self.inside in
+    let past = past_of inside.limit inside.logged.items inside.state in
+    sound-undo inside.limit inside.logged.items c.take_back.new.logged.items inside.state c.take_back.new.state c.args.site.now c.args.change c.self.invariant
+    (λ uploads over. sym (over_all (λ r. c.in_ok-reason.field-0 ≡ r) inside.limit inside.logged.items c.as_slice.result.now inside.state c.args.site.now c.args.change c.self.invariant.marked
+    c.as_slice.ensures.value c.in_ok-reason.ensures.found past refl uploads over) ∙ c.in_default.is)
+    c.in_ok-take_back.ensures.entries c.in_ok-take_back.ensures.marked c.in_ok-take_back.ensures.state c.in_ok-take_back.ensures.planned
 
-pub returns-clause-state : goal.returns-clause-state
-returns-clause-state c =
-    let P : Past → Type 0 = λ p. run p.found (entries_of c.undone.new.logged.items) ≡ Some c.in_ok-self-inside.field-0 in
-    subst P c.self.view_is
-    (ap (run c.self.inside.found) c.in_ok-self-inside.ensures.entries ∙ sym (rerun-is c.self.inside.logged.items c.self.inside.found c.args.site.now c.args.change c.self.invariant.marked)
-    ∙ c.in_ok-self-inside.ensures.state)
+pub returns-clause-over : goal.returns-clause-over
+returns-clause-over c =
+    let inside = c.self.inside in
+    over-undo inside.limit inside.logged.items c.take_back.new.logged.items inside.state c.take_back.new.state c.args.site.now c.args.change c.self.invariant.marked c.args.self.now c.self.view_is
+    (returns-clause-accepted c) c.in_ok-take_back.ensures.entries c.in_ok-take_back.ensures.marked c.in_ok-take_back.ensures.state c.in_ok-take_back.ensures.planned
+
+pub returns-clause-effect : goal.returns-clause-effect
+returns-clause-effect c =
+    let new = past_of c.self.inside.limit c.take_back.new.logged.items c.take_back.new.state in
+    let P : Past → Type 0 = λ p. entries_of c.take_back.new.logged.items ≡ p.entries ++ entry.Undo c.args.site.now c.args.change ∷ [] in
+    effect-over c.args.self.now new c.args.site.now c.args.change (returns-clause-accepted c) (returns-clause-over c) (subst P c.self.view_is c.in_ok-take_back.ensures.entries)
 
 pub returns-clause-at_once : goal.returns-clause-at_once
-returns-clause-at_once c = λ before command is at.
-    let P : Past → Type 0 = λ p. p.entries ≡ before ++ entry.Change command ∷ [] in
-    let Q : Past → Type 0 = λ p. run p.found before ≡ Some c.in_ok-self-inside.field-0 in
-    subst Q c.self.view_is (undone-at_once c.self.inside.logged.items c.self.inside.found c.self.inside.state c.in_ok-self-inside.field-0 c.args.site.now c.args.change c.self.invariant
-    c.in_ok-self-inside.ensures.state before command (subst P (sym c.self.view_is) is) at)
-
-pub returns-in-Some-clause-outlasts : goal.returns-in-Some-clause-outlasts
-returns-in-Some-clause-outlasts c = λ uploads within.
-    let P : Past → Type 0 = λ p. IsWithin p.found uploads → undo_refusal uploads p.limit p.entries c.args.site.now c.args.change ≡ undo_refusal p.found p.limit p.entries c.args.site.now c.args.change in
-    subst P c.self.view_is (λ within. undo_refusal-grows c.self.inside.found uploads c.self.inside.limit (entries_of c.self.inside.logged.items) c.args.site.now c.args.change within
-    c.self.invariant.legal) within
-
-pub returns-in_err-reason-clause-outlasts : goal.returns-in_err-reason-clause-outlasts
-returns-in_err-reason-clause-outlasts c = λ uploads within.
-    let P : Past → Type 0 = λ p. IsWithin p.found uploads → undo_refusal uploads p.limit p.entries c.args.site.now c.args.change ≡ undo_refusal p.found p.limit p.entries c.args.site.now c.args.change in
-    subst P c.self.view_is (λ within. undo_refusal-grows c.self.inside.found uploads c.self.inside.limit (entries_of c.self.inside.logged.items) c.args.site.now c.args.change within
-    c.self.invariant.legal) within
-
-pub returns-in_err-self-inside-clause-outlasts : goal.returns-in_err-self-inside-clause-outlasts
-returns-in_err-self-inside-clause-outlasts c = λ uploads within.
-    let P : Past → Type 0 = λ p. IsWithin p.found uploads → undo_refusal uploads p.limit p.entries c.args.site.now c.args.change ≡ undo_refusal p.found p.limit p.entries c.args.site.now c.args.change in
-    subst P c.self.view_is (λ within. undo_refusal-grows c.self.inside.found uploads c.self.inside.limit (entries_of c.self.inside.logged.items) c.args.site.now c.args.change within
-    c.self.invariant.legal) within
-
-pub returns-clause-outlasts : goal.returns-clause-outlasts
-returns-clause-outlasts c = λ uploads within.
-    let P : Past → Type 0 = λ p. IsWithin p.found uploads → undo_refusal uploads p.limit p.entries c.args.site.now c.args.change ≡ undo_refusal p.found p.limit p.entries c.args.site.now c.args.change in
-    subst P c.self.view_is (λ within. undo_refusal-grows c.self.inside.found uploads c.self.inside.limit (entries_of c.self.inside.logged.items) c.args.site.now c.args.change within
-    c.self.invariant.legal) within
+returns-clause-at_once c =
+    let new = past_of c.self.inside.limit c.take_back.new.logged.items c.take_back.new.state in
+    let P : Past → Type 0 = λ p. entries_of c.take_back.new.logged.items ≡ p.entries ++ entry.Undo c.args.site.now c.args.change ∷ [] in
+    at_once-over c.args.self.now new c.args.site.now c.args.change (returns-clause-over c) (subst P c.self.view_is c.in_ok-take_back.ensures.entries)

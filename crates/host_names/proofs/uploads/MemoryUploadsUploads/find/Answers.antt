@@ -4,7 +4,7 @@ use denote.Ref.{Bor}
 use Rattle.host_names.proofs.Stored.{get-stored}
 use Rattle.host_names.proofs.uploads.MemoryUploadsUploads.find.Goals as goal
 
--- what is behind a reference that was found
+-- what a reference that was found refers to
 behind : {A B : Type 0} (f : A → B) (r : Option (Bor A)) → option_map (λ x. f x.now) r ≡ option_map f (option_copied r)
 behind f None = refl
 behind f (Some x) = refl

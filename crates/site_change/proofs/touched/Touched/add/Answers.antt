@@ -6,7 +6,7 @@ use Rattle.site_state.specs.States.{is_live_of, is_alias_of}
 use Rattle.site_change.specs.Changes.{same_cell}
 use Rattle.site_change.proofs.touched.Touched.add.Goals as goal
 
--- what is added stands beside all that was there
+-- what is added comes to all that was there
 beside : (added listed live aliases : Bool) → ((cond added true listed || live) || aliases) ≡ (added || ((listed || live) || aliases))
 beside true listed live aliases = refl
 beside false listed live aliases = refl

@@ -1,5 +1,0 @@
-use Rattle.std.proofs.Common.{◌≡◌, map, take}
-use Rattle.change_undo.proofs.steps.writes_of.Given as goal
-
-abbrev pub invariant-loop-change : goal.invariant-loop-change
-invariant-loop-change l = l.writes.items ≡ map (λ change. (change.cell, change.after)) (take l.change-index l.changes)

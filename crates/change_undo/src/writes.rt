@@ -1,0 +1,97 @@
+//! What a command writes into the state, and what takes it back.
+ghost use Rattle.std.specs.Prelude.{◌≡◌, ◌↔◌, map, All, Err, Some, None, IfOk, IsTrue, OnOk};
+ghost use Rattle.std.specs.List.Sorted.{IsStrictlySortedBy};
+ghost use Rattle.std.specs.Map.{keys_of};
+ghost use Rattle.host_names.specs.Cells.{cell_cmp};
+ghost use Rattle.site_change.specs.Changes.{applied, refusal};
+ghost use Rattle.site_change.specs.declared.commands.Refusal.{Refusal as Reason};
+ghost use Rattle.site_state.specs.Named.{AliasesNamed};
+ghost use Rattle.site_state.specs.States.{may_stand, with_cells};
+ghost use Rattle.change_undo.specs.Kept as spec;
+ghost use Rattle.change_undo.specs.Plans.{IsPlanOf};
+
+use host_names::{Cell, Uploads};
+use site_change::{Change, Command, DecideError, Plan, decide};
+use site_state::{State, Value};
+use std::alloc::{AllocError, Global};
+
+/// What is in a cell from now on.
+pub(crate) type Write = (Cell, Option<Value>);
+
+/// What a command changes and touches, and what it leaves in the cells that it changes, by cell.
+#[derive(Drop)]
+pub(crate) struct Decision {
+    pub(crate) plan: Plan,
+    pub(crate) writes: Vec<Write>,
+}
+
+/// What a change leaves in its cell. Copies share the files.
+fn write_of(change: &Change) -> Result<Write, AllocError>
+    ensures { IfOk result (λ write. write ≡ (change.now.cell, change.now.after)) }
+{
+    Ok((change.cell.clone()?, change.after.clone()?))
+}
+
+/// What some changes leave in their cells.
+fn writes_of(alloc: Global, changes: &[Change]) -> Result<Vec<Write>, AllocError>
+    ensures { IfOk result (λ writes. writes.items ≡ map (λ change. (change.cell, change.after)) changes.now) }
+{
+    let mut writes = Vec::with_capacity(alloc, changes.len())?;
+    for change in changes {
+        writes.push(write_of(change)?)?;
+    }
+    Ok(writes)
+}
+
+/// Decides a command.
+pub(crate) fn decided<U: Uploads>(
+    alloc: Global,
+    state: &State,
+    uploads: &U,
+    number: u64,
+    command: &Command,
+) -> Result<Decision, DecideError>
+    ensures refused { (reason : Reason) → (result ≡ Err (DecideError.Refused reason)) ↔ (refusal command.now number state.now (U.contents uploads.now) ≡ Some reason) }
+    ensures accepted { OnOk result (refusal command.now number state.now (U.contents uploads.now) ≡ None) }
+    ensures plan { IfOk result (λ decided. IsPlanOf (U.contents uploads.now) state.now number command.now decided.plan) }
+    ensures rising { IfOk result (λ decided. IsStrictlySortedBy cell_cmp (keys_of decided.writes.items)) }
+    ensures of_kind { IfOk result (λ decided. All (λ e. IsTrue (may_stand e.0 e.1)) decided.writes.items) }
+    ensures named { IfOk result (λ decided. AliasesNamed (with_cells state.now decided.writes.items)) }
+    ensures effect { IfOk result (λ decided. with_cells state.now decided.writes.items ≡ applied command.now number state.now (U.contents uploads.now)) }
+{
+    match decide(alloc, state, uploads, number, command) {
+        Ok(plan) => match writes_of(alloc, plan.changes.as_slice()) {
+            Ok(writes) => Ok(Decision { plan, writes }),
+            Err(_) => Err(DecideError::OutOfMemory),
+        },
+        Err(error) => Err(error),
+    }
+}
+
+/// What a cell had before a change. Copies share the files.
+fn before_of(change: &Change) -> Result<Write, AllocError>
+    ensures { IfOk result (λ write. write ≡ (change.now.cell, change.now.before)) }
+{
+    Ok((change.cell.clone()?, change.before.clone()?))
+}
+
+/// What the cells of some changes had before them.
+fn befores(alloc: Global, changes: &[Change]) -> Result<Vec<Write>, AllocError>
+    ensures { IfOk result (λ writes. writes.items ≡ spec.befores changes.now) }
+{
+    let mut writes = Vec::with_capacity(alloc, changes.len())?;
+    for change in changes {
+        writes.push(before_of(change)?)?;
+    }
+    Ok(writes)
+}
+
+/// What the cells that a plan changes had before; nothing where there is no plan.
+pub(crate) fn befores_of(alloc: Global, plan: &Option<Plan>) -> Result<Vec<Write>, AllocError>
+    ensures { IfOk result (λ writes. writes.items ≡ spec.befores_of plan.now) }
+{
+    match plan {
+        Some(plan) => befores(alloc, plan.changes.as_slice()),
+        None => Ok(Vec::new(alloc)),
+    }
+}

@@ -1,0 +1,21 @@
+use Rattle.host_server.proofs.Kept.{kept_by_upload}
+use Rattle.std.proofs.Common.{subst}
+use Rattle.host_server.specs.Answers.{Grows}
+use Rattle.host_server.specs.Hosts.{Host, host_of}
+use Rattle.host_server.proofs.Growing.{grows_uploads}
+use Rattle.host_server.proofs.host.houses.SoloHouse.keep.Goals as goal
+
+pub invariant_of-self : goal.invariant_of-self
+invariant_of-self c =
+    kept_by_upload c.keep.result c.self.inside.history c.self.inside.uploads c.keep.new.self c.in-Ok.file.value c.self.invariant
+    c.keep.ensures.ok c.keep.ensures.err
+
+pub invariant_of-self-2 : goal.invariant_of-self-2
+invariant_of-self-2 c =
+    kept_by_upload c.keep.result c.self.inside.history c.self.inside.uploads c.keep.new.self c.in-Ok.file.value c.self.invariant
+    c.keep.ensures.ok c.keep.ensures.err
+
+pub returns-clause-grows : goal.returns-clause-grows
+returns-clause-grows c =
+    let P : Host → Type 0 = λ h. Grows h (host_of c.self.inside.history c.keep.new.self) in
+    subst P c.self.view_is (grows_uploads c.keep.result c.self.inside.history c.self.inside.uploads c.keep.new.self c.in-Ok.file.value c.keep.ensures.ok c.keep.ensures.err)

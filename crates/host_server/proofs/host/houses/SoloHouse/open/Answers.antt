@@ -1,0 +1,51 @@
+use Rattle.std.proofs.Common.{rules, ◌≡◌, inl, inr, refl, List, Result, Ok, Err, subst, sym, ap, ◌∙◌}
+use Rattle.host_names.specs.declared.digests.Digest.{Digest}
+use Rattle.host_api.specs.declared.refusals.Refusal.{Refusal}
+use Rattle.host_api.specs.declared.texts.Told.{Told}
+use Rattle.host_api.specs.declared.texts.Told.TheVariants.{Opened}
+use Rattle.site_change.specs.declared.commands.Command.TheVariants.{Open}
+use Rattle.host_server.specs.Outcomes.{DoesCommit, entered}
+use Rattle.host_server.proofs.Growing.{grows_then}
+use Rattle.host_server.proofs.Opening.{answer, on_err, open_done, open_refused}
+use Rattle.host_server.proofs.host.houses.SoloHouse.open.Goals as goal
+
+pub returns-in_err-published-clause-done : goal.returns-in_err-published-clause-done
+returns-in_err-published-clause-done c =
+    let done = open_done c.args.self.now c.commit.new.self c.publish_if_ready.new.self c.uploads.result.now c.copied-owner.result c.args.site c.args.files c.args.auto c.in_ok-id.id
+    c.in_ok-required.required.items c.publish_if_ready.result c.uploads.ensures c.in_ok-required.ensures.exactly c.in_ok-id.ensures.accepted c.in_ok-id.ensures.entries
+    c.in_ok-id.ensures.number (search rules) c.publish_if_ready.ensures.done in
+    let P : Result Told Refusal → Type 0 = λ r. DoesCommit r c.publish_if_ready.new.self c.args.self.now (Open c.args.site c.args.files c.args.auto) in
+    let is : c.from_residual-in_err-published.result ≡ Err c.in_err-published.field-0.0 = search rules in
+    subst P (ap (answer c.in_ok-id.id c.in_ok-required.required.items) c.in_err-published.was ∙ sym is) done
+
+pub returns-clause-done : goal.returns-clause-done
+returns-clause-done c =
+    let done = open_done c.args.self.now c.commit.new.self c.publish_if_ready.new.self c.uploads.result.now c.copied-owner.result c.args.site c.args.files c.args.auto c.in_ok-id.id
+    c.in_ok-required.required.items c.publish_if_ready.result c.uploads.ensures c.in_ok-required.ensures.exactly c.in_ok-id.ensures.accepted c.in_ok-id.ensures.entries
+    c.in_ok-id.ensures.number (search rules) c.publish_if_ready.ensures.done in
+    let P : Result Told Refusal → Type 0 = λ r. DoesCommit r c.publish_if_ready.new.self c.args.self.now (Open c.args.site c.args.files c.args.auto) in
+    subst P (ap (answer c.in_ok-id.id c.in_ok-required.required.items) c.in_ok-published.was
+    ∙ ap (λ (d : List Digest). Ok (Opened c.in_ok-id.id c.in_ok-published.published d)) (sym c.from.ensures)) done
+
+pub returns-in_err-published-clause-stands : goal.returns-in_err-published-clause-stands
+returns-in_err-published-clause-stands c =
+    on_err c.from_residual-in_err-published.result (inr (c.in_err-published.ensures.err ∙ c.in_ok-id.ensures.entries
+    ∙ sym (ap (entered c.args.self.now (Open c.args.site c.args.files c.args.auto)) c.in_ok-id.ensures.accepted)))
+
+pub returns-in_err-published-clause-grows : goal.returns-in_err-published-clause-grows
+returns-in_err-published-clause-grows c =
+    grows_then c.args.self.now c.commit.new.self c.publish_if_ready.new.self c.commit.ensures.grows c.publish_if_ready.ensures.grows
+
+pub returns-clause-grows : goal.returns-clause-grows
+returns-clause-grows c =
+    grows_then c.args.self.now c.commit.new.self c.publish_if_ready.new.self c.commit.ensures.grows c.publish_if_ready.ensures.grows
+
+pub returns-in_err-judge_opening-clause-done : goal.returns-in_err-judge_opening-clause-done
+returns-in_err-judge_opening-clause-done c =
+    let reason = c.in_err-judge_opening.field-0.0 in
+    let P : Result Told Refusal → Type 0 = λ r. DoesCommit r c.args.self.now c.args.self.now (Open c.args.site c.args.files c.args.auto) in
+    let is : c.from_residual.result ≡ Err reason = search rules in
+    subst P (sym is) (open_refused c.args.self.now c.args.site c.args.files c.args.auto reason (c.in_err-judge_opening.ensures.refused.1 c.args.site c.args.auto))
+
+pub returns-in_err-required-clause-memory : goal.returns-in_err-required-clause-memory
+returns-in_err-required-clause-memory c = λ _. (c.in_ok-judge_opening.ensures.ok c.args.site c.args.auto, inl refl)

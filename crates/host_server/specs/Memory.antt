@@ -1,0 +1,86 @@
+-- Where memory may run out, and what a host has by then. Nothing else is answered by `OutOfMemory`.
+use Rattle.std.specs.Prelude.{◌≡◌, ◌⊎◌, ℕ, List, Bool, true, false, ◌&&◌, ◌||◌, Option, Some, None, Result, Ok, Err, is_none, IsTrue}
+use Rattle.std.specs.FinMap as map
+use Rattle.host_names.specs.Blobs.{digest_of}
+use Rattle.host_names.specs.declared.digests.Digest.{Digest}
+use Rattle.host_names.specs.declared.names.SiteName.{SiteName}
+use Rattle.site_change.specs.declared.commands.Command.{Command}
+use Rattle.site_change.specs.declared.commands.Command.TheVariants.{Open, Publish}
+use Rattle.change_undo.specs.declared.entries.Entry.TheVariants.{Change}
+use Rattle.change_undo.specs.Histories.{entry_at}
+use Rattle.http_wire.specs.Requests.{RequestParts}
+use Rattle.host_api.specs.Bodies.{is_parsed}
+use Rattle.host_api.specs.Routes.{routed, has_path}
+use Rattle.host_api.specs.Texts.{has_cell}
+use Rattle.host_api.specs.declared.refusals.Refusal.{Refusal}
+use Rattle.host_api.specs.declared.refusals.Refusal.TheVariants.{NoSuchDeploy}
+use Rattle.host_api.specs.declared.routes.Route.{Route}
+use Rattle.host_api.specs.declared.texts.Told.{Told}
+use Rattle.host_api.specs.declared.texts.Told.TheVariants.{Refused}
+use Rattle.host_server.specs.Hosts.{Host, next_number, with_entry, with_upload}
+use Rattle.host_server.specs.Outcomes.{Outcome, is_ready, judge_upload, site_of_deploy}
+use Rattle.host_server.specs.Reasons.{commit_refusal, undo_refusal, may_take_memory}
+
+-- whether a deploy is published: it is ready, and its publishing is not refused
+abbrev pub is_published : Host → SiteName → ℕ → Bool
+is_published host site n = is_ready host site n && is_none (commit_refusal host (Publish site n))
+
+-- whether the command opens a deploy that is then published
+abbrev pub opens_published : Host → Command → Bool
+opens_published host (Open site files auto) = is_published (with_entry host (Change (Open site files auto))) site (next_number host)
+opens_published host command = false
+
+-- What a host has where a command runs out of memory, which is not refused: what was there; or the command's entry too,
+-- where a deploy is published that it opened.
+abbrev pub CommandRunsOut : Host → Command → Host → Type 0
+CommandRunsOut host command next =
+    (commit_refusal host command ≡ None)
+    × ((next ≡ host) ⊎ ((next ≡ with_entry host (Change command)) × IsTrue (opens_published host command)))
+
+-- the first reason against a command on the deploy of this site, or of none
+abbrev pub refusal_on : Host → (SiteName → Command) → Option SiteName → Option Refusal
+refusal_on host command None = Some NoSuchDeploy
+refusal_on host command (Some site) = commit_refusal host (command site)
+
+-- the first reason against a command on the deploy of a number
+abbrev pub deploy_refusal : Host → ℕ → (SiteName → Command) → Option Refusal
+deploy_refusal host n command = refusal_on host command (site_of_deploy (entry_at host.entries n))
+
+-- What a host has where an upload runs out of memory, whose bytes are accepted: what was there, where no file of their
+-- digest was; or the bytes too, where the deploy is published that they complete.
+abbrev pub UploadRunsOut : Host → ℕ → List ℕ → List ℕ → Host → Type 0
+UploadRunsOut host n path bytes next =
+    (at : SiteName × Digest) × (judge_upload host n path bytes ≡ Ok at)
+    × (((next ≡ host) × (map.get host.uploads (digest_of bytes) ≡ None))
+    ⊎ ((next ≡ with_upload host bytes) × IsTrue (is_published (with_upload host bytes) at.0 n)))
+
+-- What a host has where an undo runs out of memory: what was there, where the undo is not refused, or by a clash that
+-- takes memory to name.
+abbrev pub UndoRunsOut : Host → SiteName → ℕ → Host → Type 0
+UndoRunsOut host site k next = (next ≡ host) × IsTrue (may_take_memory (undo_refusal host site k))
+
+-- The same of a command on the deploy of a number, where that is not refused.
+abbrev pub DeployRunsOut : Host → ℕ → (SiteName → Command) → Host → Type 0
+DeployRunsOut host n command next = (next ≡ host) × (deploy_refusal host n command ≡ None)
+
+-- ---- the texts of replies
+
+-- whether the text takes memory: that of a refusal does so only where it names a cell
+abbrev pub takes_text : Told → Bool
+takes_text (Refused refusal) = has_cell refusal
+takes_text told = true
+
+-- all is done, and there is no memory for the text that tells it
+abbrev pub TextRunsOut : Outcome → Host → Type 0
+TextRunsOut out next = (next ≡ out.host) × IsTrue (takes_text out.told)
+
+-- ---- what a request asks for
+
+-- whether it takes memory to find what a request on this route asks for: to keep the path of a file, or to parse the body
+abbrev pub route_takes : List ℕ → Result Route Refusal → Bool
+route_takes body (Err refusal) = false
+route_takes body (Ok route) = has_path (Ok route) || is_parsed route body
+
+-- whether it takes memory to find what this request asks for
+abbrev pub asking_takes : RequestParts → List ℕ → Bool
+asking_takes parts body = route_takes body (routed parts.method parts.target)

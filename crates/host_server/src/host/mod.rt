@@ -1,0 +1,16 @@
+//! A host: what is read of it, and what changes it.
+
+mod change_lists;
+mod changes;
+mod deploys;
+mod houses;
+mod reasons;
+mod uploads;
+mod versions;
+mod views;
+
+pub use change_lists::list_changes;
+pub use deploys::show_deploy;
+pub use houses::SoloHouse;
+pub(crate) use versions::file;
+pub use views::HostView;

@@ -1,0 +1,252 @@
+-- What writes lead to, one after another.
+use Rattle.std.proofs.Common.{◌≡◌, ℕ, ◌+◌, ◌-◌, ◌^◌, ◌<◌, ◌≤◌, min, List, [], ◌∷◌, ◌++◌, length, take, drop, get_or, Option, Some, Result, Ok, Err, OnOk, OnErr, IfErr, Bor, slice_range, refl, sym, ap, subst, ◌∙◌, append_assoc, append-nil, arith}
+use Rattle.std.specs.Io.KnownBytes.{Appends}
+use Rattle.std.specs.List.{flat_map}
+use Rattle.std.proofs.lemmas.List.{length-take-le, length-drop, take_all}
+use Rattle.std.proofs.lemmas.Slice.{between_to_end}
+use Rattle.http_wire.specs.declared.faults.WriteFault.{WriteFault}
+use Rattle.http_wire.specs.Sending.{Sent, SentFront, WritesText, WritesAll, Written, WrittenNow, WritesEnd, WritesOn}
+use Rattle.http_wire.specs.Timing.{Event, Put, WriteFails, all_put, IsLatest, GoesOn, Timely, Steps, NoRead, Ran}
+use Rattle.http_wire.proofs.SentParts.{take_further, some_left, sent_more, sent_some, sent_all, sent_whole, piece_front}
+use Rattle.http_wire.proofs.Trails.{put_joined, goes_on_joined, latest_joined, steps_joined, timely_joined}
+
+-- ---- all the bytes
+
+-- the first so many bytes were written
+pub record AllSoFar {S : Type 0} (saw : S → Event → S → Type 0) (old new : S) (bytes : List ℕ) (at : ℕ) : Type 0 where
+  pub events : List Event
+  pub steps : Steps saw old events new
+  pub timely : Timely NoRead events
+  pub goes_on : GoesOn events
+  pub put : all_put events ≡ take at bytes
+  pub within : at ≤ length bytes
+
+pub none_written : {S : Type 0} (saw : S → Event → S → Type 0) (old : S) (bytes : List ℕ) → AllSoFar saw old old bytes 0
+none_written saw old bytes = record { events = []; steps = refl; timely = tt; goes_on = tt; put = refl; within = omega arith }
+
+pub write_more : {S : Type 0} (saw : S → Event → S → Type 0) (old mid new : S) (bytes : List ℕ) (at count : ℕ) → AllSoFar saw old mid bytes at → at < length bytes
+    → count ≤ length (slice_range bytes at (length bytes)) → (0 < length (slice_range bytes at (length bytes)) → 0 < count)
+    → saw mid (Put (take count (slice_range bytes at (length bytes)))) new → AllSoFar saw old new bytes (at + count)
+write_more saw old mid new bytes at count so room within some seen =
+    let rest = slice_range bytes at (length bytes) in
+    let size : length rest ≡ length bytes - at = ap length (between_to_end bytes at (length bytes) (omega arith)) ∙ length-drop at bytes in
+    let piece : length (take count rest) ≡ count = length-take-le count rest within in
+    let one : 0 < count = some (omega (arith, size, room)) in
+    record {
+      events = Put (take count rest) ∷ so.events;
+      steps = (mid, so.steps, seen);
+      timely = (so.goes_on, omega (arith, piece, one), so.timely);
+      goes_on = tt;
+      put = ap (λ u. u ++ take count rest) so.put ∙ sym (take_further bytes at count so.within);
+      within = omega (arith, within, size, room);
+    }
+
+pub all_written : {S : Type 0} (saw : S → Event → S → Type 0) (old new : S) (bytes : List ℕ) (at : ℕ) → AllSoFar saw old new bytes at → length bytes ≤ at
+    → Ran saw NoRead old new (WritesAll (Ok tt) bytes)
+all_written saw old new bytes at so full = record {
+  events = so.events;
+  steps = so.steps;
+  timely = so.timely;
+  claimed = (so.goes_on, so.put ∙ take_all at bytes full);
+}
+
+pub write_failed : {S : Type 0} (saw : S → Event → S → Type 0) (old mid new : S) (bytes : List ℕ) (at : ℕ) → AllSoFar saw old mid bytes at → at < length bytes
+    → saw mid WriteFails new → Ran saw NoRead old new (WritesAll (Err at) bytes)
+write_failed saw old mid new bytes at so room seen = record {
+  events = WriteFails ∷ so.events;
+  steps = (mid, so.steps, seen);
+  timely = (so.goes_on, tt, so.timely);
+  claimed = (refl, room, so.put);
+}
+
+-- ---- the rest of a text
+
+pub rest_written : {S : Type 0} (saw : S → Event → S → Type 0) (old new : S) (rest : List ℕ) (count after : ℕ) → after ≡ min (count + length rest) (2 ^ 64 - 1)
+    → Ran saw NoRead old new (WritesAll (Ok tt) rest) → Ran saw NoRead old new (WritesOn (Ok tt) [] count after rest [])
+rest_written saw old new rest count after is ran = record {
+  events = ran.events;
+  steps = ran.steps;
+  timely = ran.timely;
+  claimed = record {
+    ends = ran.claimed.0;
+    text = λ written text s. (
+        let more = sent_all (Some []) (Some written) (Some (written ++ all_put ran.events)) text count rest s (ap (λ u. written ++ u) ran.claimed.1) in
+        subst (λ t. Written (written ++ all_put ran.events) t after []) (sym (append-nil text))
+        (subst (λ n. Written (written ++ all_put ran.events) text n []) (sym is) more)
+        );
+  };
+}
+
+pub rest_cut : {S : Type 0} (saw : S → Event → S → Type 0) (old new : S) (rest new_rest : List ℕ) (count after n : ℕ) (fault : WriteFault) → fault.0 ≡ min (count + n) (2 ^ 64 - 1)
+    → Ran saw NoRead old new (WritesAll (Err n) rest) → Ran saw NoRead old new (WritesOn (Err fault) [] count after rest new_rest)
+rest_cut saw old new rest new_rest count after n fault is ran = record {
+  events = ran.events;
+  steps = ran.steps;
+  timely = ran.timely;
+  claimed = record {
+    ends = ran.claimed.0;
+    text = λ written text s. (
+        let less : n < length rest = ran.claimed.1 in
+        let more = sent_some (Some []) (Some written) (Some (written ++ all_put ran.events)) text count rest n s (omega (arith, less)) (ap (λ u. written ++ u) ran.claimed.2) in (
+          drop n rest,
+          omega (arith, less, length-drop n rest),
+          subst (λ t. Written (written ++ all_put ran.events) t fault.0 (drop n rest)) (sym (append-nil text))
+              (subst (λ m. Written (written ++ all_put ran.events) text m (drop n rest)) (sym is) more),
+        )
+        );
+  };
+}
+
+-- ---- one more piece
+
+-- it is gathered, and nothing is written
+pub gathered : {S : Type 0} (saw : S → Event → S → Type 0) (old : S) (piece : List ℕ) (count : ℕ) (rest new_rest : List ℕ) → new_rest ≡ rest ++ piece
+    → Ran saw NoRead old old (WritesOn (Ok tt) piece count count rest new_rest)
+gathered saw old piece count rest new_rest is = record {
+  events = [];
+  steps = refl;
+  timely = tt;
+  claimed = record {
+    ends = tt;
+    text = λ written text s. subst (λ w. Written w (text ++ piece) count new_rest) (sym (append-nil written))
+        (subst (Written written (text ++ piece) count) (sym is) (sent_more (Some []) (Some written) text count rest piece s));
+  };
+}
+
+-- the flush before it failed
+pub flush_cut : {S : Type 0} (saw : S → Event → S → Type 0) (old new : S) (fault : WriteFault) (piece : List ℕ) (count after : ℕ) (rest new_rest other : List ℕ)
+    → Ran saw NoRead old new (WritesOn (Err fault) [] count after rest new_rest) → Ran saw NoRead old new (WritesOn (Err fault) piece count after rest other)
+flush_cut saw old new fault piece count after rest new_rest other ran = record {
+  events = ran.events;
+  steps = ran.steps;
+  timely = ran.timely;
+  claimed = record {
+    ends = ran.claimed.ends;
+    text = λ written text s. (
+        let front = ran.claimed.text written text s in
+        let whole = subst (λ t. Written (written ++ all_put ran.events) t fault.0 front.0) (append-nil text) front.2 in
+        (front.0 ++ piece, some_left front.0 piece front.1, sent_more (Some []) (Some (written ++ all_put ran.events)) text fault.0 front.0 piece whole)
+        );
+  };
+}
+
+ends_joined : (result : Result (Unit {0}) WriteFault) (events past : List Event) → WritesEnd result events → GoesOn past → WritesEnd result (events ++ past)
+ends_joined (Ok done) events past ends on = goes_on_joined events past ends on
+ends_joined (Err fault) events past ends on = latest_joined WriteFails events past ends
+
+-- writes of a piece after the flush of what was before it
+pub flushed_then : {S : Type 0} (saw : S → Event → S → Type 0) (old mid new : S) (result : Result (Unit {0}) WriteFault) (piece : List ℕ) (count between after : ℕ) (rest new_rest : List ℕ)
+    → Ran saw NoRead old mid (WritesOn (Ok tt) [] count between rest []) → Ran saw NoRead mid new (WritesOn result [] between after piece new_rest)
+    → Ran saw NoRead old new (WritesOn result piece count after rest new_rest)
+flushed_then saw old mid new result piece count between after rest new_rest first second = record {
+  events = second.events ++ first.events;
+  steps = steps_joined saw old mid new second.events first.events first.steps second.steps;
+  timely = timely_joined NoRead NoRead second.events first.events (λ got put no. no) second.timely first.claimed.ends first.timely;
+  claimed = record {
+    ends = ends_joined result second.events first.events second.claimed.ends first.claimed.ends;
+    text = λ written text s. (
+        let mid_written = written ++ all_put first.events in
+        let flushed = first.claimed.text written text s in
+        let whole = subst (λ t. Written mid_written t between []) (append-nil text) flushed in
+        let more = sent_more (Some []) (Some mid_written) text between [] piece whole in
+        let done = second.claimed.text mid_written (text ++ piece) more in
+        let all : mid_written ++ all_put second.events ≡ written ++ all_put (second.events ++ first.events) =
+        append_assoc written (all_put first.events) (all_put second.events) ∙ ap (λ u. written ++ u) (sym (put_joined second.events first.events)) in
+        subst (λ w. WrittenNow result w (text ++ piece) after new_rest) all
+        (subst (λ t. WrittenNow result (mid_written ++ all_put second.events) t after new_rest) (append-nil (text ++ piece)) done)
+        );
+  };
+}
+
+-- ---- all pieces
+
+-- the pieces up to one were put
+pub record PiecesSoFar {S : Type 0} (saw : S → Event → S → Type 0) (old new : S) (text : List ℕ) (count : ℕ) (rest : List ℕ) : Type 0 where
+  pub events : List Event
+  pub steps : Steps saw old events new
+  pub timely : Timely NoRead events
+  pub goes_on : GoesOn events
+  pub text_is : Written (all_put events) text count rest
+
+pub no_piece : {S : Type 0} (saw : S → Event → S → Type 0) (old : S) (count : ℕ) (rest : List ℕ) → Sent (Some []) (Some []) [] count rest → PiecesSoFar saw old old [] count rest
+no_piece saw old count rest s = record { events = []; steps = refl; timely = tt; goes_on = tt; text_is = s }
+
+pub one_piece : {S : Type 0} (saw : S → Event → S → Type 0) (old mid new : S) (text piece longer : List ℕ) (count after : ℕ) (rest new_rest : List ℕ) → PiecesSoFar saw old mid text count rest
+    → longer ≡ text ++ piece → Ran saw NoRead mid new (WritesOn (Ok tt) piece count after rest new_rest) → PiecesSoFar saw old new longer after new_rest
+one_piece saw old mid new text piece longer count after rest new_rest so is ran = record {
+  events = ran.events ++ so.events;
+  steps = steps_joined saw old mid new ran.events so.events so.steps ran.steps;
+  timely = timely_joined NoRead NoRead ran.events so.events (λ got put no. no) ran.timely so.goes_on so.timely;
+  goes_on = goes_on_joined ran.events so.events ran.claimed.ends so.goes_on;
+  text_is = subst (λ w. Written w longer after new_rest) (sym (put_joined ran.events so.events))
+      (subst (λ t. Written (all_put so.events ++ all_put ran.events) t after new_rest) (sym is) (ran.claimed.text (all_put so.events) text so.text_is));
+}
+
+-- a piece is cut short
+pub piece_cut : {S : Type 0} (saw : S → Event → S → Type 0) (old mid new : S) (pieces : List (Bor (List ℕ))) (i : ℕ) (d : Bor (List ℕ)) (count after : ℕ) (rest new_rest : List ℕ) (fault : WriteFault)
+    → i < length pieces → PiecesSoFar saw old mid (flat_map (λ (p : Bor (List ℕ)). p.now) (take i pieces)) count rest
+    → Ran saw NoRead mid new (WritesOn (Err fault) (get_or pieces i d).now count after rest new_rest)
+    → Ran saw NoRead old new (WritesText (Err fault) (flat_map (λ (p : Bor (List ℕ)). p.now) pieces))
+piece_cut saw old mid new pieces i d count after rest new_rest fault here so ran =
+    let now : Bor (List ℕ) → List ℕ = λ p. p.now in
+    let text = flat_map now (take i pieces) in
+    let front = ran.claimed.text (all_put so.events) text so.text_is in
+    let whole = piece_front (Some []) (Some (all_put so.events ++ all_put ran.events)) pieces i d fault.0 here front in
+    record {
+      events = ran.events ++ so.events;
+      steps = steps_joined saw old mid new ran.events so.events so.steps ran.steps;
+      timely = timely_joined NoRead NoRead ran.events so.events (λ got put no. no) ran.timely so.goes_on so.timely;
+      claimed = (
+        latest_joined WriteFails ran.events so.events ran.claimed.ends,
+        subst (λ w. SentFront (Some []) (Some w) (flat_map now pieces) fault.0) (sym (put_joined ran.events so.events)) whole,
+      );
+    }
+
+text_done : (result : Result (Unit {0}) WriteFault) (text : List ℕ) (events past : List Event) (after : ℕ) → WritesEnd result events → GoesOn past
+    → WrittenNow result (all_put past ++ all_put events) (text ++ []) after [] → WritesText result text (events ++ past)
+text_done (Ok done) text events past after ends on now = (goes_on_joined events past ends on, put_joined events past ∙ sent_whole (Some []) (Some (all_put past ++ all_put events)) (text ++ []) after now ∙ append-nil text)
+text_done (Err fault) text events past after ends on now = (
+  latest_joined WriteFails events past ends,
+  subst (λ t. SentFront (Some []) (Some (all_put (events ++ past))) t fault.0) (append-nil text)
+      (subst (λ w. SentFront (Some []) (Some w) (text ++ []) fault.0) (sym (put_joined events past)) now),
+)
+
+-- the last flush
+pub all_pieces : {S : Type 0} (saw : S → Event → S → Type 0) (old mid new : S) (result : Result (Unit {0}) WriteFault) (text whole : List ℕ) (count after : ℕ) (rest : List ℕ)
+    → text ≡ whole → PiecesSoFar saw old mid text count rest → Ran saw NoRead mid new (WritesOn result [] count after rest [])
+    → Ran saw NoRead old new (WritesText result whole)
+all_pieces saw old mid new result text whole count after rest is so ran = record {
+  events = ran.events ++ so.events;
+  steps = steps_joined saw old mid new ran.events so.events so.steps ran.steps;
+  timely = timely_joined NoRead NoRead ran.events so.events (λ got put no. no) ran.timely so.goes_on so.timely;
+  claimed = subst (λ t. WritesText result t (ran.events ++ so.events)) is
+      (text_done result text ran.events so.events after ran.claimed.ends so.goes_on (ran.claimed.text (all_put so.events) text so.text_is));
+}
+
+-- ---- what a sink holds then
+
+pub held_whole : (result : Result (Unit {0}) WriteFault) (text : List ℕ) (events : List Event) (held new_held : Option (List ℕ)) → WritesText result text events
+    → Appends held new_held (all_put events) → OnOk result (Appends held new_held text)
+held_whole (Ok done) text events held new_held writes put = subst (Appends held new_held) writes.1 put
+held_whole (Err fault) text events held new_held writes put = tt
+
+pub held_front : (result : Result (Unit {0}) WriteFault) (text : List ℕ) (events : List Event) (held new_held : Option (List ℕ)) → WritesText result text events
+    → Appends held new_held (all_put events) → IfErr result (λ fault. SentFront held new_held text fault.0)
+held_front (Ok done) text events held new_held writes put = tt
+held_front (Err fault) text events held new_held writes put =
+    let front = writes.1 in
+    let sent = front.2 in (
+      front.0,
+      front.1,
+      record {
+        gone = sent.gone;
+        text_is = sent.text_is;
+        count_is = sent.count_is;
+        appended = subst (Appends held new_held) sent.appended put;
+      },
+    )
+
+pub write_fault : (write_fails : Type 0) (result : Result (Unit {0}) WriteFault) (text : List ℕ) (events : List Event) → WritesText result text events
+    → (IsLatest WriteFails events → write_fails) → OnErr result write_fails
+write_fault write_fails (Ok done) text events writes fails = tt
+write_fault write_fails (Err fault) text events writes fails = fails writes.0

@@ -1,0 +1,25 @@
+use Rattle.http_wire.specs.Replies.{fields_of, reply_text}
+use Rattle.http_wire.proofs.Trails.{all_told}
+use Rattle.http_wire.proofs.Writes.{held_whole, held_front, write_fault}
+use Rattle.http_wire.proofs.replies.write_reply.Goals as goal
+
+pub returns-clause-ok : goal.returns-clause-ok
+returns-clause-ok g c =
+    let d = g.D.Duplex in
+    let ran = c.write_texts.ensures in
+    let told = all_told d.saw d.left d.held d.read_fails d.write_fails g.met.D.Duplex.told c.args.duplex.now c.write_texts.new.duplex ran.events ran.steps in
+    held_whole c.write_texts.result (reply_text (fields_of c.args.head.now) c.args.body.now) ran.events (d.held c.args.duplex.now) (d.held c.write_texts.new.duplex) ran.claimed told.taken
+
+pub returns-clause-fault : goal.returns-clause-fault
+returns-clause-fault g c =
+    let d = g.D.Duplex in
+    let ran = c.write_texts.ensures in
+    let told = all_told d.saw d.left d.held d.read_fails d.write_fails g.met.D.Duplex.told c.args.duplex.now c.write_texts.new.duplex ran.events ran.steps in
+    held_front c.write_texts.result (reply_text (fields_of c.args.head.now) c.args.body.now) ran.events (d.held c.args.duplex.now) (d.held c.write_texts.new.duplex) ran.claimed told.taken
+
+pub returns-clause-cause : goal.returns-clause-cause
+returns-clause-cause g c =
+    let d = g.D.Duplex in
+    let ran = c.write_texts.ensures in
+    let told = all_told d.saw d.left d.held d.read_fails d.write_fails g.met.D.Duplex.told c.args.duplex.now c.write_texts.new.duplex ran.events ran.steps in
+    write_fault d.write_fails c.write_texts.result (reply_text (fields_of c.args.head.now) c.args.body.now) ran.events ran.claimed told.write

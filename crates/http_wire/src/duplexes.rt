@@ -1,0 +1,68 @@
+//! A connection's stream of bytes, in both directions.
+ghost use Rattle.std.specs.Prelude.{ℕ, List, Option, ◌<◌, ◌≤◌, length, take, IfOk, MatchResult};
+ghost use Rattle.http_wire.specs.Timing.{Event, ReadFails, Put, WriteFails, read_of, Moves};
+
+use crate::sinks::{Sink, WriteFailed};
+use crate::sources::{ReadFailed, Source};
+
+/// A stream of bytes in both directions that is read and written in pieces, in an order that its contract tells.
+pub trait Duplex {
+    // The bytes that reads will give from here on, where they are known.
+    ghost left: { Self → Option (List ℕ) };
+
+    // The bytes that were written, where they are known.
+    ghost held: { Self → Option (List ℕ) };
+
+    // Whether reads of such a stream can fail at all, and writes to it.
+    ghost read_fails: { Type 0 };
+
+    ghost write_fails: { Type 0 };
+
+    // What a read or a write leads from and to.
+    ghost saw: { Self → Event → Self → Type 0 };
+
+    /// Reads some bytes to the front of `buf`: none only at the end.
+    fn read_some(&mut self, buf: &mut [u8]) -> Result<usize, ReadFailed>
+        requires { 0 < length buf.old }
+        ensures bound { IfOk result (λ count. count ≤ length buf.new) }
+        ensures seen { MatchResult result (λ count. saw self.old (read_of (take count buf.new)) self.new) (λ _. saw self.old ReadFails self.new) };
+
+    /// Writes some of the bytes, from their front: at least one, where there is one.
+    fn write_some(&mut self, bytes: &[u8]) -> Result<usize, WriteFailed>
+        ensures bound { IfOk result (λ count. count ≤ length bytes.now) }
+        ensures some { IfOk result (λ count. 0 < length bytes.now → 0 < count) }
+        ensures seen { MatchResult result (λ count. saw self.old (Put (take count bytes.now)) self.new) (λ _. saw self.old WriteFails self.new) };
+
+    // What each event does to the bytes; a fault comes only where there can be one.
+    ghost told: { (old new : Self) (event : Event) → saw old event new
+        → Moves read_fails write_fails event (left old) (held old) (left new) (held new) };
+}
+
+/// A source and a sink as one stream in both directions.
+#[derive(Debug, Drop)]
+pub struct Pair<R, W> {
+    pub source: R,
+    pub sink: W,
+}
+
+impl<R: Source, W: Sink> Duplex for Pair<R, W> {
+    ghost left = { λ pair. R.left pair.source };
+
+    ghost held = { λ pair. W.held pair.sink };
+
+    ghost read_fails = { R.may_fail };
+
+    ghost write_fails = { W.may_fail };
+
+    ghost saw = { λ old event new. Moves R.may_fail W.may_fail event (R.left old.source) (W.held old.sink) (R.left new.source) (W.held new.sink) };
+
+    fn read_some(&mut self, buf: &mut [u8]) -> Result<usize, ReadFailed> {
+        self.source.read_some(buf)
+    }
+
+    fn write_some(&mut self, bytes: &[u8]) -> Result<usize, WriteFailed> {
+        self.sink.write_some(bytes)
+    }
+
+    ghost told = { λ old new event seen. seen };
+}

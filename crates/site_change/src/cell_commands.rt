@@ -1,0 +1,253 @@
+//! Commands that change one cell, or two.
+ghost use Rattle.std.specs.Prelude.{◌≡◌, ◌||◌, IfOk, Some, None, false};
+ghost use Rattle.std.specs.Str.{bytes_eq};
+ghost use Rattle.std.specs.declared.cmp.Ordering.TheVariants.{Less};
+ghost use Rattle.host_names.specs.Cells.{cell_cmp};
+ghost use Rattle.host_names.specs.declared.cells.Cell.TheVariants as cell;
+ghost use Rattle.site_state.specs.Aliases.{alias_for};
+ghost use Rattle.site_state.specs.States.{alias_at, draft_at, is_alias_of, kept_at, live_at, with_cell};
+ghost use Rattle.site_state.specs.declared.values.Value.TheVariants as value;
+ghost use Rattle.site_change.specs.declared.commands.Refusal.TheVariants as reason;
+ghost use Rattle.site_change.specs.Changes.{needed, removal_refusal, rename_refusal, renamed, same_cell};
+ghost use Rattle.site_change.specs.Decisions.{IsDecision};
+ghost use Rattle.site_change.specs.Plans.{IsDifference};
+ghost use Rattle.site_change.specs.TouchedCells.{AreTouched};
+
+use crate::commands::{DecideError, Refusal};
+use crate::plans::{Change, Plan, push_change};
+use crate::touched::Touched;
+use host_names::{AliasName, Cell, CellRef, FilePath, SiteName};
+use site_state::{File, State, Value};
+use std::alloc::{AllocError, Global};
+use std::cmp::Ordering;
+
+/// A cell, and what is written into it.
+type Write = (Cell, Option<Value>);
+
+/// What changes where this is written into one cell.
+fn change_one(
+    alloc: Global,
+    state: &State,
+    cell: Cell,
+    after: Option<Value>,
+) -> Result<Vec<Change>, AllocError>
+    ensures { IfOk result (λ changes. IsDifference state.now (with_cell state.now cell after) changes.items) }
+{
+    let mut changes = Vec::new(alloc);
+    push_change(&mut changes, state, cell, after)?;
+    Ok(changes)
+}
+
+/// What changes where these are written into two cells, of which the first comes first.
+fn change_two(
+    alloc: Global,
+    state: &State,
+    first: Write,
+    second: Write,
+) -> Result<Vec<Change>, AllocError>
+    requires { cell_cmp first.0 second.0 ≡ Less }
+    ensures { IfOk result (λ changes. IsDifference state.now
+        (with_cell (with_cell state.now first.0 first.1) second.0 second.1) changes.items) }
+{
+    let mut changes = Vec::new(alloc);
+    push_change(&mut changes, state, first.0, first.1)?;
+    push_change(&mut changes, state, second.0, second.1)?;
+    Ok(changes)
+}
+
+/// The plan of a command that touches the one cell that it writes.
+pub(crate) fn plan_one(
+    alloc: Global,
+    state: &State,
+    site: &SiteName,
+    cell: Cell,
+    after: Option<Value>,
+) -> Result<Plan, AllocError>
+    ensures changes { IfOk result (λ plan. IsDifference state.now (with_cell state.now cell after) plan.changes.items) }
+    ensures touched { IfOk result (λ plan. AreTouched site.now (λ c. same_cell c cell) plan.touched) }
+{
+    let touched = Touched::one(alloc, site, cell.clone()?)?;
+    let changes = change_one(alloc, state, cell, after)?;
+    Ok(Plan { changes, touched })
+}
+
+/// What the cancelling of an open deploy changes and touches.
+pub(crate) fn cancel(
+    alloc: Global,
+    state: &State,
+    site: &SiteName,
+    number: u64,
+) -> Result<Plan, DecideError>
+    ensures { IsDecision (needed reason.NoSuchDraft (draft_at state.now site.now number))
+        site.now (λ c. same_cell c (cell.Draft site.now number)) state.now
+        (with_cell state.now (cell.Draft site.now number) None)
+        result }
+{
+    if state.draft(site, number).is_none() {
+        return Err(DecideError::Refused(Refusal::NoSuchDraft));
+    }
+    let draft = Cell::Draft(site.copied(), number);
+    Ok(plan_one(alloc, state, site, draft, None)?)
+}
+
+/// What the removal of a file changes and touches.
+pub(crate) fn remove(
+    alloc: Global,
+    state: &State,
+    site: &SiteName,
+    path: &FilePath,
+) -> Result<Plan, DecideError>
+    ensures { IsDecision (needed reason.NoSuchFile (live_at state.now site.now path.now))
+        site.now (λ c. same_cell c (cell.Live site.now path.now)) state.now
+        (with_cell state.now (cell.Live site.now path.now) None)
+        result }
+{
+    if state.file(site, path).is_none() {
+        return Err(DecideError::Refused(Refusal::NoSuchFile));
+    }
+    let live = CellRef::Live(site, path).to_cell()?;
+    Ok(plan_one(alloc, state, site, live, None)?)
+}
+
+/// What changes where these are written into two cells.
+fn change_both(
+    alloc: Global,
+    state: &State,
+    one: Write,
+    other: Write,
+) -> Result<Vec<Change>, AllocError>
+    requires { same_cell one.0 other.0 ≡ false }
+    ensures { IfOk result (λ changes. IsDifference state.now
+        (with_cell (with_cell state.now one.0 one.1) other.0 other.1) changes.items) }
+{
+    match one.0.cmp(&other.0) {
+        Ordering::Less => change_two(alloc, state, one, other),
+        Ordering::Equal | Ordering::Greater => change_two(alloc, state, other, one),
+    }
+}
+
+/// What changes where this file is served at one path no longer, but at another.
+fn change_paths(
+    alloc: Global,
+    state: &State,
+    site: &SiteName,
+    source: &FilePath,
+    target: &FilePath,
+    file: &File,
+) -> Result<Vec<Change>, AllocError>
+    requires { same_cell (cell.Live site.now source.now) (cell.Live site.now target.now) ≡ false }
+    ensures { IfOk result (λ changes. IsDifference state.now
+        (renamed site.now source.now target.now state.now (Some file.now)) changes.items) }
+{
+    let left = CellRef::Live(site, source).to_cell()?;
+    let reached = CellRef::Live(site, target).to_cell()?;
+    let file = Value::Live(file.clone()?);
+    change_both(alloc, state, (left, None), (reached, Some(file)))
+}
+
+/// Two paths, as what a command touches.
+fn touched_paths(
+    alloc: Global,
+    site: &SiteName,
+    one: &FilePath,
+    other: &FilePath,
+) -> Result<Touched, AllocError>
+    ensures { IfOk result (AreTouched site.now
+        (λ c. same_cell c (cell.Live site.now one.now) || same_cell c (cell.Live site.now other.now))) }
+{
+    let one = CellRef::Live(site, one).to_cell()?;
+    let other = CellRef::Live(site, other).to_cell()?;
+    Touched::two(alloc, site, one, other)
+}
+
+/// What the renaming of a file changes and touches.
+pub(crate) fn rename(
+    alloc: Global,
+    state: &State,
+    site: &SiteName,
+    source: &FilePath,
+    target: &FilePath,
+) -> Result<Plan, DecideError>
+    ensures { IsDecision (rename_refusal (bytes_eq source.now target.now) (live_at state.now site.now source.now) (live_at state.now site.now target.now))
+        site.now (λ c. same_cell c (cell.Live site.now source.now) || same_cell c (cell.Live site.now target.now)) state.now
+        (renamed site.now source.now target.now state.now (live_at state.now site.now source.now))
+        result }
+{
+    if source == target {
+        return Err(DecideError::Refused(Refusal::SamePath));
+    }
+    let Some(file) = state.file(site, source) else {
+        return Err(DecideError::Refused(Refusal::NoSuchFile));
+    };
+    if state.file(site, target).is_some() {
+        return Err(DecideError::Refused(Refusal::PathTaken));
+    }
+    let touched = touched_paths(alloc, site, source, target)?;
+    let changes = change_paths(alloc, state, site, source, target, file)?;
+    Ok(Plan { changes, touched })
+}
+
+/// What the moving of an alias to a kept deploy changes and touches.
+pub(crate) fn move_alias(
+    alloc: Global,
+    state: &State,
+    site: &SiteName,
+    name: &AliasName,
+    number: u64,
+) -> Result<Plan, DecideError>
+    ensures { IsDecision (needed reason.NoSuchDeploy (kept_at state.now site.now number))
+        site.now (λ c. same_cell c (cell.Kept site.now number) || same_cell c (cell.Alias site.now name.now)) state.now
+        (with_cell state.now (cell.Alias site.now name.now) (Some (value.Alias number)))
+        result }
+{
+    if state.kept(site, number).is_none() {
+        return Err(DecideError::Refused(Refusal::NoSuchDeploy));
+    }
+    let kept = Cell::Kept(site.copied(), number);
+    let touched = Touched::two(alloc, site, kept, Cell::Alias(site.copied(), name.copied()))?;
+    let alias = Cell::Alias(site.copied(), name.copied());
+    let changes = change_one(alloc, state, alias, Some(Value::Alias(number)))?;
+    Ok(Plan { changes, touched })
+}
+
+/// What the removal of an alias changes and touches.
+pub(crate) fn remove_alias(
+    alloc: Global,
+    state: &State,
+    site: &SiteName,
+    name: &AliasName,
+) -> Result<Plan, DecideError>
+    ensures { IsDecision (needed reason.NoSuchAlias (alias_at state.now site.now name.now))
+        site.now (λ c. same_cell c (cell.Alias site.now name.now)) state.now
+        (with_cell state.now (cell.Alias site.now name.now) None)
+        result }
+{
+    if state.alias(site, name).is_none() {
+        return Err(DecideError::Refused(Refusal::NoSuchAlias));
+    }
+    let alias = Cell::Alias(site.copied(), name.copied());
+    Ok(plan_one(alloc, state, site, alias, None)?)
+}
+
+/// What the removal of a kept deploy changes and touches.
+pub(crate) fn remove_deploy(
+    alloc: Global,
+    state: &State,
+    site: &SiteName,
+    number: u64,
+) -> Result<Plan, DecideError>
+    ensures { IsDecision (removal_refusal (kept_at state.now site.now number) (alias_for state.now site.now number))
+        site.now (λ c. same_cell c (cell.Kept site.now number) || is_alias_of site.now c) state.now
+        (with_cell state.now (cell.Kept site.now number) None)
+        result }
+{
+    if state.kept(site, number).is_none() {
+        return Err(DecideError::Refused(Refusal::NoSuchDeploy));
+    }
+    if let Some(name) = state.alias_for(site, number) {
+        return Err(DecideError::Refused(Refusal::DeployInUse(name.copied())));
+    }
+    let touched = Touched::one_and_aliases(alloc, site, Cell::Kept(site.copied(), number))?;
+    let changes = change_one(alloc, state, Cell::Kept(site.copied(), number), None)?;
+    Ok(Plan { changes, touched })
+}

@@ -1,6 +1,0 @@
-use Rattle.std.proofs.Common.{◌≡◌, drop}
-use Rattle.site_state.specs.Aliases.{first_alias}
-use Rattle.site_state.proofs.states.first_alias.Given as goal
-
-abbrev pub invariant-aliases : goal.invariant-aliases
-invariant-aliases l = first_alias l.number (drop l.cell-index l.aliases) ≡ first_alias l.fn.number l.fn.aliases
