@@ -196,16 +196,37 @@ fn assert_owners(rt: &impl Abort, file: &Arc<BlobInfo>, wanted: usize) {
     assert_eq!(rt; Arc::strong_count(file), wanted);
 }
 
+/// Keeps a file, and again one of the same bytes: the uploads own it once.
+fn keep_again(
+    rt: &impl Abort,
+    alloc: Global,
+    uploads: &mut MemoryUploads,
+    first: &Arc<BlobInfo>,
+) -> Result<(), Fail> {
+    uploads.keep(Arc::try_clone(first)?)?;
+    assert_owners(rt, first, 2);
+    uploads.keep(shared(alloc, b"hello")?)?;
+    assert_owners(rt, first, 2);
+    Ok(())
+}
+
+/// Adds the bytes of a file that is kept: the uploads own it once.
+fn add_again(
+    rt: &impl Abort,
+    alloc: Global,
+    uploads: &mut MemoryUploads,
+    first: &Arc<BlobInfo>,
+) -> Result<(), Fail> {
+    let digest = add(alloc, uploads, b"hello")?;
+    assert_owners(rt, first, 2);
+    assert_eq!(rt; digest, first.digest());
+    Ok(())
+}
+
 #[test]
 fn uploads_keep_one_copy_of_a_file(rt: HostRuntime) -> Result<(), Fail> {
     let mut uploads = MemoryUploads::new(rt.alloc());
     let first = shared(rt.alloc(), b"hello")?;
-    uploads.keep(Arc::try_clone(&first)?)?;
-    assert_owners(&rt, &first, 2);
-    uploads.keep(shared(rt.alloc(), b"hello")?)?;
-    assert_owners(&rt, &first, 2);
-    let digest = add(rt.alloc(), &mut uploads, b"hello")?;
-    assert_owners(&rt, &first, 2);
-    assert_eq!(&rt; digest, first.digest());
-    Ok(())
+    keep_again(&rt, rt.alloc(), &mut uploads, &first)?;
+    add_again(&rt, rt.alloc(), &mut uploads, &first)
 }
