@@ -6,12 +6,13 @@ use Rattle.hex.specs.Hex.{encode_lower}
 use Rattle.host_names.specs.Cells.{cell_text}
 use Rattle.host_names.specs.declared.digests.Digest.{Digest}
 use Rattle.host_names.specs.declared.names.SiteName.{SiteName}
+use Rattle.host_names.specs.declared.refusals.ChangeRefusal.TheVariants.{NotComplete, DeployInUse, Clash}
 use Rattle.serde_json.specs.Data.{string}
 use Rattle.serde_json.specs.Written.{compact_text}
 use Rattle.host_api.specs.ChangeLines.{list_text}
 use Rattle.host_api.specs.Refusals.{name_of}
 use Rattle.host_api.specs.declared.refusals.Refusal.{Refusal}
-use Rattle.host_api.specs.declared.refusals.Refusal.TheVariants.{NotComplete, DeployInUse, Clash}
+use Rattle.host_api.specs.declared.refusals.Refusal.TheVariants.{Change}
 use Rattle.host_api.specs.declared.texts.DeployState.{DeployState}
 use Rattle.host_api.specs.declared.texts.DeployState.TheVariants.{Open, Kept}
 use Rattle.host_api.specs.declared.texts.Told.{Told}
@@ -30,14 +31,14 @@ digest_list digests = join_with_byte (byte ",") (map (λ d. quoted (encode_lower
 
 -- what comes before the name of a refusal
 abbrev pub detail_of : Refusal → List ℕ
-detail_of (NotComplete digest) = codes "\"digest\":" ++ quoted (encode_lower digest.0) ++ codes ","
-detail_of (DeployInUse name) = codes "\"alias\":" ++ quoted name.0 ++ codes ","
-detail_of (Clash change cell) = codes "\"cell\":" ++ compact_text (string (cell_text cell)) ++ codes ",\"change\":" ++ decimal change ++ codes ","
+detail_of (Change (NotComplete digest)) = codes "\"digest\":" ++ quoted (encode_lower digest.0) ++ codes ","
+detail_of (Change (DeployInUse name)) = codes "\"alias\":" ++ quoted name.0 ++ codes ","
+detail_of (Change (Clash change cell)) = codes "\"cell\":" ++ compact_text (string (cell_text cell)) ++ codes ",\"change\":" ++ decimal change ++ codes ","
 detail_of refusal = codes ""
 
 -- whether the text of a refusal names a cell; the others take no memory
 abbrev pub has_cell : Refusal → Bool
-has_cell (Clash change cell) = true
+has_cell (Change (Clash change cell)) = true
 has_cell refusal = false
 
 -- an opened deploy; one that published at once names that entry

@@ -6,6 +6,7 @@ use Rattle.site_state.specs.Listings.{Listed}
 use Rattle.site_change.specs.declared.commands.Command.{Command}
 use Rattle.site_change.specs.declared.commands.Command.TheVariants as command_of
 use Rattle.host_api.specs.declared.refusals.Refusal.{Refusal}
+use Rattle.host_names.specs.declared.refusals.ChangeRefusal.{ChangeRefusal}
 use Rattle.host_api.specs.declared.texts.Told.{Told}
 use Rattle.host_server.specs.Hosts.{Host}
 use Rattle.host_server.specs.Outcomes.{Outcome, AreRequired, Does, DoesCommit, commit_outcome, enter_outcome}
@@ -14,7 +15,7 @@ use Rattle.host_server.specs.Reasons.{commit_refusal}
 abbrev pub IsNoOpening : Command → Type 0
 IsNoOpening command = (site : SiteName) (files : Listed) (auto : Bool) → command ≡ command_of.Open site files auto → ⊥
 
-none_required : (uploads : Contents) (command : Command) (refusal : Option Refusal) → IsNoOpening command → AreRequired uploads command refusal []
+none_required : (uploads : Contents) (command : Command) (refusal : Option ChangeRefusal) → IsNoOpening command → AreRequired uploads command refusal []
 none_required uploads (command_of.Open site files auto) refusal other = absurd (other site files auto refl)
 none_required uploads (command_of.Publish site m) refusal other = refl
 none_required uploads (command_of.Cancel site m) refusal other = refl
@@ -25,7 +26,7 @@ none_required uploads (command_of.RemoveAlias site name) refusal other = refl
 none_required uploads (command_of.Restore site m) refusal other = refl
 none_required uploads (command_of.RemoveDeploy site m) refusal other = refl
 
-same_outcome : (host : Host) (command : Command) (refusal : Option Refusal) → IsNoOpening command → commit_outcome host command [] refusal ≡ enter_outcome host command refusal
+same_outcome : (host : Host) (command : Command) (refusal : Option ChangeRefusal) → IsNoOpening command → commit_outcome host command [] refusal ≡ enter_outcome host command refusal
 same_outcome host command (Some reason) other = refl
 same_outcome host (command_of.Open site files auto) None other = absurd (other site files auto refl)
 same_outcome host (command_of.Publish site m) None other = refl

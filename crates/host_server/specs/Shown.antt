@@ -4,6 +4,7 @@ use Rattle.std.specs.List.{enumerate_from, filter_map}
 use Rattle.host_names.specs.Blobs.{Contents}
 use Rattle.host_names.specs.declared.digests.Digest.{Digest}
 use Rattle.host_names.specs.declared.names.SiteName.{SiteName}
+use Rattle.host_names.specs.declared.refusals.ChangeRefusal.TheVariants.{NoSuchDeploy}
 use Rattle.site_state.specs.Files.{Paths}
 use Rattle.site_state.specs.Missing.{AreMissing}
 use Rattle.site_state.specs.States.{draft_at, kept_at}
@@ -15,7 +16,7 @@ use Rattle.host_api.specs.ChangeLines.{kind_of}
 use Rattle.host_api.specs.declared.change_lines.ChangeLine.{ChangeLine}
 use Rattle.host_api.specs.declared.change_lines.ChangeLine.TheVariants as line
 use Rattle.host_api.specs.declared.refusals.Refusal.{Refusal}
-use Rattle.host_api.specs.declared.refusals.Refusal.TheVariants.{NoSuchDeploy}
+use Rattle.host_api.specs.declared.refusals.Refusal.TheVariants.{Change}
 use Rattle.host_api.specs.declared.texts.DeployState.{DeployState}
 use Rattle.host_api.specs.declared.texts.DeployState.TheVariants as state
 use Rattle.host_api.specs.declared.texts.Told.{Told}
@@ -30,7 +31,7 @@ abbrev pub Stands : Contents → Option Draft → Option (Paths (List ℕ)) → 
 Stands uploads (Some draft) tree standing =
     (required : List Digest) × AreMissing uploads draft.files.1 required × (standing ≡ Ok (state.Open required))
 Stands uploads None (Some tree) standing = standing ≡ Ok state.Kept
-Stands uploads None None standing = standing ≡ Err NoSuchDeploy
+Stands uploads None None standing = standing ≡ Err (Change NoSuchDeploy)
 
 -- the state of the deploy of a number, in the site
 abbrev pub StandsIn : Host → SiteName → ℕ → Result DeployState Refusal → Type 0
@@ -43,7 +44,7 @@ shown n site (Err reason) = Refused reason
 
 -- what is told of the deploy of a number whose site is this, or which has none
 abbrev pub ShowsOn : Host → ℕ → Option SiteName → Told → Type 0
-ShowsOn host n None told = told ≡ Refused NoSuchDeploy
+ShowsOn host n None told = told ≡ Refused (Change NoSuchDeploy)
 ShowsOn host n (Some site) told = (standing : Result DeployState Refusal) × StandsIn host site n standing × (told ≡ shown n site standing)
 
 -- what is told of the deploy of a number

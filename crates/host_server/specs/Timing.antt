@@ -1,5 +1,5 @@
 -- When a connection reads and writes.
-use Rattle.std.specs.Prelude.{◌≡◌, ℕ, List, [], ◌++◌, Option, Some, Bool, Result, Ok, Err, OnOk, MatchResult}
+use Rattle.std.specs.Prelude.{◌≡◌, ℕ, List, [], ◌++◌, Some, Bool, Result, Ok, Err, OnOk, MatchResult}
 use Rattle.std.specs.Io.KnownBytes.{prepend_known}
 use Rattle.std.specs.List.{concat}
 use Rattle.http_wire.specs.Fields.{AnnouncesBody}

@@ -13,7 +13,7 @@ use Rattle.site_state.specs.declared.values.Value.TheVariants as value
 use Rattle.site_state.specs.declared.values.Draft.{Draft}
 use Rattle.site_change.specs.declared.commands.Command.{Command}
 use Rattle.site_change.specs.declared.commands.Command.TheVariants.{Open, Publish, Cancel, Remove, Rename, MoveAlias, RemoveAlias, Restore, RemoveDeploy}
-use Rattle.site_change.specs.declared.commands.Refusal.TheVariants.{NotComplete}
+use Rattle.host_names.specs.declared.refusals.ChangeRefusal.TheVariants.{NotComplete}
 use Rattle.site_change.specs.Changes.{publish_refusal, restore_refusal, refusal, file_at, tree_of, with_published, with_listed, with_patch, published, restored, applied, if_accepted, run_from, IsWithin}
 use Rattle.site_change.specs.Laws.{KeepsRunning}
 use Rattle.site_change.proofs.LeftOut.{accepted}

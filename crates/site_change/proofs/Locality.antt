@@ -19,7 +19,7 @@ use Rattle.site_state.specs.declared.values.Value.{Value}
 use Rattle.site_state.specs.declared.values.Value.TheVariants as value
 use Rattle.site_change.specs.declared.commands.Command.{Command}
 use Rattle.site_change.specs.declared.commands.Command.TheVariants.{Open, Publish, Cancel, Remove, Rename, MoveAlias, RemoveAlias, Restore, RemoveDeploy}
-use Rattle.site_change.specs.declared.commands.Refusal.TheVariants.{NoSuchDraft, NoSuchDeploy, NoSuchFile, NoSuchAlias}
+use Rattle.host_names.specs.declared.refusals.ChangeRefusal.TheVariants.{NoSuchDraft, NoSuchDeploy, NoSuchFile, NoSuchAlias}
 use Rattle.site_change.specs.Changes.{same_cell, needed, rename_refusal, publish_refusal, restore_refusal, removal_refusal, tree_of, with_patch, with_published, published, restored, applied, is_listed, publish_touches, restore_touches, touches, changes}
 use Rattle.site_change.specs.Laws.{AgreeOn, SameEffect, IsLocal}
 use Rattle.site_change.proofs.Patches.{listed_value, get-with_patch, unlisted}

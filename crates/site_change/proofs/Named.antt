@@ -15,8 +15,8 @@ use Rattle.site_state.specs.declared.values.Value.TheVariants as value
 use Rattle.site_state.proofs.Named.{named_live, named_draft, named_without_alias, named_with_alias, named_with_kept, named_without_kept}
 use Rattle.site_change.specs.declared.commands.Command.{Command}
 use Rattle.site_change.specs.declared.commands.Command.TheVariants.{Open, Publish, Cancel, Remove, Rename, MoveAlias, RemoveAlias, Restore, RemoveDeploy}
-use Rattle.site_change.specs.declared.commands.Refusal.{Refusal}
-use Rattle.site_change.specs.declared.commands.Refusal.TheVariants.{NoSuchDeploy}
+use Rattle.host_names.specs.declared.refusals.ChangeRefusal.{ChangeRefusal}
+use Rattle.host_names.specs.declared.refusals.ChangeRefusal.TheVariants.{NoSuchDeploy}
 use Rattle.site_change.specs.Changes.{file_at, tree_of, needed, removal_refusal, with_served, with_published, with_listed, with_patch, published, restored, refusal, applied}
 use Rattle.site_change.proofs.Effects.{get-served}
 
@@ -52,7 +52,7 @@ named_restore site m uploads state (Some tree) draft named = named_served site t
 named_restore site m uploads state None draft named = named_publish site m uploads state draft named
 
 -- what is needed is there where nothing is refused
-is_there : {A : Type 0} (reason : Refusal) (o : Option A) → needed reason o ≡ None → is_some o ≡ true
+is_there : {A : Type 0} (reason : ChangeRefusal) (o : Option A) → needed reason o ≡ None → is_some o ≡ true
 is_there reason None e = cc e
 is_there reason (Some x) e = refl
 

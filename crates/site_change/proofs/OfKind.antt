@@ -16,7 +16,7 @@ use Rattle.site_state.specs.declared.values.Value.{Value}
 use Rattle.site_state.specs.declared.values.Value.TheVariants as value
 use Rattle.site_change.specs.declared.commands.Command.{Command}
 use Rattle.site_change.specs.declared.commands.Command.TheVariants.{Open, Publish, Cancel, Remove, Rename, MoveAlias, RemoveAlias, Restore, RemoveDeploy}
-use Rattle.site_change.specs.declared.commands.DecideError.{DecideError}
+use Rattle.host_names.specs.declared.refusals.ChangeError.{ChangeError}
 use Rattle.site_change.specs.declared.plans.Change.{Change}
 use Rattle.site_change.specs.declared.plans.Plan.{Plan}
 use Rattle.site_change.specs.Decisions.{IsDecision}
@@ -147,7 +147,7 @@ replaced_fit state next kinds (d ∷ changes) h = (ap (may_stand d.cell) h.0.0 �
 
 -- what follows of the definition's decision
 module _ (command : Command) (n : ℕ) (state : State) (uploads : Contents) where
-  abbrev pub IsDecided : Result Plan DecideError → Type 0
+  abbrev pub IsDecided : Result Plan ChangeError → Type 0
   IsDecided = IsDecision (refusal command n state uploads) (site_of_command command) (touches command n state) state (applied command n state uploads)
 
   pub writes_of_kind : (changes : List Change) → IsDifference state (applied command n state uploads) changes → WritesOfKind changes
@@ -155,16 +155,16 @@ module _ (command : Command) (n : ℕ) (state : State) (uploads : Contents) wher
       All-from_recursion (λ (change : Change). IsTrue (may_stand change.cell change.after)) changes
       (changes_fit state (applied command n state uploads) (command_fits command n state uploads) changes is.each)
 
-  pub decided_of_kind : (result : Result Plan DecideError) → IsDecided result → IfOk result (λ plan. WritesOfKind plan.changes.items)
+  pub decided_of_kind : (result : Result Plan ChangeError) → IsDecided result → IfOk result (λ plan. WritesOfKind plan.changes.items)
   decided_of_kind (Ok plan) is = writes_of_kind plan.changes.items is.1
   decided_of_kind (Err e) is = tt
 
-  pub decided_of_kind_before : AreOfKind state → (result : Result Plan DecideError) → IsDecided result → IfOk result (λ plan. ReplacesOfKind plan.changes.items)
+  pub decided_of_kind_before : AreOfKind state → (result : Result Plan ChangeError) → IsDecided result → IfOk result (λ plan. ReplacesOfKind plan.changes.items)
   decided_of_kind_before kinds (Ok plan) is =
       All-from_recursion (λ (change : Change). IsTrue (may_stand change.cell change.before)) plan.changes.items
       (replaced_fit state (applied command n state uploads) kinds plan.changes.items is.1.each)
   decided_of_kind_before kinds (Err e) is = tt
 
-  pub decided_named : AliasesNamed state → (result : Result Plan DecideError) → IsDecided result → OnOk result (AliasesNamed (applied command n state uploads))
+  pub decided_named : AliasesNamed state → (result : Result Plan ChangeError) → IsDecided result → OnOk result (AliasesNamed (applied command n state uploads))
   decided_named named (Ok plan) is = named_applied command n state uploads named is.0
   decided_named named (Err e) is = tt

@@ -20,8 +20,8 @@ use Rattle.site_state.specs.declared.values.Draft.{Draft}
 use Rattle.site_state.specs.declared.values.Value.TheVariants as value
 use Rattle.site_change.specs.declared.commands.Command.{Command}
 use Rattle.site_change.specs.declared.commands.Command.TheVariants.{Open, Publish, Cancel, Remove, Rename, MoveAlias, RemoveAlias, Restore, RemoveDeploy}
-use Rattle.site_change.specs.declared.commands.Refusal.{Refusal}
-use Rattle.site_change.specs.declared.commands.Refusal.TheVariants.{NoSuchDraft, NotComplete, NoSuchDeploy, NoSuchFile, PathTaken, SamePath, NoSuchAlias, DeployInUse, TooManyFiles}
+use Rattle.host_names.specs.declared.refusals.ChangeRefusal.{ChangeRefusal}
+use Rattle.host_names.specs.declared.refusals.ChangeRefusal.TheVariants.{NoSuchDraft, NotComplete, NoSuchDeploy, NoSuchFile, PathTaken, SamePath, NoSuchAlias, DeployInUse, TooManyFiles}
 
 -- whether two cells are one
 abbrev pub same_cell : Cell → Cell → Bool
@@ -30,35 +30,35 @@ same_cell = eq_by_cmp cell_cmp
 -- ---- whether a command is accepted
 
 -- the reasons against a publish, by what is open under the number
-abbrev pub publish_refusal : Contents → Option Draft → Option Refusal
+abbrev pub publish_refusal : Contents → Option Draft → Option ChangeRefusal
 publish_refusal uploads None = Some NoSuchDraft
 publish_refusal uploads (Some draft) = option_map NotComplete (least_missing_of uploads draft.files.1)
 
 -- this reason, unless there is something
-abbrev pub needed : {A : Type 0} → Refusal → Option A → Option Refusal
+abbrev pub needed : {A : Type 0} → ChangeRefusal → Option A → Option ChangeRefusal
 needed reason (Some x) = None
 needed reason None = Some reason
 
 -- the reasons against a renaming, by what is served at the two paths
-abbrev pub rename_refusal : Bool → Option (List ℕ) → Option (List ℕ) → Option Refusal
+abbrev pub rename_refusal : Bool → Option (List ℕ) → Option (List ℕ) → Option ChangeRefusal
 rename_refusal true source target = Some SamePath
 rename_refusal false None target = Some NoSuchFile
 rename_refusal false (Some file) None = None
 rename_refusal false (Some file) (Some other) = Some PathTaken
 
 -- the reasons against a restoring, by what is kept and what is open under the number
-abbrev pub restore_refusal : Contents → Option (Paths (List ℕ)) → Option Draft → Option Refusal
+abbrev pub restore_refusal : Contents → Option (Paths (List ℕ)) → Option Draft → Option ChangeRefusal
 restore_refusal uploads (Some tree) draft = None
 restore_refusal uploads None (Some draft) = publish_refusal uploads (Some draft)
 restore_refusal uploads None None = Some NoSuchDeploy
 
 -- the reasons against the removal of a deploy, by what is kept under the number and the least alias that names it
-abbrev pub removal_refusal : Option (Paths (List ℕ)) → Option AliasName → Option Refusal
+abbrev pub removal_refusal : Option (Paths (List ℕ)) → Option AliasName → Option ChangeRefusal
 removal_refusal None alias = Some NoSuchDeploy
 removal_refusal (Some tree) alias = option_map DeployInUse alias
 
 -- the first reason to refuse the command, if there is one
-abbrev pub refusal : Command → ℕ → State → Contents → Option Refusal
+abbrev pub refusal : Command → ℕ → State → Contents → Option ChangeRefusal
 refusal (Open site files auto) n state uploads = if nat_lt 10000 (length files.1) then Some TooManyFiles else None
 refusal (Publish site m) n state uploads = publish_refusal uploads (draft_at state site m)
 refusal (Cancel site m) n state uploads = needed NoSuchDraft (draft_at state site m)
@@ -186,7 +186,7 @@ changes command n state uploads c = not (same_value (map.get state c) (map.get (
 -- ---- commands in a row, each under its number
 
 -- this, unless there is a reason to refuse
-abbrev pub if_accepted : Option Refusal → Option State → Option State
+abbrev pub if_accepted : Option ChangeRefusal → Option State → Option State
 if_accepted None then_state = then_state
 if_accepted (Some reason) then_state = None
 
