@@ -22,7 +22,7 @@ mod types;
 mod versions;
 
 pub use bodies::{Ask, ask_of};
-pub use change_lines::{ChangeKind, ChangeLine, ChangeLines};
+pub use change_lines::{ChangeLine, ChangeLines, Word, word_of};
 pub use laws::a_path_fits_what_it_is_made_of;
 pub use limits::body_limit;
 pub use refusal_texts::{SHORT_TEXT, short_text};
