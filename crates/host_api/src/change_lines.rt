@@ -65,38 +65,6 @@ pub enum ChangeLine {
     },
 }
 
-/// Some entries of a site. Contracts see the list of them.
-#[derive(Drop)]
-pub struct ChangeLines {
-    lines: Vec<ChangeLine>,
-}
-
-impl Model for ChangeLines {
-    ghost use Rattle.std.specs.Prelude.{List};
-    ghost use Rattle.host_api.specs.declared.change_lines.ChangeLine.{ChangeLine};
-
-    ghost Value = { List ChangeLine };
-
-    ghost view = { λ l. l.lines.items };
-}
-
-impl ChangeLines {
-    /// The lines, in order.
-    pub fn as_slice(&self) -> &[ChangeLine]
-        ensures { result.now ≡ self.now }
-    {
-        self.lines.as_slice()
-    }
-}
-
-impl From<Vec<ChangeLine>> for ChangeLines {
-    ghost from_gives = { λ lines list. list ≡ lines.items };
-
-    fn from(lines: Vec<ChangeLine>) -> ChangeLines {
-        ChangeLines { lines }
-    }
-}
-
 // So many bytes hold what is around the lines of a list.
 const ROOM: usize = 14;
 

@@ -3,51 +3,19 @@ ghost use Rattle.std.specs.Prelude.{◌≡◌, ◌++◌, [], IfOk, OnOk};
 ghost use Rattle.std.specs.String.{string_bytes};
 ghost use Rattle.host_api.specs.Texts.{number_or_null, state_name, required_of, opened_text, uploaded_text, deploy_text, told_text};
 
-use crate::change_lines::{ChangeLines, list_text};
+use crate::change_lines::{ChangeLine, list_text};
 use crate::digest_texts::push_digests;
+use crate::items::Items;
 use crate::refusal_texts::refusal_text;
 use crate::refusals::Refusal;
 use host_names::{Digest, SiteName};
 use std::alloc::{AllocError, Global};
-use std::marker::Model;
-
-/// Some digests. Contracts see the list of them.
-#[derive(Drop)]
-pub struct Digests {
-    list: Vec<Digest>,
-}
-
-impl Model for Digests {
-    ghost use Rattle.std.specs.Prelude.{List};
-    ghost use Rattle.host_names.specs.declared.digests.Digest.{Digest};
-
-    ghost Value = { List Digest };
-
-    ghost view = { λ d. d.list.items };
-}
-
-impl Digests {
-    /// The digests, in order.
-    pub fn as_slice(&self) -> &[Digest]
-        ensures { result.now ≡ self.now }
-    {
-        self.list.as_slice()
-    }
-}
-
-impl From<Vec<Digest>> for Digests {
-    ghost from_gives = { λ list digests. digests ≡ list.items };
-
-    fn from(list: Vec<Digest>) -> Digests {
-        Digests { list }
-    }
-}
 
 /// The state of a deploy.
 #[derive(Drop)]
 pub enum DeployState {
     /// It is open, and these of its files were not uploaded.
-    Open { required: Digests },
+    Open { required: Items<Digest> },
     /// It was published whole, and its files are kept.
     Kept,
 }
@@ -81,7 +49,7 @@ pub enum Told {
     Opened {
         id: u64,
         published: Option<u64>,
-        required: Digests,
+        required: Items<Digest>,
     },
     /// A file was uploaded; and the entry that published its deploy, if one did.
     Uploaded {
@@ -99,7 +67,7 @@ pub enum Told {
         state: DeployState,
     },
     /// The last entries of a site, oldest first.
-    Changes(ChangeLines),
+    Changes(Items<ChangeLine>),
     /// The request was refused.
     Refused(Refusal),
 }
