@@ -1,5 +1,5 @@
 -- What the patterns of the program mean, and what it finds by them.
-use Rattle.std.specs.Prelude.{◌≡◌, ◌⊎◌, ℕ, Bool, true, List, [], ◌∷◌, Option, Some, None, Result, Ok, Err, IsTrue, map, ◌==◌, if◌then◌else◌}
+use Rattle.std.specs.Prelude.{◌≡◌, ◌≢◌, ◌⊎◌, ℕ, Bool, true, List, [], ◌∷◌, Option, Some, None, Result, Ok, Err, IsTrue, map, ◌==◌, if◌then◌else◌}
 use Rattle.std.specs.Str.{byte, bytes_eq}
 use Rattle.host_api.specs.Targets.{Part, word, site, alias, number, Bindings, before, from_first}
 use Rattle.host_names.specs.declared.paths.PathError.{PathError}
@@ -77,4 +77,5 @@ named_route (named.Deploy r) method deploy rest = deploy_route r method deploy r
 
 -- the route is that one, or the first reason why there is none; or there was no memory for its path
 abbrev pub GivesRoute : Result Route Refusal → Result Route Refusal → Type 0
-GivesRoute result routed = (result ≡ routed) ⊎ ((result ≡ Err OutOfMemory) × IsTrue (has_path routed))
+GivesRoute (Ok route) routed = routed ≡ Ok route
+GivesRoute (Err refusal) routed = ((refusal ≢ OutOfMemory) × (routed ≡ Err refusal)) ⊎ ((refusal ≡ OutOfMemory) × IsTrue (has_path routed))

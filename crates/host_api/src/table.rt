@@ -27,7 +27,7 @@ macro_rules! of_deploy {
     };
 }
 
-const ROWS: [Row; 13] = [
+const ROWS: &[Row] = &[
     Row {
         resource: Resource::OfSite(SiteResource::LiveFile),
         parts: &[Part::Word("s"), Part::Site],
@@ -113,5 +113,5 @@ pub fn find<'t>(path: &'t str) -> Option<(Resource, Bindings<'t>)>
     ensures value { option_map found_of result ≡ spec.found_in spec.rows path.now }
     ensures led { IfSome result (λ found. IsTrue (is_rest found.1.rest.now)) }
 {
-    found_in(&ROWS, path)
+    found_in(ROWS, path)
 }
