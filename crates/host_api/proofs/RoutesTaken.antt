@@ -9,7 +9,8 @@ use Rattle.host_api.specs.Targets.{Bindings, path_of, has_hash}
 use Rattle.host_api.specs.declared.refusals.Refusal.{Refusal}
 use Rattle.host_api.specs.declared.refusals.Refusal.TheVariants.{BadMethod, BadName, BadPath, OutOfMemory}
 use Rattle.host_api.specs.declared.resources.Resource.{Resource}
-use Rattle.host_api.specs.declared.resources.Resource.TheVariants.{OfSite, OfAlias, OfDeploy}
+use Rattle.host_api.specs.declared.resources.ResourceKind.{ResourceKind}
+use Rattle.host_api.specs.declared.resources.ResourceKind.TheVariants.{OfSite, OfAlias, OfDeploy}
 use Rattle.host_api.specs.declared.routes.Named.{Named}
 use Rattle.host_api.specs.declared.routes.Route.{Route}
 
@@ -39,10 +40,10 @@ unnamed false named reason h = absurd (cc h)
 
 -- where a name is none
 pub misnamed : (method path : List ℕ) (r : Resource) (b : Bindings) (reason : Refusal) (result : Result Route Refusal) → result ≡ Err reason
-    → named_in r b ≡ Err reason → GivesRoute result (routed_at method path r b)
+    → named_in r.kind b ≡ Err reason → GivesRoute result (routed_at method path r b)
 misnamed method path r b reason result is h =
-    let why = unnamed (misnames r b) (named_by r b) reason h in
-    let at : routed_at method path r b ≡ Err BadName = ap (λ t. cond t (Err BadName) (cond (has_hash path) (Err BadPath) (route_to r method b))) why.0 in
+    let why = unnamed (misnames r.kind b) (named_by r.kind b) reason h in
+    let at : routed_at method path r b ≡ Err BadName = ap (λ t. cond t (Err BadName) (cond (has_hash path) (Err BadPath) (route_to r.kind method b))) why.0 in
     subst (λ x. GivesRoute x (routed_at method path r b)) (sym (is ∙ ap Err why.1)) (inl (λ e. cc e, at))
 
 are_named : (bad : Bool) (made named : Named) (taken : Result Route Refusal) → cond bad (Err BadName) (Ok made) ≡ Ok named
@@ -51,24 +52,24 @@ are_named true made named taken h = absurd (cc h)
 are_named false made named taken h = (refl, cc h)
 
 -- where the names are names and the path has a `#`
-pub hashed : (method path : List ℕ) (r : Resource) (b : Bindings) (named : Named) → named_in r b ≡ Ok named → has_hash path ≡ true
+pub hashed : (method path : List ℕ) (r : Resource) (b : Bindings) (named : Named) → named_in r.kind b ≡ Ok named → has_hash path ≡ true
     → GivesRoute (Err BadPath) (routed_at method path r b)
 hashed method path r b named h hash =
-    let at = are_named (misnames r b) (named_by r b) named (cond (has_hash path) (Err BadPath) (route_to r method b)) h in
-    inl (λ e. cc e, at.0 ∙ ap (λ t. cond t (Err BadPath) (route_to r method b)) hash)
+    let at = are_named (misnames r.kind b) (named_by r.kind b) named (cond (has_hash path) (Err BadPath) (route_to r.kind method b)) h in
+    inl (λ e. cc e, at.0 ∙ ap (λ t. cond t (Err BadPath) (route_to r.kind method b)) hash)
 
-route_by_names : (r : Resource) (method : List ℕ) (b : Bindings) → route_to r method b ≡ named_route (named_by r b) method (number_of b.number_text) b.rest
+route_by_names : (r : ResourceKind) (method : List ℕ) (b : Bindings) → route_to r method b ≡ named_route (named_by r b) method (number_of b.number_text) b.rest
 route_by_names (OfSite r) method b = refl
 route_by_names (OfAlias r) method b = refl
 route_by_names (OfDeploy r) method b = refl
 
 -- where it has none
-pub unhashed : (method path : List ℕ) (r : Resource) (b : Bindings) (named : Named) (result : Result Route Refusal) → named_in r b ≡ Ok named → has_hash path ≡ false
+pub unhashed : (method path : List ℕ) (r : Resource) (b : Bindings) (named : Named) (result : Result Route Refusal) → named_in r.kind b ≡ Ok named → has_hash path ≡ false
     → GivesRoute result (named_route named method (number_of b.number_text) b.rest) → GivesRoute result (routed_at method path r b)
 unhashed method path r b named result h hash gave =
-    let at = are_named (misnames r b) (named_by r b) named (cond (has_hash path) (Err BadPath) (route_to r method b)) h in
+    let at = are_named (misnames r.kind b) (named_by r.kind b) named (cond (has_hash path) (Err BadPath) (route_to r.kind method b)) h in
     let is : routed_at method path r b ≡ named_route named method (number_of b.number_text) b.rest =
-    at.0 ∙ ap (λ t. cond t (Err BadPath) (route_to r method b)) hash ∙ route_by_names r method b
+    at.0 ∙ ap (λ t. cond t (Err BadPath) (route_to r.kind method b)) hash ∙ route_by_names r.kind method b
     ∙ ap (λ n. named_route n method (number_of b.number_text) b.rest) at.1 in
     subst (GivesRoute result) (sym is) gave
 

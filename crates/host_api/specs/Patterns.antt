@@ -9,7 +9,8 @@ use Rattle.host_api.specs.Routes.{Row, misnames, site_in, alias_in, site_route, 
 use Rattle.host_api.specs.declared.refusals.Refusal.{Refusal}
 use Rattle.host_api.specs.declared.refusals.Refusal.TheVariants.{BadName, OutOfMemory}
 use Rattle.host_api.specs.declared.resources.Resource.{Resource}
-use Rattle.host_api.specs.declared.resources.Resource.TheVariants.{OfSite, OfAlias, OfDeploy}
+use Rattle.host_api.specs.declared.resources.ResourceKind.{ResourceKind}
+use Rattle.host_api.specs.declared.resources.ResourceKind.TheVariants.{OfSite, OfAlias, OfDeploy}
 use Rattle.host_api.specs.declared.routes.Named.{Named}
 use Rattle.host_api.specs.declared.routes.Named.TheVariants as named
 use Rattle.host_api.specs.declared.routes.Route.{Route}
@@ -25,7 +26,7 @@ part_of written.Alias = alias
 part_of written.Number = number
 
 abbrev pub row_of : RowWritten → Row
-row_of row = record { named = row.resource; parts = map part_of row.parts.now; has_rest = row.has_rest }
+row_of row = record { named = record { kind = row.kind; methods = row.methods }; parts = map part_of row.parts.now; has_rest = row.has_rest }
 
 abbrev pub bindings_of : BindingsLent → Bindings
 bindings_of b = record { site_text = b.site.now; alias_text = b.alias.now; number_text = b.number.now; rest = b.rest.now }
@@ -60,13 +61,13 @@ KeepsPath None result = result ≡ Err path_error.BadPath
 KeepsPath (Some path) result = (result ≡ Ok path) ⊎ (result ≡ Err path_error.OutOfMemory)
 
 -- a resource with the names that its target has
-abbrev pub named_by : Resource → Bindings → Named
+abbrev pub named_by : ResourceKind → Bindings → Named
 named_by (OfSite r) b = named.Site r (site_in b)
 named_by (OfAlias r) b = named.Alias r (site_in b) (alias_in b)
 named_by (OfDeploy r) b = named.Deploy r
 
 -- the names of a target, or that one is none
-abbrev pub named_in : Resource → Bindings → Result Named Refusal
+abbrev pub named_in : ResourceKind → Bindings → Result Named Refusal
 named_in r b = if misnames r b then Err BadName else Ok (named_by r b)
 
 -- the route of a method to a resource with its names, by the number and the rest of its target
