@@ -8,14 +8,17 @@ use Rattle.host_api.specs.declared.resources.ResourceKind.{ResourceKind}
 use Rattle.host_api.specs.declared.resources.ResourceKind.TheVariants.{OfDeploy}
 use Rattle.host_api.specs.declared.resources.DeployResource.TheVariants.{File}
 
+-- whether it is a file of a deploy
 abbrev pub is_deploy_file : ResourceKind → Bool
 is_deploy_file (OfDeploy File) = true
 is_deploy_file other = false
 
+-- whether what was found is a file of a deploy
 abbrev pub is_upload : Option (Resource × Bindings) → Bool
 is_upload None = false
 is_upload (Some found) = is_deploy_file found.0.kind
 
+-- what the target names
 abbrev pub found_at : List ℕ → Option (Resource × Bindings)
 found_at target = found_in rows (path_of target)
 

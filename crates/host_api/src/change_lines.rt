@@ -71,7 +71,7 @@ const ROOM: usize = 14;
 // So many bytes hold a line and a comma, whatever its numbers are.
 const LINE_ROOM: usize = 71;
 
-/// Appends a line.
+// Appends a line.
 fn push_line(text: &mut String, line: &ChangeLine) -> Result<(), AllocError>
     ensures { OnOk result (string_bytes text.new ≡ string_bytes text.old ++ spec.line_text line.now) }
 {
@@ -93,7 +93,7 @@ fn push_line(text: &mut String, line: &ChangeLine) -> Result<(), AllocError>
     }
 }
 
-/// Appends lines, each after a comma.
+// Appends lines, each after a comma.
 fn push_others(text: &mut String, lines: &[ChangeLine]) -> Result<(), AllocError>
     ensures { OnOk result (string_bytes text.new ≡ string_bytes text.old ++ flat_map (λ line. codes "," ++ spec.line_text line) lines.now) }
 {
@@ -104,7 +104,7 @@ fn push_others(text: &mut String, lines: &[ChangeLine]) -> Result<(), AllocError
     Ok(())
 }
 
-/// Appends lines, with a comma between each two.
+// Appends lines, with a comma between each two.
 fn push_lines(text: &mut String, lines: &[ChangeLine]) -> Result<(), AllocError>
     ensures { OnOk result (string_bytes text.new ≡ string_bytes text.old ++ spec.line_list lines.now) }
 {

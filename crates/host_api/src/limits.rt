@@ -7,10 +7,10 @@ use crate::resources::{DeployResource, Resource, ResourceKind};
 use crate::table::find;
 use crate::targets::{Bindings, path_of};
 
-/// The greatest length of a file that is uploaded, in bytes.
+// The greatest length of a file that is uploaded, in bytes.
 const FILE_LIMIT: u64 = 16_777_216;
 
-/// The greatest length of any other body, in bytes.
+// The greatest length of any other body, in bytes.
 const DOCUMENT_LIMIT: u64 = 4_194_304;
 
 // Whether what was found is a file of a deploy.

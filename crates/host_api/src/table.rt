@@ -15,20 +15,21 @@ pub struct Row {
     pub has_rest: bool,
 }
 
-/// `/api/v1/sites/{site}`, and these parts after it.
+// `/api/v1/sites/{site}`, and these parts after it.
 macro_rules! of_site {
     ($($part:expr),*) => {
         &[Part::Word("api"), Part::Word("v1"), Part::Word("sites"), Part::Site, $($part),*]
     };
 }
 
-/// `/api/v1/deploys/{deploy}`, and these parts after it.
+// `/api/v1/deploys/{deploy}`, and these parts after it.
 macro_rules! of_deploy {
     ($($part:expr),*) => {
         &[Part::Word("api"), Part::Word("v1"), Part::Word("deploys"), Part::Number, $($part),*]
     };
 }
 
+// A target is on the first of these whose pattern it fits.
 const ROWS: &[Row] = &[
     Row {
         kind: ResourceKind::OfSite(SiteResource::LiveFile),

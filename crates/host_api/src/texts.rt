@@ -21,7 +21,7 @@ pub enum DeployState {
 }
 
 impl DeployState {
-    /// Its name.
+    // Its name.
     fn name(&self) -> &'static str
         ensures { result.now ≡ state_name self.now }
     {
@@ -31,7 +31,7 @@ impl DeployState {
         }
     }
 
-    /// The digests of its files that are missing.
+    // The digests of its files that are missing.
     fn required(&self) -> &[Digest]
         ensures { result.now ≡ required_of self.now }
     {
@@ -78,7 +78,7 @@ const ROOM: usize = 132;
 // So many bytes hold a digest of a list: its digits, the quotes and a comma.
 const DIGEST_ROOM: usize = 43;
 
-/// An empty text, with room for a list of digests and for what is around it.
+// An empty text, with room for a list of digests and for what is around it.
 fn text_around(alloc: Global, digests: &[Digest]) -> Result<String, AllocError>
     ensures { IfOk result (λ text. string_bytes text ≡ []) }
 {
@@ -89,7 +89,7 @@ fn text_around(alloc: Global, digests: &[Digest]) -> Result<String, AllocError>
     String::with_capacity(alloc, room)
 }
 
-/// Appends a number, or `null` where there is none.
+// Appends a number, or `null` where there is none.
 fn push_number(text: &mut String, number: Option<u64>) -> Result<(), AllocError>
     ensures { OnOk result (string_bytes text.new ≡ string_bytes text.old ++ number_or_null number) }
 {
@@ -99,7 +99,7 @@ fn push_number(text: &mut String, number: Option<u64>) -> Result<(), AllocError>
     }
 }
 
-/// The text of an opened deploy.
+// The text of an opened deploy.
 fn opened(
     alloc: Global,
     id: u64,
@@ -117,7 +117,7 @@ fn opened(
     Ok(text)
 }
 
-/// The text of an uploaded file.
+// The text of an uploaded file.
 fn uploaded(alloc: Global, published: Option<u64>, digest: &Digest) -> Result<String, AllocError>
     ensures { IfOk result (λ text. string_bytes text ≡ uploaded_text published digest.now) }
 {
@@ -129,7 +129,7 @@ fn uploaded(alloc: Global, published: Option<u64>, digest: &Digest) -> Result<St
     Ok(text)
 }
 
-/// The text of a deploy.
+// The text of a deploy.
 fn deploy(
     alloc: Global,
     id: u64,
