@@ -18,6 +18,7 @@ use Rattle.host_api.specs.declared.texts.DeployState.TheVariants.{Open, Kept}
 use Rattle.host_api.specs.declared.texts.Told.{Told}
 use Rattle.host_api.specs.declared.texts.Told.TheVariants.{Opened, Uploaded, Entered, Deploy, Changes, Refused}
 
+-- the text in quotes
 abbrev pub quoted : List ℕ → List ℕ
 quoted text = codes "\"" ++ text ++ codes "\""
 
@@ -26,6 +27,7 @@ abbrev pub number_or_null : Option ℕ → List ℕ
 number_or_null None = codes "null"
 number_or_null (Some n) = decimal n
 
+-- digests in quotes, with a comma between each two
 abbrev pub digest_list : List Digest → List ℕ
 digest_list digests = join_with_byte (byte ",") (map (λ d. quoted (encode_lower d.0)) digests)
 
@@ -47,9 +49,11 @@ opened_text id published required =
     codes "{\"id\":\"" ++ decimal id ++ codes "\",\"published\":" ++ number_or_null published
     ++ codes ",\"required\":[" ++ digest_list required ++ codes "]}"
 
+-- an uploaded file, and the entry that published its deploy
 abbrev pub uploaded_text : Option ℕ → Digest → List ℕ
 uploaded_text published digest = codes "{\"published\":" ++ number_or_null published ++ codes ",\"sha\":\"" ++ encode_lower digest.0 ++ codes "\"}"
 
+-- the word for the state of a deploy
 abbrev pub state_name : DeployState → List ℕ
 state_name (Open required) = codes "open"
 state_name Kept = codes "kept"
@@ -59,6 +63,7 @@ abbrev pub required_of : DeployState → List Digest
 required_of (Open required) = required
 required_of Kept = []
 
+-- a deploy that is shown
 abbrev pub deploy_text : ℕ → SiteName → List Digest → List ℕ → List ℕ
 deploy_text id site required state =
     codes "{\"id\":\"" ++ decimal id ++ codes "\",\"required\":[" ++ digest_list required

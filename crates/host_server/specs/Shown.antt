@@ -12,7 +12,7 @@ use Rattle.site_state.specs.declared.values.Draft.{Draft}
 use Rattle.change_undo.specs.declared.entries.Entry.{Entry}
 use Rattle.change_undo.specs.declared.entries.Entry.TheVariants as entry
 use Rattle.change_undo.specs.Histories.{entry_at, is_among, same_site, site_of_entry, undone}
-use Rattle.host_api.specs.ChangeLines.{kind_of}
+use Rattle.host_api.specs.ChangeLines.{word_of}
 use Rattle.host_api.specs.declared.change_lines.ChangeLine.{ChangeLine}
 use Rattle.host_api.specs.declared.change_lines.ChangeLine.TheVariants as line
 use Rattle.host_api.specs.declared.refusals.Refusal.{Refusal}
@@ -64,7 +64,7 @@ is_open host n = is_open_in host n (site_of_deploy (entry_at host.entries n))
 
 -- the line of an entry, where the changes of these numbers were undone
 abbrev pub line_of : List ℕ → ℕ → Entry → ChangeLine
-line_of gone n (entry.Change command) = line.Change n (kind_of command) (not (is_among gone n))
+line_of gone n (entry.Change command) = line.Change n (word_of command) (not (is_among gone n))
 line_of gone n (entry.Undo site k) = line.Undo n k
 
 -- the same, if the entry is of the site

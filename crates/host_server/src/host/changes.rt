@@ -15,7 +15,7 @@ ghost use Rattle.host_server.specs.Reasons.{commit_refusal};
 use super::deploys::owner;
 use super::houses::SoloHouse;
 use super::views::HostView;
-use host_api::{Digests, Refusal, Told};
+use host_api::{Items, Refusal, Told};
 use host_names::{ChangeRefusal, SiteName};
 use site_change::{Command, MOST_FILES};
 use site_state::{Draft, Listing, least_missing, missing};
@@ -84,7 +84,7 @@ impl SoloHouse {
         Ok(Told::Opened {
             id,
             published,
-            required: Digests::from(required),
+            required: Items::from(required),
         })
     }
 

@@ -9,7 +9,7 @@ ghost use Rattle.site_state.specs.States.{draft_at, kept_at};
 
 use super::views::HostView;
 use change_undo::Entry;
-use host_api::{DeployState, Digests, Refusal, Told};
+use host_api::{DeployState, Items, Refusal, Told};
 use host_names::{ChangeRefusal, SiteName};
 use site_change::Command;
 use site_state::missing;
@@ -48,7 +48,7 @@ fn state_of_deploy<H: HostView>(
 {
     let state = host.state();
     if let Some(draft) = state.draft(site, number) {
-        let required = Digests::from(missing(alloc, draft, host.uploads())?);
+        let required = Items::from(missing(alloc, draft, host.uploads())?);
         return Ok(DeployState::Open { required });
     }
     match state.kept(site, number) {
