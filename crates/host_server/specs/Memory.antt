@@ -1,4 +1,4 @@
--- Where memory may run out, and what a host has by then. Nothing else is answered by `OutOfMemory`.
+-- Where memory may run out, and what a host has by then.
 use Rattle.std.specs.Prelude.{◌≡◌, ◌⊎◌, ℕ, List, Bool, true, false, ◌&&◌, ◌||◌, Option, Some, None, Result, Ok, Err, is_none, IsTrue}
 use Rattle.std.specs.FinMap as map
 use Rattle.host_names.specs.Blobs.{digest_of}
@@ -22,11 +22,11 @@ use Rattle.host_server.specs.Hosts.{Host, next_number, with_entry, with_upload}
 use Rattle.host_server.specs.Outcomes.{Outcome, is_ready, judge_upload, site_of_deploy}
 use Rattle.host_server.specs.Reasons.{commit_refusal, undo_refusal}
 
--- whether a deploy is published: it is ready, and its publishing is not refused
+-- whether a deploy would be published now: it is ready, and its publishing would not be refused
 abbrev pub is_published : Host → SiteName → ℕ → Bool
 is_published host site n = is_ready host site n && is_none (commit_refusal host (Publish site n))
 
--- whether the command opens a deploy that is then published
+-- whether the command opens a deploy that would then be published
 abbrev pub opens_published : Host → Command → Bool
 opens_published host (Open site files auto) = is_published (with_entry host (Change (Open site files auto))) site (next_number host)
 opens_published host command = false
