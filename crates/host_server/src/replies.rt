@@ -17,7 +17,7 @@ use arrayvec::ArrayString;
 use host_api::{Refusal, SHORT_TEXT, Told, content_type, short_text, text};
 use host_names::{Digest, FilePath};
 use http::StatusCode;
-use http_wire::{ContentRange, Duplex, ReplyHead, WriteFault, write_reply};
+use http_wire::{ContentRange, Duplex, FieldText, ReplyHead, WriteFault, write_reply};
 use range_spec::Choice;
 use site_state::File;
 use std::alloc::{AllocError, Global};
@@ -93,11 +93,11 @@ impl Body {
 #[derive(Drop)]
 pub struct Reply {
     status: StatusCode,
-    content_type: &'static str,
+    content_type: FieldText<'static>,
     /// The digest of the file, where the reply has a file or a part of one.
     etag: Option<Digest>,
     content_range: Option<ContentRange>,
-    allow: Option<&'static str>,
+    allow: Option<FieldText<'static>>,
     body: Body,
 }
 
@@ -124,11 +124,11 @@ fn range_told(told: &Told) -> Option<ContentRange>
 }
 
 /// The methods that the route has, where it hasn't that of the request.
-fn allow_told(told: &Told) -> Option<&'static str>
-    ensures { option_map (λ t. t.now) result ≡ spec.allow_told told.now }
+fn allow_told(told: &Told) -> Option<FieldText<'static>>
+    ensures { option_map (λ t. t.text.now) result ≡ spec.allow_told told.now }
 {
     match told {
-        Told::Refused(Refusal::BadMethod(kind)) => Some(kind.methods_text()),
+        Told::Refused(Refusal::BadMethod(kind)) => Some(FieldText::new(kind.methods_text())),
         _ => None,
     }
 }
@@ -162,7 +162,7 @@ impl Reply {
     {
         Reply {
             status: status_told(told),
-            content_type: "application/json",
+            content_type: FieldText::new("application/json"),
             etag: None,
             content_range: range_told(told),
             allow: allow_told(told),
@@ -209,7 +209,7 @@ impl Reply {
     {
         Reply {
             status,
-            content_type: content_type(path),
+            content_type: FieldText::new(content_type(path)),
             etag: Some(file.digest()),
             content_range: range,
             allow: None,
@@ -256,8 +256,8 @@ impl Reply {
     }
 
     /// Its head, with the text of its entity tag.
-    fn head<'a>(&'a self, etag: Option<&'a str>, close: bool) -> ReplyHead<'a>
-        requires { option_map (λ t. t.now) etag ≡ (answer_of self.now).etag }
+    fn head<'a>(&'a self, etag: Option<FieldText<'a>>, close: bool) -> ReplyHead<'a>
+        requires { option_map (λ t. t.text.now) etag ≡ (answer_of self.now).etag }
         ensures { fields_of result ≡ fields_for close (answer_of self.now) }
     {
         ReplyHead {
@@ -279,6 +279,21 @@ impl Reply {
         if head_only { &[] } else { self.body.bytes() }
     }
 
+    /// The same, with the text of its entity tag.
+    fn send_with<D: Duplex>(
+        &self,
+        duplex: &mut D,
+        etag: Option<FieldText<'_>>,
+        close: bool,
+        head_only: bool,
+    ) -> Result<(), WriteFault>
+        requires { option_map (λ t. t.text.now) etag ≡ (answer_of self.now).etag }
+        ensures { Ran D.saw NoRead duplex.old duplex.new (WritesText result (sent_text close head_only (answer_of self.now))) }
+    {
+        let head = self.head(etag, close);
+        write_reply(duplex, &head, self.sent_body(head_only))
+    }
+
     /// Writes it, without its body where only the head is wanted (RFC 9110, section 9.3.2); its head says whether the
     /// connection closes.
     pub(crate) fn send<D: Duplex>(
@@ -289,8 +304,10 @@ impl Reply {
     ) -> Result<(), WriteFault>
         ensures { Ran D.saw NoRead duplex.old duplex.new (WritesText result (sent_text close head_only (answer_of self.now))) }
     {
-        let etag = self.etag.map(|digest| digest.to_hex());
-        let head = self.head(etag.as_ref().map(|hex| hex.as_str()), close);
-        write_reply(duplex, &head, self.sent_body(head_only))
+        let Some(digest) = self.etag else {
+            return self.send_with(duplex, None, close, head_only);
+        };
+        let hex = digest.to_hex();
+        self.send_with(duplex, Some(FieldText::new(hex.as_str())), close, head_only)
     }
 }
