@@ -2,8 +2,8 @@
 use Rattle.std.specs.Prelude.{ℕ, List, option_map}
 use Rattle.std.specs.String.{string_bytes}
 use Rattle.hex.specs.Hex.{encode_lower}
-use Rattle.host_server.specs.declared.replies.Body.{Body}
-use Rattle.host_server.specs.declared.replies.Body.TheVariants as body
+use Rattle.host_server.specs.declared.bodies.Body.{Body}
+use Rattle.host_server.specs.declared.bodies.Body.TheVariants as body
 use Rattle.host_server.specs.declared.replies.Reply.{Reply}
 use Rattle.host_server.specs.Replies.{Answer}
 

@@ -1,5 +1,5 @@
 //! Replies, before they are written.
-ghost use Rattle.std.specs.Prelude.{◌≡◌, ◌≢◌, ◌≤◌, ◌⊎◌, All, length, true, false, Some, None, IsTrue, IfOk, IfErr, OnErr, Err, IsErrOf, MatchOption, slice_range, option_map};
+ghost use Rattle.std.specs.Prelude.{◌≡◌, ◌≢◌, ◌≤◌, ◌⊎◌, All, length, true, false, Some, None, IsTrue, IfOk, IfErr, OnErr, Err, IsErrOf, MatchOption, option_map};
 ghost use Rattle.http_wire.specs.Replies.{fields_of};
 ghost use Rattle.http_wire.specs.Sending.{WritesText};
 ghost use Rattle.http_wire.specs.Timing.{NoRead, Ran};
@@ -13,81 +13,14 @@ ghost use Rattle.host_server.specs.Memory.{takes_text};
 ghost use Rattle.host_server.specs.Replies.{told_answer, refused_answer, file_answer, part_answer, gives_bytes, fields_for, sent_text};
 ghost use Rattle.range_spec.specs.Chosen.{LiesWithin, intervals_in};
 
-use arrayvec::ArrayString;
-use host_api::{Refusal, SHORT_TEXT, Told, content_type, short_text, text};
+use crate::bodies::{Body, FilePart};
+use host_api::{Refusal, Told, content_type, short_text, text};
 use host_names::{Digest, FilePath};
 use http::StatusCode;
 use http_wire::{ContentRange, Duplex, FieldText, ReplyHead, WriteFault, write_reply};
 use range_spec::Choice;
 use site_state::File;
 use std::alloc::{AllocError, Global};
-use std::marker::Model;
-
-/// Some bytes of a file that others may hold too. Contracts see these bytes.
-#[derive(Drop)]
-pub struct FilePart {
-    file: File,
-    first: usize,
-    end: usize,
-}
-
-impl Model for FilePart {
-    ghost use Rattle.std.specs.Prelude.{ℕ, List, ◌≤◌, length, slice_range};
-
-    ghost Value = { List ℕ };
-
-    ghost view = { λ p. slice_range p.file p.first p.end };
-
-    ghost invariant = { λ p. (p.first ≤ p.end) × (p.end ≤ length p.file) };
-}
-
-impl FilePart {
-    /// The bytes from the first place on, up to the end, which is left out.
-    fn new(file: &File, first: usize, end: usize) -> Result<FilePart, AllocError>
-        requires rising { first ≤ end }
-        requires within { end ≤ length file.now }
-        ensures { IfOk result (λ part. part ≡ slice_range file.now first end) }
-    {
-        Ok(FilePart {
-            file: file.clone()?,
-            first,
-            end,
-        })
-    }
-
-    /// Its bytes, which are lent.
-    fn bytes(&self) -> &[u8]
-        ensures { result.now ≡ self.now }
-    {
-        &self.file.bytes()[self.first..self.end]
-    }
-}
-
-/// The body of a reply.
-#[derive(Drop)]
-pub enum Body {
-    /// A text that was made for the reply.
-    Text(String),
-    /// The text of a refusal, which takes no memory.
-    Short(ArrayString<SHORT_TEXT>),
-    /// A text that the program has.
-    Fixed(&'static str),
-    /// A part of a file.
-    Part(FilePart),
-}
-
-impl Body {
-    fn bytes(&self) -> &[u8]
-        ensures { result.now ≡ bytes_of self.now }
-    {
-        match self {
-            Body::Text(text) => text.as_bytes(),
-            Body::Short(text) => text.as_str().as_bytes(),
-            Body::Fixed(text) => text.as_bytes(),
-            Body::Part(part) => part.bytes(),
-        }
-    }
-}
 
 /// A reply, before it is written. Its length, and whether ranges are served, follow from the rest.
 #[derive(Drop)]
