@@ -2,8 +2,8 @@
 ghost use Rattle.std.specs.Prelude.{◌≡◌, IsTrue};
 ghost use Rattle.http_wire.specs.FieldTexts.{is_field_text};
 
-/// A text that can be the value of a field: each byte is visible, a space or a tab (RFC 9110, section 5.5). So it holds no
-/// line break.
+/// A text that can be the value of a field: each byte is visible, past ASCII, a space or a tab (RFC 9110, section 5.5). So
+/// it holds no line break.
 #[derive(Clone, Copy, Debug)]
 pub struct FieldText<'a> {
     text: &'a str,
