@@ -39,10 +39,25 @@ PHRASES = {
 }
 
 
+def section(document, title):
+    """What a document says under a title, up to the next one."""
+    return (TOP / "docs" / document).read_text().partition(f"\n## {title}\n")[2].partition("\n## ")[0]
+
+
+def documented_reasons():
+    """The names by which docs/CHANGES.md says that changes and undos are refused."""
+    by_command = [row.split("|")[2] for row in section("CHANGES.md", "Changes").splitlines() if row.startswith("| ")]
+    of_undos = re.findall(r"(?m)^\| (\w+)", section("CHANGES.md", "Histories"))
+    return set(re.findall(r"\b(?:[A-Z][a-z]*){2,}\b|\bClash\b", " ".join(by_command + of_undos)))
+
+
 def documented_statuses():
-    """The status line's code and phrase for each name of a refusal, by the table in docs/HTTP.md."""
-    table = (TOP / "docs/HTTP.md").read_text().partition("\n## Refusals\n")[2].partition("\n## ")[0]
-    return {name: f"{code} {PHRASES[int(code)]}" for name, code in re.findall(r"(?m)^\| (\w+) \| (\d+) \|", table)}
+    """The status line's code and phrase for each name of a refusal, by the tables in docs/HTTP.md."""
+    code_of = dict(re.findall(r"(?m)^\| ([\w` ]+) \| (\d+) \|", section("HTTP.md", "Refusals")))
+    not_there, other = code_of.pop("begins with `NoSuch`"), code_of.pop("any other")
+    for name in documented_reasons() - code_of.keys():
+        code_of[name] = not_there if name.startswith("NoSuch") else other
+    return {name: f"{code} {PHRASES[int(code)]}" for name, code in code_of.items()}
 
 
 STATUS_OF = documented_statuses()

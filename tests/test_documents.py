@@ -1,4 +1,5 @@
-"""The documents against what they speak of: names of edits, clauses, functions, files and crates, and the first run."""
+"""The documents against what they speak of: names of edits, clauses, functions, files and crates, the first run, and the limits
+of files and functions."""
 
 import pathlib
 import re
@@ -132,6 +133,24 @@ class Pages(unittest.TestCase):
         for told in re.findall(r"(\{[^{}]*\})$", shown, re.M):
             pattern = re.escape(told).replace(r",\.\.", ",.*")
             self.assertTrue(re.search(pattern, replies + requests), told)
+
+
+class Code(unittest.TestCase):
+    """The limits in CONTRIBUTING.md, "Code"."""
+
+    files = sorted((TOP / "crates").glob("*/src/**/*.rt"))
+
+    def test_has_no_file_over_300_lines(self):
+        longer = {str(file.relative_to(TOP)) for file in self.files if file.read_text().count("\n") > 300}
+        self.assertEqual(longer, set())
+
+    def test_has_no_function_over_40_lines(self):
+        longer = set()
+        for file in self.files:
+            for found in re.finditer(r"(?ms)^( *)(?:pub(?:\(crate\))? )?fn (\w+).*?^\1\{?\}$", file.read_text()):
+                if found[0].count("\n") >= 40:
+                    longer.add(f"{file.relative_to(TOP)}: {found[2]}")
+        self.assertEqual(longer, set())
 
 
 if __name__ == "__main__":

@@ -3,7 +3,6 @@ pub mod Runs
 pub mod Marks
 pub mod PlanWrites
 pub mod Found
-pub mod Errors
 pub mod Clashing
 pub mod ChangedCells
 pub mod WithoutClash

@@ -10,7 +10,7 @@ use Rattle.host_names.specs.declared.names.SiteName.{SiteName}
 use Rattle.site_change.specs.Changes.{site_of_command}
 use Rattle.change_undo.specs.declared.entries.Entry.{Entry}
 use Rattle.change_undo.specs.declared.entries.Entry.TheVariants.{Change, Undo}
-use Rattle.change_undo.specs.declared.entries.UndoRefusal.TheVariants.{HistoryFull, NoSuchChange, AlreadyUndone, Clash}
+use Rattle.host_names.specs.declared.refusals.ChangeRefusal.TheVariants.{HistoryFull, NoSuchChange, AlreadyUndone, Clash}
 use Rattle.change_undo.specs.Clashes.{clash, clash_in}
 use Rattle.change_undo.specs.declared.planned_entries.PlannedEntry.{PlannedEntry}
 use Rattle.change_undo.specs.Histories.{marked as with_mark, undone, is_among, live_from, site_of_entry, same_site, entry_at, marked_entry, refusal_at, undo_refusal}

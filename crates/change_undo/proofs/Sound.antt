@@ -1,5 +1,5 @@
 -- A history stays sound: its marks, its entries, its plans and its state go together.
-use Rattle.std.proofs.Common.{◌≡◌, ◌↔◌, ℕ, ◌+◌, ◌-◌, ◌<◌, ◌≤◌, inl, inr, nat_le, Bool, false, List, [], ◌∷◌, ◌++◌, length, Option, Some, None, Result, Ok, Err, OnOk, OnErr, refl, sym, ap, subst, ◌∙◌, arith, le-leb}
+use Rattle.std.proofs.Common.{◌≡◌, ℕ, ◌+◌, ◌-◌, ◌<◌, ◌≤◌, inl, inr, nat_le, Bool, false, List, [], ◌∷◌, ◌++◌, length, Option, Some, None, Result, Ok, Err, IsErrAnd, true, refl, sym, ap, subst, ◌∙◌, arith, le-leb}
 use Rattle.std.specs.FinMap as map
 use Rattle.std.proofs.lemmas.Bool.{cases_lt}
 use Rattle.std.proofs.lemmas.List.{length-map, length-append}
@@ -7,21 +7,18 @@ use Rattle.host_names.specs.Blobs.{Contents}
 use Rattle.host_names.specs.declared.names.SiteName.{SiteName}
 use Rattle.site_state.specs.States.{State, with_cells}
 use Rattle.site_change.specs.declared.commands.Command.{Command}
-use Rattle.site_change.specs.declared.commands.Refusal.{Refusal}
-use Rattle.site_change.specs.declared.commands.DecideError.{DecideError}
-use Rattle.site_change.specs.declared.commands.DecideError.TheVariants as decide
+use Rattle.host_names.specs.declared.refusals.ChangeError.{ChangeError}
+use Rattle.host_names.specs.declared.refusals.ChangeError.TheVariants as change
+use Rattle.host_names.specs.declared.refusals.ChangeRefusal.{ChangeRefusal}
 use Rattle.site_change.specs.declared.plans.Plan.{Plan}
 use Rattle.site_change.specs.Changes.{IsWithin, applied, refusal, run_from}
-use Rattle.change_undo.specs.declared.entries.CommitError.{CommitError}
-use Rattle.change_undo.specs.declared.entries.CommitError.TheVariants as commit
 use Rattle.change_undo.specs.declared.entries.Entry.{Entry}
 use Rattle.change_undo.specs.declared.entries.Entry.TheVariants.{Change, Undo}
-use Rattle.change_undo.specs.declared.entries.UndoRefusal.{UndoRefusal}
-use Rattle.change_undo.specs.declared.entries.UndoRefusal.TheVariants.{HistoryFull}
+use Rattle.host_names.specs.declared.refusals.ChangeRefusal.TheVariants.{HistoryFull}
 use Rattle.change_undo.specs.declared.planned_entries.PlannedEntry.{PlannedEntry}
 use Rattle.change_undo.specs.Clashes.{clash_in}
 use Rattle.change_undo.specs.Effects.{UndoesChange}
-use Rattle.change_undo.specs.Histories.{Past, undone, is_among, run, change_refusal, undo_refusal, IsLegal}
+use Rattle.change_undo.specs.Histories.{Past, undone, is_among, run, change_refusal, undo_refusal, may_take_memory, IsLegal, IsUndoRefusedBy}
 use Rattle.change_undo.specs.Kept.{ArePlanned, AreWritable, befores_of, plan_at}
 use Rattle.change_undo.specs.PlannedEntries.{AreMarked, entries_of, marked_live}
 use Rattle.change_undo.specs.Past.{IsRunOver, IsSound, past_of, plans_of}
@@ -130,42 +127,28 @@ run-append logged items uploads state after number command marked over at ok is 
       },
     )
 
-pub sound-append : {E : Type 0} (r : Result (Unit {0}) E) (limit : ℕ) (logged items : List PlannedEntry) (uploads : Contents) (state after : State) (number : ℕ) (command : Command)
+pub sound-append : (limit : ℕ) (logged items : List PlannedEntry) (uploads : Contents) (state after : State) (number : ℕ) (command : Command)
     → IsSound limit logged state → IsHistoryOver uploads (past_of limit logged state) → number ≡ length logged + 1 → number ≤ limit
-    → OnOk r (IsAppended logged items uploads state number command) → OnOk r (after ≡ applied command number state uploads)
-    → OnOk r (refusal command number state uploads ≡ None) → OnErr r ((items ≡ logged) × (after ≡ state))
+    → refusal command number state uploads ≡ None → IsAppended logged items uploads state number command → after ≡ applied command number state uploads
     → IsSound limit items after × IsHistoryOver uploads (past_of limit items after)
-sound-append (Ok x) limit logged items uploads state after number command sound over at room is effect ok err =
+sound-append limit logged items uploads state after number command sound over at room ok is effect =
     let new = run-append logged items uploads state after number command sound.marked (run-over limit uploads logged state sound.marked over) at ok is effect in
     let longer : length items ≡ length logged + 1 = ap (λ (ls : List PlannedEntry). length ls) is.1 ∙ length-append logged (record { entry = Change command; is_undone = false; plan = Some is.0 } ∷ []) in (
       record { some = sound.some; bounded = sound.bounded; room = omega (arith, longer, at, room); marked = new.0; uploads = uploads; over = new.1 },
       over-run limit uploads items after new.0 new.1,
     )
-sound-append (Err e) limit logged items uploads state after number command sound over at room is effect ok err =
-    let P : List PlannedEntry → Type 0 = λ items. IsSound limit items after × IsHistoryOver uploads (past_of limit items after) in
-    let Q : State → Type 0 = λ after. IsSound limit logged after × IsHistoryOver uploads (past_of limit logged after) in
-    subst P (sym err.0) (subst Q (sym err.1) (sound, over))
-
-pub same_past : {A E : Type 0} (r : Result A E) (limit : ℕ) (logged items : List PlannedEntry) (state after : State) → OnErr r ((items ≡ logged) × (after ≡ state))
-    → OnErr r (past_of limit items after ≡ past_of limit logged state)
-same_past (Ok x) limit logged items state after err = tt
-same_past (Err e) limit logged items state after err = λ i. past_of limit (err.0 i) (err.1 i)
-
--- what a commit tells of an appended command
-abbrev pub told : ℕ → Result (Unit {0}) DecideError → Result ℕ CommitError
-told n (Ok x) = Ok n
-told n (Err (decide.Refused reason)) = Err (commit.Refused reason)
-told n (Err decide.OutOfMemory) = Err commit.OutOfMemory
-
-pub told-refused : {P : Type 0} (n : ℕ) (r : Result (Unit {0}) DecideError) (reason : Refusal) → (r ≡ Err (decide.Refused reason)) ↔ P → (told n r ≡ Err (commit.Refused reason)) ↔ P
-told-refused n (Ok x) reason same = (λ h. cc h, λ p. cc (same.1 p))
-told-refused n (Err (decide.Refused other)) reason same = (λ h. let is : other ≡ reason = cc h in same.0 (ap (λ x. Err (decide.Refused x)) is), λ p. let is : other ≡ reason = cc (same.1 p) in ap (λ x. Err (commit.Refused x)) is)
-told-refused n (Err decide.OutOfMemory) reason same = (λ h. cc h, λ p. cc (same.1 p))
 
 -- ---- after an undo
 
+-- where memory ran out, it could
+pub out_of_memory : (reason : Option ChangeRefusal) (result : Result ℕ ChangeError) → IsErrAnd result (λ e. e ≡ change.OutOfMemory) → may_take_memory reason ≡ true
+    → IsUndoRefusedBy reason result
+out_of_memory reason (Ok n) h memory = absurd h
+out_of_memory reason (Err (change.Refused told)) h memory = cc h
+out_of_memory reason (Err change.OutOfMemory) h memory = memory
+
 -- where no reason against the undo was found, there is none
-pub allowed_by : (limit : ℕ) (logged items : List PlannedEntry) (uploads : Contents) (state : State) (site : SiteName) (k : ℕ) (reason : Option UndoRefusal) → IsRunOver uploads logged state
+pub allowed_by : (limit : ℕ) (logged items : List PlannedEntry) (uploads : Contents) (state : State) (site : SiteName) (k : ℕ) (reason : Option ChangeRefusal) → IsRunOver uploads logged state
     → items ≡ logged → ((u : Contents) → ArePlanned u map.empty 1 items → reason ≡ undo_refusal u limit (entries_of items) site k) → reason ≡ None
     → change_refusal uploads (entries_of logged) site k ≡ None
 allowed_by limit logged items uploads state site k reason over is told none =
@@ -201,7 +184,7 @@ pub writable : (limit : ℕ) (logged : List PlannedEntry) (state : State) (site 
 writable limit logged state site k sound ok = (writes-back sound.uploads logged state site k sound.marked sound.over (ok sound.uploads sound.over)).0
 
 -- what the plans tell of the reason against an undo is so over each uploads over which the history is what it is
-pub over_all : (Q : Option UndoRefusal → Type 0) (limit : ℕ) (logged items : List PlannedEntry) (state : State) (site : SiteName) (k : ℕ) → AreMarked (undone (entries_of logged)) 1 logged
+pub over_all : (Q : Option ChangeRefusal → Type 0) (limit : ℕ) (logged items : List PlannedEntry) (state : State) (site : SiteName) (k : ℕ) → AreMarked (undone (entries_of logged)) 1 logged
     → items ≡ logged → ((u : Contents) → ArePlanned u map.empty 1 items → Q (undo_refusal u limit (entries_of items) site k))
     → (past : Past) → past_of limit logged state ≡ past → (uploads : Contents) → IsHistoryOver uploads past → Q (undo_refusal uploads past.limit past.entries site k)
 over_all Q limit logged items state site k marked same told past is uploads over =
@@ -264,15 +247,3 @@ at_once-over old new site k after is uploads before command over last at =
     let Q : List Entry → Type 0 = IsLegal uploads in
     sym (run-undone_at_once uploads before command site k (subst Q last over.legal) at)
     ∙ ap (λ es. run uploads (es ++ Undo site k ∷ [])) (sym last) ∙ ap (run uploads) (sym is) ∙ (after uploads over).ran
-
--- ---- the reasons to refuse a commit
-
-pub refused_within : {A : Type 0} (limit number : ℕ) (logged : List PlannedEntry) (state : State) (uploads : Contents) (command : Command) (reason : Refusal)
-    → A ↔ (refusal command number state uploads ≡ Some reason) → number ≡ length logged + 1 → number ≤ limit
-    → A ↔ ((length (entries_of logged) < limit) × (refusal command (length (entries_of logged) + 1) state uploads ≡ Some reason))
-refused_within limit number logged state uploads command reason same at room =
-    let len = length-entries_of logged in
-    let n : number ≡ length (entries_of logged) + 1 = omega (arith, len) in (
-      λ a. (omega (arith, len), ap (λ (m : ℕ). refusal command m state uploads) (sym n) ∙ same.0 a),
-      λ both. same.1 (ap (λ (m : ℕ). refusal command m state uploads) n ∙ both.1),
-    )

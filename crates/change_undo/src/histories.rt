@@ -2,14 +2,13 @@
 ghost use Rattle.std.specs.Prelude.{◌≡◌, ◌↔◌, ◌+◌, ◌≤◌, ◌<◌, [], ◌∷◌, ◌++◌, length, nat_le, false, Some, None, true, Err, IsErrOf, List, ℕ, IfOk, OnOk, OnErr, option_copied, option_map};
 ghost use Rattle.std.specs.FinMap as map;
 ghost use Rattle.host_names.specs.Blobs.{Contents};
+ghost use Rattle.host_names.specs.Refusals.{IsRefusedBy};
 ghost use Rattle.host_names.specs.declared.names.SiteName.{SiteName as Site};
 ghost use Rattle.site_state.specs.Files.{Paths};
 ghost use Rattle.site_state.specs.States.{draft_at, kept_at};
 ghost use Rattle.site_state.specs.declared.values.Draft.{Draft as Opened};
 ghost use Rattle.site_change.specs.Changes.{applied, refusal};
-ghost use Rattle.site_change.specs.declared.commands.Refusal.{Refusal as Reason};
 ghost use Rattle.change_undo.specs.declared.entries.Entry.TheVariants as entry;
-ghost use Rattle.change_undo.specs.declared.entries.UndoRefusal.{UndoRefusal as UndoReason};
 ghost use Rattle.change_undo.specs.Clashes;
 ghost use Rattle.change_undo.specs.Effects.{UndoesChange};
 ghost use Rattle.change_undo.specs.Histories;
@@ -18,12 +17,12 @@ ghost use Rattle.change_undo.specs.Plans.{IsHistoryOver};
 
 use crate::clashes::clash_of;
 use crate::commits::append;
-use crate::entries::{CommitError, Entry, UndoError};
+use crate::entries::Entry;
 use crate::planned_entries::PlannedEntry;
 use crate::refusals::undo_refusal;
 use crate::undos::take_back;
-use host_names::{Cell, SiteName, Uploads};
-use site_change::{Command, DecideError};
+use host_names::{Cell, ChangeError, ChangeRefusal, SiteName, Uploads};
+use site_change::Command;
 use site_state::State;
 use std::alloc::Global;
 use std::marker::Model;
@@ -135,17 +134,9 @@ impl History {
 
     /// Commits a command as the next entry, with these uploads, over which the history is what it is. Answers its number.
     /// On an error nothing changes.
-    pub fn commit<U: Uploads>(
-        &mut self,
-        alloc: Global,
-        uploads: &U,
-        command: Command,
-    ) -> Result<u64, CommitError>
+    pub fn commit<U: Uploads>(&mut self, uploads: &U, command: Command) -> Result<u64, ChangeError>
         requires over { IsHistoryOver (U.contents uploads.now) self.old }
-        ensures full { (result ≡ Err CommitError.HistoryFull) ↔ (self.old.limit ≤ length self.old.entries) }
-        ensures refused { (reason : Reason) → (result ≡ Err (CommitError.Refused reason))
-            ↔ ((length self.old.entries < self.old.limit)
-            × (refusal command (length self.old.entries + 1) self.old.state (U.contents uploads.now) ≡ Some reason)) }
+        ensures refused { IsRefusedBy (Histories.commit_refusal (U.contents uploads.now) self.old.limit self.old.entries self.old.state command) result }
         ensures number { IfOk result (λ number. number ≡ length self.old.entries + 1) }
         ensures entries { OnOk result (self.new.entries ≡ self.old.entries ++ entry.Change command ∷ []) }
         ensures state { OnOk result (self.new.state ≡ applied command (length self.old.entries + 1) self.old.state (U.contents uploads.now)) }
@@ -154,34 +145,20 @@ impl History {
         ensures limit { self.new.limit ≡ self.old.limit }
     {
         if self.limit <= self.logged.len() as u64 {
-            return Err(CommitError::HistoryFull);
+            return Err(ChangeError::Refused(ChangeRefusal::HistoryFull));
         }
         let number = self.logged.len() as u64 + 1;
-        match append(
-            alloc,
-            &mut self.logged,
-            &mut self.state,
-            uploads,
-            number,
-            command,
-        ) {
-            Ok(()) => Ok(number),
-            Err(DecideError::Refused(reason)) => Err(CommitError::Refused(reason)),
-            Err(DecideError::OutOfMemory) => Err(CommitError::OutOfMemory),
-        }
+        append(&mut self.logged, &mut self.state, uploads, number, command)?;
+        Ok(number)
     }
 
     /// Undoes the change of a number, which belongs to this site, by the next entry. Answers that entry's number. Each cell
     /// that the change changed has then what it had before the change, and every other cell what it has now. Where a later
     /// change that was not undone reads or writes what this one changed, the undo is refused by its clash. On an error
     /// nothing changes. The work is linear in the state and the cells.
-    pub fn undo(&mut self, alloc: Global, site: &SiteName, change: u64) -> Result<u64, UndoError>
-        ensures refused { (reason : UndoReason) → result ≡ Err (UndoError.Refused reason) → (uploads : Contents) → IsHistoryOver uploads self.old
-            → Histories.undo_refusal uploads self.old.limit self.old.entries site.now change ≡ Some reason }
-        ensures accepted { OnOk result ((uploads : Contents) → IsHistoryOver uploads self.old
-            → Histories.undo_refusal uploads self.old.limit self.old.entries site.now change ≡ None) }
-        ensures memory { IsErrOf result UndoError.OutOfMemory → (uploads : Contents) → IsHistoryOver uploads self.old
-            → Histories.may_take_memory (Histories.undo_refusal uploads self.old.limit self.old.entries site.now change) ≡ true }
+    pub fn undo(&mut self, site: &SiteName, change: u64) -> Result<u64, ChangeError>
+        ensures refused { (uploads : Contents) → IsHistoryOver uploads self.old
+            → Histories.IsUndoRefusedBy (Histories.undo_refusal uploads self.old.limit self.old.entries site.now change) result }
         ensures number { IfOk result (λ number. number ≡ length self.old.entries + 1) }
         ensures entries { OnOk result (self.new.entries ≡ self.old.entries ++ entry.Undo site.now change ∷ []) }
         ensures over { OnOk result ((uploads : Contents) → IsHistoryOver uploads self.old → IsHistoryOver uploads self.new) }
@@ -193,10 +170,10 @@ impl History {
         ensures limit { self.new.limit ≡ self.old.limit }
     {
         if let Some(reason) = undo_refusal(self.limit, self.logged.as_slice(), site, change)? {
-            return Err(UndoError::Refused(reason));
+            return Err(ChangeError::Refused(reason));
         }
         let number = self.logged.len() as u64 + 1;
-        take_back(alloc, &mut self.logged, &mut self.state, site, change)?;
+        take_back(&mut self.logged, &mut self.state, site, change)?;
         Ok(number)
     }
 }

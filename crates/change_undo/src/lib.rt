@@ -11,7 +11,7 @@ mod refusals;
 mod undos;
 mod writes;
 
-pub use entries::{CommitError, Entry, UndoError, UndoRefusal};
+pub use entries::Entry;
 pub use histories::{GREATEST_LIMIT, History};
 pub use laws::{
     a_change_has_one_clash_at_most, a_change_without_a_clash_can_be_left_out,

@@ -14,12 +14,11 @@ use crate::planned_entries::PlannedEntry;
 use crate::writes::befores_of;
 use host_names::SiteName;
 use site_state::State;
-use std::alloc::{AllocError, Global};
+use std::alloc::AllocError;
 
 /// Appends the undo of a change, marks that change, and gives each cell that it changed what it had before. Without memory
 /// nothing changes.
 pub(crate) fn take_back(
-    alloc: Global,
     logged: &mut Vec<PlannedEntry>,
     state: &mut State,
     site: &SiteName,
@@ -38,7 +37,7 @@ pub(crate) fn take_back(
     ensures err { OnErr result ((logged.new.items ≡ logged.old.items) × (state.new ≡ state.old)) }
 {
     let named = &logged[change as usize - 1];
-    let writes = befores_of(alloc, &named.plan)?;
+    let writes = befores_of(*logged.allocator(), &named.plan)?;
     logged.reserve(1)?;
     state.set_cells(writes)?;
     logged.push_reserved(PlannedEntry {

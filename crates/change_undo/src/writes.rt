@@ -3,15 +3,15 @@ ghost use Rattle.std.specs.Prelude.{◌≡◌, ◌↔◌, map, All, Err, Some, N
 ghost use Rattle.std.specs.List.Sorted.{IsStrictlySortedBy};
 ghost use Rattle.std.specs.Map.{keys_of};
 ghost use Rattle.host_names.specs.Cells.{cell_cmp};
+ghost use Rattle.host_names.specs.Refusals.{IsRefusedBy};
 ghost use Rattle.site_change.specs.Changes.{applied, refusal};
-ghost use Rattle.site_change.specs.declared.commands.Refusal.{Refusal as Reason};
 ghost use Rattle.site_state.specs.Named.{AliasesNamed};
 ghost use Rattle.site_state.specs.States.{may_stand, with_cells};
 ghost use Rattle.change_undo.specs.Kept as spec;
 ghost use Rattle.change_undo.specs.Plans.{IsPlanOf};
 
-use host_names::{Cell, Uploads};
-use site_change::{Change, Command, DecideError, Plan, decide};
+use host_names::{Cell, ChangeError, Uploads};
+use site_change::{Change, Command, Plan, decide};
 use site_state::{State, Value};
 use std::alloc::{AllocError, Global};
 
@@ -50,22 +50,17 @@ pub(crate) fn decided<U: Uploads>(
     uploads: &U,
     number: u64,
     command: &Command,
-) -> Result<Decision, DecideError>
-    ensures refused { (reason : Reason) → (result ≡ Err (DecideError.Refused reason)) ↔ (refusal command.now number state.now (U.contents uploads.now) ≡ Some reason) }
-    ensures accepted { OnOk result (refusal command.now number state.now (U.contents uploads.now) ≡ None) }
+) -> Result<Decision, ChangeError>
+    ensures refused { IsRefusedBy (refusal command.now number state.now (U.contents uploads.now)) result }
     ensures plan { IfOk result (λ decided. IsPlanOf (U.contents uploads.now) state.now number command.now decided.plan) }
     ensures rising { IfOk result (λ decided. IsStrictlySortedBy cell_cmp (keys_of decided.writes.items)) }
     ensures of_kind { IfOk result (λ decided. All (λ e. IsTrue (may_stand e.0 e.1)) decided.writes.items) }
     ensures named { IfOk result (λ decided. AliasesNamed (with_cells state.now decided.writes.items)) }
     ensures effect { IfOk result (λ decided. with_cells state.now decided.writes.items ≡ applied command.now number state.now (U.contents uploads.now)) }
 {
-    match decide(alloc, state, uploads, number, command) {
-        Ok(plan) => match writes_of(alloc, plan.changes.as_slice()) {
-            Ok(writes) => Ok(Decision { plan, writes }),
-            Err(_) => Err(DecideError::OutOfMemory),
-        },
-        Err(error) => Err(error),
-    }
+    let plan = decide(alloc, state, uploads, number, command)?;
+    let writes = writes_of(alloc, plan.changes.as_slice())?;
+    Ok(Decision { plan, writes })
 }
 
 /// What a cell had before a change. Copies share the files.

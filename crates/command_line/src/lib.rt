@@ -1,9 +1,10 @@
 //! The words of the program's command line.
 #![tactic(auto)]
 
-ghost use Rattle.std.specs.Prelude.{◌≡◌, IfErr, IfOk, map};
+ghost use Rattle.std.specs.Prelude.{◌≡◌, ◌≢◌, [], IfOk, map};
+ghost use Rattle.std.specs.String.{string_bytes};
 ghost use Rattle.clap.specs.Words.{app_of, kind_of};
-ghost use Rattle.command_line.specs.CommandLine.{AskForSolo, HasText, filehost};
+ghost use Rattle.command_line.specs.CommandLine.{HasText, Reads, filehost};
 ghost use Rattle.command_line.specs.declared.Refusal.TheVariants.{OutOfMemory};
 
 use clap::error::ErrorKind;
@@ -36,6 +37,8 @@ const MORE_ON_SOLO: &str = "The host is empty at first, and what it holds ends w
 Exit status: 0 where the input has ended or a reply has closed the connection, 1 for arguments
 that are not taken, 2 where input, output or memory failed.";
 
+const NOT_TAKEN: &str = "filehost: these arguments are not taken\n";
+
 /// What the command line asks for.
 #[derive(Clone, Copy, Debug, PartialEq, Eq)]
 pub enum Wanted {
@@ -63,10 +66,11 @@ impl From<AllocError> for Refusal {
 }
 
 /// Reads the words after the program's name.
+///
+/// Where they ask for nothing that the program does, that is answered, with the text to show, unless memory runs out. Its
+/// contract can't say that memory suffices: `clap` excludes `OutOfMemory` for no words.
 pub fn read<S: AsStr>(alloc: Global, words: &[S]) -> Result<Wanted, Refusal>
-    ensures taken { AskForSolo (map S.text words.now) → IfErr result (λ e. e ≡ Refusal.OutOfMemory) }
-    ensures refused { IfOk result (λ wanted. (wanted ≡ Wanted.Solo) × AskForSolo (map S.text words.now)) }
-    ensures told { IfErr result HasText }
+    ensures { Reads (map S.text words.now) result }
 {
     let command = commands(alloc)?;
     match command.try_get_matches_from(words) {
@@ -83,11 +87,21 @@ fn make_refusal(alloc: Global, error: &Error) -> Refusal
     if error.kind() == ErrorKind::OutOfMemory {
         return Refusal::OutOfMemory;
     }
-    // `clap` doesn't promise that its text says anything. An empty one counts as one that could not be made.
-    match error.to_string(alloc) {
-        Ok(text) if !text.is_empty() => Refusal::Shown(text),
-        _ => Refusal::OutOfMemory,
+    match text_of(alloc, error) {
+        Ok(text) => Refusal::Shown(text),
+        Err(_) => Refusal::OutOfMemory,
     }
+}
+
+/// The text of an error of the parse. `clap` doesn't promise that its own says anything.
+fn text_of(alloc: Global, error: &Error) -> Result<String, AllocError>
+    ensures { IfOk result (λ text. string_bytes text ≢ []) }
+{
+    let text = error.to_string(alloc)?;
+    if text.is_empty() {
+        return String::from_str(alloc, NOT_TAKEN);
+    }
+    Ok(text)
 }
 
 /// The program with its commands.

@@ -34,7 +34,7 @@ fn run(rt: &HostRuntime, words: &[String]) -> u8 {
         source: Reading(rt.stdin()),
         sink: Writing(rt.stdout()),
     };
-    let mut errors = rt.stderr();
+    let mut errors = Writing(rt.stderr());
     run_solo(rt.alloc(), words, &mut duplex, &mut errors)
 }
 

@@ -1,7 +1,6 @@
 pub mod JoinedTexts
 pub mod LastPlaces
 mod MethodNames
-mod RefusalNames
 mod NumberTexts
 pub mod Cuts
 mod Fitting

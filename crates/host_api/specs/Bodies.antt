@@ -58,6 +58,7 @@ form_of ms =
 abbrev pub digest_from : List ℕ → Option Digest
 digest_from text = option_map (λ (bytes : List ℕ). record { 0 = bytes }) (result_ok (decode_sized text 20))
 
+-- the digest that a value spells
 abbrev pub digest_in : Data → Result Digest Refusal
 digest_in null = Err BadBody
 digest_in (boolean b) = Err BadBody
@@ -109,6 +110,7 @@ open_ask name body = open_with name (option_and_then form_of (object_of body))
 
 -- ---- naming an entry by its number
 
+-- the number, or 0 where no entry has it
 abbrev pub entry_number : Num → ℕ
 entry_number (unsigned n) = if nat_le n greatest_number then n else 0
 entry_number (negative z) = 0
@@ -149,6 +151,7 @@ alias_ask site name body = alias_with site name (number_at (codes "deploy") body
 
 -- ---- renaming a file
 
+-- the text that a value is
 abbrev pub text_in : Data → Option (List ℕ)
 text_in null = None
 text_in (boolean b) = None

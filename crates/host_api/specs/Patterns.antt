@@ -1,5 +1,5 @@
 -- What the patterns of the program mean, and what it finds by them.
-use Rattle.std.specs.Prelude.{◌≡◌, ◌⊎◌, ℕ, Bool, true, List, [], ◌∷◌, Option, Some, None, Result, Ok, Err, IsTrue, map, ◌==◌, if◌then◌else◌}
+use Rattle.std.specs.Prelude.{◌≡◌, ◌≢◌, ◌⊎◌, ℕ, Bool, true, List, [], ◌∷◌, Option, Some, None, Result, Ok, Err, IsTrue, map, ◌==◌, if◌then◌else◌}
 use Rattle.std.specs.Str.{byte, bytes_eq}
 use Rattle.host_api.specs.Targets.{Part, word, site, alias, number, Bindings, before, from_first}
 use Rattle.host_names.specs.declared.paths.PathError.{PathError}
@@ -9,7 +9,8 @@ use Rattle.host_api.specs.Routes.{Row, misnames, site_in, alias_in, site_route, 
 use Rattle.host_api.specs.declared.refusals.Refusal.{Refusal}
 use Rattle.host_api.specs.declared.refusals.Refusal.TheVariants.{BadName, OutOfMemory}
 use Rattle.host_api.specs.declared.resources.Resource.{Resource}
-use Rattle.host_api.specs.declared.resources.Resource.TheVariants.{OfSite, OfAlias, OfDeploy}
+use Rattle.host_api.specs.declared.resources.ResourceKind.{ResourceKind}
+use Rattle.host_api.specs.declared.resources.ResourceKind.TheVariants.{OfSite, OfAlias, OfDeploy}
 use Rattle.host_api.specs.declared.routes.Named.{Named}
 use Rattle.host_api.specs.declared.routes.Named.TheVariants as named
 use Rattle.host_api.specs.declared.routes.Route.{Route}
@@ -18,6 +19,7 @@ use Rattle.host_api.specs.declared.targets.Bindings.{Bindings as BindingsLent}
 use Rattle.host_api.specs.declared.targets.Part.{Part as PartWritten}
 use Rattle.host_api.specs.declared.targets.Part.TheVariants as written
 
+-- what a part, a row, what is found in open places, and what is found mean
 abbrev pub part_of : PartWritten → Part
 part_of (written.Word w) = word w.now
 part_of written.Site = site
@@ -25,7 +27,7 @@ part_of written.Alias = alias
 part_of written.Number = number
 
 abbrev pub row_of : RowWritten → Row
-row_of row = record { named = row.resource; parts = map part_of row.parts.now; has_rest = row.has_rest }
+row_of row = record { named = record { kind = row.kind; methods = row.methods }; parts = map part_of row.parts.now; has_rest = row.has_rest }
 
 abbrev pub bindings_of : BindingsLent → Bindings
 bindings_of b = record { site_text = b.site.now; alias_text = b.alias.now; number_text = b.number.now; rest = b.rest.now }
@@ -60,13 +62,13 @@ KeepsPath None result = result ≡ Err path_error.BadPath
 KeepsPath (Some path) result = (result ≡ Ok path) ⊎ (result ≡ Err path_error.OutOfMemory)
 
 -- a resource with the names that its target has
-abbrev pub named_by : Resource → Bindings → Named
+abbrev pub named_by : ResourceKind → Bindings → Named
 named_by (OfSite r) b = named.Site r (site_in b)
 named_by (OfAlias r) b = named.Alias r (site_in b) (alias_in b)
 named_by (OfDeploy r) b = named.Deploy r
 
 -- the names of a target, or that one is none
-abbrev pub named_in : Resource → Bindings → Result Named Refusal
+abbrev pub named_in : ResourceKind → Bindings → Result Named Refusal
 named_in r b = if misnames r b then Err BadName else Ok (named_by r b)
 
 -- the route of a method to a resource with its names, by the number and the rest of its target
@@ -77,4 +79,5 @@ named_route (named.Deploy r) method deploy rest = deploy_route r method deploy r
 
 -- the route is that one, or the first reason why there is none; or there was no memory for its path
 abbrev pub GivesRoute : Result Route Refusal → Result Route Refusal → Type 0
-GivesRoute result routed = (result ≡ routed) ⊎ ((result ≡ Err OutOfMemory) × IsTrue (has_path routed))
+GivesRoute (Ok route) routed = routed ≡ Ok route
+GivesRoute (Err refusal) routed = ((refusal ≢ OutOfMemory) × (routed ≡ Err refusal)) ⊎ ((refusal ≡ OutOfMemory) × IsTrue (has_path routed))

@@ -1,26 +1,34 @@
 -- The names and the status codes of refusals.
-use Rattle.std.specs.Prelude.{ℕ, Bool, true, false, List, codes}
+use Rattle.std.specs.Prelude.{ℕ, List, codes}
 use Rattle.host_names.specs.declared.paths.PathError.{PathError}
 use Rattle.host_names.specs.declared.paths.PathError.TheVariants as path
+use Rattle.host_names.specs.declared.refusals.ChangeError.{ChangeError}
+use Rattle.host_names.specs.declared.refusals.ChangeError.TheVariants as change
+use Rattle.host_names.specs.declared.refusals.ChangeRefusal.{ChangeRefusal}
+use Rattle.host_names.specs.declared.refusals.ChangeRefusal.TheVariants.{HistoryFull, TooManyFiles, NoSuchDraft, NotComplete, NoSuchDeploy, NoSuchFile, PathTaken, SamePath, NoSuchAlias, DeployInUse, NoSuchChange, NotAChange, AlreadyUndone, Clash}
 use Rattle.host_api.specs.declared.refusals.Refusal.{Refusal}
-use Rattle.host_api.specs.declared.refusals.Refusal.TheVariants.{NoSuchDraft, NotComplete, NoSuchDeploy, NoSuchFile, PathTaken, SamePath, NoSuchAlias, DeployInUse, TooManyFiles, HistoryFull, NoSuchChange, NotAChange, AlreadyUndone, Clash, BadName, BadPath, BadDigest, BadBody, NotListed, WrongDigest, OutOfMemory, NoRoute, BadMethod, BadHead, NotSatisfiable}
+use Rattle.host_api.specs.declared.refusals.Refusal.TheVariants.{Change, BadName, BadPath, BadDigest, BadBody, NotListed, WrongDigest, OutOfMemory, NoRoute, BadMethod, BadHead, NotSatisfiable}
 
--- what a reply says of a reason: its name, and the status code (RFC 9110, section 15)
+-- what a reply says of a reason against a change or an undo: its name, and the status code (RFC 9110, section 15)
+abbrev pub shown_of_change : ChangeRefusal → List ℕ × ℕ
+shown_of_change HistoryFull = (codes "HistoryFull", 507)
+shown_of_change TooManyFiles = (codes "TooManyFiles", 413)
+shown_of_change NoSuchDraft = (codes "NoSuchDraft", 404)
+shown_of_change (NotComplete digest) = (codes "NotComplete", 409)
+shown_of_change NoSuchDeploy = (codes "NoSuchDeploy", 404)
+shown_of_change NoSuchFile = (codes "NoSuchFile", 404)
+shown_of_change PathTaken = (codes "PathTaken", 409)
+shown_of_change SamePath = (codes "SamePath", 409)
+shown_of_change NoSuchAlias = (codes "NoSuchAlias", 404)
+shown_of_change (DeployInUse name) = (codes "DeployInUse", 409)
+shown_of_change NoSuchChange = (codes "NoSuchChange", 404)
+shown_of_change NotAChange = (codes "NotAChange", 409)
+shown_of_change AlreadyUndone = (codes "AlreadyUndone", 409)
+shown_of_change (Clash later cell) = (codes "Clash", 409)
+
+-- what it says of any reason
 abbrev pub shown_of : Refusal → List ℕ × ℕ
-shown_of NoSuchDraft = (codes "NoSuchDraft", 404)
-shown_of (NotComplete digest) = (codes "NotComplete", 409)
-shown_of NoSuchDeploy = (codes "NoSuchDeploy", 404)
-shown_of NoSuchFile = (codes "NoSuchFile", 404)
-shown_of PathTaken = (codes "PathTaken", 409)
-shown_of SamePath = (codes "SamePath", 409)
-shown_of NoSuchAlias = (codes "NoSuchAlias", 404)
-shown_of (DeployInUse name) = (codes "DeployInUse", 409)
-shown_of TooManyFiles = (codes "TooManyFiles", 413)
-shown_of HistoryFull = (codes "HistoryFull", 507)
-shown_of NoSuchChange = (codes "NoSuchChange", 404)
-shown_of NotAChange = (codes "NotAChange", 409)
-shown_of AlreadyUndone = (codes "AlreadyUndone", 409)
-shown_of (Clash change cell) = (codes "Clash", 409)
+shown_of (Change reason) = shown_of_change reason
 shown_of BadName = (codes "BadName", 400)
 shown_of BadPath = (codes "BadPath", 400)
 shown_of BadDigest = (codes "BadDigest", 400)
@@ -41,23 +49,10 @@ name_of refusal = (shown_of refusal).0
 abbrev pub status_of : Refusal → ℕ
 status_of refusal = (shown_of refusal).1
 
--- whether a change or an undo may be refused for it
-abbrev pub is_of_change : Refusal → Bool
-is_of_change NoSuchDraft = true
-is_of_change (NotComplete digest) = true
-is_of_change NoSuchDeploy = true
-is_of_change NoSuchFile = true
-is_of_change PathTaken = true
-is_of_change SamePath = true
-is_of_change NoSuchAlias = true
-is_of_change (DeployInUse name) = true
-is_of_change TooManyFiles = true
-is_of_change HistoryFull = true
-is_of_change NoSuchChange = true
-is_of_change NotAChange = true
-is_of_change AlreadyUndone = true
-is_of_change (Clash change cell) = true
-is_of_change other = false
+-- why a change was not made
+abbrev pub of_change : ChangeError → Refusal
+of_change (change.Refused reason) = Change reason
+of_change change.OutOfMemory = OutOfMemory
 
 -- why a text gives no path
 abbrev pub of_path : PathError → Refusal

@@ -1,14 +1,17 @@
 -- Which route a method and a target take.
 use Rattle.std.specs.Prelude.{ℕ, Bool, true, false, List, [], ◌∷◌, Option, Some, None, Result, Ok, Err, not, ◌&&◌, if◌then◌else◌, codes}
-use Rattle.std.specs.List.{list_any}
 use Rattle.std.specs.Str.{bytes_eq}
 use Rattle.host_names.specs.Name.{is_name}
 use Rattle.host_names.specs.declared.names.AliasName.{AliasName}
 use Rattle.host_names.specs.declared.names.SiteName.{SiteName}
+use Rattle.host_api.specs.Methods.{is_among, methods_of}
 use Rattle.host_api.specs.Numbers.{number_of}
 use Rattle.host_api.specs.Targets.{Part, word, site, alias, number, Bindings, fit, path_of, has_hash, read_path, written_path}
+use Rattle.host_api.specs.declared.methods.Methods.{Methods}
+use Rattle.host_api.specs.declared.methods.Methods.TheVariants.{Read, ReadOrDelete, PutOrDelete, Put, Delete, Post}
 use Rattle.host_api.specs.declared.resources.Resource.{Resource}
-use Rattle.host_api.specs.declared.resources.Resource.TheVariants.{OfSite, OfAlias, OfDeploy}
+use Rattle.host_api.specs.declared.resources.ResourceKind.{ResourceKind}
+use Rattle.host_api.specs.declared.resources.ResourceKind.TheVariants.{OfSite, OfAlias, OfDeploy}
 use Rattle.host_api.specs.declared.resources.SiteResource.{SiteResource}
 use Rattle.host_api.specs.declared.resources.SiteResource.TheVariants as site_resource
 use Rattle.host_api.specs.declared.resources.AliasResource.{AliasResource}
@@ -25,19 +28,19 @@ use Rattle.host_api.specs.declared.versions.Version.TheVariants as version
 use Rattle.host_api.specs.declared.refusals.Refusal.{Refusal}
 use Rattle.host_api.specs.declared.refusals.Refusal.TheVariants.{NoRoute, BadMethod, BadName, BadPath}
 
--- what a target names, the pattern of the target, and whether a rest follows it
+-- what a target names, with its methods; the pattern of the target, and whether a rest follows it
 pub record Row : Type 0 where
   pub named : Resource
   pub parts : List Part
   pub has_rest : Bool
 
 -- the pattern alone
-abbrev pub whole : Resource → List Part → Row
-whole r parts = record { named = r; parts = parts; has_rest = false }
+abbrev pub whole : ResourceKind → Methods → List Part → Row
+whole kind methods parts = record { named = record { kind = kind; methods = methods }; parts = parts; has_rest = false }
 
 -- the pattern, and the path of a file after it
-abbrev pub with_path : Resource → List Part → Row
-with_path r parts = record { named = r; parts = parts; has_rest = true }
+abbrev pub with_path : ResourceKind → Methods → List Part → Row
+with_path kind methods parts = record { named = record { kind = kind; methods = methods }; parts = parts; has_rest = true }
 
 -- /api/v1/sites/{site}, and these parts after it
 abbrev pub of_site : List Part → List Part
@@ -50,19 +53,19 @@ of_deploy parts = word (codes "api") ∷ word (codes "v1") ∷ word (codes "depl
 -- the table of routes
 abbrev pub rows : List Row
 rows =
-    with_path (OfSite site_resource.LiveFile) (word (codes "s") ∷ site ∷ [])
-    ∷ with_path (OfAlias alias_resource.File) (word (codes "a") ∷ site ∷ alias ∷ [])
-    ∷ with_path (OfSite site_resource.KeptFile) (word (codes "d") ∷ site ∷ number ∷ [])
-    ∷ whole (OfSite site_resource.Deploys) (of_site (word (codes "deploys") ∷ []))
-    ∷ whole (OfSite site_resource.Restore) (of_site (word (codes "deploys") ∷ number ∷ word (codes "restore") ∷ []))
-    ∷ whole (OfAlias alias_resource.Itself) (of_site (word (codes "aliases") ∷ alias ∷ []))
-    ∷ whole (OfSite site_resource.Rename) (of_site (word (codes "rename") ∷ []))
-    ∷ with_path (OfSite site_resource.File) (of_site (word (codes "files") ∷ []))
-    ∷ whole (OfSite site_resource.Undo) (of_site (word (codes "undo") ∷ []))
-    ∷ whole (OfSite site_resource.Changes) (of_site (word (codes "changes") ∷ []))
-    ∷ whole (OfDeploy deploy_resource.Itself) (of_deploy [])
-    ∷ whole (OfDeploy deploy_resource.Cancel) (of_deploy (word (codes "cancel") ∷ []))
-    ∷ with_path (OfDeploy deploy_resource.File) (of_deploy (word (codes "files") ∷ []))
+    with_path (OfSite site_resource.LiveFile) Read (word (codes "s") ∷ site ∷ [])
+    ∷ with_path (OfAlias alias_resource.File) Read (word (codes "a") ∷ site ∷ alias ∷ [])
+    ∷ with_path (OfSite site_resource.KeptFile) Read (word (codes "d") ∷ site ∷ number ∷ [])
+    ∷ whole (OfSite site_resource.Deploys) Post (of_site (word (codes "deploys") ∷ []))
+    ∷ whole (OfSite site_resource.Restore) Post (of_site (word (codes "deploys") ∷ number ∷ word (codes "restore") ∷ []))
+    ∷ whole (OfAlias alias_resource.Itself) PutOrDelete (of_site (word (codes "aliases") ∷ alias ∷ []))
+    ∷ whole (OfSite site_resource.Rename) Post (of_site (word (codes "rename") ∷ []))
+    ∷ with_path (OfSite site_resource.File) Delete (of_site (word (codes "files") ∷ []))
+    ∷ whole (OfSite site_resource.Undo) Post (of_site (word (codes "undo") ∷ []))
+    ∷ whole (OfSite site_resource.Changes) Read (of_site (word (codes "changes") ∷ []))
+    ∷ whole (OfDeploy deploy_resource.Itself) ReadOrDelete (of_deploy [])
+    ∷ whole (OfDeploy deploy_resource.Cancel) Post (of_deploy (word (codes "cancel") ∷ []))
+    ∷ with_path (OfDeploy deploy_resource.File) Put (of_deploy (word (codes "files") ∷ []))
     ∷ []
 
 abbrev pub first_found : Resource → Option Bindings → Option (Resource × Bindings) → Option (Resource × Bindings)
@@ -74,31 +77,12 @@ abbrev pub found_in : List Row → List ℕ → Option (Resource × Bindings)
 found_in [] path = None
 found_in (row ∷ others) path = first_found row.named (fit row.parts row.has_rest path) (found_in others path)
 
--- the methods of a resource, in the order in which a reply lists them
-abbrev pub methods_of_site : SiteResource → List (List ℕ)
-methods_of_site site_resource.LiveFile = codes "GET" ∷ codes "HEAD" ∷ []
-methods_of_site site_resource.KeptFile = codes "GET" ∷ codes "HEAD" ∷ []
-methods_of_site site_resource.Deploys = codes "POST" ∷ []
-methods_of_site site_resource.Restore = codes "POST" ∷ []
-methods_of_site site_resource.Rename = codes "POST" ∷ []
-methods_of_site site_resource.File = codes "DELETE" ∷ []
-methods_of_site site_resource.Undo = codes "POST" ∷ []
-methods_of_site site_resource.Changes = codes "GET" ∷ codes "HEAD" ∷ []
-
-abbrev pub methods_of : Resource → List (List ℕ)
-methods_of (OfSite r) = methods_of_site r
-methods_of (OfAlias alias_resource.File) = codes "GET" ∷ codes "HEAD" ∷ []
-methods_of (OfAlias alias_resource.Itself) = codes "PUT" ∷ codes "DELETE" ∷ []
-methods_of (OfDeploy deploy_resource.Itself) = codes "GET" ∷ codes "HEAD" ∷ codes "DELETE" ∷ []
-methods_of (OfDeploy deploy_resource.Cancel) = codes "POST" ∷ []
-methods_of (OfDeploy deploy_resource.File) = codes "PUT" ∷ []
-
 -- whether a resource has the method
 abbrev pub has_method : Resource → List ℕ → Bool
-has_method r method = list_any (bytes_eq method) (methods_of r)
+has_method r method = is_among method (methods_of r)
 
 -- whether a name that the target has to have is none
-abbrev pub misnames : Resource → Bindings → Bool
+abbrev pub misnames : ResourceKind → Bindings → Bool
 misnames (OfSite r) b = not (is_name b.site_text)
 misnames (OfAlias r) b = not (is_name b.site_text && is_name b.alias_text)
 misnames (OfDeploy r) b = false
@@ -154,7 +138,7 @@ deploy_route deploy_resource.Cancel method deploy rest = Ok (route.Ready (ask.Ca
 deploy_route deploy_resource.File method deploy rest = upload_route deploy rest
 
 -- what a method, which the resource has, does to it
-abbrev pub route_to : Resource → List ℕ → Bindings → Result Route Refusal
+abbrev pub route_to : ResourceKind → List ℕ → Bindings → Result Route Refusal
 route_to (OfSite r) method b = site_route r (site_in b) (number_of b.number_text) b.rest
 route_to (OfAlias r) method b = alias_route r method (site_in b) (alias_in b) b.rest
 route_to (OfDeploy r) method b = deploy_route r method (number_of b.number_text) b.rest
@@ -162,9 +146,9 @@ route_to (OfDeploy r) method b = deploy_route r method (number_of b.number_text)
 -- the route to a resource on a path, or the first reason why there is none: the names, the path
 abbrev pub routed_at : List ℕ → List ℕ → Resource → Bindings → Result Route Refusal
 routed_at method path r bindings =
-    if misnames r bindings then Err BadName
+    if misnames r.kind bindings then Err BadName
     else if has_hash path then Err BadPath
-    else route_to r method bindings
+    else route_to r.kind method bindings
 
 -- the route, or the first reason why there is none: the target, the method, the names, the path
 abbrev pub routed_by : List ℕ → List ℕ → Option (Resource × Bindings) → Result Route Refusal

@@ -83,6 +83,7 @@ fit (part ∷ parts) has_rest (b ∷ text) =
 abbrev pub if_path : List ℕ → Option (List ℕ)
 if_path text = if is_utf8 text && is_path text then Some text else None
 
+-- whether the last byte is a slash
 abbrev pub ends_with_slash : List ℕ → Bool
 ends_with_slash [] = false
 ends_with_slash (b ∷ []) = b == byte "/"

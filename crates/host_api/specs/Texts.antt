@@ -6,17 +6,19 @@ use Rattle.hex.specs.Hex.{encode_lower}
 use Rattle.host_names.specs.Cells.{cell_text}
 use Rattle.host_names.specs.declared.digests.Digest.{Digest}
 use Rattle.host_names.specs.declared.names.SiteName.{SiteName}
+use Rattle.host_names.specs.declared.refusals.ChangeRefusal.TheVariants.{NotComplete, DeployInUse, Clash}
 use Rattle.serde_json.specs.Data.{string}
 use Rattle.serde_json.specs.Written.{compact_text}
 use Rattle.host_api.specs.ChangeLines.{list_text}
 use Rattle.host_api.specs.Refusals.{name_of}
 use Rattle.host_api.specs.declared.refusals.Refusal.{Refusal}
-use Rattle.host_api.specs.declared.refusals.Refusal.TheVariants.{NotComplete, DeployInUse, Clash}
+use Rattle.host_api.specs.declared.refusals.Refusal.TheVariants.{Change}
 use Rattle.host_api.specs.declared.texts.DeployState.{DeployState}
 use Rattle.host_api.specs.declared.texts.DeployState.TheVariants.{Open, Kept}
 use Rattle.host_api.specs.declared.texts.Told.{Told}
 use Rattle.host_api.specs.declared.texts.Told.TheVariants.{Opened, Uploaded, Entered, Deploy, Changes, Refused}
 
+-- the text in quotes
 abbrev pub quoted : List ℕ → List ℕ
 quoted text = codes "\"" ++ text ++ codes "\""
 
@@ -25,19 +27,20 @@ abbrev pub number_or_null : Option ℕ → List ℕ
 number_or_null None = codes "null"
 number_or_null (Some n) = decimal n
 
+-- digests in quotes, with a comma between each two
 abbrev pub digest_list : List Digest → List ℕ
 digest_list digests = join_with_byte (byte ",") (map (λ d. quoted (encode_lower d.0)) digests)
 
 -- what comes before the name of a refusal
 abbrev pub detail_of : Refusal → List ℕ
-detail_of (NotComplete digest) = codes "\"digest\":" ++ quoted (encode_lower digest.0) ++ codes ","
-detail_of (DeployInUse name) = codes "\"alias\":" ++ quoted name.0 ++ codes ","
-detail_of (Clash change cell) = codes "\"cell\":" ++ compact_text (string (cell_text cell)) ++ codes ",\"change\":" ++ decimal change ++ codes ","
+detail_of (Change (NotComplete digest)) = codes "\"digest\":" ++ quoted (encode_lower digest.0) ++ codes ","
+detail_of (Change (DeployInUse name)) = codes "\"alias\":" ++ quoted name.0 ++ codes ","
+detail_of (Change (Clash change cell)) = codes "\"cell\":" ++ compact_text (string (cell_text cell)) ++ codes ",\"change\":" ++ decimal change ++ codes ","
 detail_of refusal = codes ""
 
 -- whether the text of a refusal names a cell; the others take no memory
 abbrev pub has_cell : Refusal → Bool
-has_cell (Clash change cell) = true
+has_cell (Change (Clash change cell)) = true
 has_cell refusal = false
 
 -- an opened deploy; one that published at once names that entry
@@ -46,9 +49,11 @@ opened_text id published required =
     codes "{\"id\":\"" ++ decimal id ++ codes "\",\"published\":" ++ number_or_null published
     ++ codes ",\"required\":[" ++ digest_list required ++ codes "]}"
 
+-- an uploaded file, and the entry that published its deploy
 abbrev pub uploaded_text : Option ℕ → Digest → List ℕ
 uploaded_text published digest = codes "{\"published\":" ++ number_or_null published ++ codes ",\"sha\":\"" ++ encode_lower digest.0 ++ codes "\"}"
 
+-- the word for the state of a deploy
 abbrev pub state_name : DeployState → List ℕ
 state_name (Open required) = codes "open"
 state_name Kept = codes "kept"
@@ -58,6 +63,7 @@ abbrev pub required_of : DeployState → List Digest
 required_of (Open required) = required
 required_of Kept = []
 
+-- a deploy that is shown
 abbrev pub deploy_text : ℕ → SiteName → List Digest → List ℕ → List ℕ
 deploy_text id site required state =
     codes "{\"id\":\"" ++ decimal id ++ codes "\",\"required\":[" ++ digest_list required

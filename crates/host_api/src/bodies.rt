@@ -53,7 +53,7 @@ pub enum Ask {
     },
 }
 
-/// The deploy that a body opens.
+// The deploy that a body opens.
 fn open(alloc: Global, site: SiteName, body: &[u8]) -> Result<Ask, Refusal>
     ensures ok { IfOk result (λ ask. open_ask site body.now ≡ Ok ask) }
     ensures refused { IfErr result (λ refusal. refusal ≢ Refusal.OutOfMemory →
@@ -69,7 +69,7 @@ fn open(alloc: Global, site: SiteName, body: &[u8]) -> Result<Ask, Refusal>
     Ok(Ask::Command(Command::Open { site, files, auto }))
 }
 
-/// The change that a body undoes.
+// The change that a body undoes.
 fn undo(alloc: Global, site: SiteName, body: &[u8]) -> Result<Ask, Refusal>
     ensures ok { IfOk result (λ ask. undo_ask site body.now ≡ Ok ask) }
     ensures refused { IfErr result (λ refusal. refusal ≢ Refusal.OutOfMemory →
@@ -83,7 +83,7 @@ fn undo(alloc: Global, site: SiteName, body: &[u8]) -> Result<Ask, Refusal>
     }
 }
 
-/// The deploy that a body lets an alias name.
+// The deploy that a body lets an alias name.
 fn move_alias(alloc: Global, site: SiteName, name: AliasName, body: &[u8]) -> Result<Ask, Refusal>
     ensures ok { IfOk result (λ ask. alias_ask site name body.now ≡ Ok ask) }
     ensures refused { IfErr result (λ refusal. refusal ≢ Refusal.OutOfMemory →
@@ -97,7 +97,7 @@ fn move_alias(alloc: Global, site: SiteName, name: AliasName, body: &[u8]) -> Re
     }
 }
 
-/// The file that a body renames.
+// The file that a body renames.
 fn rename(alloc: Global, site: SiteName, body: &[u8]) -> Result<Ask, Refusal>
     ensures ok { IfOk result (λ ask. rename_ask site body.now ≡ Ok ask) }
     ensures refused { IfErr result (λ refusal. refusal ≢ Refusal.OutOfMemory →

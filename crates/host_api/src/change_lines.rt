@@ -8,72 +8,54 @@ use site_change::Command;
 use std::alloc::{AllocError, Global};
 use std::marker::Model;
 
-/// What a change does.
-#[derive(Clone, Copy, Debug, PartialEq, Eq)]
-pub enum ChangeKind {
-    /// It opens a deploy.
-    Open,
-    /// It publishes a deploy.
-    Publish,
-    /// It cancels an open deploy.
-    Cancel,
-    /// It lets an alias name a deploy.
-    Alias,
-    /// It removes an alias.
-    Unalias,
-    /// It serves the file of one path at another.
-    Rename,
-    /// It serves nothing at a path any more.
-    Remove,
-    /// It serves the files of a kept deploy again, or publishes an open one.
-    Restore,
-    /// It keeps a deploy no longer.
-    Delete,
+/// A word of a reply. Contracts see its bytes.
+#[derive(Debug, Drop)]
+pub struct Word {
+    text: &'static str,
 }
 
-impl ChangeKind {
-    /// What a command does.
-    pub fn of(command: &Command) -> ChangeKind
-        ensures { result ≡ spec.kind_of command.now }
-    {
-        match command {
-            Command::Open { .. } => ChangeKind::Open,
-            Command::Publish { .. } => ChangeKind::Publish,
-            Command::Cancel { .. } => ChangeKind::Cancel,
-            Command::Remove { .. } => ChangeKind::Remove,
-            Command::Rename { .. } => ChangeKind::Rename,
-            Command::MoveAlias { .. } => ChangeKind::Alias,
-            Command::RemoveAlias { .. } => ChangeKind::Unalias,
-            Command::Restore { .. } => ChangeKind::Restore,
-            Command::RemoveDeploy { .. } => ChangeKind::Delete,
-        }
-    }
+impl Model for Word {
+    ghost use Rattle.std.specs.Prelude.{List, ℕ};
 
-    /// The word that a list of changes has for it.
-    pub fn name(self) -> &'static str
-        ensures { result.now ≡ spec.kind_name self }
+    ghost Value = { List ℕ };
+
+    ghost view = { λ word. word.text.now };
+}
+
+impl Word {
+    /// Its text.
+    pub fn as_str(&self) -> &'static str
+        ensures { result.now ≡ self.now }
     {
-        match self {
-            ChangeKind::Open => "open",
-            ChangeKind::Publish => "publish",
-            ChangeKind::Cancel => "cancel",
-            ChangeKind::Alias => "alias",
-            ChangeKind::Unalias => "unalias",
-            ChangeKind::Rename => "rename",
-            ChangeKind::Remove => "remove",
-            ChangeKind::Restore => "restore",
-            ChangeKind::Delete => "delete",
-        }
+        self.text
     }
+}
+
+/// The word that a list of changes has for a command.
+pub fn word_of(command: &Command) -> Word
+    ensures { result ≡ spec.word_of command.now }
+{
+    let text = match command {
+        Command::Open { .. } => "open",
+        Command::Publish { .. } => "publish",
+        Command::Cancel { .. } => "cancel",
+        Command::Remove { .. } => "remove",
+        Command::Rename { .. } => "rename",
+        Command::MoveAlias { .. } => "alias",
+        Command::RemoveAlias { .. } => "unalias",
+        Command::Restore { .. } => "restore",
+        Command::RemoveDeploy { .. } => "delete",
+    };
+    Word { text }
 }
 
 /// An entry, as the list of changes shows it.
-#[derive(Clone, Copy, Debug, PartialEq, Eq)]
+#[derive(Debug, Drop)]
 pub enum ChangeLine {
     /// A change, which is live where no undo names it.
     Change {
         entry: u64,
-        kind: ChangeKind,
+        kind: Word,
         is_live: bool,
     },
     /// An undo of the change of that number.
@@ -83,55 +65,23 @@ pub enum ChangeLine {
     },
 }
 
-/// Some entries of a site. Contracts see the list of them.
-#[derive(Drop)]
-pub struct ChangeLines {
-    lines: Vec<ChangeLine>,
-}
-
-impl Model for ChangeLines {
-    ghost use Rattle.std.specs.Prelude.{List};
-    ghost use Rattle.host_api.specs.declared.change_lines.ChangeLine.{ChangeLine};
-
-    ghost Value = { List ChangeLine };
-
-    ghost view = { λ l. l.lines.items };
-}
-
-impl ChangeLines {
-    /// The lines, in order.
-    pub fn as_slice(&self) -> &[ChangeLine]
-        ensures { result.now ≡ self.now }
-    {
-        self.lines.as_slice()
-    }
-}
-
-impl From<Vec<ChangeLine>> for ChangeLines {
-    ghost from_gives = { λ lines list. list ≡ lines.items };
-
-    fn from(lines: Vec<ChangeLine>) -> ChangeLines {
-        ChangeLines { lines }
-    }
-}
-
 // So many bytes hold what is around the lines of a list.
 const ROOM: usize = 14;
 
 // So many bytes hold a line and a comma, whatever its numbers are.
 const LINE_ROOM: usize = 71;
 
-/// Appends a line.
+// Appends a line.
 fn push_line(text: &mut String, line: &ChangeLine) -> Result<(), AllocError>
     ensures { OnOk result (string_bytes text.new ≡ string_bytes text.old ++ spec.line_text line.now) }
 {
-    match *line {
+    match line {
         ChangeLine::Change {
             entry,
             kind,
             is_live,
         } => {
-            let kind = kind.name();
+            let kind = kind.as_str();
             write!(
                 text,
                 "{{\"entry\":{entry},\"kind\":\"{kind}\",\"live\":{is_live}}}"
@@ -143,7 +93,7 @@ fn push_line(text: &mut String, line: &ChangeLine) -> Result<(), AllocError>
     }
 }
 
-/// Appends lines, each after a comma.
+// Appends lines, each after a comma.
 fn push_others(text: &mut String, lines: &[ChangeLine]) -> Result<(), AllocError>
     ensures { OnOk result (string_bytes text.new ≡ string_bytes text.old ++ flat_map (λ line. codes "," ++ spec.line_text line) lines.now) }
 {
@@ -154,7 +104,7 @@ fn push_others(text: &mut String, lines: &[ChangeLine]) -> Result<(), AllocError
     Ok(())
 }
 
-/// Appends lines, with a comma between each two.
+// Appends lines, with a comma between each two.
 fn push_lines(text: &mut String, lines: &[ChangeLine]) -> Result<(), AllocError>
     ensures { OnOk result (string_bytes text.new ≡ string_bytes text.old ++ spec.line_list lines.now) }
 {

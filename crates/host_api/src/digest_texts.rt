@@ -8,7 +8,7 @@ ghost use Rattle.host_api.specs.Texts.{quoted, digest_list};
 use host_names::Digest;
 use std::alloc::AllocError;
 
-/// Appends a digest, in quotes.
+// Appends a digest, in quotes.
 fn push_digest(text: &mut String, digest: &Digest) -> Result<(), AllocError>
     ensures { OnOk result (string_bytes text.new ≡ string_bytes text.old ++ quoted (encode_lower digest.now.0)) }
 {
@@ -17,7 +17,7 @@ fn push_digest(text: &mut String, digest: &Digest) -> Result<(), AllocError>
     text.push_str("\"")
 }
 
-/// Appends digests, each after a comma.
+// Appends digests, each after a comma.
 fn push_others(text: &mut String, digests: &[Digest]) -> Result<(), AllocError>
     ensures { OnOk result (string_bytes text.new ≡ string_bytes text.old ++ flat_map (λ d. codes "," ++ quoted (encode_lower d.0)) digests.now) }
 {

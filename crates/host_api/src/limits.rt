@@ -3,14 +3,14 @@ ghost use Rattle.std.specs.Prelude.{◌≡◌, option_map};
 ghost use Rattle.host_api.specs.Limits as spec;
 ghost use Rattle.host_api.specs.Patterns.{found_of};
 
-use crate::resources::{DeployResource, Resource};
+use crate::resources::{DeployResource, Resource, ResourceKind};
 use crate::table::find;
 use crate::targets::{Bindings, path_of};
 
-/// The greatest length of a file that is uploaded, in bytes.
+// The greatest length of a file that is uploaded, in bytes.
 const FILE_LIMIT: u64 = 16_777_216;
 
-/// The greatest length of any other body, in bytes.
+// The greatest length of any other body, in bytes.
 const DOCUMENT_LIMIT: u64 = 4_194_304;
 
 // Whether what was found is a file of a deploy.
@@ -18,7 +18,7 @@ fn is_deploy_file(found: Option<(Resource, Bindings<'_>)>) -> bool
     ensures { result ≡ spec.is_upload (option_map found_of found.entry) }
 {
     match found {
-        Some((resource, _)) => resource == Resource::OfDeploy(DeployResource::File),
+        Some((resource, _)) => resource.kind == ResourceKind::OfDeploy(DeployResource::File),
         None => false,
     }
 }

@@ -23,7 +23,7 @@ pub(crate) struct Form<'a> {
     pub(crate) patch: bool,
 }
 
-/// A flag, which is off where it is absent.
+// A flag, which is off where it is absent.
 fn flag(body: &Value, name: &str) -> Option<bool>
     ensures { result ≡ spec.flag_of (get name.now (view body.now)) }
 {
@@ -49,7 +49,7 @@ pub(crate) fn form_of(body: &Value) -> Option<Form<'_>>
     })
 }
 
-/// The digest that a member spells.
+// The digest that a member spells.
 fn digest_in(value: &Value) -> Result<Digest, Refusal>
     ensures { result ≡ spec.digest_in (view value.now) }
 {
@@ -62,7 +62,7 @@ fn digest_in(value: &Value) -> Result<Digest, Refusal>
     }
 }
 
-/// What a member lists: in a patch `null` lists a removal.
+// What a member lists: in a patch `null` lists a removal.
 fn listed_in(is_patch: bool, value: &Value) -> Result<Option<Digest>, Refusal>
     ensures { result ≡ spec.listed_in is_patch (view value.now) }
 {
@@ -82,7 +82,7 @@ pub(crate) fn path_of(alloc: Global, key: &str) -> Result<FilePath, Refusal>
     Ok(FilePath::read(alloc, key)?)
 }
 
-/// Adds what a member lists. A path that is listed already is refused.
+// Adds what a member lists. A path that is listed already is refused.
 #[tactic(auto, using(crate::proofs::ListedFiles::listed_twice, crate::proofs::ListedFiles::listed_badly, crate::proofs::ListedFiles::listed_once))]
 fn list_one(
     alloc: Global,
@@ -108,7 +108,7 @@ fn list_one(
     Ok(())
 }
 
-/// The files that the members list, by path.
+// The files that the members list, by path.
 fn files_of(
     alloc: Global,
     is_patch: bool,
@@ -127,7 +127,7 @@ fn files_of(
     Ok(files)
 }
 
-/// The files of a map, as a list that can be shared.
+// The files of a map, as a list that can be shared.
 fn paths_of(
     alloc: Global,
     files: BTreeMap<FilePath, Option<Digest>>,

@@ -7,7 +7,7 @@ ghost use Rattle.host_api.specs.Bodies as spec;
 use crate::numbers::{GREATEST_NUMBER, number_of};
 use serde_json::{Number, Value};
 
-/// A number as that of an entry, or 0 where an entry cannot have it.
+// A number as that of an entry, or 0 where an entry cannot have it.
 fn entry_number(number: &Number) -> u64
     ensures { result ≡ spec.entry_number (number_view number.now) }
 {
@@ -17,7 +17,7 @@ fn entry_number(number: &Number) -> u64
     }
 }
 
-/// The number that a value writes, as a number or as text.
+// The number that a value writes, as a number or as text.
 fn number_in(value: &Value) -> Option<u64>
     ensures { result ≡ spec.number_in (view value.now) }
 {
@@ -28,7 +28,7 @@ fn number_in(value: &Value) -> Option<u64>
     }
 }
 
-/// The text that a value is.
+// The text that a value is.
 fn text_in(value: &Value) -> Option<&str>
     ensures { option_map (λ text. text.now) result ≡ spec.text_in (view value.now) }
 {

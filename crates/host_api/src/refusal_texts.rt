@@ -10,7 +10,7 @@ ghost use Rattle.host_api.specs.Texts.{quoted, detail_of, has_cell, refused_text
 
 use crate::refusals::Refusal;
 use arrayvec::ArrayString;
-use host_names::Cell;
+use host_names::{Cell, ChangeRefusal};
 use serde_json::Value;
 use std::alloc::{AllocError, Global};
 
@@ -48,10 +48,12 @@ fn push_detail(text: &mut ArrayString<SHORT_TEXT>, refusal: &Refusal)
     ensures room { array_string_len text.new + 25 ≤ SHORT_TEXT }
 {
     match refusal {
-        Refusal::NotComplete(digest) => {
+        Refusal::Change(ChangeRefusal::NotComplete(digest)) => {
             push_member(text, "digest", digest.to_hex().as_str());
         }
-        Refusal::DeployInUse(name) => push_member(text, "alias", name.as_str()),
+        Refusal::Change(ChangeRefusal::DeployInUse(name)) => {
+            push_member(text, "alias", name.as_str());
+        }
         _ => {}
     }
 }
@@ -72,7 +74,7 @@ fn plain_text(refusal: &Refusal) -> ArrayString<SHORT_TEXT>
 pub fn short_text(refusal: &Refusal) -> Option<ArrayString<SHORT_TEXT>>
     ensures { MatchOption result (has_cell refusal.now ≡ true) (λ text. text.bytes ≡ refused_text refusal.now) }
 {
-    if matches!(refusal, Refusal::Clash { .. }) {
+    if matches!(refusal, Refusal::Change(ChangeRefusal::Clash { .. })) {
         return None;
     }
     Some(plain_text(refusal))
@@ -88,7 +90,7 @@ fn cell_string(alloc: Global, cell: &Cell) -> Result<String, AllocError>
 
 // The text of a clash.
 fn clash_text(alloc: Global, change: u64, cell: &Cell) -> Result<String, AllocError>
-    ensures { IfOk result (λ text. string_bytes text ≡ refused_text (Refusal.Clash change cell.now)) }
+    ensures { IfOk result (λ text. string_bytes text ≡ refused_text (Refusal.Change (ChangeRefusal.Clash change cell.now))) }
 {
     let cell = cell_string(alloc, cell)?;
     let mut text = String::with_capacity(alloc, SHORT_TEXT.saturating_add(cell.len()))?;
@@ -102,7 +104,9 @@ pub(crate) fn refusal_text(alloc: Global, refusal: &Refusal) -> Result<String, A
     ensures { IfOk result (λ text. string_bytes text ≡ refused_text refusal.now) }
 {
     match refusal {
-        Refusal::Clash { change, cell } => clash_text(alloc, *change, cell),
+        Refusal::Change(ChangeRefusal::Clash { change, cell }) => {
+            clash_text(alloc, *change, cell)
+        }
         _ => String::from_str(alloc, plain_text(refusal).as_str()),
     }
 }

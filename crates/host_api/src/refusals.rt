@@ -1,41 +1,17 @@
 //! Why a request is refused.
+ghost use Rattle.std.specs.Prelude.{◌≡◌, ◌≤◌, length};
+ghost use Rattle.host_api.specs.Refusals.{name_of, shown_of_change, status_of};
+
 use crate::resources::Resource;
-use host_names::{AliasName, Cell, Digest, PathError};
+use host_names::{ChangeError, ChangeRefusal, PathError};
 use http::StatusCode;
 use std::alloc::AllocError;
 
 /// Why a request is refused. A reply names the reason.
 #[derive(Debug, Drop, PartialEq, Eq)]
 pub enum Refusal {
-    /// There is no open deploy of that number.
-    NoSuchDraft,
-    /// A file of the deploy was not uploaded; of several the one of the least digest is named.
-    NotComplete(Digest),
-    /// There is no deploy of that number, open or kept, as it is needed.
-    NoSuchDeploy,
-    /// There is no file at that path.
-    NoSuchFile,
-    /// A file is served at the new path.
-    PathTaken,
-    /// The two paths are one.
-    SamePath,
-    /// There is no such alias.
-    NoSuchAlias,
-    /// An alias names the deploy; of several the least is told.
-    DeployInUse(AliasName),
-    /// The deploy lists more than 10,000 paths.
-    TooManyFiles,
-    /// The history has as many entries as it may have.
-    HistoryFull,
-    /// There is no change of that number in the site.
-    NoSuchChange,
-    /// The entry of that number is an undo.
-    NotAChange,
-    /// The change was undone before.
-    AlreadyUndone,
-    /// A later change that was not undone reads or writes what the change changed: the first such change, and its first
-    /// such cell.
-    Clash { change: u64, cell: Cell },
+    /// A change, or the undo of one, is refused; or what a request reads is not there.
+    Change(ChangeRefusal),
     /// The text is no name of a site or an alias.
     BadName,
     /// The text is no path.
@@ -60,41 +36,39 @@ pub enum Refusal {
     NotSatisfiable(u64),
 }
 
-impl Refusal {
-    ghost use Rattle.std.specs.Prelude.{◌≡◌, ◌≤◌, false, length};
-    ghost use Rattle.host_api.specs.Refusals.{name_of, status_of, is_of_change};
+/// What a reply says of a refused change: its name, and the status code.
+fn shown_of_change(reason: &ChangeRefusal) -> (&'static str, StatusCode)
+    ensures name { result.0.now ≡ (shown_of_change reason.now).0 }
+    ensures short { length result.0.now ≤ 14 }
+    ensures status { result.1 ≡ (shown_of_change reason.now).1 }
+{
+    match reason {
+        ChangeRefusal::HistoryFull => ("HistoryFull", StatusCode::INSUFFICIENT_STORAGE),
+        ChangeRefusal::TooManyFiles => ("TooManyFiles", StatusCode::PAYLOAD_TOO_LARGE),
+        ChangeRefusal::NoSuchDraft => ("NoSuchDraft", StatusCode::NOT_FOUND),
+        ChangeRefusal::NotComplete(_) => ("NotComplete", StatusCode::CONFLICT),
+        ChangeRefusal::NoSuchDeploy => ("NoSuchDeploy", StatusCode::NOT_FOUND),
+        ChangeRefusal::NoSuchFile => ("NoSuchFile", StatusCode::NOT_FOUND),
+        ChangeRefusal::PathTaken => ("PathTaken", StatusCode::CONFLICT),
+        ChangeRefusal::SamePath => ("SamePath", StatusCode::CONFLICT),
+        ChangeRefusal::NoSuchAlias => ("NoSuchAlias", StatusCode::NOT_FOUND),
+        ChangeRefusal::DeployInUse(_) => ("DeployInUse", StatusCode::CONFLICT),
+        ChangeRefusal::NoSuchChange => ("NoSuchChange", StatusCode::NOT_FOUND),
+        ChangeRefusal::NotAChange => ("NotAChange", StatusCode::CONFLICT),
+        ChangeRefusal::AlreadyUndone => ("AlreadyUndone", StatusCode::CONFLICT),
+        ChangeRefusal::Clash { .. } => ("Clash", StatusCode::CONFLICT),
+    }
+}
 
+impl Refusal {
     // What a reply says of it: its name, and the status code.
     fn shown(&self) -> (&'static str, StatusCode)
         ensures name { result.0.now ≡ name_of self.now }
+        ensures short { length result.0.now ≤ 14 }
         ensures status { result.1 ≡ status_of self.now }
     {
         match self {
-            Refusal::NoSuchDraft => ("NoSuchDraft", StatusCode::NOT_FOUND),
-            Refusal::NotComplete(_) => ("NotComplete", StatusCode::CONFLICT),
-            Refusal::NoSuchDeploy => ("NoSuchDeploy", StatusCode::NOT_FOUND),
-            Refusal::NoSuchFile => ("NoSuchFile", StatusCode::NOT_FOUND),
-            Refusal::PathTaken => ("PathTaken", StatusCode::CONFLICT),
-            Refusal::SamePath => ("SamePath", StatusCode::CONFLICT),
-            Refusal::NoSuchAlias => ("NoSuchAlias", StatusCode::NOT_FOUND),
-            Refusal::DeployInUse(_) => ("DeployInUse", StatusCode::CONFLICT),
-            Refusal::TooManyFiles => ("TooManyFiles", StatusCode::PAYLOAD_TOO_LARGE),
-            Refusal::HistoryFull => ("HistoryFull", StatusCode::INSUFFICIENT_STORAGE),
-            Refusal::NoSuchChange => ("NoSuchChange", StatusCode::NOT_FOUND),
-            Refusal::NotAChange => ("NotAChange", StatusCode::CONFLICT),
-            Refusal::AlreadyUndone => ("AlreadyUndone", StatusCode::CONFLICT),
-            Refusal::Clash { .. } => ("Clash", StatusCode::CONFLICT),
-            _ => self.shown_of_request(),
-        }
-    }
-
-    // The same of a reason for which no change or undo is refused.
-    fn shown_of_request(&self) -> (&'static str, StatusCode)
-        requires { is_of_change self.now ≡ false }
-        ensures name { result.0.now ≡ name_of self.now }
-        ensures status { result.1 ≡ status_of self.now }
-    {
-        match self {
+            Refusal::Change(reason) => shown_of_change(reason),
             Refusal::BadName => ("BadName", StatusCode::BAD_REQUEST),
             Refusal::BadPath => ("BadPath", StatusCode::BAD_REQUEST),
             Refusal::BadDigest => ("BadDigest", StatusCode::BAD_REQUEST),
@@ -106,12 +80,10 @@ impl Refusal {
             Refusal::BadMethod(_) => ("BadMethod", StatusCode::METHOD_NOT_ALLOWED),
             Refusal::BadHead => ("BadHead", StatusCode::BAD_REQUEST),
             Refusal::NotSatisfiable(_) => ("NotSatisfiable", StatusCode::RANGE_NOT_SATISFIABLE),
-            _ => unreachable!(),
         }
     }
 
     /// The name that a reply gives to it.
-    #[tactic(auto, using(crate::proofs::RefusalNames::short_name))]
     pub fn name(&self) -> &'static str
         ensures value { result.now ≡ name_of self.now }
         ensures short { length result.now ≤ 14 }
@@ -135,6 +107,31 @@ impl From<AllocError> for Refusal {
 
     fn from(_error: AllocError) -> Refusal {
         Refusal::OutOfMemory
+    }
+}
+
+impl From<ChangeRefusal> for Refusal {
+    ghost use Rattle.std.specs.Prelude.{◌≡◌};
+    ghost use Rattle.host_api.specs.declared.refusals.Refusal.TheVariants.{Change};
+
+    ghost from_gives = { λ reason refusal. refusal ≡ Change reason };
+
+    fn from(reason: ChangeRefusal) -> Refusal {
+        Refusal::Change(reason)
+    }
+}
+
+impl From<ChangeError> for Refusal {
+    ghost use Rattle.std.specs.Prelude.{◌≡◌};
+    ghost use Rattle.host_api.specs.Refusals.{of_change};
+
+    ghost from_gives = { λ error reason. reason ≡ of_change error };
+
+    fn from(error: ChangeError) -> Refusal {
+        match error {
+            ChangeError::Refused(reason) => Refusal::Change(reason),
+            ChangeError::OutOfMemory => Refusal::OutOfMemory,
+        }
     }
 }
 

@@ -8,7 +8,7 @@ ghost use Rattle.host_api.specs.Patterns.{bindings_of, is_rest, named_in, named_
 use crate::bodies::Ask;
 use crate::numbers::number_of;
 use crate::refusals::Refusal;
-use crate::resources::{AliasResource, DeployResource, Resource, SiteResource};
+use crate::resources::{AliasResource, DeployResource, Resource, ResourceKind, SiteResource};
 use crate::table::find;
 use crate::target_paths::{read_path, written_path};
 use crate::targets::{Bindings, has_hash, path_of};
@@ -43,16 +43,16 @@ enum Named {
 
 // A resource with its names, where each is a name.
 fn with_names(resource: Resource, bindings: Bindings<'_>) -> Result<Named, Refusal>
-    ensures { result ≡ named_in resource (bindings_of bindings.entry) }
+    ensures { result ≡ named_in resource.kind (bindings_of bindings.entry) }
 {
-    match resource {
-        Resource::OfSite(resource) => {
+    match resource.kind {
+        ResourceKind::OfSite(resource) => {
             let Ok(site) = SiteName::new(bindings.site) else {
                 return Err(Refusal::BadName);
             };
             Ok(Named::Site(resource, site))
         }
-        Resource::OfAlias(resource) => {
+        ResourceKind::OfAlias(resource) => {
             let Ok(site) = SiteName::new(bindings.site) else {
                 return Err(Refusal::BadName);
             };
@@ -61,7 +61,7 @@ fn with_names(resource: Resource, bindings: Bindings<'_>) -> Result<Named, Refus
             };
             Ok(Named::Alias(resource, site, alias))
         }
-        Resource::OfDeploy(resource) => Ok(Named::Deploy(resource)),
+        ResourceKind::OfDeploy(resource) => Ok(Named::Deploy(resource)),
     }
 }
 

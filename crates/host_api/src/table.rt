@@ -3,93 +3,109 @@ ghost use Rattle.std.specs.Prelude.{◌≡◌, IsTrue, IfSome, map, option_map};
 ghost use Rattle.host_api.specs.Routes as spec;
 ghost use Rattle.host_api.specs.Patterns.{is_rest, row_of, found_of};
 
-use crate::resources::{AliasResource, DeployResource, Resource, SiteResource};
+use crate::methods::Methods;
+use crate::resources::{AliasResource, DeployResource, Resource, ResourceKind, SiteResource};
 use crate::targets::{Bindings, Part, fit};
 
-/// What a target names, the pattern of the target, and whether a rest follows it.
+/// What a target names, its methods, the pattern of the target, and whether a rest follows it.
 pub struct Row {
-    pub resource: Resource,
+    pub kind: ResourceKind,
+    pub methods: Methods,
     pub parts: &'static [Part],
     pub has_rest: bool,
 }
 
-/// `/api/v1/sites/{site}`, and these parts after it.
+// `/api/v1/sites/{site}`, and these parts after it.
 macro_rules! of_site {
     ($($part:expr),*) => {
         &[Part::Word("api"), Part::Word("v1"), Part::Word("sites"), Part::Site, $($part),*]
     };
 }
 
-/// `/api/v1/deploys/{deploy}`, and these parts after it.
+// `/api/v1/deploys/{deploy}`, and these parts after it.
 macro_rules! of_deploy {
     ($($part:expr),*) => {
         &[Part::Word("api"), Part::Word("v1"), Part::Word("deploys"), Part::Number, $($part),*]
     };
 }
 
-const ROWS: [Row; 13] = [
+// A target is on the first of these whose pattern it fits.
+const ROWS: &[Row] = &[
     Row {
-        resource: Resource::OfSite(SiteResource::LiveFile),
+        kind: ResourceKind::OfSite(SiteResource::LiveFile),
+        methods: Methods::Read,
         parts: &[Part::Word("s"), Part::Site],
         has_rest: true,
     },
     Row {
-        resource: Resource::OfAlias(AliasResource::File),
+        kind: ResourceKind::OfAlias(AliasResource::File),
+        methods: Methods::Read,
         parts: &[Part::Word("a"), Part::Site, Part::Alias],
         has_rest: true,
     },
     Row {
-        resource: Resource::OfSite(SiteResource::KeptFile),
+        kind: ResourceKind::OfSite(SiteResource::KeptFile),
+        methods: Methods::Read,
         parts: &[Part::Word("d"), Part::Site, Part::Number],
         has_rest: true,
     },
     Row {
-        resource: Resource::OfSite(SiteResource::Deploys),
+        kind: ResourceKind::OfSite(SiteResource::Deploys),
+        methods: Methods::Post,
         parts: of_site![Part::Word("deploys")],
         has_rest: false,
     },
     Row {
-        resource: Resource::OfSite(SiteResource::Restore),
+        kind: ResourceKind::OfSite(SiteResource::Restore),
+        methods: Methods::Post,
         parts: of_site![Part::Word("deploys"), Part::Number, Part::Word("restore")],
         has_rest: false,
     },
     Row {
-        resource: Resource::OfAlias(AliasResource::Itself),
+        kind: ResourceKind::OfAlias(AliasResource::Itself),
+        methods: Methods::PutOrDelete,
         parts: of_site![Part::Word("aliases"), Part::Alias],
         has_rest: false,
     },
     Row {
-        resource: Resource::OfSite(SiteResource::Rename),
+        kind: ResourceKind::OfSite(SiteResource::Rename),
+        methods: Methods::Post,
         parts: of_site![Part::Word("rename")],
         has_rest: false,
     },
     Row {
-        resource: Resource::OfSite(SiteResource::File),
+        kind: ResourceKind::OfSite(SiteResource::File),
+        methods: Methods::Delete,
         parts: of_site![Part::Word("files")],
         has_rest: true,
     },
     Row {
-        resource: Resource::OfSite(SiteResource::Undo),
+        kind: ResourceKind::OfSite(SiteResource::Undo),
+        methods: Methods::Post,
         parts: of_site![Part::Word("undo")],
         has_rest: false,
     },
     Row {
-        resource: Resource::OfSite(SiteResource::Changes),
+        kind: ResourceKind::OfSite(SiteResource::Changes),
+        methods: Methods::Read,
         parts: of_site![Part::Word("changes")],
         has_rest: false,
     },
     Row {
-        resource: Resource::OfDeploy(DeployResource::Itself),
+        kind: ResourceKind::OfDeploy(DeployResource::Itself),
+        methods: Methods::ReadOrDelete,
         parts: of_deploy![],
         has_rest: false,
     },
     Row {
-        resource: Resource::OfDeploy(DeployResource::Cancel),
+        kind: ResourceKind::OfDeploy(DeployResource::Cancel),
+        methods: Methods::Post,
         parts: of_deploy![Part::Word("cancel")],
         has_rest: false,
     },
     Row {
-        resource: Resource::OfDeploy(DeployResource::File),
+        kind: ResourceKind::OfDeploy(DeployResource::File),
+        methods: Methods::Put,
         parts: of_deploy![Part::Word("files")],
         has_rest: true,
     },
@@ -102,7 +118,11 @@ fn found_in<'t>(rows: &[Row], path: &'t str) -> Option<(Resource, Bindings<'t>)>
 {
     for row in rows {
         if let Some(bindings) = fit(row.parts, row.has_rest, path) {
-            return Some((row.resource, bindings));
+            let resource = Resource {
+                kind: row.kind,
+                methods: row.methods,
+            };
+            return Some((resource, bindings));
         }
     }
     None
@@ -113,5 +133,5 @@ pub fn find<'t>(path: &'t str) -> Option<(Resource, Bindings<'t>)>
     ensures value { option_map found_of result ≡ spec.found_in spec.rows path.now }
     ensures led { IfSome result (λ found. IsTrue (is_rest found.1.rest.now)) }
 {
-    found_in(&ROWS, path)
+    found_in(ROWS, path)
 }

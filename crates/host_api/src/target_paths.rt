@@ -14,7 +14,7 @@ use percent_encoding::percent_decode;
 use std::alloc::Global;
 use std::str;
 
-/// The greatest length of a path with its leading slash, in bytes.
+// The greatest length of a path with its leading slash, in bytes.
 const LONGEST: usize = 1024;
 
 // Whether the text may have an escape.

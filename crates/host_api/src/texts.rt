@@ -3,57 +3,25 @@ ghost use Rattle.std.specs.Prelude.{◌≡◌, ◌++◌, [], IfOk, OnOk};
 ghost use Rattle.std.specs.String.{string_bytes};
 ghost use Rattle.host_api.specs.Texts.{number_or_null, state_name, required_of, opened_text, uploaded_text, deploy_text, told_text};
 
-use crate::change_lines::{ChangeLines, list_text};
+use crate::change_lines::{ChangeLine, list_text};
 use crate::digest_texts::push_digests;
+use crate::items::Items;
 use crate::refusal_texts::refusal_text;
 use crate::refusals::Refusal;
 use host_names::{Digest, SiteName};
 use std::alloc::{AllocError, Global};
-use std::marker::Model;
-
-/// Some digests. Contracts see the list of them.
-#[derive(Drop)]
-pub struct Digests {
-    list: Vec<Digest>,
-}
-
-impl Model for Digests {
-    ghost use Rattle.std.specs.Prelude.{List};
-    ghost use Rattle.host_names.specs.declared.digests.Digest.{Digest};
-
-    ghost Value = { List Digest };
-
-    ghost view = { λ d. d.list.items };
-}
-
-impl Digests {
-    /// The digests, in order.
-    pub fn as_slice(&self) -> &[Digest]
-        ensures { result.now ≡ self.now }
-    {
-        self.list.as_slice()
-    }
-}
-
-impl From<Vec<Digest>> for Digests {
-    ghost from_gives = { λ list digests. digests ≡ list.items };
-
-    fn from(list: Vec<Digest>) -> Digests {
-        Digests { list }
-    }
-}
 
 /// The state of a deploy.
 #[derive(Drop)]
 pub enum DeployState {
     /// It is open, and these of its files were not uploaded.
-    Open { required: Digests },
+    Open { required: Items<Digest> },
     /// It was published whole, and its files are kept.
     Kept,
 }
 
 impl DeployState {
-    /// Its name.
+    // Its name.
     fn name(&self) -> &'static str
         ensures { result.now ≡ state_name self.now }
     {
@@ -63,7 +31,7 @@ impl DeployState {
         }
     }
 
-    /// The digests of its files that are missing.
+    // The digests of its files that are missing.
     fn required(&self) -> &[Digest]
         ensures { result.now ≡ required_of self.now }
     {
@@ -81,7 +49,7 @@ pub enum Told {
     Opened {
         id: u64,
         published: Option<u64>,
-        required: Digests,
+        required: Items<Digest>,
     },
     /// A file was uploaded; and the entry that published its deploy, if one did.
     Uploaded {
@@ -99,7 +67,7 @@ pub enum Told {
         state: DeployState,
     },
     /// The last entries of a site, oldest first.
-    Changes(ChangeLines),
+    Changes(Items<ChangeLine>),
     /// The request was refused.
     Refused(Refusal),
 }
@@ -110,7 +78,7 @@ const ROOM: usize = 132;
 // So many bytes hold a digest of a list: its digits, the quotes and a comma.
 const DIGEST_ROOM: usize = 43;
 
-/// An empty text, with room for a list of digests and for what is around it.
+// An empty text, with room for a list of digests and for what is around it.
 fn text_around(alloc: Global, digests: &[Digest]) -> Result<String, AllocError>
     ensures { IfOk result (λ text. string_bytes text ≡ []) }
 {
@@ -121,7 +89,7 @@ fn text_around(alloc: Global, digests: &[Digest]) -> Result<String, AllocError>
     String::with_capacity(alloc, room)
 }
 
-/// Appends a number, or `null` where there is none.
+// Appends a number, or `null` where there is none.
 fn push_number(text: &mut String, number: Option<u64>) -> Result<(), AllocError>
     ensures { OnOk result (string_bytes text.new ≡ string_bytes text.old ++ number_or_null number) }
 {
@@ -131,7 +99,7 @@ fn push_number(text: &mut String, number: Option<u64>) -> Result<(), AllocError>
     }
 }
 
-/// The text of an opened deploy.
+// The text of an opened deploy.
 fn opened(
     alloc: Global,
     id: u64,
@@ -149,7 +117,7 @@ fn opened(
     Ok(text)
 }
 
-/// The text of an uploaded file.
+// The text of an uploaded file.
 fn uploaded(alloc: Global, published: Option<u64>, digest: &Digest) -> Result<String, AllocError>
     ensures { IfOk result (λ text. string_bytes text ≡ uploaded_text published digest.now) }
 {
@@ -161,7 +129,7 @@ fn uploaded(alloc: Global, published: Option<u64>, digest: &Digest) -> Result<St
     Ok(text)
 }
 
-/// The text of a deploy.
+// The text of a deploy.
 fn deploy(
     alloc: Global,
     id: u64,

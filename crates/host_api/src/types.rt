@@ -7,7 +7,7 @@ ghost use Rattle.host_api.specs.Types.{after_last, extension_of, type_of};
 
 use host_names::FilePath;
 
-/// The endings of names, and the types of the files whose names end so.
+// The endings of names, and the types of the files whose names end so.
 static TYPES: [(&str, &str); 11] = [
     ("html", "text/html; charset=utf-8"),
     ("css", "text/css; charset=utf-8"),
@@ -22,7 +22,7 @@ static TYPES: [(&str, &str); 11] = [
     ("woff2", "font/woff2"),
 ];
 
-/// The place of the last such byte, if there is one.
+// The place of the last such byte, if there is one.
 fn last_place(text: &[u8], byte: u8) -> Option<usize>
     ensures { MatchOption result
         (EachIndex text.now (λ k. slice_index text.now k ≢ byte))
@@ -32,7 +32,7 @@ fn last_place(text: &[u8], byte: u8) -> Option<usize>
     text.iter().rposition(|other| *other == byte)
 }
 
-/// What follows the last such byte, if there is one.
+// What follows the last such byte, if there is one.
 fn behind_last(text: &[u8], byte: u8) -> Option<&[u8]>
     ensures { option_map (λ rest. rest.now) result ≡ after_last byte text.now }
 {
@@ -40,14 +40,14 @@ fn behind_last(text: &[u8], byte: u8) -> Option<&[u8]>
     Some(&text[at + 1..])
 }
 
-/// What follows the last dot of the last segment, if it has one.
+// What follows the last dot of the last segment, if it has one.
 fn extension(path: &[u8]) -> Option<&[u8]>
     ensures { option_map (λ rest. rest.now) result ≡ extension_of path.now }
 {
     behind_last(behind_last(path, b'/').unwrap_or(path), b'.')
 }
 
-/// The type in the first of some rows that has the extension, ASCII case ignored.
+// The type in the first of some rows that has the extension, ASCII case ignored.
 fn listed(rows: &'static [(&str, &str)], extension: &[u8]) -> Option<&'static str>
     ensures { option_map (λ media_type. media_type.now) result
         ≡ option_map (λ row. row.1.now) (find (λ row. str_eq_ignore_ascii_case extension.now row.0.now) rows.now) }

@@ -5,5 +5,6 @@ pub mod Hex
 pub mod Digests
 pub mod Cells
 pub mod Blobs
+pub mod Refusals
 -- what the comparisons of cells show of their order
 pub mod CellOrder

@@ -8,6 +8,7 @@ mod digests;
 mod laws;
 mod names;
 mod paths;
+mod refusals;
 mod uploads;
 
 pub use blobs::{BlobInfo, Uploads};
@@ -16,4 +17,5 @@ pub use digests::{BadDigest, Digest};
 pub use laws::cells_have_one_order;
 pub use names::{AliasName, BadName, Name, SiteName};
 pub use paths::{FilePath, PathError};
+pub use refusals::{ChangeError, ChangeRefusal};
 pub use uploads::MemoryUploads;

@@ -43,6 +43,11 @@ impl MemoryUploads {
         }
     }
 
+    /// The allocator that it was made with.
+    pub fn allocator(&self) -> Global {
+        self.alloc
+    }
+
     /// Adds the file of these bytes, and answers its digest. A digest that is known keeps its file, and takes no
     /// memory. Without memory nothing changes.
     pub fn add(&mut self, bytes: Vec<u8>) -> Result<Digest, AllocError>
@@ -51,12 +56,22 @@ impl MemoryUploads {
         ensures err { OnErr result (self.new ≡ self.old) }
         ensures memory { OnErr result (map.get self.old (digest_of bytes.items) ≡ None) }
     {
-        let info = BlobInfo::from(bytes);
-        let digest = info.digest();
-        if self.find(&digest).is_none() {
-            self.keep(Arc::new(self.alloc, info)?)?;
-        }
+        let file = BlobInfo::from(bytes);
+        let digest = file.digest();
+        self.add_file(file)?;
         Ok(digest)
+    }
+
+    /// Adds a file. A digest that is known keeps its file, and takes no memory. Without memory nothing changes.
+    pub fn add_file(&mut self, file: BlobInfo) -> Result<(), AllocError>
+        ensures ok { OnOk result (self.new ≡ with_file self.old file) }
+        ensures err { OnErr result (self.new ≡ self.old) }
+        ensures memory { OnErr result (map.get self.old (digest_of file) ≡ None) }
+    {
+        if self.find(&file.digest()).is_some() {
+            return Ok(());
+        }
+        self.keep(Arc::new(self.alloc, file)?)
     }
 
     /// Adds a file that was uploaded elsewhere, which is then shared. A digest that is known keeps its file, and

@@ -6,6 +6,7 @@ use Rattle.site_state.specs.Listings.{Listed}
 use Rattle.site_change.specs.declared.commands.Command.{Command}
 use Rattle.site_change.specs.declared.commands.Command.TheVariants as command_of
 use Rattle.host_api.specs.declared.refusals.Refusal.{Refusal}
+use Rattle.host_names.specs.declared.refusals.ChangeRefusal.{ChangeRefusal}
 use Rattle.host_api.specs.declared.texts.Told.{Told}
 use Rattle.host_server.specs.Hosts.{Host}
 use Rattle.host_server.specs.Outcomes.{Outcome, AreRequired, Does, DoesCommit, commit_outcome, enter_outcome}
@@ -14,28 +15,14 @@ use Rattle.host_server.specs.Reasons.{commit_refusal}
 abbrev pub IsNoOpening : Command → Type 0
 IsNoOpening command = (site : SiteName) (files : Listed) (auto : Bool) → command ≡ command_of.Open site files auto → ⊥
 
-none_required : (uploads : Contents) (command : Command) (refusal : Option Refusal) → IsNoOpening command → AreRequired uploads command refusal []
+none_required : (uploads : Contents) (command : Command) (refusal : Option ChangeRefusal) → IsNoOpening command → AreRequired uploads command refusal []
 none_required uploads (command_of.Open site files auto) refusal other = absurd (other site files auto refl)
-none_required uploads (command_of.Publish site m) refusal other = refl
-none_required uploads (command_of.Cancel site m) refusal other = refl
-none_required uploads (command_of.Remove site path) refusal other = refl
-none_required uploads (command_of.Rename site source target) refusal other = refl
-none_required uploads (command_of.MoveAlias site name m) refusal other = refl
-none_required uploads (command_of.RemoveAlias site name) refusal other = refl
-none_required uploads (command_of.Restore site m) refusal other = refl
-none_required uploads (command_of.RemoveDeploy site m) refusal other = refl
+none_required uploads command refusal other = refl
 
-same_outcome : (host : Host) (command : Command) (refusal : Option Refusal) → IsNoOpening command → commit_outcome host command [] refusal ≡ enter_outcome host command refusal
+same_outcome : (host : Host) (command : Command) (refusal : Option ChangeRefusal) → IsNoOpening command → commit_outcome host command [] refusal ≡ enter_outcome host command refusal
 same_outcome host command (Some reason) other = refl
 same_outcome host (command_of.Open site files auto) None other = absurd (other site files auto refl)
-same_outcome host (command_of.Publish site m) None other = refl
-same_outcome host (command_of.Cancel site m) None other = refl
-same_outcome host (command_of.Remove site path) None other = refl
-same_outcome host (command_of.Rename site source target) None other = refl
-same_outcome host (command_of.MoveAlias site name m) None other = refl
-same_outcome host (command_of.RemoveAlias site name) None other = refl
-same_outcome host (command_of.Restore site m) None other = refl
-same_outcome host (command_of.RemoveDeploy site m) None other = refl
+same_outcome host command None other = refl
 
 pub enter_done : (result : Result Told Refusal) (next host : Host) (command : Command) → IsNoOpening command
     → Does result next (enter_outcome host command (commit_refusal host command)) → DoesCommit result next host command

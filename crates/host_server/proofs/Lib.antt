@@ -1,3 +1,4 @@
+pub mod FieldTexts
 pub mod Telling
 mod Memory
 pub mod Kept

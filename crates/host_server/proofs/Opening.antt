@@ -8,6 +8,8 @@ use Rattle.site_state.specs.Missing.{AreMissing}
 use Rattle.site_change.specs.declared.commands.Command.TheVariants.{Open}
 use Rattle.change_undo.specs.declared.entries.Entry.TheVariants.{Change}
 use Rattle.host_api.specs.declared.refusals.Refusal.{Refusal}
+use Rattle.host_api.specs.declared.refusals.Refusal.TheVariants as refusal
+use Rattle.host_names.specs.declared.refusals.ChangeRefusal.{ChangeRefusal}
 use Rattle.host_api.specs.declared.texts.Told.{Told}
 use Rattle.host_api.specs.declared.texts.Told.TheVariants.{Opened}
 use Rattle.host_server.specs.Hosts.{Host, next_number, with_entry}
@@ -48,8 +50,8 @@ open_done old after next lent owner site files auto id required entry same lacki
     )
 
 -- a refused opening does nothing
-pub open_refused : (host : Host) (site : SiteName) (files : Listed) (auto : _) (reason : Refusal) → commit_refusal host (Open site files auto) ≡ Some reason
-    → DoesCommit (Err reason) host host (Open site files auto)
+pub open_refused : (host : Host) (site : SiteName) (files : Listed) (auto : _) (reason : ChangeRefusal) → commit_refusal host (Open site files auto) ≡ Some reason
+    → DoesCommit (Err (refusal.Change reason)) host host (Open site files auto)
 open_refused host site files auto reason is =
     let opening = Open site files auto in
     inr (

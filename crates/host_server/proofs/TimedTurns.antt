@@ -1,8 +1,8 @@
 -- What a connection reads and writes, one call after another.
-use Rattle.std.proofs.Common.{◌≡◌, ◌<◌, inl, inr, ℕ, ◌+◌, ◌≤◌, List, [], ◌∷◌, ◌++◌, length, Bool, true, false, Option, Some, None, Result, Ok, Err, OnOk, codes, refl, sym, ap, subst, ◌∙◌, append_assoc, append-nil}
+use Rattle.std.proofs.Common.{◌≡◌, inl, inr, ℕ, List, [], ◌∷◌, ◌++◌, length, Bool, false, Some, None, Result, Ok, Err, OnOk, codes, refl, sym, ap, subst, ◌∙◌, append_assoc, append-nil}
 use Rattle.std.specs.Prelude.{vec_len}
 use Rattle.std.specs.declared.vec.Vec.{Vec}
-use Rattle.std.specs.Io.KnownBytes.{Appends, Consumes, prepend_known}
+use Rattle.std.specs.Io.KnownBytes.{Consumes, prepend_known}
 use Rattle.std.specs.Str.{bytes_eq}
 use Rattle.http_wire.specs.declared.faults.BodyFault.{BodyFault}
 use Rattle.http_wire.specs.declared.faults.BodyFault.TheVariants as body_fault
@@ -17,7 +17,7 @@ use Rattle.http_wire.specs.Wires.{AwaitsHead, AwaitsBody, ServesHead, ReadsHead,
 use Rattle.http_wire.proofs.Trails.{got_joined, put_joined, goes_on_joined, latest_joined, steps_joined, timely_joined, timely_wide, nothing_got}
 use Rattle.host_server.specs.Hosts.{Host}
 use Rattle.host_server.specs.Serving.{Stream, limit_of, TakesRequest, HeadStops, BodyStops, Stops, Sends, Refuses, Exchanges, Turns}
-use Rattle.host_server.specs.Timing.{AwaitsRequest, AwaitsAnnounced, ReadEnds, ReadsAs, SendsAs, IsSilent, RefusesAs, ExchangesAs, IsFollowed, TurnsAs}
+use Rattle.host_server.specs.Timing.{AwaitsRequest, AwaitsAnnounced, ReadEnds, ReadsAs, SendsAs, RefusesAs, ExchangesAs, IsFollowed, TurnsAs}
 use Rattle.host_server.specs.Replies.{closes}
 use Rattle.host_server.specs.declared.answers.Request.{Request}
 use Rattle.host_server.specs.declared.connections.ConnectionFault.{ConnectionFault}

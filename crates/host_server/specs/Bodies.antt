@@ -2,8 +2,8 @@
 use Rattle.std.specs.Prelude.{ℕ, List, option_map}
 use Rattle.std.specs.String.{string_bytes}
 use Rattle.hex.specs.Hex.{encode_lower}
-use Rattle.host_server.specs.declared.replies.Body.{Body}
-use Rattle.host_server.specs.declared.replies.Body.TheVariants as body
+use Rattle.host_server.specs.declared.bodies.Body.{Body}
+use Rattle.host_server.specs.declared.bodies.Body.TheVariants as body
 use Rattle.host_server.specs.declared.replies.Reply.{Reply}
 use Rattle.host_server.specs.Replies.{Answer}
 
@@ -18,9 +18,9 @@ bytes_of (body.Part part) = part
 abbrev pub answer_of : Reply → Answer
 answer_of r = record {
   status = r.status;
-  content_type = r.content_type.now;
+  content_type = r.content_type.text.now;
   etag = option_map (λ d. encode_lower d.0) r.etag;
   content_range = r.content_range;
-  allow = option_map (λ t. t.now) r.allow;
+  allow = option_map (λ t. t.text.now) r.allow;
   body = bytes_of r.body;
 }

@@ -1,31 +1,32 @@
--- Where memory may run out, and what a host has by then. Nothing else is answered by `OutOfMemory`.
+-- Where memory may run out, and what a host has by then.
 use Rattle.std.specs.Prelude.{◌≡◌, ◌⊎◌, ℕ, List, Bool, true, false, ◌&&◌, ◌||◌, Option, Some, None, Result, Ok, Err, is_none, IsTrue}
 use Rattle.std.specs.FinMap as map
 use Rattle.host_names.specs.Blobs.{digest_of}
 use Rattle.host_names.specs.declared.digests.Digest.{Digest}
 use Rattle.host_names.specs.declared.names.SiteName.{SiteName}
+use Rattle.host_names.specs.declared.refusals.ChangeRefusal.{ChangeRefusal}
+use Rattle.host_names.specs.declared.refusals.ChangeRefusal.TheVariants.{NoSuchDeploy}
 use Rattle.site_change.specs.declared.commands.Command.{Command}
 use Rattle.site_change.specs.declared.commands.Command.TheVariants.{Open, Publish}
 use Rattle.change_undo.specs.declared.entries.Entry.TheVariants.{Change}
-use Rattle.change_undo.specs.Histories.{entry_at}
+use Rattle.change_undo.specs.Histories.{entry_at, may_take_memory}
 use Rattle.http_wire.specs.Requests.{RequestParts}
 use Rattle.host_api.specs.Bodies.{is_parsed}
 use Rattle.host_api.specs.Routes.{routed, has_path}
 use Rattle.host_api.specs.Texts.{has_cell}
 use Rattle.host_api.specs.declared.refusals.Refusal.{Refusal}
-use Rattle.host_api.specs.declared.refusals.Refusal.TheVariants.{NoSuchDeploy}
 use Rattle.host_api.specs.declared.routes.Route.{Route}
 use Rattle.host_api.specs.declared.texts.Told.{Told}
 use Rattle.host_api.specs.declared.texts.Told.TheVariants.{Refused}
 use Rattle.host_server.specs.Hosts.{Host, next_number, with_entry, with_upload}
 use Rattle.host_server.specs.Outcomes.{Outcome, is_ready, judge_upload, site_of_deploy}
-use Rattle.host_server.specs.Reasons.{commit_refusal, undo_refusal, may_take_memory}
+use Rattle.host_server.specs.Reasons.{commit_refusal, undo_refusal}
 
--- whether a deploy is published: it is ready, and its publishing is not refused
+-- whether a deploy would be published now: it is ready, and its publishing would not be refused
 abbrev pub is_published : Host → SiteName → ℕ → Bool
 is_published host site n = is_ready host site n && is_none (commit_refusal host (Publish site n))
 
--- whether the command opens a deploy that is then published
+-- whether the command opens a deploy that would then be published
 abbrev pub opens_published : Host → Command → Bool
 opens_published host (Open site files auto) = is_published (with_entry host (Change (Open site files auto))) site (next_number host)
 opens_published host command = false
@@ -38,12 +39,12 @@ CommandRunsOut host command next =
     × ((next ≡ host) ⊎ ((next ≡ with_entry host (Change command)) × IsTrue (opens_published host command)))
 
 -- the first reason against a command on the deploy of this site, or of none
-abbrev pub refusal_on : Host → (SiteName → Command) → Option SiteName → Option Refusal
+abbrev pub refusal_on : Host → (SiteName → Command) → Option SiteName → Option ChangeRefusal
 refusal_on host command None = Some NoSuchDeploy
 refusal_on host command (Some site) = commit_refusal host (command site)
 
 -- the first reason against a command on the deploy of a number
-abbrev pub deploy_refusal : Host → ℕ → (SiteName → Command) → Option Refusal
+abbrev pub deploy_refusal : Host → ℕ → (SiteName → Command) → Option ChangeRefusal
 deploy_refusal host n command = refusal_on host command (site_of_deploy (entry_at host.entries n))
 
 -- What a host has where an upload runs out of memory, whose bytes are accepted: what was there, where no file of their

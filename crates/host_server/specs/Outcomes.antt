@@ -4,6 +4,8 @@ use Rattle.std.specs.Option.{option_flatten}
 use Rattle.host_names.specs.Blobs.{Contents, digest_of}
 use Rattle.host_names.specs.declared.digests.Digest.{Digest}
 use Rattle.host_names.specs.declared.names.SiteName.{SiteName}
+use Rattle.host_names.specs.declared.refusals.ChangeRefusal.{ChangeRefusal}
+use Rattle.host_names.specs.declared.refusals.ChangeRefusal.TheVariants.{NoSuchDeploy}
 use Rattle.site_state.specs.Files.{Paths, at_path}
 use Rattle.site_state.specs.Missing.{AreMissing, least_missing_of}
 use Rattle.site_state.specs.States.{draft_at, kept_at}
@@ -15,7 +17,7 @@ use Rattle.change_undo.specs.declared.entries.Entry.{Entry}
 use Rattle.change_undo.specs.declared.entries.Entry.TheVariants.{Change, Undo}
 use Rattle.change_undo.specs.Histories.{entry_at}
 use Rattle.host_api.specs.declared.refusals.Refusal.{Refusal}
-use Rattle.host_api.specs.declared.refusals.Refusal.TheVariants.{NoSuchDeploy, NotListed, WrongDigest, OutOfMemory}
+use Rattle.host_api.specs.declared.refusals.Refusal.TheVariants as reason
 use Rattle.host_api.specs.declared.texts.Told.{Told}
 use Rattle.host_api.specs.declared.texts.Told.TheVariants.{Opened, Uploaded, Entered, Refused}
 use Rattle.host_server.specs.Hosts.{Host, state_of, next_number, with_entry, with_upload}
@@ -28,7 +30,7 @@ pub record Outcome : Type 0 where
 
 -- the reason is told, and the host stays as it is
 abbrev pub refused : Host → Refusal → Outcome
-refused host reason = record { told = Refused reason; host = host }
+refused host why = record { told = Refused why; host = host }
 
 -- ---- deploys that publish themselves
 
@@ -47,8 +49,8 @@ pub record Publishing : Type 0 where
   pub host : Host
 
 -- the publishing by this command, where this is the first reason against it
-abbrev pub publishing : Host → Command → Option Refusal → Publishing
-publishing host command (Some reason) = record { entry = Err reason; host = host }
+abbrev pub publishing : Host → Command → Option ChangeRefusal → Publishing
+publishing host command (Some why) = record { entry = Err (reason.Change why); host = host }
 publishing host command None = record { entry = Ok (Some (next_number host)); host = with_entry host (Change command) }
 
 -- what comes of the deploy of a number: its publishing where it is ready, else nothing
@@ -61,11 +63,11 @@ published_if_ready host site n =
 -- what is told of the entry that published, or of the reason against it
 abbrev pub told_of : Result (Option ℕ) Refusal → (Option ℕ → Told) → Told
 told_of (Ok published) tell = tell published
-told_of (Err reason) tell = Refused reason
+told_of (Err why) tell = Refused why
 
 -- the entry and what the host has are those, unless there was no memory
 abbrev pub Publishes : Result (Option ℕ) Refusal → Host → Publishing → Type 0
-Publishes entry host p = (entry ≡ Err OutOfMemory) ⊎ ((entry ≡ p.entry) × (host ≡ p.host))
+Publishes entry host p = (entry ≡ Err reason.OutOfMemory) ⊎ ((entry ≡ p.entry) × (host ≡ p.host))
 
 -- what is told of what was done, or of the refusal to publish it, which leaves it done
 abbrev pub then_published : Publishing → (Option ℕ → Told) → Outcome
@@ -74,7 +76,7 @@ then_published p tell = record { told = told_of p.entry tell; host = p.host }
 -- ---- commands
 
 -- what a deploy lists and is not uploaded, where a command that is not refused opens it; else nothing
-abbrev pub AreRequired : Contents → Command → Option Refusal → List Digest → Type 0
+abbrev pub AreRequired : Contents → Command → Option ChangeRefusal → List Digest → Type 0
 AreRequired uploads (Open site files auto) None required = AreMissing uploads files.1 required
 AreRequired uploads command refusal required = required ≡ []
 
@@ -83,8 +85,8 @@ abbrev pub entering : Host → Command → Outcome
 entering host command = record { told = Entered (next_number host); host = with_entry host (Change command) }
 
 -- what comes of a command that opens nothing, where this is the first reason against it
-abbrev pub enter_outcome : Host → Command → Option Refusal → Outcome
-enter_outcome host command (Some reason) = refused host reason
+abbrev pub enter_outcome : Host → Command → Option ChangeRefusal → Outcome
+enter_outcome host command (Some why) = refused host (reason.Change why)
 enter_outcome host command None = entering host command
 
 -- what comes of a command that is not refused: an opening also publishes what it leaves ready
@@ -95,8 +97,8 @@ committed host (Open site files auto) required =
 committed host command required = entering host command
 
 -- what comes of a command, where this is the first reason against it
-abbrev pub commit_outcome : Host → Command → List Digest → Option Refusal → Outcome
-commit_outcome host command required (Some reason) = refused host reason
+abbrev pub commit_outcome : Host → Command → List Digest → Option ChangeRefusal → Outcome
+commit_outcome host command required (Some why) = refused host (reason.Change why)
 commit_outcome host command required None = committed host command required
 
 -- ---- commands on a deploy whose site the request does not name
@@ -108,7 +110,7 @@ site_of_deploy entry = None
 
 -- what comes of a command on the deploy of this site
 abbrev pub outcome_on : Host → (SiteName → Command) → Option SiteName → Outcome
-outcome_on host command None = refused host NoSuchDeploy
+outcome_on host command None = refused host (reason.Change NoSuchDeploy)
 outcome_on host command (Some site) = enter_outcome host (command site) (commit_refusal host (command site))
 
 -- what comes of a command on the deploy of a number, which an entry opened
@@ -118,8 +120,8 @@ deploy_outcome host n command = outcome_on host command (site_of_deploy (entry_a
 -- ---- undos
 
 -- what comes of the undo of a change, where this is the first reason against it
-abbrev pub undone : Host → SiteName → ℕ → Option Refusal → Outcome
-undone host site k (Some reason) = refused host reason
+abbrev pub undone : Host → SiteName → ℕ → Option ChangeRefusal → Outcome
+undone host site k (Some why) = refused host (reason.Change why)
 undone host site k None = record { told = Entered (next_number host); host = with_entry host (Undo site k) }
 
 -- ---- uploads
@@ -132,18 +134,18 @@ listed_at None None path = None
 
 -- the digest that is listed, where it is that of the bytes, or the first reason against them
 abbrev pub judge_listed : Option (Option Digest) → List ℕ → Result Digest Refusal
-judge_listed None bytes = Err NoSuchDeploy
-judge_listed (Some None) bytes = Err NotListed
-judge_listed (Some (Some digest)) bytes = if digest_eq digest (digest_of bytes) then Ok digest else Err WrongDigest
+judge_listed None bytes = Err (reason.Change NoSuchDeploy)
+judge_listed (Some None) bytes = Err reason.NotListed
+judge_listed (Some (Some digest)) bytes = if digest_eq digest (digest_of bytes) then Ok digest else Err reason.WrongDigest
 
 -- the site too, where there is no reason against the bytes
 abbrev pub with_site : SiteName → Result Digest Refusal → Result (SiteName × Digest) Refusal
 with_site site (Ok digest) = Ok (site, digest)
-with_site site (Err reason) = Err reason
+with_site site (Err why) = Err why
 
 -- the same at a path of the deploy of this site
 abbrev pub judge_at : Host → Option SiteName → ℕ → List ℕ → List ℕ → Result (SiteName × Digest) Refusal
-judge_at host None n path bytes = Err NoSuchDeploy
+judge_at host None n path bytes = Err (reason.Change NoSuchDeploy)
 judge_at host (Some site) n path bytes =
     with_site site (judge_listed (listed_at (draft_at (state_of host) site n) (kept_at (state_of host) site n) path) bytes)
 
@@ -155,7 +157,7 @@ judge_upload host n path bytes = judge_at host (site_of_deploy (entry_at host.en
 abbrev pub uploaded : Host → ℕ → List ℕ → Result (SiteName × Digest) Refusal → Outcome
 uploaded host n bytes (Ok at) =
     then_published (published_if_ready (with_upload host bytes) at.0 n) (λ published. Uploaded published at.1)
-uploaded host n bytes (Err reason) = refused host reason
+uploaded host n bytes (Err why) = refused host why
 
 -- what comes of an upload of these bytes to a path of the deploy of a number
 abbrev pub upload_outcome : Host → ℕ → List ℕ → List ℕ → Outcome
@@ -164,35 +166,35 @@ upload_outcome host n path bytes = uploaded host n bytes (judge_upload host n pa
 -- ---- what is done first
 
 -- the entry of the command alone, without that which publishes what it opened
-abbrev pub entered : Host → Command → Option Refusal → Host
-entered host command (Some reason) = host
+abbrev pub entered : Host → Command → Option ChangeRefusal → Host
+entered host command (Some why) = host
 entered host command None = with_entry host (Change command)
 
 -- the bytes alone, without that entry
 abbrev pub kept : Host → List ℕ → Result (SiteName × Digest) Refusal → Host
 kept host bytes (Ok at) = with_upload host bytes
-kept host bytes (Err reason) = host
+kept host bytes (Err why) = host
 
 -- ---- answers of calls
 
 -- whether a refusal is told
 abbrev pub is_refusal : Told → Bool
-is_refusal (Refused reason) = true
+is_refusal (Refused why) = true
 is_refusal told = false
 
 -- what is told where a call answers so
 abbrev pub told_by : Result Told Refusal → Told
 told_by (Ok told) = told
-told_by (Err reason) = Refused reason
+told_by (Err why) = Refused why
 
 -- the call did that, unless there was no memory
 abbrev pub Does : Result Told Refusal → Host → Outcome → Type 0
-Does result host out = (result ≡ Err OutOfMemory) ⊎ ((told_by result ≡ out.told) × (host ≡ out.host))
+Does result host out = (result ≡ Err reason.OutOfMemory) ⊎ ((told_by result ≡ out.told) × (host ≡ out.host))
 
 -- the same of a command
 abbrev pub DoesCommit : Result Told Refusal → Host → Host → Command → Type 0
 DoesCommit result next host command =
-    (result ≡ Err OutOfMemory)
+    (result ≡ Err reason.OutOfMemory)
     ⊎ ((required : List Digest) × AreRequired host.uploads command (commit_refusal host command) required
     × (told_by result ≡ (commit_outcome host command required (commit_refusal host command)).told)
     × (next ≡ (commit_outcome host command required (commit_refusal host command)).host))

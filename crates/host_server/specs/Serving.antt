@@ -6,6 +6,7 @@ use Rattle.std.specs.Str.{bytes_eq}
 use Rattle.http_wire.specs.Fields.{AnnouncesBody}
 use Rattle.http_wire.specs.HeadText.{IsHeadText, CutShort, head_limit}
 use Rattle.http_wire.specs.Requests.{RequestParts, Says}
+use Rattle.http_wire.specs.Sending.{AppendsFront}
 use Rattle.http_wire.specs.Wires.{HasWholeHead, TakesHead, RefusesHead}
 use Rattle.host_api.specs.Limits.{body_limit}
 use Rattle.host_api.specs.declared.refusals.Refusal.TheVariants.{BadHead, OutOfMemory}
@@ -22,6 +23,7 @@ use Rattle.host_server.specs.Replies.{Answer, IsAnswer, closes, refused_answer, 
 abbrev pub Stream : Type 0
 Stream = Option (List ℕ)
 
+-- how many bytes the body of a request has at most, by its method and its target
 abbrev pub limit_of : RequestParts → ℕ
 limit_of parts = body_limit parts.method parts.target
 
@@ -91,6 +93,7 @@ IsExchange host is_last old sent next new = IsAnswered host is_last false old se
 
 -- ---- where the stream ends before the next whole request
 
+-- the stream ends before the body that its head announces is whole
 pub record IsBodyCut (old : Stream) : Type 0 where
   pub parts : RequestParts
   pub text : List ℕ
@@ -101,6 +104,7 @@ pub record IsBodyCut (old : Stream) : Type 0 where
   pub announced : AnnouncesBody parts.fields (limit_of parts) size
   pub short : IfSome new (λ left. length left < size)
 
+-- the stream ends before the next whole request: in its head, or in its body
 abbrev pub IsCut : Stream → Type 0
 IsCut old = IfSome old CutShort ⊎ IsBodyCut old
 
@@ -173,15 +177,11 @@ Stops read_fails old (stop.OutOfMemory head_only) = IsNotRead old (sent_text tru
 
 -- ---- what is sent of a text
 
--- a front of the text is sent, and some of it is not
-abbrev pub SendsFront : List ℕ → Stream → Stream → Type 0
-SendsFront text held new_held = (sent : List ℕ) × (rest : List ℕ) × (0 < length rest) × (text ≡ sent ++ rest) × Appends held new_held sent
-
 -- the text is sent, unless a write fails
 abbrev pub Sends : (write_fails : Type 0) → Result (Unit {0}) ConnectionFault → List ℕ → Stream → Stream → Type 0
 Sends write_fails (Ok done) text held new_held = Appends held new_held text
 Sends write_fails (Err fault.InputFault) text held new_held = ⊥
-Sends write_fails (Err fault.OutputFault) text held new_held = write_fails × SendsFront text held new_held
+Sends write_fails (Err fault.OutputFault) text held new_held = write_fails × AppendsFront text held new_held
 Sends write_fails (Err fault.OutOfMemory) text held new_held = ⊥
 
 -- what is sent where no request is read

@@ -4,6 +4,7 @@ use Rattle.std.specs.List.{enumerate_from, filter_map}
 use Rattle.host_names.specs.Blobs.{Contents}
 use Rattle.host_names.specs.declared.digests.Digest.{Digest}
 use Rattle.host_names.specs.declared.names.SiteName.{SiteName}
+use Rattle.host_names.specs.declared.refusals.ChangeRefusal.TheVariants.{NoSuchDeploy}
 use Rattle.site_state.specs.Files.{Paths}
 use Rattle.site_state.specs.Missing.{AreMissing}
 use Rattle.site_state.specs.States.{draft_at, kept_at}
@@ -11,11 +12,11 @@ use Rattle.site_state.specs.declared.values.Draft.{Draft}
 use Rattle.change_undo.specs.declared.entries.Entry.{Entry}
 use Rattle.change_undo.specs.declared.entries.Entry.TheVariants as entry
 use Rattle.change_undo.specs.Histories.{entry_at, is_among, same_site, site_of_entry, undone}
-use Rattle.host_api.specs.ChangeLines.{kind_of}
+use Rattle.host_api.specs.ChangeLines.{word_of}
 use Rattle.host_api.specs.declared.change_lines.ChangeLine.{ChangeLine}
 use Rattle.host_api.specs.declared.change_lines.ChangeLine.TheVariants as line
 use Rattle.host_api.specs.declared.refusals.Refusal.{Refusal}
-use Rattle.host_api.specs.declared.refusals.Refusal.TheVariants.{NoSuchDeploy}
+use Rattle.host_api.specs.declared.refusals.Refusal.TheVariants.{Change}
 use Rattle.host_api.specs.declared.texts.DeployState.{DeployState}
 use Rattle.host_api.specs.declared.texts.DeployState.TheVariants as state
 use Rattle.host_api.specs.declared.texts.Told.{Told}
@@ -30,7 +31,7 @@ abbrev pub Stands : Contents → Option Draft → Option (Paths (List ℕ)) → 
 Stands uploads (Some draft) tree standing =
     (required : List Digest) × AreMissing uploads draft.files.1 required × (standing ≡ Ok (state.Open required))
 Stands uploads None (Some tree) standing = standing ≡ Ok state.Kept
-Stands uploads None None standing = standing ≡ Err NoSuchDeploy
+Stands uploads None None standing = standing ≡ Err (Change NoSuchDeploy)
 
 -- the state of the deploy of a number, in the site
 abbrev pub StandsIn : Host → SiteName → ℕ → Result DeployState Refusal → Type 0
@@ -43,7 +44,7 @@ shown n site (Err reason) = Refused reason
 
 -- what is told of the deploy of a number whose site is this, or which has none
 abbrev pub ShowsOn : Host → ℕ → Option SiteName → Told → Type 0
-ShowsOn host n None told = told ≡ Refused NoSuchDeploy
+ShowsOn host n None told = told ≡ Refused (Change NoSuchDeploy)
 ShowsOn host n (Some site) told = (standing : Result DeployState Refusal) × StandsIn host site n standing × (told ≡ shown n site standing)
 
 -- what is told of the deploy of a number
@@ -63,7 +64,7 @@ is_open host n = is_open_in host n (site_of_deploy (entry_at host.entries n))
 
 -- the line of an entry, where the changes of these numbers were undone
 abbrev pub line_of : List ℕ → ℕ → Entry → ChangeLine
-line_of gone n (entry.Change command) = line.Change n (kind_of command) (not (is_among gone n))
+line_of gone n (entry.Change command) = line.Change n (word_of command) (not (is_among gone n))
 line_of gone n (entry.Undo site k) = line.Undo n k
 
 -- the same, if the entry is of the site

@@ -1,5 +1,5 @@
 -- When a connection reads and writes.
-use Rattle.std.specs.Prelude.{◌≡◌, ℕ, List, [], ◌++◌, Option, Some, Bool, Result, Ok, Err, OnOk, MatchResult}
+use Rattle.std.specs.Prelude.{◌≡◌, ℕ, List, [], ◌++◌, Some, Bool, Result, Ok, Err, OnOk, MatchResult}
 use Rattle.std.specs.Io.KnownBytes.{prepend_known}
 use Rattle.std.specs.List.{concat}
 use Rattle.http_wire.specs.Fields.{AnnouncesBody}
@@ -69,10 +69,12 @@ IsSilent stop.ReadFault events = events ≡ []
 IsSilent (stop.BadHead head_only) events = Unit {0}
 IsSilent (stop.OutOfMemory head_only) events = Unit {0}
 
+-- what is sent where no request is read, and that it is nothing where the stream ended or failed
 pub record RefusesAs (result : Result (Unit {0}) ConnectionFault) (why : Stop) (events : List Event) : Type 0 where
   pub refuses : Refuses (IsLatest WriteFails events) result why (Some []) (Some (all_put events))
   pub silent : IsSilent why events
 
+-- what the answering of a request writes, and that another event may follow where it goes well
 pub record ExchangesAs (result : Result Next ConnectionFault) (close : Bool) (host : Host) (parts : RequestParts) (body : List ℕ) (next : Host)
     (events : List Event) : Type 0 where
   pub exchanges : Exchanges (IsLatest WriteFails events) result close host parts body (Some []) (Some (all_put events)) next
@@ -84,6 +86,7 @@ IsFollowed (Ok next_is.Exchange) events = GoesOn events
 IsFollowed (Ok next_is.End) events = Unit {0}
 IsFollowed (Err fault) events = Unit {0}
 
+-- what a turn of the connection does over each stream of which its reads are the next, and how its events end
 pub record TurnsAs (result : Result Next ConnectionFault) (is_last : Bool) (host next : Host) (buffer new_buffer : List ℕ) (events : List Event)
     : Type 0 where
   pub followed : IsFollowed result events

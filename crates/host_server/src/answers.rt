@@ -141,13 +141,13 @@ fn respond(alloc: Global, head: &Head, body: Vec<u8>, house: &mut SoloHouse, ask
             version,
             path,
         } => read(alloc, house, head, &site, &version, &path),
-        Ask::Command(command) => tell(alloc, house.change(alloc, command)),
-        Ask::Undo { site, change } => tell(alloc, house.take_back(alloc, &site, change)),
+        Ask::Command(command) => tell(alloc, house.change(command)),
+        Ask::Undo { site, change } => tell(alloc, house.take_back(&site, change)),
         Ask::Changes { site } => tell(alloc, told_changes(alloc, house, &site)),
         Ask::Deploy { deploy } => tell(alloc, show_deploy(alloc, house, deploy)),
-        Ask::RemoveDeploy { deploy } => tell(alloc, house.remove_deploy(alloc, deploy)),
-        Ask::Cancel { deploy } => tell(alloc, house.cancel(alloc, deploy)),
-        Ask::Upload { deploy, path } => tell(alloc, house.upload(alloc, deploy, &path, body)),
+        Ask::RemoveDeploy { deploy } => tell(alloc, house.remove_deploy(deploy)),
+        Ask::Cancel { deploy } => tell(alloc, house.cancel(deploy)),
+        Ask::Upload { deploy, path } => tell(alloc, house.upload(deploy, &path, body)),
     }
 }
 

@@ -57,11 +57,11 @@ enum Next {
 }
 
 /// Reads a head.
-fn read_head<D: Duplex>(alloc: Global, wire: &mut Wire, duplex: &mut D) -> Result<Head, Stop>
+fn read_head<D: Duplex>(wire: &mut Wire, duplex: &mut D) -> Result<Head, Stop>
     ensures { Ran D.saw (AwaitsHead wire.old) duplex.old duplex.new
         (ReadsAs result (λ parts old new. ServesHead old new parts) HeadStops wire.old wire.new) }
 {
-    match wire.read_head(alloc, duplex) {
+    match wire.read_head(duplex) {
         Ok(head) => Ok(head),
         Err(HeadFault::Ended) => Err(Stop::Ended),
         Err(HeadFault::ReadFault) => Err(Stop::ReadFault),
@@ -78,12 +78,7 @@ fn is_head_only(head: &Head) -> bool
 }
 
 /// Reads the body that a head announces.
-fn read_body<D: Duplex>(
-    alloc: Global,
-    wire: &mut Wire,
-    duplex: &mut D,
-    head: &Head,
-) -> Result<Vec<u8>, Stop>
+fn read_body<D: Duplex>(wire: &mut Wire, duplex: &mut D, head: &Head) -> Result<Vec<u8>, Stop>
     ensures { Ran D.saw (AwaitsAnnounced head.now wire.old) duplex.old duplex.new
         (ReadsAs result (λ body old new. AnnouncesBody head.now.fields (limit_of head.now) (vec_len body) × Consumes old new body.items)
         (λ read_fails old. BodyStops read_fails old head.now) wire.old wire.new) }
@@ -94,7 +89,7 @@ fn read_body<D: Duplex>(
             head_only: is_head_only(head),
         });
     };
-    match wire.read_body(alloc, duplex, size) {
+    match wire.read_body(duplex, size) {
         Ok(body) => Ok(body),
         Err(BodyFault::Ended) => Err(Stop::Ended),
         Err(BodyFault::ReadFault) => Err(Stop::ReadFault),
@@ -105,18 +100,13 @@ fn read_body<D: Duplex>(
 }
 
 /// Reads a request.
-fn read_request<D: Duplex>(
-    alloc: Global,
-    wire: &mut Wire,
-    duplex: &mut D,
-    is_last: bool,
-) -> Result<Request, Stop>
+fn read_request<D: Duplex>(wire: &mut Wire, duplex: &mut D, is_last: bool) -> Result<Request, Stop>
     ensures { Ran D.saw (AwaitsRequest wire.old) duplex.old duplex.new
         (ReadsAs result (λ request old new. TakesRequest old new request.head request.body.items × (request.is_last ≡ is_last))
         Stops wire.old wire.new) }
 {
-    let head = read_head(alloc, wire, duplex)?;
-    let body = read_body(alloc, wire, duplex, &head)?;
+    let head = read_head(wire, duplex)?;
+    let body = read_body(wire, duplex, &head)?;
     Ok(Request {
         head,
         body,
@@ -185,7 +175,7 @@ fn serve_next<D: Duplex>(
         (TurnsAs result is_last house.old house.new wire.old wire.new) }
     ensures grows { Grows house.old house.new }
 {
-    match read_request(alloc, wire, duplex, is_last) {
+    match read_request(wire, duplex, is_last) {
         Ok(request) => exchange(alloc, duplex, house, request),
         Err(stop) => {
             refuse(duplex, stop)?;

@@ -2,6 +2,7 @@
 #![tactic(auto)]
 
 mod answers;
+mod bodies;
 mod connections;
 mod host;
 mod replies;

@@ -1,5 +1,5 @@
 //! Replies, before they are written.
-ghost use Rattle.std.specs.Prelude.{◌≡◌, ◌≢◌, ◌≤◌, ◌⊎◌, All, length, true, false, Some, None, IsTrue, IfOk, IfErr, OnErr, Err, IsErrOf, MatchOption, slice_range, option_map};
+ghost use Rattle.std.specs.Prelude.{◌≡◌, ◌≢◌, ◌≤◌, ◌⊎◌, All, length, true, false, Some, None, IsTrue, IfOk, IfErr, OnErr, Err, IsErrOf, MatchOption, option_map};
 ghost use Rattle.http_wire.specs.Replies.{fields_of};
 ghost use Rattle.http_wire.specs.Sending.{WritesText};
 ghost use Rattle.http_wire.specs.Timing.{NoRead, Ran};
@@ -13,91 +13,24 @@ ghost use Rattle.host_server.specs.Memory.{takes_text};
 ghost use Rattle.host_server.specs.Replies.{told_answer, refused_answer, file_answer, part_answer, gives_bytes, fields_for, sent_text};
 ghost use Rattle.range_spec.specs.Chosen.{LiesWithin, intervals_in};
 
-use arrayvec::ArrayString;
-use host_api::{Refusal, SHORT_TEXT, Told, content_type, short_text, text};
+use crate::bodies::{Body, FilePart};
+use host_api::{Refusal, Told, content_type, short_text, text};
 use host_names::{Digest, FilePath};
 use http::StatusCode;
-use http_wire::{ContentRange, Duplex, ReplyHead, WriteFault, write_reply};
+use http_wire::{ContentRange, Duplex, FieldText, ReplyHead, WriteFault, write_reply};
 use range_spec::Choice;
 use site_state::File;
 use std::alloc::{AllocError, Global};
-use std::marker::Model;
-
-/// Some bytes of a file that others may hold too. Contracts see these bytes.
-#[derive(Drop)]
-pub struct FilePart {
-    file: File,
-    first: usize,
-    end: usize,
-}
-
-impl Model for FilePart {
-    ghost use Rattle.std.specs.Prelude.{ℕ, List, ◌≤◌, length, slice_range};
-
-    ghost Value = { List ℕ };
-
-    ghost view = { λ p. slice_range p.file p.first p.end };
-
-    ghost invariant = { λ p. (p.first ≤ p.end) × (p.end ≤ length p.file) };
-}
-
-impl FilePart {
-    /// The bytes from the first place on, up to the end, which is left out.
-    fn new(file: &File, first: usize, end: usize) -> Result<FilePart, AllocError>
-        requires rising { first ≤ end }
-        requires within { end ≤ length file.now }
-        ensures { IfOk result (λ part. part ≡ slice_range file.now first end) }
-    {
-        Ok(FilePart {
-            file: file.clone()?,
-            first,
-            end,
-        })
-    }
-
-    /// Its bytes, which are lent.
-    fn bytes(&self) -> &[u8]
-        ensures { result.now ≡ self.now }
-    {
-        &self.file.bytes()[self.first..self.end]
-    }
-}
-
-/// The body of a reply.
-#[derive(Drop)]
-pub enum Body {
-    /// A text that was made for the reply.
-    Text(String),
-    /// The text of a refusal, which takes no memory.
-    Short(ArrayString<SHORT_TEXT>),
-    /// A text that the program has.
-    Fixed(&'static str),
-    /// A part of a file.
-    Part(FilePart),
-}
-
-impl Body {
-    fn bytes(&self) -> &[u8]
-        ensures { result.now ≡ bytes_of self.now }
-    {
-        match self {
-            Body::Text(text) => text.as_bytes(),
-            Body::Short(text) => text.as_str().as_bytes(),
-            Body::Fixed(text) => text.as_bytes(),
-            Body::Part(part) => part.bytes(),
-        }
-    }
-}
 
 /// A reply, before it is written. Its length, and whether ranges are served, follow from the rest.
 #[derive(Drop)]
 pub struct Reply {
     status: StatusCode,
-    content_type: &'static str,
+    content_type: FieldText<'static>,
     /// The digest of the file, where the reply has a file or a part of one.
     etag: Option<Digest>,
     content_range: Option<ContentRange>,
-    allow: Option<&'static str>,
+    allow: Option<FieldText<'static>>,
     body: Body,
 }
 
@@ -124,11 +57,11 @@ fn range_told(told: &Told) -> Option<ContentRange>
 }
 
 /// The methods that the route has, where it hasn't that of the request.
-fn allow_told(told: &Told) -> Option<&'static str>
-    ensures { option_map (λ t. t.now) result ≡ spec.allow_told told.now }
+fn allow_told(told: &Told) -> Option<FieldText<'static>>
+    ensures { option_map (λ t. t.text.now) result ≡ spec.allow_told told.now }
 {
     match told {
-        Told::Refused(Refusal::BadMethod(kind)) => Some(kind.methods_text()),
+        Told::Refused(Refusal::BadMethod(kind)) => Some(FieldText::new(kind.methods_text())),
         _ => None,
     }
 }
@@ -162,7 +95,7 @@ impl Reply {
     {
         Reply {
             status: status_told(told),
-            content_type: "application/json",
+            content_type: FieldText::new("application/json"),
             etag: None,
             content_range: range_told(told),
             allow: allow_told(told),
@@ -209,7 +142,7 @@ impl Reply {
     {
         Reply {
             status,
-            content_type: content_type(path),
+            content_type: FieldText::new(content_type(path)),
             etag: Some(file.digest()),
             content_range: range,
             allow: None,
@@ -256,8 +189,8 @@ impl Reply {
     }
 
     /// Its head, with the text of its entity tag.
-    fn head<'a>(&'a self, etag: Option<&'a str>, close: bool) -> ReplyHead<'a>
-        requires { option_map (λ t. t.now) etag ≡ (answer_of self.now).etag }
+    fn head<'a>(&'a self, etag: Option<FieldText<'a>>, close: bool) -> ReplyHead<'a>
+        requires { option_map (λ t. t.text.now) etag ≡ (answer_of self.now).etag }
         ensures { fields_of result ≡ fields_for close (answer_of self.now) }
     {
         ReplyHead {
@@ -279,6 +212,21 @@ impl Reply {
         if head_only { &[] } else { self.body.bytes() }
     }
 
+    /// The same, with the text of its entity tag.
+    fn send_with<D: Duplex>(
+        &self,
+        duplex: &mut D,
+        etag: Option<FieldText<'_>>,
+        close: bool,
+        head_only: bool,
+    ) -> Result<(), WriteFault>
+        requires { option_map (λ t. t.text.now) etag ≡ (answer_of self.now).etag }
+        ensures { Ran D.saw NoRead duplex.old duplex.new (WritesText result (sent_text close head_only (answer_of self.now))) }
+    {
+        let head = self.head(etag, close);
+        write_reply(duplex, &head, self.sent_body(head_only))
+    }
+
     /// Writes it, without its body where only the head is wanted (RFC 9110, section 9.3.2); its head says whether the
     /// connection closes.
     pub(crate) fn send<D: Duplex>(
@@ -289,8 +237,10 @@ impl Reply {
     ) -> Result<(), WriteFault>
         ensures { Ran D.saw NoRead duplex.old duplex.new (WritesText result (sent_text close head_only (answer_of self.now))) }
     {
-        let etag = self.etag.map(|digest| digest.to_hex());
-        let head = self.head(etag.as_ref().map(|hex| hex.as_str()), close);
-        write_reply(duplex, &head, self.sent_body(head_only))
+        let Some(digest) = self.etag else {
+            return self.send_with(duplex, None, close, head_only);
+        };
+        let hex = digest.to_hex();
+        self.send_with(duplex, Some(FieldText::new(hex.as_str())), close, head_only)
     }
 }

@@ -1,17 +1,16 @@
 //! The program's run: its words are read, and one connection is served.
 
-ghost use Rattle.std.specs.Prelude.{◌≡◌, ◌⊎◌, IfErr, IfOk, map};
+ghost use Rattle.std.specs.Prelude.{◌≡◌, IfErr, IfOk, map};
 ghost use Rattle.command_line.specs.CommandLine.{AskForSolo};
-ghost use Rattle.host_server.specs.Solo.{Runs, status_of};
+ghost use Rattle.host_server.specs.Solo.{IsNotServed, IsSaid, Runs, SaysEnd, status_of};
 
 use crate::connections::{ConnectionFault, serve_connection};
 use crate::host::SoloHouse;
 use change_undo::GREATEST_LIMIT;
 use command_line::{Refusal, Wanted, read};
-use http_wire::Duplex;
+use http_wire::{Duplex, Sink, write_all};
 use std::alloc::Global;
 use std::convert::AsStr;
-use std::io::Write;
 
 /// The exit status where the connection has ended.
 const DONE: u8 = 0;
@@ -25,17 +24,18 @@ const FAILED: u8 = 2;
 const OUT_OF_MEMORY: &str = "filehost: out of memory\n";
 
 /// Says why a run fails, as far as it can be said, and gives the exit status.
-fn fail<E: Write>(errors: &mut E, status: u8, why: &str) -> u8
-    ensures { result ≡ status }
+fn fail<E: Sink>(errors: &mut E, status: u8, why: &str) -> u8
+    ensures status { result ≡ status }
+    ensures said { IsSaid E.may_fail why.now (E.held errors.old) (E.held errors.new) }
 {
-    let _ = errors.write_all(why.as_bytes());
+    let _ = write_all(errors, why.as_bytes());
     status
 }
 
 /// What the words ask for, or else the exit status; the reason is said.
-fn wanted<S: AsStr, E: Write>(alloc: Global, words: &[S], errors: &mut E) -> Result<Wanted, u8>
-    ensures asked { IfOk result (λ wanted. AskForSolo (map S.text words.now)) }
-    ensures refused { IfErr result (λ status. ((¬ (AskForSolo (map S.text words.now))) × (status ≡ 1)) ⊎ (status ≡ 2)) }
+fn wanted<S: AsStr, E: Sink>(alloc: Global, words: &[S], errors: &mut E) -> Result<Wanted, u8>
+    ensures asked { IfOk result (λ wanted. AskForSolo (map S.text words.now) × (E.held errors.new ≡ E.held errors.old)) }
+    ensures refused { IfErr result (λ status. IsNotServed E.may_fail (map S.text words.now) status (E.held errors.old) (E.held errors.new)) }
 {
     match read(alloc, words) {
         Ok(wanted) => Ok(wanted),
@@ -45,8 +45,9 @@ fn wanted<S: AsStr, E: Write>(alloc: Global, words: &[S], errors: &mut E) -> Res
 }
 
 /// The exit status where the connection ended so; a fault is said.
-fn status_after<E: Write>(errors: &mut E, ended: Result<(), ConnectionFault>) -> u8
-    ensures { result ≡ status_of ended }
+fn status_after<E: Sink>(errors: &mut E, ended: Result<(), ConnectionFault>) -> u8
+    ensures status { result ≡ status_of ended }
+    ensures said { SaysEnd E.may_fail ended (E.held errors.old) (E.held errors.new) }
 {
     match ended {
         Ok(()) => DONE,
@@ -57,14 +58,18 @@ fn status_after<E: Write>(errors: &mut E, ended: Result<(), ConnectionFault>) ->
 }
 
 /// Runs the program for the words after its name, and answers its exit status: `solo` serves one connection, over
-/// an empty host. Where the status isn't 0, `errors` is told why.
-pub fn run_solo<S: AsStr, D: Duplex, E: Write>(
+/// an empty host. Where the status isn't 0, `errors` is told why; else nothing is written there.
+///
+/// That the words ask for nothing is known where they were read. That memory ran out before that is said of any words, since
+/// no contract tells when it does.
+pub fn run_solo<S: AsStr, D: Duplex, E: Sink>(
     alloc: Global,
     words: &[S],
     duplex: &mut D,
     errors: &mut E,
 ) -> u8
-    ensures { Runs D.read_fails D.write_fails (map S.text words.now) result (D.left duplex.old) (D.held duplex.old) (D.held duplex.new) }
+    ensures { Runs D.read_fails D.write_fails E.may_fail (map S.text words.now) result
+        (D.left duplex.old) (D.held duplex.old) (D.held duplex.new) (E.held errors.old) (E.held errors.new) }
 {
     match wanted(alloc, words, errors) {
         Ok(Wanted::Solo) => {

@@ -2,6 +2,8 @@ pub mod FieldLists
 pub mod HeadEnds
 pub mod Numerals
 pub mod Parsing
+pub mod Phrases
+pub mod HeadLines
 pub mod ReplyPieces
 pub mod RequestLines
 pub mod Searches

@@ -1,10 +1,12 @@
 -- The pieces of a reply's head are its text.
-use Rattle.std.proofs.Common.{◌≡◌, ℕ, Bool, true, false, List, [], ◌++◌, Option, Some, None, Bor, refl, ap, ◌∙◌, append_assoc}
-use Rattle.std.specs.Prelude.{unwrap_or, codes}
+use Rattle.std.proofs.Common.{◌≡◌, ℕ, Bool, true, false, List, [], ◌++◌, Option, Some, None, Bor, refl, ap, ap₂, ◌∙◌, append_assoc, append-nil}
+use Rattle.std.specs.Prelude.{unwrap_or, codes, decimal}
+use Rattle.std.specs.List.{flat_map}
+use Rattle.std.proofs.lemmas.List.Concat.{flat_map-append}
 use Rattle.std.specs.Option.{option_map}
 use Rattle.std.specs.Bool.{then_some}
 use Rattle.http.specs.StatusCode.{code_digits, reason_phrase}
-use Rattle.http_wire.specs.Replies.{crlf, status_line}
+use Rattle.http_wire.specs.Replies.{HeadFields, crlf, ended_line, field_line, head_text, line_of, range_text, status_line}
 
 -- the phrase, or nothing
 pub phrase_is : (shown : Option (Bor (List ℕ))) (other : Bor (List ℕ)) (phrase : Option (List ℕ))
@@ -18,9 +20,44 @@ shown_where true text = refl
 shown_where false text = refl
 
 pub status_is : (status : ℕ) (code phrase : List ℕ) → code ≡ code_digits status → phrase ≡ unwrap_or (reason_phrase status) []
-    → codes "HTTP/1.1 " ++ (code ++ (codes " " ++ (phrase ++ crlf))) ≡ status_line status
+    → codes "HTTP/1.1 " ++ (code ++ (codes " " ++ (phrase ++ crlf))) ≡ ended_line (status_line status)
 unfolding status_line
-status_is status code phrase e f = rw (e, f) refl
+status_is status code phrase e f = rw (e, f) (simp append_assoc)
+
+-- a line with its end, where it is there
+line_is : (before : List ℕ) (value : Option (List ℕ)) (behind : List ℕ) → flat_map ended_line (field_line before value behind) ≡ line_of before value (behind ++ crlf)
+line_is before None behind = refl
+line_is before (Some value) behind = append-nil _ ∙ append_assoc before (value ++ behind) crlf ∙ ap (λ u. before ++ u) (append_assoc value behind crlf)
+
+-- a line, and the text after it
+line_then : (before : List ℕ) (value : Option (List ℕ)) (behind : List ℕ) (lines : List (List ℕ)) (rest : List ℕ) → flat_map ended_line lines ++ crlf ≡ rest
+    → flat_map ended_line (field_line before value behind ++ lines) ++ crlf ≡ line_of before value (behind ++ crlf) ++ rest
+line_then before value behind lines rest e =
+    ap (λ u. u ++ crlf) (flat_map-append ended_line (field_line before value behind) lines)
+    ∙ append_assoc (flat_map ended_line (field_line before value behind)) (flat_map ended_line lines) crlf
+    ∙ ap₂ (λ u v. u ++ v) (line_is before value behind) e
+
+-- the lines of a head, one after another
+pub head_is : (h : HeadFields) → head_text h
+    ≡ ended_line (status_line h.status)
+    ++ (line_of (codes "Content-Type: ") h.content_type crlf
+    ++ (line_of (codes "Content-Length: ") (option_map decimal h.content_length) crlf
+    ++ (line_of (codes "ETag: \"") h.etag (codes "\"" ++ crlf)
+    ++ (line_of (codes "Accept-Ranges: ") (then_some h.accept_ranges (codes "bytes")) crlf
+    ++ (line_of (codes "Content-Range: ") (option_map range_text h.content_range) crlf
+    ++ (line_of (codes "Allow: ") h.allow crlf
+    ++ (line_of (codes "Connection: ") (then_some h.close (codes "close")) crlf
+    ++ crlf)))))))
+head_is h =
+    append_assoc (ended_line (status_line h.status)) _ crlf
+    ∙ ap (λ u. ended_line (status_line h.status) ++ u)
+    (line_then (codes "Content-Type: ") h.content_type [] _ _
+    (line_then (codes "Content-Length: ") (option_map decimal h.content_length) [] _ _
+    (line_then (codes "ETag: \"") h.etag (codes "\"") _ _
+    (line_then (codes "Accept-Ranges: ") (then_some h.accept_ranges (codes "bytes")) [] _ _
+    (line_then (codes "Content-Range: ") (option_map range_text h.content_range) [] _ _
+    (line_then (codes "Allow: ") h.allow [] _ _
+    (ap (λ u. u ++ crlf) (line_is (codes "Connection: ") (then_some h.close (codes "close")) []))))))))
 
 -- lines put one behind another
 pub lines_joined : (s a b c d e f g end x0 x1 x2 x3 x4 x5 x6 x7 x8 : List ℕ) → x0 ≡ s → x1 ≡ x0 ++ a → x2 ≡ x1 ++ b → x3 ≡ x2 ++ c

@@ -5,5 +5,6 @@ pub mod Requests
 pub mod Fields
 pub mod Wires
 pub mod Sending
+pub mod FieldTexts
 pub mod Replies
 pub mod Connections

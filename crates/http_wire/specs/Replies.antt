@@ -1,5 +1,6 @@
 -- The head of a reply, and the whole reply, as they are written (RFC 9112, section 4; RFC 9110, section 8 and 14.4).
-use Rattle.std.specs.Prelude.{ℕ, Bool, List, [], ◌∷◌, ◌++◌, Option, Some, None, codes, decimal, unwrap_or}
+use Rattle.std.specs.Prelude.{◌≡◌, ℕ, ◌<◌, ◌==◌, ◌&&◌, not, Bool, true, List, [], ◌∷◌, ◌++◌, length, All, Option, Some, None, codes, decimal, unwrap_or}
+use Rattle.std.specs.List.{flat_map, list_all}
 use Rattle.std.specs.Option.{option_map}
 use Rattle.std.specs.Bool.{then_some}
 use Rattle.http.specs.StatusCode.{code_digits, reason_phrase}
@@ -7,17 +8,18 @@ use Rattle.http_wire.specs.declared.replies.ContentRange.{ContentRange}
 use Rattle.http_wire.specs.declared.replies.ContentRange.TheVariants.{Of, Unsatisfied}
 use Rattle.http_wire.specs.declared.replies.ReplyHead.{ReplyHead}
 
+-- the end of a line
 abbrev pub crlf : List ℕ
 crlf = 13 ∷ 10 ∷ []
 
 -- the version, the code and its phrase
 unfoldable pub status_line : ℕ → List ℕ
-status_line code = codes "HTTP/1.1 " ++ (code_digits code ++ (codes " " ++ (unwrap_or (reason_phrase code) [] ++ crlf)))
+status_line code = codes "HTTP/1.1 " ++ (code_digits code ++ (codes " " ++ unwrap_or (reason_phrase code) []))
 
--- a field line, where its value is there: what comes before the value, the value, and what comes after it
-abbrev pub line_of : List ℕ → Option (List ℕ) → List ℕ → List ℕ
-line_of before None behind = []
-line_of before (Some value) behind = before ++ (value ++ behind)
+-- the line of a field, where its value is there: what comes before the value, the value, and what comes after it
+abbrev pub field_line : List ℕ → Option (List ℕ) → List ℕ → List (List ℕ)
+field_line before None behind = []
+field_line before (Some value) behind = (before ++ (value ++ behind)) ∷ []
 
 -- a range of so many bytes, or their number alone
 abbrev pub range_text : ContentRange → List ℕ
@@ -36,31 +38,60 @@ pub record HeadFields : Type 0 where
   pub allow : Option (List ℕ)
   pub close : Bool
 
+-- the same of a head of the code
 abbrev pub fields_of : ReplyHead → HeadFields
 fields_of h = record {
   status = h.status;
-  content_type = option_map (λ t. t.now) h.content_type;
+  content_type = option_map (λ t. t.text.now) h.content_type;
   content_length = h.content_length;
-  etag = option_map (λ t. t.now) h.etag;
+  etag = option_map (λ t. t.text.now) h.etag;
   accept_ranges = h.accept_ranges;
   content_range = h.content_range;
-  allow = option_map (λ t. t.now) h.allow;
+  allow = option_map (λ t. t.text.now) h.allow;
   close = h.close;
 }
 
--- the status line, the fields in this order, and the empty line
-abbrev pub head_text : HeadFields → List ℕ
-head_text h =
+-- the status line, and those of the fields that are there, in this order
+abbrev pub head_lines : HeadFields → List (List ℕ)
+head_lines h =
     status_line h.status
-    ++ (line_of (codes "Content-Type: ") h.content_type crlf
-    ++ (line_of (codes "Content-Length: ") (option_map decimal h.content_length) crlf
-    ++ (line_of (codes "ETag: \"") h.etag (codes "\"" ++ crlf)
-    ++ (line_of (codes "Accept-Ranges: ") (then_some h.accept_ranges (codes "bytes")) crlf
-    ++ (line_of (codes "Content-Range: ") (option_map range_text h.content_range) crlf
-    ++ (line_of (codes "Allow: ") h.allow crlf
-    ++ (line_of (codes "Connection: ") (then_some h.close (codes "close")) crlf
-    ++ crlf)))))))
+    ∷ (field_line (codes "Content-Type: ") h.content_type []
+    ++ (field_line (codes "Content-Length: ") (option_map decimal h.content_length) []
+    ++ (field_line (codes "ETag: \"") h.etag (codes "\"")
+    ++ (field_line (codes "Accept-Ranges: ") (then_some h.accept_ranges (codes "bytes")) []
+    ++ (field_line (codes "Content-Range: ") (option_map range_text h.content_range) []
+    ++ (field_line (codes "Allow: ") h.allow []
+    ++ field_line (codes "Connection: ") (then_some h.close (codes "close")) []))))))
+
+-- a line with its end
+abbrev pub ended_line : List ℕ → List ℕ
+ended_line line = line ++ crlf
+
+-- these lines, and the empty one
+abbrev pub head_text : HeadFields → List ℕ
+head_text h = flat_map ended_line (head_lines h) ++ crlf
 
 -- a head and the body after it
 abbrev pub reply_text : HeadFields → List ℕ → List ℕ
 reply_text h body = head_text h ++ body
+
+-- a byte that is in no line's end
+abbrev pub is_within_line : ℕ → Bool
+is_within_line b = not (b == 13) && not (b == 10)
+
+-- a line is not empty, and no byte of it is in a line's end
+pub record IsLine (line : List ℕ) : Type 0 where
+  pub some : 0 < length line
+  pub one : list_all is_within_line line ≡ true
+
+-- the text is these lines, each with its end, and the empty one
+pub record HasLines (text : List ℕ) (lines : List (List ℕ)) : Type 0 where
+  pub text_is : text ≡ flat_map ended_line lines ++ crlf
+  pub each : All IsLine lines
+
+-- ---- what private functions say
+
+-- the line of a field with its end, where its value is there
+abbrev pub line_of : List ℕ → Option (List ℕ) → List ℕ → List ℕ
+line_of before None behind = []
+line_of before (Some value) behind = before ++ (value ++ behind)

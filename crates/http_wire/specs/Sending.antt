@@ -16,6 +16,11 @@ pub record Sent (start held : Option (List ℕ)) (text : List ℕ) (count : ℕ)
 abbrev pub SentFront : Option (List ℕ) → Option (List ℕ) → List ℕ → ℕ → Type 0
 SentFront start held text count = (rest : List ℕ) × (0 < length rest) × Sent start held text count rest
 
+-- a front of the text was appended, and some of the text was not
+abbrev pub AppendsFront : List ℕ → (held new_held : Option (List ℕ)) → Type 0
+AppendsFront text held new_held =
+    (front : List ℕ) × (rest : List ℕ) × (0 < length rest) × (text ≡ front ++ rest) × Appends held new_held front
+
 -- the writes took the whole text; or the last of them failed, after a front of it
 abbrev pub WritesText : Result (Unit {0}) WriteFault → (text : List ℕ) → List Event → Type 0
 WritesText (Ok done) text events = GoesOn events × (all_put events ≡ text)
@@ -32,10 +37,12 @@ WritesAll (Err count) bytes events = IsLatest WriteFails events × (count < leng
 abbrev pub Written : (written text : List ℕ) → (count : ℕ) → (rest : List ℕ) → Type 0
 Written written text count rest = Sent (Some []) (Some written) text count rest
 
+-- the same after more writes: so many bytes are written, or a write failed after a front of the text
 abbrev pub WrittenNow : Result (Unit {0}) WriteFault → (written text : List ℕ) → (count : ℕ) → (rest : List ℕ) → Type 0
 WrittenNow (Ok done) written text count rest = Written written text count rest
 WrittenNow (Err fault) written text count rest = SentFront (Some []) (Some written) text fault.0
 
+-- how the writes end: another event may follow, or the last of them failed
 abbrev pub WritesEnd : Result (Unit {0}) WriteFault → List Event → Type 0
 WritesEnd (Ok done) events = GoesOn events
 WritesEnd (Err fault) events = IsLatest WriteFails events

@@ -81,6 +81,7 @@ BodyEnds (Err body_fault.Ended) events = IsLatest AtEnd events
 BodyEnds (Err body_fault.ReadFault) events = IsLatest ReadFails events
 BodyEnds (Err body_fault.OutOfMemory) events = events ≡ []
 
+-- the same of the reading of a body of this size
 pub record ReadsBody {A : Type 0} (result : Result (Vec ℕ A) BodyFault) (size : ℕ) (buffer new_buffer : List ℕ) (events : List Event) : Type 0 where
   pub nothing_put : all_put events ≡ []
   pub ends : BodyEnds result events

@@ -6,7 +6,6 @@ ghost use Rattle.http_wire.specs.Wires.{AwaitsBody, ReadsBody, RestRead, PlaceRe
 use crate::buffers::{Buffer, read_behind};
 use crate::duplexes::Duplex;
 use crate::faults::BodyFault;
-use std::alloc::Global;
 
 // Moves the front of the buffer to the front of the body, as much as there is and as fits.
 fn move_front(buffer: &mut Buffer, body: &mut [u8]) -> usize
@@ -55,13 +54,13 @@ fn read_into<D: Duplex>(
 
 /// Reads a body of so many bytes, from the buffer and then from the stream after it.
 pub fn read_body<D: Duplex>(
-    alloc: Global,
     buffer: &mut Buffer,
     duplex: &mut D,
     count: u64,
 ) -> Result<Vec<u8>, BodyFault>
     ensures { Ran D.saw (AwaitsBody buffer.old count) duplex.old duplex.new (ReadsBody result count buffer.old buffer.new) }
 {
+    let alloc = buffer.allocator();
     if count == 0 {
         return Ok(Vec::new(alloc));
     }

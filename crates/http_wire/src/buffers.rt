@@ -38,6 +38,11 @@ impl Buffer {
         })
     }
 
+    /// Where its memory comes from.
+    pub fn allocator(&self) -> Global {
+        *self.bytes.allocator()
+    }
+
     /// The bytes.
     pub fn as_slice(&self) -> &[u8]
         ensures value { result.now ≡ self.now }

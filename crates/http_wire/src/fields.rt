@@ -1,6 +1,6 @@
 //! The fields of a head.
 ghost use Rattle.std.specs.Prelude.{◌≡◌, All, map, length, IsTrue, ◌↔◌};
-ghost use Rattle.std.specs.Iterator.{YieldsFirstRef, item_count};
+ghost use Rattle.std.specs.Iterator.{YieldsFirstBy, YieldsFirstRef, item_count};
 ghost use Rattle.httparse.specs.Spans.{header_bytes, IsHeaderWithin};
 ghost use Rattle.http_wire.specs.Fields.{values_of};
 
@@ -55,5 +55,47 @@ impl<'h> Iterator for Values<'h> {
             }
         }
         None
+    }
+}
+
+/// All fields, in order: of each its name, and its value without the white space around it. A contract sees the list of
+/// those that are left.
+#[derive(Drop)]
+pub struct Fields<'h> {
+    text: &'h [u8],
+    fields: &'h [HeaderSpan],
+}
+
+impl<'h> Model for Fields<'h> {
+    ghost use Rattle.std.specs.Prelude.{ℕ, List, map, All, length};
+    ghost use Rattle.httparse.specs.Spans.{header_bytes, IsHeaderWithin};
+
+    ghost Value = { List (List ℕ × List ℕ) };
+
+    ghost view = { λ f. map (header_bytes f.text.now) f.fields.now };
+
+    ghost invariant = { λ f. All (IsHeaderWithin (length f.text.now)) f.fields.now };
+}
+
+impl<'h> Fields<'h> {
+    pub(crate) fn new(text: &'h [u8], fields: &'h [HeaderSpan]) -> Fields<'h>
+        requires { All (IsHeaderWithin (length text.now)) fields.now }
+        ensures { result ≡ map (header_bytes text.now) fields.now }
+    {
+        Fields { text, fields }
+    }
+}
+
+impl<'h> Iterator for Fields<'h> {
+    type Item = (&'h [u8], &'h [u8]);
+
+    ghost next_gives = { YieldsFirstBy (λ field. (field.0.now, field.1.now)) (λ f. f) };
+
+    ghost remaining = { item_count (λ f. f) };
+
+    fn next(&mut self) -> Option<(&'h [u8], &'h [u8])> {
+        let (first, others) = self.fields.split_first()?;
+        self.fields = others;
+        Some((first.name.of(self.text), first.value.of(self.text)))
     }
 }

@@ -6,7 +6,7 @@ ghost use Rattle.http_wire.specs.Fields.{values_of};
 ghost use Rattle.http_wire.specs.HeadText.{IsHeadText};
 ghost use Rattle.http_wire.specs.Requests.{IsServed, version_of, Says, SaysSomething, SaysNothing};
 
-use crate::fields::Values;
+use crate::fields::{Fields, Values};
 use http::method::MethodError;
 use http::{Method, Version};
 use httparse::Status;
@@ -126,6 +126,13 @@ impl Head {
         ensures { result.now ≡ self.now.target }
     {
         self.target.as_str()
+    }
+
+    /// All fields, in order: the name and the value of each.
+    pub fn fields(&self) -> Fields<'_>
+        ensures { result ≡ self.now.fields }
+    {
+        Fields::new(self.text.as_slice(), self.fields.as_slice())
     }
 
     /// The values of the fields of that name, ASCII case ignored, in order.

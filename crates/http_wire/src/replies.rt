@@ -1,5 +1,5 @@
 //! Replies.
-ghost use Rattle.std.specs.Prelude.{◌≡◌, ◌≤◌, ◌<◌, length, codes, decimal, IfErr, OnOk, OnErr, [], ◌++◌, ◌+◌, None, false};
+ghost use Rattle.std.specs.Prelude.{◌≡◌, ◌≤◌, ◌<◌, length, codes, decimal, IfErr, OnOk, OnErr, [], ◌++◌, ◌+◌};
 ghost use Rattle.std.specs.Option.{option_map};
 ghost use Rattle.std.specs.List.{flat_map};
 ghost use Rattle.arrayvec.specs.ArrayVec.{array_vec_len};
@@ -10,6 +10,7 @@ ghost use Rattle.http_wire.specs.Timing.{NoRead, Ran};
 
 use crate::duplexes::Duplex;
 use crate::faults::WriteFault;
+use crate::field_texts::FieldText;
 use crate::sends::write_pieces;
 use arrayvec::{ArrayString, ArrayVec};
 use http::StatusCode;
@@ -28,44 +29,17 @@ pub enum ContentRange {
 pub struct ReplyHead<'a> {
     /// The status code, which brings its phrase.
     pub status: StatusCode,
-    pub content_type: Option<&'a str>,
+    pub content_type: Option<FieldText<'a>>,
     pub content_length: Option<u64>,
     /// The entity tag, without its quotes.
-    pub etag: Option<&'a str>,
+    pub etag: Option<FieldText<'a>>,
     /// Whether ranges of bytes are served.
     pub accept_ranges: bool,
     pub content_range: Option<ContentRange>,
     /// The methods that the target has, separated by commas.
-    pub allow: Option<&'a str>,
+    pub allow: Option<FieldText<'a>>,
     /// Whether the connection ends after the reply.
     pub close: bool,
-}
-
-impl ReplyHead<'_> {
-    /// A head with a status and no field.
-    pub fn new(status: StatusCode) -> Self
-        ensures { result ≡ record {
-          status = status;
-          content_type = None;
-          content_length = None;
-          etag = None;
-          accept_ranges = false;
-          content_range = None;
-          allow = None;
-          close = false;
-        } }
-    {
-        ReplyHead {
-            status,
-            content_type: None,
-            content_length: None,
-            etag: None,
-            accept_ranges: false,
-            content_range: None,
-            allow: None,
-            close: false,
-        }
-    }
 }
 
 // The digits of a number.
@@ -138,15 +112,18 @@ fn push_head<'a>(
 {
     let code: &'a str = head.status.as_str();
     let phrase: &'a str = head.status.canonical_reason().unwrap_or("");
+    let content_type = head.content_type.map(|text| text.as_str());
+    let etag = head.etag.map(|text| text.as_str());
+    let allow = head.allow.map(|text| text.as_str());
     let ranges: Option<&'a str> = head.accept_ranges.then_some("bytes");
     let connection: Option<&'a str> = head.close.then_some("close");
     push_status(pieces, code, phrase);
-    push_line(pieces, "Content-Type: ", head.content_type, "\r\n");
+    push_line(pieces, "Content-Type: ", content_type, "\r\n");
     push_line(pieces, "Content-Length: ", length, "\r\n");
-    push_line(pieces, "ETag: \"", head.etag, "\"\r\n");
+    push_line(pieces, "ETag: \"", etag, "\"\r\n");
     push_line(pieces, "Accept-Ranges: ", ranges, "\r\n");
     push_line(pieces, "Content-Range: ", range, "\r\n");
-    push_line(pieces, "Allow: ", head.allow, "\r\n");
+    push_line(pieces, "Allow: ", allow, "\r\n");
     push_line(pieces, "Connection: ", connection, "\r\n");
     pieces.push(b"\r\n");
 }

@@ -1,6 +1,7 @@
 //! Where the bytes of a connection go.
-ghost use Rattle.std.specs.Prelude.{ℕ, List, Option, None, ⊤, ◌<◌, ◌≤◌, length, IfOk, OnErr};
-ghost use Rattle.std.specs.Io.KnownBytes.{WriteAppends};
+ghost use Rattle.std.specs.Prelude.{ℕ, List, Option, None, ⊤, ◌<◌, ◌≤◌, length, IfOk, OnOk, OnErr};
+ghost use Rattle.std.specs.Io.KnownBytes.{Appends, WriteAppends};
+ghost use Rattle.http_wire.specs.Sending.{AppendsFront};
 
 use std::io::Write;
 use thiserror::Error;
@@ -24,6 +25,22 @@ pub trait Sink {
         ensures some { IfOk result (λ count. 0 < length bytes.now → 0 < count) }
         ensures bytes { WriteAppends (held self.old) (held self.new) result bytes.now }
         ensures cause { OnErr result may_fail };
+}
+
+/// Writes all the bytes. Nothing is written after a write that failed.
+pub fn write_all<W: Sink>(sink: &mut W, bytes: &[u8]) -> Result<(), WriteFailed>
+    ensures ok { OnOk result (Appends (W.held sink.old) (W.held sink.new) bytes.now) }
+    ensures cut { OnErr result (AppendsFront bytes.now (W.held sink.old) (W.held sink.new)) }
+    ensures cause { OnErr result W.may_fail }
+{
+    let mut at = 0;
+    'writes: while at < bytes.len() {
+        let Ok(count) = sink.write_some(&bytes[at..]) else {
+            return Err(WriteFailed);
+        };
+        at += count;
+    }
+    Ok(())
 }
 
 /// A writer as a sink, whose writes may fail.

@@ -31,7 +31,7 @@ impl Model for Wire {
 }
 
 impl Wire {
-    /// A wire that has read nothing. Takes all the room for heads at once.
+    /// A wire that has read nothing. It takes all the room for heads at once, and keeps the allocator for what it reads.
     pub fn new(alloc: Global) -> Result<Wire, AllocError>
         ensures { IfOk result (λ wire. wire ≡ []) }
     {
@@ -44,7 +44,7 @@ impl Wire {
     ///
     /// A head, also one that is not answered, is taken from the stream with its last byte, and nothing after it is.
     /// Any other error leaves what is left as it was.
-    pub fn read_head<D: Duplex>(&mut self, alloc: Global, duplex: &mut D) -> Result<Head, HeadFault>
+    pub fn read_head<D: Duplex>(&mut self, duplex: &mut D) -> Result<Head, HeadFault>
         ensures ok { let old = prepend_known self.old (D.left duplex.old) in
             let new = prepend_known self.new (D.left duplex.new) in
             IfOk result (ServesHead old new) }
@@ -61,17 +61,12 @@ impl Wire {
             IfErr result (λ e. e ≢ HeadFault.BadHead → Keeps old new) }
         ensures ran { Ran D.saw (AwaitsHead self.old) duplex.old duplex.new (ReadsHead result self.old self.new) }
     {
-        take_head(alloc, &mut self.buffer, duplex)
+        take_head(&mut self.buffer, duplex)
     }
 
     /// Reads a body of `count` bytes. Reads only where what came before is fewer bytes, and writes nothing. A body of
     /// none takes no memory.
-    pub fn read_body<D: Duplex>(
-        &mut self,
-        alloc: Global,
-        duplex: &mut D,
-        count: u64,
-    ) -> Result<Vec<u8>, BodyFault>
+    pub fn read_body<D: Duplex>(&mut self, duplex: &mut D, count: u64) -> Result<Vec<u8>, BodyFault>
         ensures ok { let old = prepend_known self.old (D.left duplex.old) in
             let new = prepend_known self.new (D.left duplex.new) in
             IfOk result (λ body. (vec_len body ≡ count) × Consumes old new body.items) }
@@ -90,20 +85,16 @@ impl Wire {
             IsErrOf result BodyFault.OutOfMemory → (0 < count) × Keeps old new }
         ensures ran { Ran D.saw (AwaitsBody self.old count) duplex.old duplex.new (ReadsBody result count self.old self.new) }
     {
-        read_body(alloc, &mut self.buffer, duplex, count)
+        read_body(&mut self.buffer, duplex, count)
     }
 }
 
 // Takes the next head from the buffer and the stream after it.
-fn take_head<D: Duplex>(
-    alloc: Global,
-    buffer: &mut Buffer,
-    duplex: &mut D,
-) -> Result<Head, HeadFault>
+fn take_head<D: Duplex>(buffer: &mut Buffer, duplex: &mut D) -> Result<Head, HeadFault>
     ensures { Ran D.saw (AwaitsHead buffer.old) duplex.old duplex.new (ReadsHead result buffer.old buffer.new) }
 {
     let count = find_head(buffer, duplex)?;
-    let parsed = Head::parse(alloc, &buffer.as_slice()[..count])?;
+    let parsed = Head::parse(buffer.allocator(), &buffer.as_slice()[..count])?;
     buffer.consume(count);
     match parsed {
         Some(head) => Ok(head),

@@ -16,11 +16,11 @@ use Rattle.site_state.specs.declared.values.Draft.{Draft}
 use Rattle.site_state.specs.declared.values.Value.{Value}
 use Rattle.site_state.specs.declared.values.Value.TheVariants as value
 use Rattle.site_change.specs.declared.commands.Command.TheVariants.{Publish}
-use Rattle.site_change.specs.declared.commands.Refusal.TheVariants.{NotComplete}
+use Rattle.host_names.specs.declared.refusals.ChangeRefusal.TheVariants.{NotComplete}
 use Rattle.site_change.specs.Changes.{same_cell, file_at, tree_of, is_listed, with_patch, with_published, published, publish_refusal, refusal, applied}
 use Rattle.site_change.specs.Laws.{LeavesPatch, LeavesDeploy}
 use Rattle.site_change.proofs.Effects.{one_cell, same_cell-itself, same_paths, bytes_eq-itself, get-published}
-use Rattle.site_change.proofs.Growing.{no_option}
+use Rattle.site_change.proofs.SameFiles.{no_option}
 use Rattle.site_change.proofs.Listings.{none_missing, there}
 use Rattle.site_change.proofs.Patches.{Listings, listed_value, get-with_patch, unlisted}
 

@@ -5,13 +5,13 @@ use Rattle.host_names.specs.Blobs.{Contents}
 use Rattle.host_names.specs.declared.cells.Cell.{Cell}
 use Rattle.site_state.specs.States.{State}
 use Rattle.site_change.specs.declared.commands.Command.{Command}
-use Rattle.site_change.specs.declared.commands.Refusal.{Refusal}
+use Rattle.host_names.specs.declared.refusals.ChangeRefusal.{ChangeRefusal}
 use Rattle.site_change.specs.Changes.{refusal, applied, touches, changes, if_accepted, run_from, AvoidAll}
 use Rattle.site_change.specs.Laws.{AgreeOn, LeavesOut}
 use Rattle.site_change.proofs.Locality.{is_local, same_value-same}
 
 -- a run that goes on was accepted
-pub accepted : (reason : Option Refusal) (next : Option State) (after : State) → if_accepted reason next ≡ Some after → (reason ≡ None) × (next ≡ Some after)
+pub accepted : (reason : Option ChangeRefusal) (next : Option State) (after : State) → if_accepted reason next ≡ Some after → (reason ≡ None) × (next ≡ Some after)
 accepted None next after e = (refl, e)
 accepted (Some reason) next after e = cc e
 

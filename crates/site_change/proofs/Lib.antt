@@ -5,10 +5,18 @@ pub mod Composing
 pub mod Deciding
 pub mod Patches
 pub mod Listings
+pub mod PathLists
+-- what one command writes, by law
+pub mod ReadsAndWrites
+pub mod Fitting
+pub mod NamedAliases
+pub mod SameFiles
+pub mod Deploys
+-- all laws of each command, and what follows of them
+pub mod CommandLaws
+pub mod Locality
 pub mod OfKind
 pub mod Named
-pub mod PathLists
-pub mod Locality
 pub mod LeftOut
 pub mod Growing
 pub mod Touching

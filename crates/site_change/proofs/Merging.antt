@@ -1,5 +1,5 @@
 -- Steps along the live entries of a site and the files of a tree, both in the order of the paths.
-use Rattle.std.proofs.Common.{◌≡◌, ◌≢◌, ℕ, true, false, List, [], ◌∷◌, ◌++◌, map, length, Some, None, refl, sym, ap, subst, ◌∙◌, append-nil, arith}
+use Rattle.std.proofs.Common.{◌≡◌, ◌≢◌, ℕ, true, false, cond, List, [], ◌∷◌, ◌++◌, map, length, Option, Some, None, refl, sym, ap, subst, ◌∙◌, append-nil, arith}
 use Rattle.std.specs.List.{AllByRecursion}
 use Rattle.std.specs.List.Sorted.{IsStrictlySortedBy}
 use Rattle.std.specs.declared.cmp.Ordering.TheVariants.{Less, Equal, Greater}
@@ -18,7 +18,7 @@ use Rattle.site_state.specs.Values.{value_eq}
 use Rattle.site_state.specs.declared.values.Value.{Value}
 use Rattle.site_state.specs.declared.values.Value.TheVariants as value
 use Rattle.site_change.specs.declared.plans.Change.{Change}
-use Rattle.site_change.specs.Differences.{AreSides, AreLiveChanges, IsStep, in_list, live_cells}
+use Rattle.site_change.specs.Differences.{AreSides, AreLiveChanges, IsStep, in_list, live_cells, change_at}
 use Rattle.site_change.proofs.Effects.{bytes_eq-itself}
 use Rattle.site_change.proofs.Differences.{AllLater, Sets, Sets-cons, Sets-later, differ_later, with_first, without_first}
 
@@ -176,30 +176,23 @@ added_first site live tree e live_left f tree_left change sides live_is tree_is 
     (subst Q (sym live_is) (all_later (cell_at site f) e live_left (cell_cmp_total.antisymm (cell_at site f) e.0 ∙ ap ordering_reverse greater) (subst P live_is sides).live_sorted))
 
 -- both are at one path
-pub replaced_first : (site : SiteName) (live : Live) (tree : Files) (e : Cell × Value) (live_left : Live) (f : List ℕ × List ℕ) (tree_left : Files) (change : Change)
-    → AreSides site live tree → live ≡ e ∷ live_left → tree ≡ f ∷ tree_left → change ≡ replacement e f.1 → cell_cmp e.0 (cell_at site f) ≡ Equal
-    → value_eq e.1 (value.Live f.1) ≡ false → IsStep site live tree (Some change) live_left tree_left
-replaced_first site live tree e live_left f tree_left change sides live_is tree_is made tie differs =
+pub rewritten_first : (site : SiteName) (live : Live) (tree : Files) (e : Cell × Value) (live_left : Live) (f : List ℕ × List ℕ) (tree_left : Files) (change : Option Change)
+    → AreSides site live tree → live ≡ e ∷ live_left → tree ≡ f ∷ tree_left → change ≡ change_at e.0 (Some e.1) (Some (value.Live f.1)) → cell_cmp e.0 (cell_at site f) ≡ Equal
+    → IsStep site live tree change live_left tree_left
+rewritten_first site live tree e live_left f tree_left change sides live_is tree_is made tie =
     let P : Live → Type 0 = λ l. AreSides site l tree in
     let Q : Files → Type 0 = λ t. AreSides site (e ∷ live_left) t in
-    let R : Live → Type 0 = λ l. IsStep site l tree (Some change) live_left tree_left in
-    let S : Files → Type 0 = λ t. IsStep site (e ∷ live_left) t (Some change) live_left tree_left in
-    let U : Change → Type 0 = λ x. IsStep site (e ∷ live_left) (f ∷ tree_left) (Some x) live_left tree_left in
-    let unlike : Some e.1 ≢ Some (value.Live f.1) = λ same. false≢true (sym differs ∙ (same_value-decides (Some e.1) (Some (value.Live f.1))).1 same) in
+    let R : Live → Type 0 = λ l. IsStep site l tree change live_left tree_left in
+    let S : Files → Type 0 = λ t. IsStep site (e ∷ live_left) t change live_left tree_left in
+    let U : Option Change → Type 0 = λ x. IsStep site (e ∷ live_left) (f ∷ tree_left) x live_left tree_left in
+    let here = subst Q tree_is (subst P live_is sides) in
+    let one = cell_cmp-IsAntisymmetric e.0 (cell_at site f) tie in
+    let decides = same_value-decides (Some e.1) (Some (value.Live f.1)) in
     subst R (sym live_is) (subst S (sym tree_is) (subst U (sym made)
-    (step_replaced site e live_left f tree_left (subst Q tree_is (subst P live_is sides)) (cell_cmp-IsAntisymmetric e.0 (cell_at site f) tie) unlike)))
-
-pub kept_first : (site : SiteName) (live : Live) (tree : Files) (e : Cell × Value) (live_left : Live) (f : List ℕ × List ℕ) (tree_left : Files)
-    → AreSides site live tree → live ≡ e ∷ live_left → tree ≡ f ∷ tree_left → cell_cmp e.0 (cell_at site f) ≡ Equal
-    → value_eq e.1 (value.Live f.1) ≡ true → IsStep site live tree None live_left tree_left
-kept_first site live tree e live_left f tree_left sides live_is tree_is tie same =
-    let P : Live → Type 0 = λ l. AreSides site l tree in
-    let Q : Files → Type 0 = λ t. AreSides site (e ∷ live_left) t in
-    let R : Live → Type 0 = λ l. IsStep site l tree None live_left tree_left in
-    let S : Files → Type 0 = λ t. IsStep site (e ∷ live_left) t None live_left tree_left in
-    let alike : Some e.1 ≡ Some (value.Live f.1) = (same_value-decides (Some e.1) (Some (value.Live f.1))).0 same in
-    subst R (sym live_is) (subst S (sym tree_is)
-    (step_kept site e live_left f tree_left (subst Q tree_is (subst P live_is sides)) (cell_cmp-IsAntisymmetric e.0 (cell_at site f) tie) alike))
+    (elim (value_eq e.1 (value.Live f.1)) as (λ t. value_eq e.1 (value.Live f.1) ≡ t → U (cond t None (Some (replacement e f.1)))) [
+      | true ↦ λ same. step_kept site e live_left f tree_left here one (decides.0 same)
+      | false ↦ λ differs. step_replaced site e live_left f tree_left here one (λ alike. false≢true (sym differs ∙ decides.1 alike))
+    ] refl)))
 
 -- once both are gone through, the changes after which the rest would come are all
 pub at_ends : (site : SiteName) (live : Live) (tree : Files) (live_left : Live) (tree_left : Files) (changes : List Change)

@@ -20,54 +20,42 @@ use Rattle.site_state.specs.declared.values.Draft.{Draft}
 use Rattle.site_state.specs.declared.values.Value.TheVariants as value
 use Rattle.site_change.specs.declared.commands.Command.{Command}
 use Rattle.site_change.specs.declared.commands.Command.TheVariants.{Open, Publish, Cancel, Remove, Rename, MoveAlias, RemoveAlias, Restore, RemoveDeploy}
-use Rattle.site_change.specs.declared.commands.Refusal.{Refusal}
-use Rattle.site_change.specs.declared.commands.Refusal.TheVariants.{NoSuchDraft, NotComplete, NoSuchDeploy, NoSuchFile, PathTaken, SamePath, NoSuchAlias, DeployInUse, TooManyFiles}
+use Rattle.host_names.specs.declared.refusals.ChangeRefusal.{ChangeRefusal}
+use Rattle.host_names.specs.declared.refusals.ChangeRefusal.TheVariants.{NoSuchDraft, NotComplete, NoSuchDeploy, NoSuchFile, PathTaken, SamePath, NoSuchAlias, DeployInUse, TooManyFiles}
 
 -- whether two cells are one
 abbrev pub same_cell : Cell → Cell → Bool
 same_cell = eq_by_cmp cell_cmp
 
--- ---- whether a command is accepted
+-- ---- why it is refused
 
 -- the reasons against a publish, by what is open under the number
-abbrev pub publish_refusal : Contents → Option Draft → Option Refusal
+abbrev pub publish_refusal : Contents → Option Draft → Option ChangeRefusal
 publish_refusal uploads None = Some NoSuchDraft
 publish_refusal uploads (Some draft) = option_map NotComplete (least_missing_of uploads draft.files.1)
 
 -- this reason, unless there is something
-abbrev pub needed : {A : Type 0} → Refusal → Option A → Option Refusal
+abbrev pub needed : {A : Type 0} → ChangeRefusal → Option A → Option ChangeRefusal
 needed reason (Some x) = None
 needed reason None = Some reason
 
 -- the reasons against a renaming, by what is served at the two paths
-abbrev pub rename_refusal : Bool → Option (List ℕ) → Option (List ℕ) → Option Refusal
+abbrev pub rename_refusal : Bool → Option (List ℕ) → Option (List ℕ) → Option ChangeRefusal
 rename_refusal true source target = Some SamePath
 rename_refusal false None target = Some NoSuchFile
 rename_refusal false (Some file) None = None
 rename_refusal false (Some file) (Some other) = Some PathTaken
 
 -- the reasons against a restoring, by what is kept and what is open under the number
-abbrev pub restore_refusal : Contents → Option (Paths (List ℕ)) → Option Draft → Option Refusal
+abbrev pub restore_refusal : Contents → Option (Paths (List ℕ)) → Option Draft → Option ChangeRefusal
 restore_refusal uploads (Some tree) draft = None
 restore_refusal uploads None (Some draft) = publish_refusal uploads (Some draft)
 restore_refusal uploads None None = Some NoSuchDeploy
 
 -- the reasons against the removal of a deploy, by what is kept under the number and the least alias that names it
-abbrev pub removal_refusal : Option (Paths (List ℕ)) → Option AliasName → Option Refusal
+abbrev pub removal_refusal : Option (Paths (List ℕ)) → Option AliasName → Option ChangeRefusal
 removal_refusal None alias = Some NoSuchDeploy
 removal_refusal (Some tree) alias = option_map DeployInUse alias
-
--- the first reason to refuse the command, if there is one
-abbrev pub refusal : Command → ℕ → State → Contents → Option Refusal
-refusal (Open site files auto) n state uploads = if nat_lt 10000 (length files.1) then Some TooManyFiles else None
-refusal (Publish site m) n state uploads = publish_refusal uploads (draft_at state site m)
-refusal (Cancel site m) n state uploads = needed NoSuchDraft (draft_at state site m)
-refusal (Remove site path) n state uploads = needed NoSuchFile (live_at state site path)
-refusal (Rename site source target) n state uploads = rename_refusal (bytes_eq source target) (live_at state site source) (live_at state site target)
-refusal (MoveAlias site name m) n state uploads = needed NoSuchDeploy (kept_at state site m)
-refusal (RemoveAlias site name) n state uploads = needed NoSuchAlias (alias_at state site name)
-refusal (Restore site m) n state uploads = restore_refusal uploads (kept_at state site m) (draft_at state site m)
-refusal (RemoveDeploy site m) n state uploads = removal_refusal (kept_at state site m) (alias_for state site m)
 
 -- ---- what it leaves
 
@@ -123,31 +111,7 @@ restored site m uploads state None draft = published site m uploads state draft
 abbrev pub renamed : SiteName → List ℕ → List ℕ → State → Option (List ℕ) → State
 renamed site source target state file = with_cell (with_cell state (cell.Live site source) None) (cell.Live site target) (option_map value.Live file)
 
--- the state after the command
-abbrev pub applied : Command → ℕ → State → Contents → State
-applied (Open site files auto) n state uploads = with_cell state (cell.Draft site n) (Some (value.Draft (record { auto = auto; files = files })))
-applied (Publish site m) n state uploads = published site m uploads state (draft_at state site m)
-applied (Cancel site m) n state uploads = with_cell state (cell.Draft site m) None
-applied (Remove site path) n state uploads = with_cell state (cell.Live site path) None
-applied (Rename site source target) n state uploads = renamed site source target state (live_at state site source)
-applied (MoveAlias site name m) n state uploads = with_cell state (cell.Alias site name) (Some (value.Alias m))
-applied (RemoveAlias site name) n state uploads = with_cell state (cell.Alias site name) None
-applied (Restore site m) n state uploads = restored site m uploads state (kept_at state site m) (draft_at state site m)
-applied (RemoveDeploy site m) n state uploads = with_cell state (cell.Kept site m) None
-
--- ---- what it reads or writes
-
--- the site that the command is for
-abbrev pub site_of_command : Command → SiteName
-site_of_command (Open site files auto) = site
-site_of_command (Publish site m) = site
-site_of_command (Cancel site m) = site
-site_of_command (Remove site path) = site
-site_of_command (Rename site source target) = site
-site_of_command (MoveAlias site name m) = site
-site_of_command (RemoveAlias site name) = site
-site_of_command (Restore site m) = site
-site_of_command (RemoveDeploy site m) = site
+-- ---- what it touches
 
 -- whether it is one of the listed paths of the site
 abbrev pub is_listed : SiteName → Paths (Option Digest) → Cell → Bool
@@ -165,19 +129,93 @@ abbrev pub restore_touches : SiteName → ℕ → Option (Paths (List ℕ)) → 
 restore_touches site m (Some tree) draft c = is_live_of site c
 restore_touches site m None draft c = publish_touches site m draft c
 
+-- ---- what it means
+
+-- What a command means under the number n, to a state.
+pub record Meaning : Type 0 where
+  -- the site that it is for, which no number and no state makes another
+  pub site : SiteName
+  -- the first reason to refuse it with these uploads, if there is one
+  pub refusal : Contents → Option ChangeRefusal
+  -- the state after it, with these uploads
+  pub after : Contents → State
+  -- whether it touches the cell: reads it or writes it
+  pub touches : Cell → Bool
+
+-- each command, all of it in one place
+abbrev pub meaning : Command → ℕ → State → Meaning
+meaning (Open site files auto) n state = record {
+  site = site;
+  refusal = λ _. if nat_lt 10000 (length files.1) then Some TooManyFiles else None;
+  after = λ _. with_cell state (cell.Draft site n) (Some (value.Draft (record { auto = auto; files = files })));
+  touches = λ c. same_cell c (cell.Draft site n);
+}
+meaning (Publish site m) n state = record {
+  site = site;
+  refusal = λ uploads. publish_refusal uploads (draft_at state site m);
+  after = λ uploads. published site m uploads state (draft_at state site m);
+  touches = λ c. same_cell c (cell.Draft site m) || publish_touches site m (draft_at state site m) c;
+}
+meaning (Cancel site m) n state = record {
+  site = site;
+  refusal = λ _. needed NoSuchDraft (draft_at state site m);
+  after = λ _. with_cell state (cell.Draft site m) None;
+  touches = λ c. same_cell c (cell.Draft site m);
+}
+meaning (Remove site path) n state = record {
+  site = site;
+  refusal = λ _. needed NoSuchFile (live_at state site path);
+  after = λ _. with_cell state (cell.Live site path) None;
+  touches = λ c. same_cell c (cell.Live site path);
+}
+meaning (Rename site source target) n state = record {
+  site = site;
+  refusal = λ _. rename_refusal (bytes_eq source target) (live_at state site source) (live_at state site target);
+  after = λ _. renamed site source target state (live_at state site source);
+  touches = λ c. same_cell c (cell.Live site source) || same_cell c (cell.Live site target);
+}
+meaning (MoveAlias site name m) n state = record {
+  site = site;
+  refusal = λ _. needed NoSuchDeploy (kept_at state site m);
+  after = λ _. with_cell state (cell.Alias site name) (Some (value.Alias m));
+  touches = λ c. same_cell c (cell.Kept site m) || same_cell c (cell.Alias site name);
+}
+meaning (RemoveAlias site name) n state = record {
+  site = site;
+  refusal = λ _. needed NoSuchAlias (alias_at state site name);
+  after = λ _. with_cell state (cell.Alias site name) None;
+  touches = λ c. same_cell c (cell.Alias site name);
+}
+meaning (Restore site m) n state = record {
+  site = site;
+  refusal = λ uploads. restore_refusal uploads (kept_at state site m) (draft_at state site m);
+  after = λ uploads. restored site m uploads state (kept_at state site m) (draft_at state site m);
+  touches = λ c.
+      same_cell c (cell.Draft site m)
+      || (same_cell c (cell.Kept site m) || restore_touches site m (kept_at state site m) (draft_at state site m) c);
+}
+meaning (RemoveDeploy site m) n state = record {
+  site = site;
+  refusal = λ _. removal_refusal (kept_at state site m) (alias_for state site m);
+  after = λ _. with_cell state (cell.Kept site m) None;
+  touches = λ c. same_cell c (cell.Kept site m) || is_alias_of site c;
+}
+
+-- the site that the command is for
+abbrev pub site_of_command : Command → SiteName
+site_of_command command = (meaning command 0 map.empty).site
+
+-- the first reason to refuse the command, if there is one
+abbrev pub refusal : Command → ℕ → State → Contents → Option ChangeRefusal
+refusal command n state uploads = (meaning command n state).refusal uploads
+
+-- the state after the command
+abbrev pub applied : Command → ℕ → State → Contents → State
+applied command n state uploads = (meaning command n state).after uploads
+
 -- whether the command touches the cell
 abbrev pub touches : Command → ℕ → State → Cell → Bool
-touches (Open site files auto) n state c = same_cell c (cell.Draft site n)
-touches (Publish site m) n state c = same_cell c (cell.Draft site m) || publish_touches site m (draft_at state site m) c
-touches (Cancel site m) n state c = same_cell c (cell.Draft site m)
-touches (Remove site path) n state c = same_cell c (cell.Live site path)
-touches (Rename site source target) n state c = same_cell c (cell.Live site source) || same_cell c (cell.Live site target)
-touches (MoveAlias site name m) n state c = same_cell c (cell.Kept site m) || same_cell c (cell.Alias site name)
-touches (RemoveAlias site name) n state c = same_cell c (cell.Alias site name)
-touches (Restore site m) n state c =
-    same_cell c (cell.Draft site m)
-    || (same_cell c (cell.Kept site m) || restore_touches site m (kept_at state site m) (draft_at state site m) c)
-touches (RemoveDeploy site m) n state c = same_cell c (cell.Kept site m) || is_alias_of site c
+touches command n state c = (meaning command n state).touches c
 
 -- whether it changes what is in the cell; that nothing is there counts as a value
 abbrev pub changes : Command → ℕ → State → Contents → Cell → Bool
@@ -186,7 +224,7 @@ changes command n state uploads c = not (same_value (map.get state c) (map.get (
 -- ---- commands in a row, each under its number
 
 -- this, unless there is a reason to refuse
-abbrev pub if_accepted : Option Refusal → Option State → Option State
+abbrev pub if_accepted : Option ChangeRefusal → Option State → Option State
 if_accepted None then_state = then_state
 if_accepted (Some reason) then_state = None
 

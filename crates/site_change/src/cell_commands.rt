@@ -7,16 +7,15 @@ ghost use Rattle.host_names.specs.declared.cells.Cell.TheVariants as cell;
 ghost use Rattle.site_state.specs.Aliases.{alias_for};
 ghost use Rattle.site_state.specs.States.{alias_at, draft_at, is_alias_of, kept_at, live_at, with_cell};
 ghost use Rattle.site_state.specs.declared.values.Value.TheVariants as value;
-ghost use Rattle.site_change.specs.declared.commands.Refusal.TheVariants as reason;
+ghost use Rattle.host_names.specs.declared.refusals.ChangeRefusal.TheVariants as reason;
 ghost use Rattle.site_change.specs.Changes.{needed, removal_refusal, rename_refusal, renamed, same_cell};
 ghost use Rattle.site_change.specs.Decisions.{IsDecision};
 ghost use Rattle.site_change.specs.Plans.{IsDifference};
 ghost use Rattle.site_change.specs.TouchedCells.{AreTouched};
 
-use crate::commands::{DecideError, Refusal};
 use crate::plans::{Change, Plan, push_change};
 use crate::touched::Touched;
-use host_names::{AliasName, Cell, CellRef, FilePath, SiteName};
+use host_names::{AliasName, Cell, CellRef, ChangeError, ChangeRefusal, FilePath, SiteName};
 use site_state::{File, State, Value};
 use std::alloc::{AllocError, Global};
 use std::cmp::Ordering;
@@ -77,14 +76,14 @@ pub(crate) fn cancel(
     state: &State,
     site: &SiteName,
     number: u64,
-) -> Result<Plan, DecideError>
+) -> Result<Plan, ChangeError>
     ensures { IsDecision (needed reason.NoSuchDraft (draft_at state.now site.now number))
         site.now (λ c. same_cell c (cell.Draft site.now number)) state.now
         (with_cell state.now (cell.Draft site.now number) None)
         result }
 {
     if state.draft(site, number).is_none() {
-        return Err(DecideError::Refused(Refusal::NoSuchDraft));
+        return Err(ChangeError::Refused(ChangeRefusal::NoSuchDraft));
     }
     let draft = Cell::Draft(site.copied(), number);
     Ok(plan_one(alloc, state, site, draft, None)?)
@@ -96,14 +95,14 @@ pub(crate) fn remove(
     state: &State,
     site: &SiteName,
     path: &FilePath,
-) -> Result<Plan, DecideError>
+) -> Result<Plan, ChangeError>
     ensures { IsDecision (needed reason.NoSuchFile (live_at state.now site.now path.now))
         site.now (λ c. same_cell c (cell.Live site.now path.now)) state.now
         (with_cell state.now (cell.Live site.now path.now) None)
         result }
 {
     if state.file(site, path).is_none() {
-        return Err(DecideError::Refused(Refusal::NoSuchFile));
+        return Err(ChangeError::Refused(ChangeRefusal::NoSuchFile));
     }
     let live = CellRef::Live(site, path).to_cell()?;
     Ok(plan_one(alloc, state, site, live, None)?)
@@ -167,20 +166,20 @@ pub(crate) fn rename(
     site: &SiteName,
     source: &FilePath,
     target: &FilePath,
-) -> Result<Plan, DecideError>
+) -> Result<Plan, ChangeError>
     ensures { IsDecision (rename_refusal (bytes_eq source.now target.now) (live_at state.now site.now source.now) (live_at state.now site.now target.now))
         site.now (λ c. same_cell c (cell.Live site.now source.now) || same_cell c (cell.Live site.now target.now)) state.now
         (renamed site.now source.now target.now state.now (live_at state.now site.now source.now))
         result }
 {
     if source == target {
-        return Err(DecideError::Refused(Refusal::SamePath));
+        return Err(ChangeError::Refused(ChangeRefusal::SamePath));
     }
     let Some(file) = state.file(site, source) else {
-        return Err(DecideError::Refused(Refusal::NoSuchFile));
+        return Err(ChangeError::Refused(ChangeRefusal::NoSuchFile));
     };
     if state.file(site, target).is_some() {
-        return Err(DecideError::Refused(Refusal::PathTaken));
+        return Err(ChangeError::Refused(ChangeRefusal::PathTaken));
     }
     let touched = touched_paths(alloc, site, source, target)?;
     let changes = change_paths(alloc, state, site, source, target, file)?;
@@ -194,14 +193,14 @@ pub(crate) fn move_alias(
     site: &SiteName,
     name: &AliasName,
     number: u64,
-) -> Result<Plan, DecideError>
+) -> Result<Plan, ChangeError>
     ensures { IsDecision (needed reason.NoSuchDeploy (kept_at state.now site.now number))
         site.now (λ c. same_cell c (cell.Kept site.now number) || same_cell c (cell.Alias site.now name.now)) state.now
         (with_cell state.now (cell.Alias site.now name.now) (Some (value.Alias number)))
         result }
 {
     if state.kept(site, number).is_none() {
-        return Err(DecideError::Refused(Refusal::NoSuchDeploy));
+        return Err(ChangeError::Refused(ChangeRefusal::NoSuchDeploy));
     }
     let kept = Cell::Kept(site.copied(), number);
     let touched = Touched::two(alloc, site, kept, Cell::Alias(site.copied(), name.copied()))?;
@@ -216,14 +215,14 @@ pub(crate) fn remove_alias(
     state: &State,
     site: &SiteName,
     name: &AliasName,
-) -> Result<Plan, DecideError>
+) -> Result<Plan, ChangeError>
     ensures { IsDecision (needed reason.NoSuchAlias (alias_at state.now site.now name.now))
         site.now (λ c. same_cell c (cell.Alias site.now name.now)) state.now
         (with_cell state.now (cell.Alias site.now name.now) None)
         result }
 {
     if state.alias(site, name).is_none() {
-        return Err(DecideError::Refused(Refusal::NoSuchAlias));
+        return Err(ChangeError::Refused(ChangeRefusal::NoSuchAlias));
     }
     let alias = Cell::Alias(site.copied(), name.copied());
     Ok(plan_one(alloc, state, site, alias, None)?)
@@ -235,17 +234,17 @@ pub(crate) fn remove_deploy(
     state: &State,
     site: &SiteName,
     number: u64,
-) -> Result<Plan, DecideError>
+) -> Result<Plan, ChangeError>
     ensures { IsDecision (removal_refusal (kept_at state.now site.now number) (alias_for state.now site.now number))
         site.now (λ c. same_cell c (cell.Kept site.now number) || is_alias_of site.now c) state.now
         (with_cell state.now (cell.Kept site.now number) None)
         result }
 {
     if state.kept(site, number).is_none() {
-        return Err(DecideError::Refused(Refusal::NoSuchDeploy));
+        return Err(ChangeError::Refused(ChangeRefusal::NoSuchDeploy));
     }
     if let Some(name) = state.alias_for(site, number) {
-        return Err(DecideError::Refused(Refusal::DeployInUse(name.copied())));
+        return Err(ChangeError::Refused(ChangeRefusal::DeployInUse(name.copied())));
     }
     let touched = Touched::one_and_aliases(alloc, site, Cell::Kept(site.copied(), number))?;
     let changes = change_one(alloc, state, Cell::Kept(site.copied(), number), None)?;

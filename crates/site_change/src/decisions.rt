@@ -4,20 +4,21 @@ ghost use Rattle.host_names.specs.declared.cells.Cell.TheVariants as cell;
 ghost use Rattle.site_state.specs.Named.{AliasesNamed};
 ghost use Rattle.site_state.specs.States.{with_cell};
 ghost use Rattle.site_state.specs.declared.values.Value.TheVariants as value;
-ghost use Rattle.site_change.specs.declared.commands.Refusal.TheVariants.{TooManyFiles};
+ghost use Rattle.host_names.specs.declared.refusals.ChangeRefusal.TheVariants.{TooManyFiles};
 ghost use Rattle.site_change.specs.declared.commands.Command.TheVariants as command_of;
 ghost use Rattle.site_change.specs.Changes.{applied, refusal, site_of_command, touches};
-ghost use Rattle.site_change.specs.Decisions.{IsDecision, IsRefusedBy};
+ghost use Rattle.host_names.specs.Refusals.{IsRefusedBy};
+ghost use Rattle.site_change.specs.Decisions.{IsDecision};
 ghost use Rattle.site_change.specs.Plans.{IsDifference, ReplacesOfKind, WritesOfKind};
 ghost use Rattle.site_change.specs.TouchedCells.{AreTouched};
 
 use crate::cell_commands::{
     cancel, move_alias, plan_one, remove, remove_alias, remove_deploy, rename,
 };
-use crate::commands::{Command, DecideError, Refusal};
+use crate::commands::Command;
 use crate::plans::Plan;
 use crate::publishing::{publish, restore};
-use host_names::{Cell, SiteName, Uploads};
+use host_names::{Cell, ChangeError, ChangeRefusal, SiteName, Uploads};
 use site_state::{Draft, Listing, State, Value};
 use std::alloc::{AllocError, Global};
 
@@ -40,7 +41,7 @@ fn open(
     site: &SiteName,
     files: &Listing,
     auto: bool,
-) -> Result<Plan, DecideError>
+) -> Result<Plan, ChangeError>
     ensures { IsDecision (if nat_lt 10000 (length files.now.1) then Some TooManyFiles else None)
         site.now (touches (command_of.Open site.now files.now auto) number state.now) state.now
         (with_cell state.now (cell.Draft site.now number)
@@ -48,7 +49,7 @@ fn open(
         result }
 {
     if files.entries().len() > MOST_FILES {
-        return Err(DecideError::Refused(Refusal::TooManyFiles));
+        return Err(ChangeError::Refused(ChangeRefusal::TooManyFiles));
     }
     let cell = Cell::Draft(site.copied(), number);
     let draft = opened(files, auto)?;
@@ -62,7 +63,7 @@ fn decision<U: Uploads>(
     uploads: &U,
     number: u64,
     command: &Command,
-) -> Result<Plan, DecideError>
+) -> Result<Plan, ChangeError>
     ensures { IsDecision (refusal command.now number state.now (U.contents uploads.now))
         (site_of_command command.now) (touches command.now number state.now) state.now
         (applied command.now number state.now (U.contents uploads.now))
@@ -95,7 +96,7 @@ pub fn decide<U: Uploads>(
     uploads: &U,
     number: u64,
     command: &Command,
-) -> Result<Plan, DecideError>
+) -> Result<Plan, ChangeError>
     ensures refused { IsRefusedBy (refusal command.now number state.now (U.contents uploads.now)) result }
     ensures accepted { OnOk result (refusal command.now number state.now (U.contents uploads.now) ≡ None) }
     ensures plan { IfOk result (λ plan. IsDifference state.now

@@ -11,7 +11,7 @@ mod publishing;
 mod touched;
 mod trees;
 
-pub use commands::{Command, DecideError, Refusal};
+pub use commands::Command;
 pub use decisions::{MOST_FILES, decide};
 pub use laws::{
     a_change_can_be_left_out, a_publish_touches_its_deploy_alone,

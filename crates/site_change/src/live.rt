@@ -6,7 +6,7 @@ ghost use Rattle.host_names.specs.declared.cells.Cell.TheVariants as cell;
 ghost use Rattle.site_state.specs.States.{is_live_of};
 ghost use Rattle.site_state.specs.Values.{value_eq};
 ghost use Rattle.site_state.specs.declared.values.Value.TheVariants as value;
-ghost use Rattle.site_change.specs.Differences.{AreLiveChanges, AreSides, IsStep};
+ghost use Rattle.site_change.specs.Differences.{AreLiveChanges, AreSides, IsStep, change_at};
 
 use crate::plans::{Change, push_some};
 use host_names::{Cell, CellRef, FilePath, SiteName};
@@ -86,6 +86,16 @@ fn replaced(entry: &Entry, file: &File) -> Result<Change, AllocError>
     })
 }
 
+/// What changes where the one file is there and the other is to be.
+fn rewritten(entry: &Entry, file: &File) -> Result<Option<Change>, AllocError>
+    ensures { IfOk result (λ change. change ≡ change_at entry.now.0 (Some entry.now.1) (Some (value.Live file.now))) }
+{
+    if is_file(&entry.1, file) {
+        return Ok(None);
+    }
+    Ok(Some(replaced(entry, file)?))
+}
+
 impl<'a> Step<'a> {
     /// The first step along two lists that are in the order of the paths; none where both are at their ends.
     fn next(
@@ -98,45 +108,19 @@ impl<'a> Step<'a> {
             ((live.now ≡ []) × (tree.now ≡ []))
             (λ s. IsStep site.now live.now tree.now s.change s.live.now s.tree.now)) }
     {
-        match (live.split_first(), tree.split_first()) {
-            (None, None) => Ok(None),
-            (Some((entry, left)), None) => Ok(Some(Step {
-                change: Some(removed(entry)?),
-                live: left,
-                tree,
-            })),
-            (None, Some((listed, left))) => Ok(Some(Step {
-                change: Some(added(site, listed)?),
-                live,
-                tree: left,
-            })),
+        let (change, live, tree) = match (live.split_first(), tree.split_first()) {
+            (None, None) => return Ok(None),
+            (Some((entry, left)), None) => (Some(removed(entry)?), left, tree),
+            (None, Some((listed, left))) => (Some(added(site, listed)?), live, left),
             (Some((entry, live_left)), Some((listed, tree_left))) => {
                 match compare_paths(site, entry, listed) {
-                    Ordering::Less => Ok(Some(Step {
-                        change: Some(removed(entry)?),
-                        live: live_left,
-                        tree,
-                    })),
-                    Ordering::Greater => Ok(Some(Step {
-                        change: Some(added(site, listed)?),
-                        live,
-                        tree: tree_left,
-                    })),
-                    Ordering::Equal => {
-                        let change = if is_file(&entry.1, &listed.1) {
-                            None
-                        } else {
-                            Some(replaced(entry, &listed.1)?)
-                        };
-                        Ok(Some(Step {
-                            change,
-                            live: live_left,
-                            tree: tree_left,
-                        }))
-                    }
+                    Ordering::Less => (Some(removed(entry)?), live_left, tree),
+                    Ordering::Greater => (Some(added(site, listed)?), live, tree_left),
+                    Ordering::Equal => (rewritten(entry, &listed.1)?, live_left, tree_left),
                 }
             }
-        }
+        };
+        Ok(Some(Step { change, live, tree }))
     }
 }
 

@@ -13,12 +13,11 @@ ghost use Rattle.site_change.specs.Differences.{AreListedChanges};
 ghost use Rattle.site_change.specs.Plans.{IsDifference};
 ghost use Rattle.site_change.specs.TouchedCells.{AreTouched, is_of_deploy, is_of_patch};
 
-use crate::commands::{DecideError, Refusal};
 use crate::live::live_changes;
 use crate::plans::{Change, Plan, push_change};
 use crate::touched::Touched;
 use crate::trees::{file_at, tree_of};
-use host_names::{Cell, CellRef, Digest, FilePath, SiteName, Uploads};
+use host_names::{Cell, CellRef, ChangeError, ChangeRefusal, Digest, FilePath, SiteName, Uploads};
 use site_state::{Draft, Listing, State, Tree, Value, least_missing};
 use std::alloc::{AllocError, Global};
 
@@ -149,14 +148,14 @@ fn publish_open<U: Uploads>(
     site: &SiteName,
     number: u64,
     draft: &Draft,
-) -> Result<Plan, DecideError>
+) -> Result<Plan, ChangeError>
     ensures { IsDecision (publish_refusal (U.contents uploads.now) (Some draft.now))
         site.now (λ c. same_cell c (cell.Draft site.now number) || publish_touches site.now number (Some draft.now) c) state.now
         (published site.now number (U.contents uploads.now) state.now (Some draft.now))
         result }
 {
     if let Some(digest) = least_missing(draft, uploads) {
-        return Err(DecideError::Refused(Refusal::NotComplete(digest)));
+        return Err(ChangeError::Refused(ChangeRefusal::NotComplete(digest)));
     }
     if draft.files.is_patch() {
         Ok(plan_patch(alloc, state, uploads, site, number, &draft.files)?)
@@ -172,7 +171,7 @@ pub(crate) fn publish<U: Uploads>(
     uploads: &U,
     site: &SiteName,
     number: u64,
-) -> Result<Plan, DecideError>
+) -> Result<Plan, ChangeError>
     ensures { IsDecision (publish_refusal (U.contents uploads.now) (draft_at state.now site.now number))
         site.now (touches (command_of.Publish site.now number) 0 state.now) state.now
         (published site.now number (U.contents uploads.now) state.now (draft_at state.now site.now number))
@@ -180,7 +179,7 @@ pub(crate) fn publish<U: Uploads>(
 {
     match state.draft(site, number) {
         Some(draft) => publish_open(alloc, state, uploads, site, number, draft),
-        None => Err(DecideError::Refused(Refusal::NoSuchDraft)),
+        None => Err(ChangeError::Refused(ChangeRefusal::NoSuchDraft)),
     }
 }
 
@@ -208,7 +207,7 @@ fn restore_open<U: Uploads>(
     site: &SiteName,
     number: u64,
     draft: &Draft,
-) -> Result<Plan, DecideError>
+) -> Result<Plan, ChangeError>
     ensures { IsDecision (publish_refusal (U.contents uploads.now) (Some draft.now))
         site.now
         (λ c. same_cell c (cell.Draft site.now number)
@@ -232,7 +231,7 @@ pub(crate) fn restore<U: Uploads>(
     uploads: &U,
     site: &SiteName,
     number: u64,
-) -> Result<Plan, DecideError>
+) -> Result<Plan, ChangeError>
     ensures { IsDecision (restore_refusal (U.contents uploads.now) (kept_at state.now site.now number) (draft_at state.now site.now number))
         site.now (touches (command_of.Restore site.now number) 0 state.now) state.now
         (restored site.now number (U.contents uploads.now) state.now (kept_at state.now site.now number) (draft_at state.now site.now number))
@@ -243,6 +242,6 @@ pub(crate) fn restore<U: Uploads>(
     }
     match state.draft(site, number) {
         Some(draft) => restore_open(alloc, state, uploads, site, number, draft),
-        None => Err(DecideError::Refused(Refusal::NoSuchDeploy)),
+        None => Err(ChangeError::Refused(ChangeRefusal::NoSuchDeploy)),
     }
 }

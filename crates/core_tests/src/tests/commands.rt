@@ -1,8 +1,8 @@
 //! What each command changes and touches, and the words of the reasons to refuse one.
 use super::fixtures::{assert_text, cell, halves, push_value, uploaded, write_words};
 use super::hosts::{Host, command, host_of};
-use host_names::{Cell, MemoryUploads};
-use site_change::{Change, DecideError, Plan, decide};
+use host_names::{Cell, ChangeError, MemoryUploads};
+use site_change::{Change, Plan, decide};
 use site_state::{State, Value};
 use std::alloc::{AllocError, Global};
 use std::process::Abort;
@@ -73,11 +73,11 @@ fn told_changes(alloc: Global, changes: &[Change]) -> Result<String, AllocError>
 }
 
 /// What a command changes, or why it is refused.
-fn told_plan(alloc: Global, answer: Result<Plan, DecideError>) -> Result<String, Fail> {
+fn told_plan(alloc: Global, answer: Result<Plan, ChangeError>) -> Result<String, Fail> {
     match answer {
         Ok(plan) => Ok(told_changes(alloc, plan.changes.as_slice())?),
-        Err(DecideError::OutOfMemory) => Err(DecideError::OutOfMemory.into()),
-        Err(DecideError::Refused(reason)) => Ok(format!(in alloc; "{reason}")?),
+        Err(ChangeError::OutOfMemory) => Err(ChangeError::OutOfMemory.into()),
+        Err(ChangeError::Refused(reason)) => Ok(format!(in alloc; "{reason}")?),
     }
 }
 

@@ -190,20 +190,19 @@ one open /b=hello -> 3";
 /// Asserts that an undo of a change of the site `one` becomes the entry of a number.
 fn assert_undo(
     rt: &impl Abort,
-    alloc: Global,
     history: &mut History,
     change: u64,
     number: u64,
 ) -> Result<(), Fail> {
     let one = SiteName::new("one")?;
-    assert_eq!(rt; history.undo(alloc, &one, change)?, number);
+    assert_eq!(rt; history.undo(&one, change)?, number);
     Ok(())
 }
 
 #[test]
 fn an_undo_finds_files_when_the_uploads_are_gone(rt: HostRuntime) -> Result<(), Fail> {
     let mut history = without_uploads(&rt, rt.alloc())?;
-    assert_undo(&rt, rt.alloc(), &mut history, 3, 4)?;
+    assert_undo(&rt, &mut history, 3, 4)?;
     assert_sites(
         &rt,
         rt.alloc(),

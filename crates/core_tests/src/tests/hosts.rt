@@ -2,8 +2,8 @@
 ghost use Rattle.std.specs.Prelude.{◌≤◌};
 
 use super::fixtures::{assert_text, draft, halves, uploaded};
-use change_undo::{CommitError, GREATEST_LIMIT, History, UndoError};
-use host_names::{AliasName, FilePath, MemoryUploads, SiteName};
+use change_undo::{GREATEST_LIMIT, History};
+use host_names::{AliasName, ChangeError, FilePath, MemoryUploads, SiteName};
 use site_change::Command;
 use std::alloc::Global;
 use std::marker::Model;
@@ -109,27 +109,19 @@ impl Host {
         }
     }
 
-    pub(crate) fn commit(&mut self, command: Command) -> Result<u64, CommitError> {
-        self.history.commit(self.alloc, &self.uploads, command)
+    pub(crate) fn commit(&mut self, command: Command) -> Result<u64, ChangeError> {
+        self.history.commit(&self.uploads, command)
     }
 
-    pub(crate) fn undo(&mut self, site: &SiteName, change: u64) -> Result<u64, UndoError> {
-        self.history.undo(self.alloc, site, change)
-    }
-}
-
-fn told_commit(alloc: Global, answer: Result<u64, CommitError>) -> Result<String, Fail> {
-    match answer {
-        Ok(number) => Ok(format!(in alloc; "{number}")?),
-        Err(CommitError::OutOfMemory) => Err(CommitError::OutOfMemory.into()),
-        Err(error) => Ok(format!(in alloc; "{error}")?),
+    pub(crate) fn undo(&mut self, site: &SiteName, change: u64) -> Result<u64, ChangeError> {
+        self.history.undo(site, change)
     }
 }
 
-fn told_undo(alloc: Global, answer: Result<u64, UndoError>) -> Result<String, Fail> {
+fn told_answer(alloc: Global, answer: Result<u64, ChangeError>) -> Result<String, Fail> {
     match answer {
         Ok(number) => Ok(format!(in alloc; "{number}")?),
-        Err(UndoError::OutOfMemory) => Err(UndoError::OutOfMemory.into()),
+        Err(ChangeError::OutOfMemory) => Err(ChangeError::OutOfMemory.into()),
         Err(error) => Ok(format!(in alloc; "{error}")?),
     }
 }
@@ -140,11 +132,11 @@ fn told(host: &mut Host, asked: &str) -> Result<String, Fail> {
     match words.strip_prefix("undo ") {
         Some(change) => {
             let change = change.parse::<u64>()?;
-            told_undo(host.alloc, host.undo(&SiteName::new(site)?, change))
+            told_answer(host.alloc, host.undo(&SiteName::new(site)?, change))
         }
         None => {
             let command = command(host.alloc, site, words)?;
-            told_commit(host.alloc, host.commit(command))
+            told_answer(host.alloc, host.commit(command))
         }
     }
 }

@@ -4,7 +4,7 @@ ghost use Rattle.host_server.specs.Shown as spec;
 
 use super::views::HostView;
 use change_undo::Entry;
-use host_api::{ChangeKind, ChangeLine, ChangeLines};
+use host_api::{ChangeLine, Items, word_of};
 use host_names::SiteName;
 use std::alloc::{AllocError, Global};
 
@@ -22,7 +22,7 @@ fn line<H: HostView>(host: &H, site: &SiteName, number: u64) -> Option<ChangeLin
     Some(match entry {
         Entry::Change(command) => ChangeLine::Change {
             entry: number,
-            kind: ChangeKind::of(command),
+            kind: word_of(command),
             is_live: !is_undone,
         },
         Entry::Undo { change, .. } => ChangeLine::Undo {
@@ -37,7 +37,7 @@ pub fn list_changes<H: HostView>(
     alloc: Global,
     host: &H,
     site: &SiteName,
-) -> Result<ChangeLines, AllocError>
+) -> Result<Items<ChangeLine>, AllocError>
     ensures shown { IfOk result (λ lines. lines ≡ spec.shown_lines (H.host host.now) site.now) }
     ensures memory { OnErr result (spec.shown_lines (H.host host.now) site.now ≢ []) }
 {
@@ -50,5 +50,5 @@ pub fn list_changes<H: HostView>(
         number -= 1;
     }
     lines.reverse();
-    Ok(ChangeLines::from(lines))
+    Ok(Items::from(lines))
 }

@@ -1,7 +1,7 @@
 //! What a host tells of changes and undos.
 ghost use Rattle.std.specs.Prelude.{◌≡◌, ◌≢◌, ◌⊎◌, true, false, Some, None, IsTrue, OnOk, OnErr, IfOk, IfErr, Err, IsErrOf};
 ghost use Rattle.site_change.specs.declared.commands.Command.TheVariants as command;
-ghost use Rattle.change_undo.specs.Histories.{entry_at};
+ghost use Rattle.change_undo.specs.Histories.{entry_at, may_take_memory};
 ghost use Rattle.change_undo.specs.declared.entries.Entry.TheVariants as entry;
 ghost use Rattle.host_server.specs.Answers.{Grows};
 ghost use Rattle.host_server.specs.Hosts.{with_entry, with_upload};
@@ -10,16 +10,15 @@ ghost use Rattle.host_server.specs.Memory.{CommandRunsOut, deploy_refusal, is_pu
 ghost use Rattle.host_server.specs.Outcomes;
 ghost use Rattle.host_server.specs.Outcomes.{deploy_outcome, enter_outcome, entered, published_if_ready, undone, Publishes, Does, DoesCommit};
 ghost use Rattle.host_server.specs.Reasons;
-ghost use Rattle.host_server.specs.Reasons.{commit_refusal, may_take_memory};
+ghost use Rattle.host_server.specs.Reasons.{commit_refusal};
 
 use super::deploys::owner;
 use super::houses::SoloHouse;
 use super::views::HostView;
-use host_api::{Digests, Refusal, Told};
-use host_names::SiteName;
+use host_api::{Items, Refusal, Told};
+use host_names::{ChangeRefusal, SiteName};
 use site_change::{Command, MOST_FILES};
 use site_state::{Draft, Listing, least_missing, missing};
-use std::alloc::Global;
 
 /// Whether the deploy of a number publishes itself now.
 fn is_ready<H: HostView>(host: &H, site: &SiteName, number: u64) -> bool
@@ -32,16 +31,16 @@ fn is_ready<H: HostView>(host: &H, site: &SiteName, number: u64) -> bool
 }
 
 /// Whether a deploy of these files may be opened, or the first reason why not. It takes no memory.
-fn judge_opening<H: HostView>(host: &H, files: &Listing) -> Result<(), Refusal>
+fn judge_opening<H: HostView>(host: &H, files: &Listing) -> Result<(), ChangeRefusal>
     ensures ok { OnOk result ((site : Site) (auto : _) → commit_refusal (H.host host.now) (command.Open site files.now auto) ≡ None) }
-    ensures refused { IfErr result (λ reason. (reason ≢ Refusal.OutOfMemory)
-        × ((site : Site) (auto : _) → commit_refusal (H.host host.now) (command.Open site files.now auto) ≡ Some reason)) }
+    ensures refused { IfErr result (λ reason.
+        (site : Site) (auto : _) → commit_refusal (H.host host.now) (command.Open site files.now auto) ≡ Some reason) }
 {
     if host.is_full() {
-        return Err(Refusal::HistoryFull);
+        return Err(ChangeRefusal::HistoryFull);
     }
     if files.entries().len() > MOST_FILES {
-        return Err(Refusal::TooManyFiles);
+        return Err(ChangeRefusal::TooManyFiles);
     }
     Ok(())
 }
@@ -50,7 +49,6 @@ impl SoloHouse {
     /// Publishes a deploy if it is ready, and answers the entry that did. On an error it stays open.
     pub(crate) fn publish_if_ready(
         &mut self,
-        alloc: Global,
         site: &SiteName,
         number: u64,
     ) -> Result<Option<u64>, Refusal>
@@ -63,18 +61,12 @@ impl SoloHouse {
             return Ok(None);
         }
         let site = site.copied();
-        let entry = self.commit(alloc, Command::Publish { site, number })?;
+        let entry = self.commit(Command::Publish { site, number })?;
         Ok(Some(entry))
     }
 
     /// Opens a deploy, and publishes it if it is ready.
-    fn open(
-        &mut self,
-        alloc: Global,
-        site: SiteName,
-        files: Listing,
-        auto: bool,
-    ) -> Result<Told, Refusal>
+    fn open(&mut self, site: SiteName, files: Listing, auto: bool) -> Result<Told, Refusal>
         ensures done { DoesCommit result self.new self.old (command.Open site files auto) }
         ensures told { IfOk result (λ told. Outcomes.is_refusal told ≡ false) }
         ensures stands { let opening = command.Open site files auto in
@@ -84,33 +76,33 @@ impl SoloHouse {
     {
         judge_opening(self, &files)?;
         let draft = Draft { auto, files };
-        let required = missing(alloc, &draft, self.uploads())?;
+        let required = missing(self.uploads().allocator(), &draft, self.uploads())?;
         let owner = site.copied();
         let Draft { auto, files } = draft;
-        let id = self.commit(alloc, Command::Open { site, files, auto })?;
-        let published = self.publish_if_ready(alloc, &owner, id)?;
+        let id = self.commit(Command::Open { site, files, auto })?;
+        let published = self.publish_if_ready(&owner, id)?;
         Ok(Told::Opened {
             id,
             published,
-            required: Digests::from(required),
+            required: Items::from(required),
         })
     }
 
     /// Commits a command, and tells its entry's number. On an error nothing changes.
-    fn enter(&mut self, alloc: Global, command: Command) -> Result<Told, Refusal>
+    fn enter(&mut self, command: Command) -> Result<Told, Refusal>
         ensures done { Does result self.new (enter_outcome self.old command (commit_refusal self.old command)) }
         ensures told { IfOk result (λ told. Outcomes.is_refusal told ≡ false) }
         ensures memory { IsErrOf result Refusal.OutOfMemory → commit_refusal self.old command ≡ None }
         ensures err { OnErr result (self.new ≡ self.old) }
         ensures grows { Grows self.old self.new }
     {
-        let number = self.commit(alloc, command)?;
+        let number = self.commit(command)?;
         Ok(Told::Entered { number })
     }
 
     /// Commits a command, and publishes a deploy that it leaves ready. Where that publishing fails, out of memory or
     /// because the history is full, the command remains.
-    pub fn change(&mut self, alloc: Global, command: Command) -> Result<Told, Refusal>
+    pub fn change(&mut self, command: Command) -> Result<Told, Refusal>
         ensures done { DoesCommit result self.new self.old command }
         ensures told { IfOk result (λ told. Outcomes.is_refusal told ≡ false) }
         ensures memory { IsErrOf result Refusal.OutOfMemory → CommandRunsOut self.old command self.new }
@@ -118,30 +110,25 @@ impl SoloHouse {
         ensures grows { Grows self.old self.new }
     {
         match command {
-            Command::Open { site, files, auto } => self.open(alloc, site, files, auto),
-            other => self.enter(alloc, other),
+            Command::Open { site, files, auto } => self.open(site, files, auto),
+            other => self.enter(other),
         }
     }
 
     /// Undoes a change of a site. On an error nothing changes.
-    pub fn take_back(
-        &mut self,
-        alloc: Global,
-        site: &SiteName,
-        change: u64,
-    ) -> Result<Told, Refusal>
+    pub fn take_back(&mut self, site: &SiteName, change: u64) -> Result<Told, Refusal>
         ensures done { Does result self.new (undone self.old site.now change (Reasons.undo_refusal self.old site.now change)) }
         ensures told { IfOk result (λ told. Outcomes.is_refusal told ≡ false) }
         ensures memory { IsErrOf result Refusal.OutOfMemory → may_take_memory (Reasons.undo_refusal self.old site.now change) ≡ true }
         ensures err { OnErr result (self.new ≡ self.old) }
         ensures grows { Grows self.old self.new }
     {
-        let number = self.undo(alloc, site, change)?;
+        let number = self.undo(site, change)?;
         Ok(Told::Entered { number })
     }
 
     /// Cancels an open deploy, in the site that has it. On an error nothing changes.
-    pub fn cancel(&mut self, alloc: Global, number: u64) -> Result<Told, Refusal>
+    pub fn cancel(&mut self, number: u64) -> Result<Told, Refusal>
         ensures done { Does result self.new (deploy_outcome self.old number (λ site. command.Cancel site number)) }
         ensures told { IfOk result (λ told. Outcomes.is_refusal told ≡ false) }
         ensures memory { IsErrOf result Refusal.OutOfMemory → deploy_refusal self.old number (λ site. command.Cancel site number) ≡ None }
@@ -149,11 +136,11 @@ impl SoloHouse {
         ensures grows { Grows self.old self.new }
     {
         let site = owner(self, number)?;
-        self.enter(alloc, Command::Cancel { site, number })
+        self.enter(Command::Cancel { site, number })
     }
 
     /// Removes a deploy that was published whole, in the site that has it. On an error nothing changes.
-    pub fn remove_deploy(&mut self, alloc: Global, number: u64) -> Result<Told, Refusal>
+    pub fn remove_deploy(&mut self, number: u64) -> Result<Told, Refusal>
         ensures done { Does result self.new (deploy_outcome self.old number (λ site. command.RemoveDeploy site number)) }
         ensures told { IfOk result (λ told. Outcomes.is_refusal told ≡ false) }
         ensures memory { IsErrOf result Refusal.OutOfMemory → deploy_refusal self.old number (λ site. command.RemoveDeploy site number) ≡ None }
@@ -161,6 +148,6 @@ impl SoloHouse {
         ensures grows { Grows self.old self.new }
     {
         let site = owner(self, number)?;
-        self.enter(alloc, Command::RemoveDeploy { site, number })
+        self.enter(Command::RemoveDeploy { site, number })
     }
 }

@@ -9,8 +9,8 @@ ghost use Rattle.site_state.specs.States.{draft_at, kept_at};
 
 use super::views::HostView;
 use change_undo::Entry;
-use host_api::{DeployState, Digests, Refusal, Told};
-use host_names::SiteName;
+use host_api::{DeployState, Items, Refusal, Told};
+use host_names::{ChangeRefusal, SiteName};
 use site_change::Command;
 use site_state::missing;
 use std::alloc::Global;
@@ -26,13 +26,13 @@ pub(crate) fn site_of_deploy<H: HostView>(host: &H, number: u64) -> Option<&Site
 }
 
 /// The same, as a command has it.
-pub(crate) fn owner<H: HostView>(host: &H, number: u64) -> Result<SiteName, Refusal>
+pub(crate) fn owner<H: HostView>(host: &H, number: u64) -> Result<SiteName, ChangeRefusal>
     ensures found { IfOk result (λ site. Outcomes.site_of_deploy (entry_at (H.host host.now).entries number) ≡ Some site) }
-    ensures refused { IfErr result (λ reason. (Outcomes.site_of_deploy (entry_at (H.host host.now).entries number) ≡ None) × (reason ≡ Refusal.NoSuchDeploy)) }
+    ensures refused { IfErr result (λ reason. (Outcomes.site_of_deploy (entry_at (H.host host.now).entries number) ≡ None) × (reason ≡ ChangeRefusal.NoSuchDeploy)) }
 {
     match site_of_deploy(host, number) {
         Some(site) => Ok(site.copied()),
-        None => Err(Refusal::NoSuchDeploy),
+        None => Err(ChangeRefusal::NoSuchDeploy),
     }
 }
 
@@ -48,12 +48,12 @@ fn state_of_deploy<H: HostView>(
 {
     let state = host.state();
     if let Some(draft) = state.draft(site, number) {
-        let required = Digests::from(missing(alloc, draft, host.uploads())?);
+        let required = Items::from(missing(alloc, draft, host.uploads())?);
         return Ok(DeployState::Open { required });
     }
     match state.kept(site, number) {
         Some(_) => Ok(DeployState::Kept),
-        None => Err(Refusal::NoSuchDeploy),
+        None => Err(Refusal::Change(ChangeRefusal::NoSuchDeploy)),
     }
 }
 
@@ -64,7 +64,7 @@ pub fn show_deploy<H: HostView>(alloc: Global, host: &H, number: u64) -> Result<
     ensures memory { IsErrOf result Refusal.OutOfMemory → spec.is_open (H.host host.now) number ≡ true }
 {
     let Some(site) = site_of_deploy(host, number) else {
-        return Err(Refusal::NoSuchDeploy);
+        return Err(Refusal::Change(ChangeRefusal::NoSuchDeploy));
     };
     let state = state_of_deploy(alloc, host, site, number)?;
     Ok(Told::Deploy {

@@ -2,22 +2,20 @@
 ghost use Rattle.std.specs.Prelude.{◌≡◌, ◌≢◌, ◌≤◌, ◌⊎◌, Option, ℕ, [], Some, None, Ok, Err, IfOk, IfErr, OnOk, OnErr, length, nat_le, option_copied, option_map};
 ghost use Rattle.std.specs.FinMap as map;
 ghost use Rattle.host_names.specs.Blobs.{digest_of};
-ghost use Rattle.change_undo.specs.Histories.{run, entry_at, marked_entry};
+ghost use Rattle.host_names.specs.Refusals.{IsRefusedBy};
+ghost use Rattle.change_undo.specs.Histories.{run, entry_at, marked_entry, IsUndoRefusedBy};
 ghost use Rattle.change_undo.specs.declared.entries.Entry.TheVariants as entry;
 ghost use Rattle.host_server.specs.Answers.{Grows};
 ghost use Rattle.host_server.specs.Hosts.{Host, state_of, next_number, with_entry, with_upload, IsLawful};
 ghost use Rattle.host_server.specs.Reasons;
-ghost use Rattle.host_server.specs.Reasons.{commit_refusal, IsReason, IsUndoReason};
+ghost use Rattle.host_server.specs.Reasons.{commit_refusal};
 
-use super::reasons::{commit_reason, undo_error_reason};
 use change_undo::{Entry, History};
-use host_api::Refusal;
-use host_names::{BlobInfo, MemoryUploads, SiteName, Uploads};
+use host_names::{BlobInfo, ChangeError, MemoryUploads, SiteName, Uploads};
 use site_change::Command;
 use site_state::State;
-use std::alloc::Global;
+use std::alloc::{AllocError, Global};
 use std::marker::Model;
-use std::sync::Arc;
 
 /// A host on one thread. Contracts see its entries, their limit, and its uploads; the state is what these give.
 #[derive(Drop)]
@@ -107,54 +105,35 @@ impl SoloHouse {
     }
 
     /// Commits a command as the next entry, and answers its number. On an error nothing changes.
-    pub(crate) fn commit(&mut self, alloc: Global, command: Command) -> Result<u64, Refusal>
+    pub(crate) fn commit(&mut self, command: Command) -> Result<u64, ChangeError>
         ensures number { IfOk result (λ number. number ≡ next_number self.old) }
-        ensures accepted { OnOk result (commit_refusal self.old command ≡ None) }
         ensures entries { OnOk result (self.new ≡ with_entry self.old (entry.Change command)) }
-        ensures refused { IfErr result (λ reason. IsReason (commit_refusal self.old command) reason) }
+        ensures refused { IsRefusedBy (commit_refusal self.old command) result }
         ensures err { OnErr result (self.new ≡ self.old) }
         ensures grows { Grows self.old self.new }
     {
-        self.history
-            .commit(alloc, &self.uploads, command)
-            .map_err(commit_reason)
+        self.history.commit(&self.uploads, command)
     }
 
     /// Undoes a change of this site by the next entry, and answers its number. On an error nothing changes.
-    pub(crate) fn undo(
-        &mut self,
-        alloc: Global,
-        site: &SiteName,
-        change: u64,
-    ) -> Result<u64, Refusal>
+    pub(crate) fn undo(&mut self, site: &SiteName, change: u64) -> Result<u64, ChangeError>
         ensures number { IfOk result (λ number. number ≡ next_number self.old) }
-        ensures accepted { OnOk result (Reasons.undo_refusal self.old site.now change ≡ None) }
         ensures entries { OnOk result (self.new ≡ with_entry self.old (entry.Undo site.now change)) }
-        ensures refused { IfErr result (λ reason. IsUndoReason (Reasons.undo_refusal self.old site.now change) reason) }
+        ensures refused { IsUndoRefusedBy (Reasons.undo_refusal self.old site.now change) result }
         ensures err { OnErr result (self.new ≡ self.old) }
         ensures grows { Grows self.old self.new }
     {
-        self.history
-            .undo(alloc, site, change)
-            .map_err(undo_error_reason)
+        self.history.undo(site, change)
     }
 
     /// Adds a file to the uploads. A digest that is known keeps its file, and takes no memory. Without memory nothing
     /// changes.
-    pub(crate) fn keep(&mut self, alloc: Global, file: BlobInfo) -> Result<(), Refusal>
+    pub(crate) fn keep(&mut self, file: BlobInfo) -> Result<(), AllocError>
         ensures ok { OnOk result (self.new ≡ with_upload self.old file) }
         ensures err { OnErr result (self.new ≡ self.old) }
-        ensures memory { IfErr result (λ reason. reason ≡ Refusal.OutOfMemory) }
         ensures unknown { OnErr result (map.get self.old.uploads (digest_of file) ≡ None) }
         ensures grows { Grows self.old self.new }
     {
-        if self.uploads.find(&file.digest()).is_some() {
-            return Ok(());
-        }
-        let Ok(file) = Arc::new(alloc, file) else {
-            return Err(Refusal::OutOfMemory);
-        };
-        self.uploads.keep(file)?;
-        Ok(())
+        self.uploads.add_file(file)
     }
 }

@@ -4,7 +4,6 @@ mod change_lists;
 mod changes;
 mod deploys;
 mod houses;
-mod reasons;
 mod uploads;
 mod versions;
 mod views;

@@ -11,8 +11,7 @@ use super::deploys::site_of_deploy;
 use super::houses::SoloHouse;
 use super::views::HostView;
 use host_api::{Refusal, Told};
-use host_names::{BlobInfo, Digest, FilePath, SiteName};
-use std::alloc::Global;
+use host_names::{BlobInfo, ChangeRefusal, Digest, FilePath, SiteName};
 
 /// The digest that a deploy, which is open or kept, lists at a path; none where it removes the file.
 fn listed_at<H: HostView>(
@@ -45,10 +44,10 @@ fn judge_upload<H: HostView>(
     ensures refused { IfErr result (λ reason. Outcomes.judge_upload (H.host host.now) number path.now bytes.items ≡ Err reason) }
 {
     let Some(site) = site_of_deploy(host, number) else {
-        return Err(Refusal::NoSuchDeploy);
+        return Err(Refusal::Change(ChangeRefusal::NoSuchDeploy));
     };
     let Some(listed) = listed_at(host, site, number, path) else {
-        return Err(Refusal::NoSuchDeploy);
+        return Err(Refusal::Change(ChangeRefusal::NoSuchDeploy));
     };
     let digest = listed.ok_or(Refusal::NotListed)?;
     let file = BlobInfo::from(bytes);
@@ -61,13 +60,7 @@ fn judge_upload<H: HostView>(
 impl SoloHouse {
     /// Takes the bytes as the file of a path of a deploy, and publishes the deploy if it is ready. Where that fails, the
     /// upload remains.
-    pub fn upload(
-        &mut self,
-        alloc: Global,
-        number: u64,
-        path: &FilePath,
-        bytes: Vec<u8>,
-    ) -> Result<Told, Refusal>
+    pub fn upload(&mut self, number: u64, path: &FilePath, bytes: Vec<u8>) -> Result<Told, Refusal>
         ensures done { Does result self.new (upload_outcome self.old number path.now bytes.items) }
         ensures told { IfOk result (λ told. Outcomes.is_refusal told ≡ false) }
         ensures memory { IsErrOf result Refusal.OutOfMemory → UploadRunsOut self.old number path.now bytes.items self.new }
@@ -76,8 +69,8 @@ impl SoloHouse {
         ensures grows { Grows self.old self.new }
     {
         let (site, digest, file) = judge_upload(self, number, path, bytes)?;
-        self.keep(alloc, file)?;
-        let published = self.publish_if_ready(alloc, &site, number)?;
+        self.keep(file)?;
+        let published = self.publish_if_ready(&site, number)?;
         Ok(Told::Uploaded { published, digest })
     }
 }

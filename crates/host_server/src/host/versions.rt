@@ -7,7 +7,7 @@ ghost use Rattle.site_state.specs.States.{kept_at};
 
 use super::views::HostView;
 use host_api::{Refusal, Version};
-use host_names::{FilePath, SiteName};
+use host_names::{ChangeRefusal, FilePath, SiteName};
 use site_state::File;
 
 /// The file that a deploy of the site, which was published whole, has at a path.
@@ -22,9 +22,10 @@ fn kept_file<'a, H: HostView>(
     ensures plain { IfErr result (λ refusal. has_cell refusal ≡ false) }
 {
     let Some(tree) = host.state().kept(site, deploy) else {
-        return Err(Refusal::NoSuchDeploy);
+        return Err(Refusal::Change(ChangeRefusal::NoSuchDeploy));
     };
-    tree.get(path).ok_or(Refusal::NoSuchFile)
+    tree.get(path)
+        .ok_or(Refusal::Change(ChangeRefusal::NoSuchFile))
 }
 
 /// The file that a version of the site has at a path, or the first reason why it has none.
@@ -39,10 +40,13 @@ pub(crate) fn file<'a, H: HostView>(
     ensures plain { IfErr result (λ refusal. has_cell refusal ≡ false) }
 {
     match version {
-        Version::Live => host.state().file(site, path).ok_or(Refusal::NoSuchFile),
+        Version::Live => host
+            .state()
+            .file(site, path)
+            .ok_or(Refusal::Change(ChangeRefusal::NoSuchFile)),
         Version::Alias(name) => {
             let Some(deploy) = host.state().alias(site, name) else {
-                return Err(Refusal::NoSuchAlias);
+                return Err(Refusal::Change(ChangeRefusal::NoSuchAlias));
             };
             kept_file(host, site, deploy, path)
         }

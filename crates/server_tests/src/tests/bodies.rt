@@ -18,9 +18,9 @@ fn assert_fails_in_the_head<S: Source + Drop>(
     source: S,
 ) -> Result<(), Fail> {
     let mut wire = Reader::new(alloc, given(source))?;
-    assert_no_head(rt, alloc, &mut wire, HeadFault::ReadFault);
-    assert_head(rt, alloc, &mut wire, "PUT", "/")?;
-    assert_body(rt, alloc, &mut wire, "body")
+    assert_no_head(rt, &mut wire, HeadFault::ReadFault);
+    assert_head(rt, &mut wire, "PUT", "/")?;
+    assert_body(rt, &mut wire, "body")
 }
 
 // A read that fails takes nothing from the stream, and isn't tried again: each byte has a call of its own.
@@ -41,8 +41,8 @@ fn assert_fails_in_the_body<S: Source + Drop>(
     source: S,
 ) -> Result<(), Fail> {
     let mut wire = Reader::new(alloc, given(source))?;
-    assert_head(rt, alloc, &mut wire, "PUT", "/")?;
-    assert_no_body(rt, alloc, &mut wire, 4, BodyFault::ReadFault);
+    assert_head(rt, &mut wire, "PUT", "/")?;
+    assert_no_body(rt, &mut wire, 4, BodyFault::ReadFault);
     Ok(())
 }
 
@@ -57,16 +57,12 @@ fn a_read_fails_at_each_byte_of_a_body(rt: HostRuntime) -> Result<(), Fail> {
 }
 
 /// Asserts that a wire has the body in pieces and reads nothing after it, where the next read fails.
-fn assert_pieces<D: Duplex>(
-    rt: &impl Abort,
-    alloc: Global,
-    wire: &mut Reader<D>,
-) -> Result<(), Fail> {
-    assert_head(rt, alloc, wire, "PUT", "/")?;
-    assert_body(rt, alloc, wire, "bo")?;
-    assert_body(rt, alloc, wire, "dy")?;
-    assert_body(rt, alloc, wire, "")?;
-    assert_no_body(rt, alloc, wire, 1, BodyFault::ReadFault);
+fn assert_pieces<D: Duplex>(rt: &impl Abort, wire: &mut Reader<D>) -> Result<(), Fail> {
+    assert_head(rt, wire, "PUT", "/")?;
+    assert_body(rt, wire, "bo")?;
+    assert_body(rt, wire, "dy")?;
+    assert_body(rt, wire, "")?;
+    assert_no_body(rt, wire, 1, BodyFault::ReadFault);
     Ok(())
 }
 
@@ -74,18 +70,14 @@ fn assert_pieces<D: Duplex>(
 fn reads_bodies_in_a_row_and_nothing_after_them(rt: HostRuntime) -> Result<(), Fail> {
     let alloc = rt.alloc();
     let source = Reading(Trickle::new(STREAM, STREAM.len()));
-    assert_pieces(&rt, alloc, &mut Reader::new(alloc, given(source))?)
+    assert_pieces(&rt, &mut Reader::new(alloc, given(source))?)
 }
 
 /// Asserts that a wire ends in a body of 4 bytes, and has no head then.
-fn assert_ends<D: Duplex>(
-    rt: &impl Abort,
-    alloc: Global,
-    wire: &mut Reader<D>,
-) -> Result<(), Fail> {
-    assert_head(rt, alloc, wire, "PUT", "/")?;
-    assert_no_body(rt, alloc, wire, 4, BodyFault::Ended);
-    assert_no_head(rt, alloc, wire, HeadFault::Ended);
+fn assert_ends<D: Duplex>(rt: &impl Abort, wire: &mut Reader<D>) -> Result<(), Fail> {
+    assert_head(rt, wire, "PUT", "/")?;
+    assert_no_body(rt, wire, 4, BodyFault::Ended);
+    assert_no_head(rt, wire, HeadFault::Ended);
     Ok(())
 }
 
@@ -93,5 +85,5 @@ fn assert_ends<D: Duplex>(
 fn a_body_ends_in_its_midst(rt: HostRuntime) -> Result<(), Fail> {
     let alloc = rt.alloc();
     let source = Reading(Trickle::new(b"PUT / HTTP/1.1\n\nbod", NEVER));
-    assert_ends(&rt, alloc, &mut Reader::new(alloc, given(source))?)
+    assert_ends(&rt, &mut Reader::new(alloc, given(source))?)
 }

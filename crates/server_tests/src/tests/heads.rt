@@ -6,7 +6,7 @@ use super::wires::{
     Reader, assert_body, assert_head, assert_no_head, assert_parts, first_head, given,
 };
 use http::Version;
-use http_wire::{Duplex, HEAD_LIMIT, Head, HeadFault, Reading, check_body};
+use http_wire::{Duplex, Fields, HEAD_LIMIT, Head, HeadFault, Reading, check_body};
 use std::alloc::{AllocError, Global};
 use std::process::Abort;
 use std::test::Fail;
@@ -16,11 +16,11 @@ const TWO: &[u8] = b"\r\n\nPUT /a HTTP/1.1\nHost: x\ncontent-LENGTH: 3\n\n\
     abcGET /b?q HTTP/1.1\r\nAccept: */*\r\n\r\n";
 
 /// Asserts that a wire has these two requests and then ends.
-fn assert_two<D: Duplex>(rt: &impl Abort, alloc: Global, wire: &mut Reader<D>) -> Result<(), Fail> {
-    assert_head(rt, alloc, wire, "PUT", "/a")?;
-    assert_body(rt, alloc, wire, "abc")?;
-    assert_head(rt, alloc, wire, "GET", "/b?q")?;
-    assert_no_head(rt, alloc, wire, HeadFault::Ended);
+fn assert_two<D: Duplex>(rt: &impl Abort, wire: &mut Reader<D>) -> Result<(), Fail> {
+    assert_head(rt, wire, "PUT", "/a")?;
+    assert_body(rt, wire, "abc")?;
+    assert_head(rt, wire, "GET", "/b?q")?;
+    assert_no_head(rt, wire, HeadFault::Ended);
     Ok(())
 }
 
@@ -30,7 +30,7 @@ fn reads_two_requests_one_byte_a_call(rt: HostRuntime) -> Result<(), Fail> {
     let alloc = rt.alloc();
     let mut source = Trickle::new(TWO, NEVER);
     let duplex = given(Reading(&mut source));
-    assert_two(&rt, alloc, &mut Reader::new(alloc, duplex)?)?;
+    assert_two(&rt, &mut Reader::new(alloc, duplex)?)?;
     assert_number(&rt, source.calls, TWO.len() + 1);
     Ok(())
 }
@@ -44,9 +44,9 @@ fn takes_heads_that_are_not_served_whole(rt: HostRuntime) -> Result<(), Fail> {
     let alloc = rt.alloc();
     let mut wire = Reader::new(alloc, given(REFUSED))?;
     for _ in 0..4u8 {
-        assert_no_head(&rt, alloc, &mut wire, HeadFault::BadHead);
+        assert_no_head(&rt, &mut wire, HeadFault::BadHead);
     }
-    assert_head(&rt, alloc, &mut wire, "GET", "/last")
+    assert_head(&rt, &mut wire, "GET", "/last")
 }
 
 /// A head of one byte too many before its end, and a byte after it.
@@ -62,13 +62,12 @@ fn long_head(alloc: Global) -> Result<String, AllocError> {
 /// Asserts that a wire refuses a head again and again, and then has these bytes.
 fn assert_refuses<D: Duplex>(
     rt: &impl Abort,
-    alloc: Global,
     wire: &mut Reader<D>,
     left: &str,
 ) -> Result<(), Fail> {
-    assert_no_head(rt, alloc, wire, HeadFault::BadHead);
-    assert_no_head(rt, alloc, wire, HeadFault::BadHead);
-    assert_body(rt, alloc, wire, left)
+    assert_no_head(rt, wire, HeadFault::BadHead);
+    assert_no_head(rt, wire, HeadFault::BadHead);
+    assert_body(rt, wire, left)
 }
 
 #[test]
@@ -77,7 +76,7 @@ fn leaves_a_head_that_is_too_long_in_the_stream(rt: HostRuntime) -> Result<(), F
     let text = long_head(alloc)?;
     let stream = text.as_bytes();
     let mut wire = Reader::new(alloc, given(stream))?;
-    assert_refuses(&rt, alloc, &mut wire, text.as_str())
+    assert_refuses(&rt, &mut wire, text.as_str())
 }
 
 /// A head with a field that comes twice, an empty one, and blanks around values.
@@ -95,6 +94,27 @@ fn assert_values(rt: &impl Abort, head: &Head) {
     assert_value(rt, twice.next(), None);
     assert_value(rt, head.values("c").next(), Some(b""));
     assert_value(rt, head.values("d").next(), None);
+}
+
+/// Asserts the next of all fields: its name, and its value.
+fn assert_field(rt: &impl Abort, fields: &mut Fields<'_>, name: &[u8], value: &[u8]) {
+    assert_eq!(rt; fields.next(), Some((name, value)));
+}
+
+fn assert_fields(rt: &impl Abort, head: &Head) {
+    let mut fields = head.fields();
+    assert_field(rt, &mut fields, b"A", b"1");
+    assert_field(rt, &mut fields, b"content-length", b"018446744073709551615");
+    assert_field(rt, &mut fields, b"a", b"3");
+    assert_field(rt, &mut fields, b"C", b"");
+    assert!(rt; fields.next().is_none());
+}
+
+#[test]
+fn gives_all_fields_in_order(rt: HostRuntime) -> Result<(), Fail> {
+    let head = first_head(rt.alloc(), FIELDS)?;
+    assert_fields(&rt, &head);
+    Ok(())
 }
 
 #[test]

@@ -3,7 +3,7 @@
 use super::asserts::{assert_number, assert_text};
 use super::fakes::{NEVER, Narrow};
 use http::StatusCode;
-use http_wire::{ContentRange, Pair, ReplyHead, WriteFault, Writing, write_reply};
+use http_wire::{ContentRange, FieldText, Pair, ReplyHead, WriteFault, Writing, write_reply};
 use std::alloc::Global;
 use std::process::Abort;
 use std::test::Fail;
@@ -17,16 +17,16 @@ const REPLY: &str = "HTTP/1.1 206 Partial Content\r\nContent-Type: text/plain; c
 fn write(out: Narrow) -> (Result<(), WriteFault>, Narrow) {
     let head = ReplyHead {
         status: StatusCode::PARTIAL_CONTENT,
-        content_type: Some("text/plain; charset=utf-8"),
+        content_type: Some(FieldText::new("text/plain; charset=utf-8")),
         content_length: Some(5),
-        etag: Some("2aae6c35c94fcfb415dbe95f408b9ce91ee846ed"),
+        etag: Some(FieldText::new("2aae6c35c94fcfb415dbe95f408b9ce91ee846ed")),
         accept_ranges: true,
         content_range: Some(ContentRange::Of {
             first: 6,
             last: 10,
             length: 11,
         }),
-        allow: Some("GET, HEAD"),
+        allow: Some(FieldText::new("GET, HEAD")),
         close: true,
     };
     let mut duplex = Pair {

@@ -18,14 +18,14 @@ fn assert_says<S: Source + Drop>(
     wanted: (usize, &str),
     held: &str,
 ) {
-    let mut errors = Vec::new(alloc);
+    let mut errors = Writing(Vec::new(alloc));
     let mut duplex = Pair {
         source,
         sink: Writing(out),
     };
     let status = run_solo(alloc, ["solo"].as_slice(), &mut duplex, &mut errors);
     assert_number(rt, usize::from(status), wanted.0);
-    assert_text(rt, errors.as_slice(), wanted.1);
+    assert_text(rt, errors.0.as_slice(), wanted.1);
     assert_text(rt, duplex.sink.0.held.as_slice(), held);
 }
 
@@ -66,9 +66,9 @@ fn keeps_the_status_where_nobody_listens(rt: HostRuntime) -> Result<(), Fail> {
         source: Reading(Trickle::new(REQUEST, 2)),
         sink: Writing(Narrow::new(alloc, 1, NEVER, true)),
     };
-    let mut errors = Narrow::new(alloc, 1, 3, true);
+    let mut errors = Writing(Narrow::new(alloc, 1, 3, true));
     let status = run_solo(alloc, ["solo"].as_slice(), &mut duplex, &mut errors);
     assert_number(&rt, usize::from(status), 2);
-    assert_text(&rt, errors.held.as_slice(), "fil");
+    assert_text(&rt, errors.0.held.as_slice(), "fil");
     Ok(())
 }

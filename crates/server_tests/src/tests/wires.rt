@@ -17,7 +17,7 @@ pub(crate) fn given<R>(source: R) -> Pair<R, Counting> {
 /// The first head of these bytes.
 pub(crate) fn first_head(alloc: Global, bytes: &[u8]) -> Result<Head, HeadFault> {
     let mut wire = Wire::new(alloc)?;
-    wire.read_head(alloc, &mut given(bytes))
+    wire.read_head(&mut given(bytes))
 }
 
 /// Asserts the method and the target of a head.
@@ -48,36 +48,29 @@ impl<D> Reader<D> {
 /// Asserts the method and the target of the next head.
 pub(crate) fn assert_head<D: Duplex>(
     rt: &impl Abort,
-    alloc: Global,
     reader: &mut Reader<D>,
     method: &str,
     target: &str,
 ) -> Result<(), Fail> {
-    let head = reader.wire.read_head(alloc, &mut reader.duplex)?;
+    let head = reader.wire.read_head(&mut reader.duplex)?;
     assert_parts(rt, &head, method, target);
     Ok(())
 }
 
 /// Asserts that there is no next head, for this reason.
-pub(crate) fn assert_no_head<D: Duplex>(
-    rt: &impl Abort,
-    alloc: Global,
-    reader: &mut Reader<D>,
-    fault: HeadFault,
-) {
-    let read = reader.wire.read_head(alloc, &mut reader.duplex);
+pub(crate) fn assert_no_head<D: Duplex>(rt: &impl Abort, reader: &mut Reader<D>, fault: HeadFault) {
+    let read = reader.wire.read_head(&mut reader.duplex);
     assert_eq!(rt; read.err(), Some(fault));
 }
 
 /// Asserts the next body, of as many bytes as this text.
 pub(crate) fn assert_body<D: Duplex>(
     rt: &impl Abort,
-    alloc: Global,
     reader: &mut Reader<D>,
     wanted: &str,
 ) -> Result<(), Fail> {
     let size = wanted.len() as u64;
-    let body = reader.wire.read_body(alloc, &mut reader.duplex, size)?;
+    let body = reader.wire.read_body(&mut reader.duplex, size)?;
     assert_text(rt, body.as_slice(), wanted);
     Ok(())
 }
@@ -85,11 +78,10 @@ pub(crate) fn assert_body<D: Duplex>(
 /// Asserts that there is no next body of so many bytes, for this reason.
 pub(crate) fn assert_no_body<D: Duplex>(
     rt: &impl Abort,
-    alloc: Global,
     reader: &mut Reader<D>,
     count: u64,
     fault: BodyFault,
 ) {
-    let read = reader.wire.read_body(alloc, &mut reader.duplex, count);
+    let read = reader.wire.read_body(&mut reader.duplex, count);
     assert_eq!(rt; read.err(), Some(fault));
 }

@@ -1,8 +1,8 @@
 use Rattle.std.proofs.Common.{◌≡◌, cond, Option, Some, option_map, Result, Ok, Err, IfOk, OnErr, true, arith, sym, ap, ◌∙◌}
 use Rattle.std.specs.FinMap as map
 use Rattle.host_names.specs.Blobs.{Contents}
-use Rattle.change_undo.specs.declared.entries.UndoRefusal.{UndoRefusal}
-use Rattle.change_undo.specs.declared.entries.UndoRefusal.TheVariants.{AlreadyUndone, Clash}
+use Rattle.host_names.specs.declared.refusals.ChangeRefusal.{ChangeRefusal}
+use Rattle.host_names.specs.declared.refusals.ChangeRefusal.TheVariants.{AlreadyUndone, Clash}
 use Rattle.change_undo.specs.Clashes.{clash_in}
 use Rattle.change_undo.specs.Histories.{may_take_memory, undo_refusal}
 use Rattle.change_undo.specs.Kept.{ArePlanned}
@@ -11,12 +11,12 @@ use Rattle.change_undo.proofs.Marks.{named_site, refusal_by_mark}
 use Rattle.change_undo.proofs.refusals.undo_refusal.Goals as goal
 
 -- a reason that is answered is also one that is the same
-same_reason : {E : Type 0} (r : Result (Option UndoRefusal) E) (P : Contents → Type 0) (a b : Contents → Option UndoRefusal) → ((u : Contents) → a u ≡ b u)
+same_reason : {E : Type 0} (r : Result (Option ChangeRefusal) E) (P : Contents → Type 0) (a b : Contents → Option ChangeRefusal) → ((u : Contents) → a u ≡ b u)
     → IfOk r (λ x. (u : Contents) → P u → x ≡ a u) → IfOk r (λ x. (u : Contents) → P u → x ≡ b u)
 same_reason (Ok x) P a b same h = λ u p. h u p ∙ same u
 same_reason (Err e) P a b same h = tt
 
-without_memory : {A E : Type 0} (r : Result A E) (P : Contents → Type 0) (a b : Contents → Option UndoRefusal) → ((u : Contents) → a u ≡ b u)
+without_memory : {A E : Type 0} (r : Result A E) (P : Contents → Type 0) (a b : Contents → Option ChangeRefusal) → ((u : Contents) → a u ≡ b u)
     → OnErr r ((u : Contents) → P u → may_take_memory (a u) ≡ true) → OnErr r ((u : Contents) → P u → may_take_memory (b u) ≡ true)
 without_memory (Ok x) P a b same h = tt
 without_memory (Err e) P a b same h = λ u p. sym (ap may_take_memory (same u)) ∙ h u p

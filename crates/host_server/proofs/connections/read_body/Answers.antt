@@ -1,4 +1,4 @@
-use Rattle.std.proofs.Common.{◌≡◌, ℕ, List, Err, Global, codes, refl, rules, subst}
+use Rattle.std.proofs.Common.{◌≡◌, ℕ, Err, Global, codes, refl, rules, subst}
 use Rattle.std.specs.Str.{bytes_eq}
 use Rattle.http_wire.specs.declared.faults.BodyFault.{BodyFault}
 use Rattle.http_wire.specs.declared.faults.BodyFault.TheVariants as body_fault

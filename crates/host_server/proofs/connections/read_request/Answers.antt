@@ -1,4 +1,4 @@
-use Rattle.std.proofs.Common.{◌≡◌, ℕ, List, Result, Ok, Err, Global, length, vec_len, refl, rules, subst, sym}
+use Rattle.std.proofs.Common.{◌≡◌, Result, Err, Global, length, vec_len, refl, rules, subst, sym}
 use Rattle.http_wire.specs.Timing.{Ran}
 use Rattle.host_server.specs.Serving.{Stream, Stops, TakesRequest}
 use Rattle.host_server.specs.Timing.{AwaitsRequest, ReadsAs}

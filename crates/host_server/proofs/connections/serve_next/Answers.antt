@@ -1,4 +1,4 @@
-use Rattle.std.proofs.Common.{rules, ◌≡◌, ℕ, List, Result, Ok, Err, subst, sym}
+use Rattle.std.proofs.Common.{rules, ◌≡◌, Result, Ok, Err, subst, sym}
 use Rattle.http_wire.specs.Timing.{Ran}
 use Rattle.host_server.specs.Timing.{AwaitsRequest, TurnsAs}
 use Rattle.host_server.specs.declared.connections.ConnectionFault.{ConnectionFault}

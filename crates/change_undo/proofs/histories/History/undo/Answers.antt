@@ -1,10 +1,10 @@
-use Rattle.std.proofs.Common.{◌≡◌, ◌++◌, ◌∷◌, [], Some, true, arith, refl, sym, ap, subst, ◌∙◌}
+use Rattle.std.proofs.Common.{◌≡◌, ◌++◌, ◌∷◌, [], true, arith, refl, sym, ap, subst, ◌∙◌}
 use Rattle.change_undo.specs.declared.entries.Entry.TheVariants as entry
 use Rattle.change_undo.specs.Histories.{Past, may_take_memory}
 use Rattle.change_undo.specs.PlannedEntries.{entries_of}
 use Rattle.change_undo.specs.Past.{past_of}
 use Rattle.change_undo.proofs.Runs.{named-within}
-use Rattle.change_undo.proofs.Sound.{length-entries_of, next_number, allowed_by, over_all, sound-undo, over-undo, effect-over, at_once-over, writable}
+use Rattle.change_undo.proofs.Sound.{out_of_memory, length-entries_of, next_number, allowed_by, over_all, sound-undo, over-undo, effect-over, at_once-over, writable}
 use Rattle.change_undo.proofs.histories.History.undo.Goals as goal
 
 pub take_back-requires-clause-next : goal.take_back-requires-clause-next
@@ -24,26 +24,25 @@ take_back-requires-clause-writable c =
     (λ uploads over. allowed_by c.self.inside.limit c.self.inside.logged.items c.as_slice.result.now uploads c.self.inside.state c.args.site.now c.args.change c.in_ok-reason.field-0
     over c.as_slice.ensures.value c.in_ok-reason.ensures.found c.in_default.is)
 
-pub returns-in_err-reason-clause-memory : goal.returns-in_err-reason-clause-memory
-returns-in_err-reason-clause-memory c = λ is.
-    over_all (λ r. may_take_memory r ≡ true) c.self.inside.limit c.self.inside.logged.items c.as_slice.result.now c.self.inside.state c.args.site.now c.args.change c.self.invariant.marked
-    c.as_slice.ensures.value c.in_err-reason.ensures.memory c.args.self.now c.self.view_is
+pub returns-in_err-reason-clause-refused : goal.returns-in_err-reason-clause-refused
+returns-in_err-reason-clause-refused c = λ uploads over. out_of_memory _ c.from_residual.result c.from_residual.ensures.1
+    (over_all (λ r. may_take_memory r ≡ true) c.self.inside.limit c.self.inside.logged.items c.as_slice.result.now c.self.inside.state c.args.site.now c.args.change c.self.invariant.marked
+    c.as_slice.ensures.value c.in_err-reason.ensures.memory c.args.self.now c.self.view_is uploads over)
 
 pub returns-in-Some-clause-refused : goal.returns-in-Some-clause-refused
-returns-in-Some-clause-refused c = λ reason is uploads over.
-    let found = over_all (λ r. c.in_ok-reason.field-0 ≡ r) c.self.inside.limit c.self.inside.logged.items c.as_slice.result.now c.self.inside.state c.args.site.now c.args.change c.self.invariant.marked
-    c.as_slice.ensures.value c.in_ok-reason.ensures.found c.args.self.now c.self.view_is uploads over in
-    sym found ∙ c.in-Some.is ∙ ap Some (cc is)
+returns-in-Some-clause-refused c = λ uploads over.
+    sym (over_all (λ r. c.in_ok-reason.field-0 ≡ r) c.self.inside.limit c.self.inside.logged.items c.as_slice.result.now c.self.inside.state c.args.site.now c.args.change c.self.invariant.marked
+    c.as_slice.ensures.value c.in_ok-reason.ensures.found c.args.self.now c.self.view_is uploads over) ∙ c.in-Some.is
 
-pub returns-clause-accepted : goal.returns-clause-accepted
-returns-clause-accepted c = λ uploads over.
+pub returns-in_err-take_back-clause-refused : goal.returns-in_err-take_back-clause-refused
+returns-in_err-take_back-clause-refused c = λ uploads over. out_of_memory _ c.from_residual-in_err-take_back.result c.from_residual-in_err-take_back.ensures.1
+    (ap may_take_memory (sym (over_all (λ r. c.in_ok-reason.field-0 ≡ r) c.self.inside.limit c.self.inside.logged.items c.as_slice.result.now c.self.inside.state c.args.site.now c.args.change c.self.invariant.marked
+    c.as_slice.ensures.value c.in_ok-reason.ensures.found c.args.self.now c.self.view_is uploads over) ∙ c.in_default.is))
+
+pub returns-clause-refused : goal.returns-clause-refused
+returns-clause-refused c = λ uploads over.
     sym (over_all (λ r. c.in_ok-reason.field-0 ≡ r) c.self.inside.limit c.self.inside.logged.items c.as_slice.result.now c.self.inside.state c.args.site.now c.args.change c.self.invariant.marked
     c.as_slice.ensures.value c.in_ok-reason.ensures.found c.args.self.now c.self.view_is uploads over) ∙ c.in_default.is
-
-pub returns-in_err-take_back-clause-memory : goal.returns-in_err-take_back-clause-memory
-returns-in_err-take_back-clause-memory c = λ is uploads over.
-    ap may_take_memory (sym (over_all (λ r. c.in_ok-reason.field-0 ≡ r) c.self.inside.limit c.self.inside.logged.items c.as_slice.result.now c.self.inside.state c.args.site.now c.args.change c.self.invariant.marked
-    c.as_slice.ensures.value c.in_ok-reason.ensures.found c.args.self.now c.self.view_is uploads over) ∙ c.in_default.is)
 
 pub invariant_of-self-2 : goal.invariant_of-self-2
 invariant_of-self-2 c =
@@ -58,13 +57,13 @@ pub returns-clause-over : goal.returns-clause-over
 returns-clause-over c =
     let inside = c.self.inside in
     over-undo inside.limit inside.logged.items c.take_back.new.logged.items inside.state c.take_back.new.state c.args.site.now c.args.change c.self.invariant.marked c.args.self.now c.self.view_is
-    (returns-clause-accepted c) c.in_ok-take_back.ensures.entries c.in_ok-take_back.ensures.marked c.in_ok-take_back.ensures.state c.in_ok-take_back.ensures.planned
+    (returns-clause-refused c) c.in_ok-take_back.ensures.entries c.in_ok-take_back.ensures.marked c.in_ok-take_back.ensures.state c.in_ok-take_back.ensures.planned
 
 pub returns-clause-effect : goal.returns-clause-effect
 returns-clause-effect c =
     let new = past_of c.self.inside.limit c.take_back.new.logged.items c.take_back.new.state in
     let P : Past → Type 0 = λ p. entries_of c.take_back.new.logged.items ≡ p.entries ++ entry.Undo c.args.site.now c.args.change ∷ [] in
-    effect-over c.args.self.now new c.args.site.now c.args.change (returns-clause-accepted c) (returns-clause-over c) (subst P c.self.view_is c.in_ok-take_back.ensures.entries)
+    effect-over c.args.self.now new c.args.site.now c.args.change (returns-clause-refused c) (returns-clause-over c) (subst P c.self.view_is c.in_ok-take_back.ensures.entries)
 
 pub returns-clause-at_once : goal.returns-clause-at_once
 returns-clause-at_once c =

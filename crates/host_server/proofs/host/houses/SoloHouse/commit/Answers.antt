@@ -1,24 +1,18 @@
 use Rattle.std.proofs.Common.{subst}
 use Rattle.host_server.specs.Hosts.{Host}
 use Rattle.host_server.specs.Reasons.{commit_refusal}
-use Rattle.host_server.proofs.Refusing.{IsAnswered, commit_answers}
+use Rattle.host_names.specs.Refusals.{IsRefusedBy}
+use Rattle.host_server.proofs.Refusing.{refused_as_kept}
 use Rattle.change_undo.specs.declared.entries.Entry.TheVariants.{Change}
 use Rattle.host_server.specs.Answers.{Grows}
 use Rattle.host_server.specs.Hosts.{host_of}
 use Rattle.host_server.proofs.Growing.{grows_past, same_entries}
 use Rattle.host_server.proofs.host.houses.SoloHouse.commit.Goals as goal
 
-pub returns-clause-accepted : goal.returns-clause-accepted
-returns-clause-accepted c =
-    let P : Host → Type 0 = λ h. IsAnswered c.map_err.result (commit_refusal h c.args.command) in
-    (subst P c.self.view_is (commit_answers c.commit.result c.map_err.result c.self.inside.history c.self.inside.uploads c.args.command c.self.invariant
-    c.map_err.ensures.cases c.commit.ensures.full c.commit.ensures.refused)).0
-
 pub returns-clause-refused : goal.returns-clause-refused
 returns-clause-refused c =
-    let P : Host → Type 0 = λ h. IsAnswered c.map_err.result (commit_refusal h c.args.command) in
-    (subst P c.self.view_is (commit_answers c.commit.result c.map_err.result c.self.inside.history c.self.inside.uploads c.args.command c.self.invariant
-    c.map_err.ensures.cases c.commit.ensures.full c.commit.ensures.refused)).1
+    let P : Host → Type 0 = λ h. IsRefusedBy (commit_refusal h c.args.command) c.commit.result in
+    subst P c.self.view_is (refused_as_kept c.commit.result c.self.inside.history c.self.inside.uploads c.args.command c.self.invariant c.commit.ensures.refused)
 
 pub returns-clause-grows : goal.returns-clause-grows
 returns-clause-grows c =

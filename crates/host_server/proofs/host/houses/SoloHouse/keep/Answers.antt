@@ -7,15 +7,10 @@ use Rattle.host_server.proofs.host.houses.SoloHouse.keep.Goals as goal
 
 pub invariant_of-self : goal.invariant_of-self
 invariant_of-self c =
-    kept_by_upload c.keep.result c.self.inside.history c.self.inside.uploads c.keep.new.self c.in-Ok.file.value c.self.invariant
-    c.keep.ensures.ok c.keep.ensures.err
-
-pub invariant_of-self-2 : goal.invariant_of-self-2
-invariant_of-self-2 c =
-    kept_by_upload c.keep.result c.self.inside.history c.self.inside.uploads c.keep.new.self c.in-Ok.file.value c.self.invariant
-    c.keep.ensures.ok c.keep.ensures.err
+    kept_by_upload c.add_file.result c.self.inside.history c.self.inside.uploads c.add_file.new.self c.args.file c.self.invariant
+    c.add_file.ensures.ok c.add_file.ensures.err
 
 pub returns-clause-grows : goal.returns-clause-grows
 returns-clause-grows c =
-    let P : Host → Type 0 = λ h. Grows h (host_of c.self.inside.history c.keep.new.self) in
-    subst P c.self.view_is (grows_uploads c.keep.result c.self.inside.history c.self.inside.uploads c.keep.new.self c.in-Ok.file.value c.keep.ensures.ok c.keep.ensures.err)
+    let P : Host → Type 0 = λ h. Grows h (host_of c.self.inside.history c.add_file.new.self) in
+    subst P c.self.view_is (grows_uploads c.add_file.result c.self.inside.history c.self.inside.uploads c.add_file.new.self c.args.file c.add_file.ensures.ok c.add_file.ensures.err)

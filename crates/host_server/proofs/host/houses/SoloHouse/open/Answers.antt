@@ -1,6 +1,7 @@
 use Rattle.std.proofs.Common.{rules, ◌≡◌, inl, inr, refl, List, Result, Ok, Err, subst, sym, ap, ◌∙◌}
 use Rattle.host_names.specs.declared.digests.Digest.{Digest}
 use Rattle.host_api.specs.declared.refusals.Refusal.{Refusal}
+use Rattle.host_api.specs.declared.refusals.Refusal.TheVariants as refusal
 use Rattle.host_api.specs.declared.texts.Told.{Told}
 use Rattle.host_api.specs.declared.texts.Told.TheVariants.{Opened}
 use Rattle.site_change.specs.declared.commands.Command.TheVariants.{Open}
@@ -11,8 +12,8 @@ use Rattle.host_server.proofs.host.houses.SoloHouse.open.Goals as goal
 
 pub returns-in_err-published-clause-done : goal.returns-in_err-published-clause-done
 returns-in_err-published-clause-done c =
-    let done = open_done c.args.self.now c.commit.new.self c.publish_if_ready.new.self c.uploads.result.now c.copied-owner.result c.args.site c.args.files c.args.auto c.in_ok-id.id
-    c.in_ok-required.required.items c.publish_if_ready.result c.uploads.ensures c.in_ok-required.ensures.exactly c.in_ok-id.ensures.accepted c.in_ok-id.ensures.entries
+    let done = open_done c.args.self.now c.commit.new.self c.publish_if_ready.new.self c.uploads-2.result.now c.copied-owner.result c.args.site c.args.files c.args.auto c.in_ok-id.id
+    c.in_ok-required.required.items c.publish_if_ready.result c.uploads-2.ensures c.in_ok-required.ensures.exactly c.in_ok-id.ensures.refused c.in_ok-id.ensures.entries
     c.in_ok-id.ensures.number (search rules) c.publish_if_ready.ensures.done in
     let P : Result Told Refusal → Type 0 = λ r. DoesCommit r c.publish_if_ready.new.self c.args.self.now (Open c.args.site c.args.files c.args.auto) in
     let is : c.from_residual-in_err-published.result ≡ Err c.in_err-published.field-0.0 = search rules in
@@ -20,8 +21,8 @@ returns-in_err-published-clause-done c =
 
 pub returns-clause-done : goal.returns-clause-done
 returns-clause-done c =
-    let done = open_done c.args.self.now c.commit.new.self c.publish_if_ready.new.self c.uploads.result.now c.copied-owner.result c.args.site c.args.files c.args.auto c.in_ok-id.id
-    c.in_ok-required.required.items c.publish_if_ready.result c.uploads.ensures c.in_ok-required.ensures.exactly c.in_ok-id.ensures.accepted c.in_ok-id.ensures.entries
+    let done = open_done c.args.self.now c.commit.new.self c.publish_if_ready.new.self c.uploads-2.result.now c.copied-owner.result c.args.site c.args.files c.args.auto c.in_ok-id.id
+    c.in_ok-required.required.items c.publish_if_ready.result c.uploads-2.ensures c.in_ok-required.ensures.exactly c.in_ok-id.ensures.refused c.in_ok-id.ensures.entries
     c.in_ok-id.ensures.number (search rules) c.publish_if_ready.ensures.done in
     let P : Result Told Refusal → Type 0 = λ r. DoesCommit r c.publish_if_ready.new.self c.args.self.now (Open c.args.site c.args.files c.args.auto) in
     subst P (ap (answer c.in_ok-id.id c.in_ok-required.required.items) c.in_ok-published.was
@@ -30,7 +31,7 @@ returns-clause-done c =
 pub returns-in_err-published-clause-stands : goal.returns-in_err-published-clause-stands
 returns-in_err-published-clause-stands c =
     on_err c.from_residual-in_err-published.result (inr (c.in_err-published.ensures.err ∙ c.in_ok-id.ensures.entries
-    ∙ sym (ap (entered c.args.self.now (Open c.args.site c.args.files c.args.auto)) c.in_ok-id.ensures.accepted)))
+    ∙ sym (ap (entered c.args.self.now (Open c.args.site c.args.files c.args.auto)) c.in_ok-id.ensures.refused)))
 
 pub returns-in_err-published-clause-grows : goal.returns-in_err-published-clause-grows
 returns-in_err-published-clause-grows c =
@@ -44,8 +45,8 @@ pub returns-in_err-judge_opening-clause-done : goal.returns-in_err-judge_opening
 returns-in_err-judge_opening-clause-done c =
     let reason = c.in_err-judge_opening.field-0.0 in
     let P : Result Told Refusal → Type 0 = λ r. DoesCommit r c.args.self.now c.args.self.now (Open c.args.site c.args.files c.args.auto) in
-    let is : c.from_residual.result ≡ Err reason = search rules in
-    subst P (sym is) (open_refused c.args.self.now c.args.site c.args.files c.args.auto reason (c.in_err-judge_opening.ensures.refused.1 c.args.site c.args.auto))
+    let is : c.from_residual.result ≡ Err (refusal.Change reason) = search rules in
+    subst P (sym is) (open_refused c.args.self.now c.args.site c.args.files c.args.auto reason (c.in_err-judge_opening.ensures.refused c.args.site c.args.auto))
 
 pub returns-in_err-required-clause-memory : goal.returns-in_err-required-clause-memory
 returns-in_err-required-clause-memory c = λ _. (c.in_ok-judge_opening.ensures.ok c.args.site c.args.auto, inl refl)

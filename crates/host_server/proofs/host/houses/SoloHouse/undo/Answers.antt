@@ -2,7 +2,7 @@ use Rattle.std.proofs.Common.{subst}
 use Rattle.host_server.specs.Hosts.{Host}
 use Rattle.host_server.specs.Reasons.{undo_refusal}
 use Rattle.host_server.proofs.Kept.{kept_by_undo}
-use Rattle.host_server.proofs.Refusing.{IsUndoAnswered, undo_answers}
+use Rattle.change_undo.specs.Histories.{IsUndoRefusedBy}
 use Rattle.change_undo.specs.declared.entries.Entry.TheVariants.{Undo}
 use Rattle.host_server.specs.Answers.{Grows}
 use Rattle.host_server.specs.Hosts.{host_of}
@@ -13,17 +13,10 @@ pub invariant_of-self : goal.invariant_of-self
 invariant_of-self c =
     kept_by_undo c.undo.result c.self.inside.history c.undo.new.self c.self.inside.uploads c.self.invariant c.undo.ensures.over c.undo.ensures.err
 
-pub returns-clause-accepted : goal.returns-clause-accepted
-returns-clause-accepted c =
-    let P : Host → Type 0 = λ h. IsUndoAnswered c.map_err.result (undo_refusal h c.args.site.now c.args.change) in
-    (subst P c.self.view_is (undo_answers c.undo.result c.map_err.result c.self.inside.history c.self.inside.uploads c.args.site.now c.args.change c.self.invariant
-    c.map_err.ensures.cases c.undo.ensures.accepted c.undo.ensures.refused c.undo.ensures.memory)).0
-
 pub returns-clause-refused : goal.returns-clause-refused
 returns-clause-refused c =
-    let P : Host → Type 0 = λ h. IsUndoAnswered c.map_err.result (undo_refusal h c.args.site.now c.args.change) in
-    (subst P c.self.view_is (undo_answers c.undo.result c.map_err.result c.self.inside.history c.self.inside.uploads c.args.site.now c.args.change c.self.invariant
-    c.map_err.ensures.cases c.undo.ensures.accepted c.undo.ensures.refused c.undo.ensures.memory)).1
+    let P : Host → Type 0 = λ h. IsUndoRefusedBy (undo_refusal h c.args.site.now c.args.change) c.undo.result in
+    subst P c.self.view_is (c.undo.ensures.refused c.self.inside.uploads c.self.invariant)
 
 pub returns-clause-grows : goal.returns-clause-grows
 returns-clause-grows c =

@@ -1,0 +1,181 @@
+-- What is proved of each command: all of it in one place.
+use Rattle.std.proofs.Common.{◌≡◌, ℕ, false, Some, None, option_map, refl, ap, ◌∙◌, ◌||◌, sym, cond}
+use Rattle.std.specs.FinMap as map
+use Rattle.std.specs.Str.{bytes_eq}
+use Rattle.host_names.specs.Blobs.{Contents}
+use Rattle.host_names.specs.declared.cells.Cell.{Cell}
+use Rattle.host_names.specs.declared.cells.Cell.TheVariants as cell
+use Rattle.site_state.specs.Aliases.{alias_for, first_alias}
+use Rattle.site_state.specs.Named.{AliasesNamed}
+use Rattle.site_state.specs.States.{State, with_cell, as_file, as_tree, as_number, as_draft, live_at, kept_at, draft_at, is_alias_of}
+use Rattle.site_state.specs.declared.values.Value.TheVariants as value
+use Rattle.site_state.proofs.Named.{named_live, named_draft, named_without_alias, named_with_alias, named_without_kept}
+use Rattle.site_change.specs.declared.commands.Command.{Command}
+use Rattle.site_change.specs.declared.commands.Command.TheVariants.{Open, Publish, Cancel, Remove, Rename, MoveAlias, RemoveAlias, Restore, RemoveDeploy}
+use Rattle.host_names.specs.declared.refusals.ChangeRefusal.TheVariants.{NoSuchDraft, NoSuchDeploy, NoSuchFile, NoSuchAlias}
+use Rattle.site_change.specs.Changes.{same_cell, needed, rename_refusal, publish_refusal, restore_refusal, removal_refusal, published, restored, refusal, applied, publish_touches, restore_touches, touches, IsWithin}
+use Rattle.site_change.specs.Laws.{AgreeOn, SameEffect}
+use Rattle.site_change.proofs.Deploys.{DeploysFrom, without_new, none_by_removal, none_by_live, none_by_alias, none_by_publishing, none_by_restoring, from_opening}
+use Rattle.site_change.proofs.Effects.{same_cell-itself, get-with_two}
+use Rattle.site_change.proofs.Fitting.{IsLeftOrFits, live_fits, write_fits, both_fit, publish_fits, restore_fits}
+use Rattle.site_change.proofs.NamedAliases.{named_publish, named_restore, is_there, no_alias}
+use Rattle.site_change.proofs.ReadsAndWrites.{or_false, publish_reads, publish_writes, restore_reads, restore_writes, same_draft, write_reads, write_leaves, or_here, or_there, or_after, same_alias_entries, or_second}
+use Rattle.site_change.proofs.SameFiles.{publish_grows, restore_grows}
+
+-- What is proved of a command under the number n, to a state, with these uploads.
+pub record KeepsLaws (command : Command) (n : ℕ) (state : State) (uploads : Contents) : Type 0 where
+  -- what it reads it touches
+  pub reads : (other : State) → AgreeOn (touches command n state) state other → SameEffect command n state other uploads
+  -- what it writes it touches
+  pub writes : (c : Cell) → touches command n state c ≡ false → map.get (applied command n state uploads) c ≡ map.get state c
+  -- what it writes is of its cell's kind
+  pub fits : (c : Cell) → IsLeftOrFits state (applied command n state uploads) c
+  -- once it is accepted, each alias names a kept deploy
+  pub named : AliasesNamed state → refusal command n state uploads ≡ None → AliasesNamed (applied command n state uploads)
+  -- once it is accepted, it stays so as more is uploaded, and does the same
+  pub grows : (more : Contents) → IsWithin uploads more → refusal command n state uploads ≡ None
+      → (refusal command n state more ≡ None) × (applied command n state more ≡ applied command n state uploads)
+  -- the deploys after it were there before, or it opens them
+  pub deploys : DeploysFrom command n state (applied command n state uploads)
+
+pub command_laws : (command : Command) (n : ℕ) (state : State) (uploads : Contents) → KeepsLaws command n state uploads
+command_laws (Open site files auto) n state uploads =
+    let at = cell.Draft site n in
+    let draft = value.Draft (record { auto = auto; files = files }) in record {
+      reads = λ other agree. record {
+        answer = refl;
+        touched = λ c. refl;
+        values = write_reads at (Some draft) (touches (Open site files auto) n state) state other agree;
+      };
+      writes = write_leaves at (Some draft) state;
+      fits = write_fits state at (Some draft) refl;
+      named = λ named accepted. named_draft state named site n (Some draft);
+      grows = λ more within accepted. (accepted, refl);
+      deploys = from_opening state site n files auto draft;
+    }
+command_laws (Publish site m) n state uploads =
+    let draft = draft_at state site m in record {
+      reads = λ other agree. let same = same_draft site m state other agree in record {
+        answer = ap (publish_refusal uploads) same;
+        touched = λ c. ap (λ d. same_cell c (cell.Draft site m) || publish_touches site m d c) same;
+        values = λ c h. ap (λ d. map.get (published site m uploads other d) c) same ∙ publish_reads site m uploads state other draft c (agree c h);
+      };
+      writes = λ c h.
+          let parts = or_false (same_cell c (cell.Draft site m)) (publish_touches site m draft c) h in
+          publish_writes site m uploads state draft c parts.0 parts.1;
+      fits = publish_fits site m uploads state draft;
+      named = λ named accepted. named_publish site m uploads state draft named;
+      grows = λ more. publish_grows site m uploads more state draft;
+      deploys = without_new (Publish site m) n state _ (none_by_publishing site m uploads state);
+    }
+command_laws (Cancel site m) n state uploads =
+    let at = cell.Draft site m in record {
+      reads = λ other agree. record {
+        answer = ap (λ v. needed NoSuchDraft (as_draft v)) (agree at (same_cell-itself at));
+        touched = λ c. refl;
+        values = write_reads at None (touches (Cancel site m) n state) state other agree;
+      };
+      writes = write_leaves at None state;
+      fits = write_fits state at None refl;
+      named = λ named accepted. named_draft state named site m None;
+      grows = λ more within accepted. (accepted, refl);
+      deploys = without_new (Cancel site m) n state _ (none_by_removal state at);
+    }
+command_laws (Remove site path) n state uploads =
+    let at = cell.Live site path in record {
+      reads = λ other agree. record {
+        answer = ap (λ v. needed NoSuchFile (as_file v)) (agree at (same_cell-itself at));
+        touched = λ c. refl;
+        values = write_reads at None (touches (Remove site path) n state) state other agree;
+      };
+      writes = write_leaves at None state;
+      fits = write_fits state at None refl;
+      named = λ named accepted. named_live state named site path None;
+      grows = λ more within accepted. (accepted, refl);
+      deploys = without_new (Remove site path) n state _ (none_by_removal state at);
+    }
+command_laws (Rename site source target) n state uploads =
+    let a = cell.Live site source in
+    let b = cell.Live site target in
+    let file = option_map value.Live (live_at state site source) in
+    let gone = with_cell state a None in record {
+      reads = λ other agree.
+          let from_a : map.get other a ≡ map.get state a = agree a (or_here a (same_cell a b)) in
+          let from_b : map.get other b ≡ map.get state b = agree b (or_there (same_cell b a) b) in record {
+            answer = λ i. rename_refusal (bytes_eq source target) (as_file (from_a i)) (as_file (from_b i));
+            touched = λ c. refl;
+            values = λ c h.
+                get-with_two other a b None (option_map value.Live (live_at other site source)) c
+                ∙ (λ i. cond (same_cell c b) (option_map value.Live (as_file (from_a i))) (cond (same_cell c a) None (agree c h i)))
+                ∙ sym (get-with_two state a b None file c);
+          };
+      writes = λ c h. let parts = or_false (same_cell c a) (same_cell c b) h in get-with_two state a b None file c ∙ rw (parts.1, parts.0) refl;
+      fits = λ c. both_fit state gone (with_cell gone b file) c (write_fits state a None refl c) (write_fits gone b file (live_fits site target (live_at state site source)) c);
+      named = λ named accepted. named_live gone (named_live state named site source None) site target file;
+      grows = λ more within accepted. (accepted, refl);
+      deploys = without_new (Rename site source target) n state _ (λ own m there. none_by_removal state a own m (none_by_live gone site target file own m there));
+    }
+command_laws (MoveAlias site name m) n state uploads =
+    let k = cell.Kept site m in
+    let at = cell.Alias site name in record {
+      reads = λ other agree. record {
+        answer = ap (λ v. needed NoSuchDeploy (as_tree v)) (agree k (or_here k (same_cell k at)));
+        touched = λ c. refl;
+        values = write_reads at (Some (value.Alias m)) (touches (MoveAlias site name m) n state) state other agree;
+      };
+      writes = λ c h. write_leaves at (Some (value.Alias m)) state c (or_false (same_cell c k) (same_cell c at) h).1;
+      fits = write_fits state at (Some (value.Alias m)) refl;
+      named = λ named accepted. named_with_alias state named site name m (is_there NoSuchDeploy (kept_at state site m) accepted);
+      grows = λ more within accepted. (accepted, refl);
+      deploys = without_new (MoveAlias site name m) n state _ (none_by_alias state site name (Some (value.Alias m)));
+    }
+command_laws (RemoveAlias site name) n state uploads =
+    let at = cell.Alias site name in record {
+      reads = λ other agree. record {
+        answer = ap (λ v. needed NoSuchAlias (as_number v)) (agree at (same_cell-itself at));
+        touched = λ c. refl;
+        values = write_reads at None (touches (RemoveAlias site name) n state) state other agree;
+      };
+      writes = write_leaves at None state;
+      fits = write_fits state at None refl;
+      named = λ named accepted. named_without_alias state named site name;
+      grows = λ more within accepted. (accepted, refl);
+      deploys = without_new (RemoveAlias site name) n state _ (none_by_removal state at);
+    }
+command_laws (Restore site m) n state uploads =
+    let k = cell.Kept site m in
+    let d = cell.Draft site m in
+    let kept = kept_at state site m in
+    let draft = draft_at state site m in
+    let others = restore_touches site m kept draft in record {
+      reads = λ other agree.
+          let from_draft : draft_at other site m ≡ draft = ap as_draft (agree d (or_here d (same_cell d k || others d))) in
+          let from_kept : kept_at other site m ≡ kept = ap as_tree (agree k (or_second (same_cell k d) k (others k))) in record {
+            answer = λ i. restore_refusal uploads (from_kept i) (from_draft i);
+            touched = λ c i. same_cell c d || (same_cell c k || restore_touches site m (from_kept i) (from_draft i) c);
+            values = λ c h. (λ i. map.get (restored site m uploads other (from_kept i) (from_draft i)) c)
+                ∙ restore_reads site m uploads state other kept draft c (agree c h);
+          };
+      writes = λ c h.
+          let parts = or_false (same_cell c d) (same_cell c k || others c) h in
+          restore_writes site m uploads state kept draft c parts.0 (or_false (same_cell c k) (others c) parts.1).1;
+      fits = restore_fits site m uploads state kept draft;
+      named = λ named accepted. named_restore site m uploads state kept draft named;
+      grows = λ more. restore_grows site m uploads more state kept draft;
+      deploys = without_new (Restore site m) n state _ (none_by_restoring site m uploads state kept);
+    }
+command_laws (RemoveDeploy site m) n state uploads =
+    let k = cell.Kept site m in record {
+      reads = λ other agree.
+          let from_kept : kept_at other site m ≡ kept_at state site m = ap as_tree (agree k (or_here k (is_alias_of site k))) in
+          let aliases = same_alias_entries site state other (λ c h. agree c (or_after (same_cell c k) (is_alias_of site c) h)) in record {
+            answer = λ i. removal_refusal (from_kept i) (first_alias m (aliases i));
+            touched = λ c. refl;
+            values = write_reads k None (touches (RemoveDeploy site m) n state) state other agree;
+          };
+      writes = λ c h. write_leaves k None state c (or_false (same_cell c k) (is_alias_of site c) h).0;
+      fits = write_fits state k None refl;
+      named = λ named accepted. named_without_kept state named site m (no_alias (kept_at state site m) (alias_for state site m) accepted);
+      grows = λ more within accepted. (accepted, refl);
+      deploys = without_new (RemoveDeploy site m) n state _ (none_by_removal state k);
+    }
