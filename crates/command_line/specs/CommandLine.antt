@@ -35,7 +35,7 @@ abbrev pub HasText : Refusal → Type 0
 HasText (Shown text) = string_bytes text ≢ []
 HasText OutOfMemory = Unit {0}
 
--- What is read of the words: that they ask for `solo`; or that they don't, with a text that says why; or that memory ran out. This
+-- What is read of the words: that they ask for `solo`; or that they don't, with a text that isn't empty; or that memory ran out. This
 -- may come whatever the words are, since what `clap` says of itself excludes it for none.
 abbrev pub Reads : List Text → Result Wanted Refusal → Type 0
 Reads words (Ok Solo) = AskForSolo words

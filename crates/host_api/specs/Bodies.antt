@@ -110,7 +110,7 @@ open_ask name body = open_with name (option_and_then form_of (object_of body))
 
 -- ---- naming an entry by its number
 
--- the number, or 0 where no entry has it
+-- the number, or 0 where no entry can have it
 abbrev pub entry_number : Num → ℕ
 entry_number (unsigned n) = if nat_le n greatest_number then n else 0
 entry_number (negative z) = 0

@@ -19,7 +19,7 @@ use Rattle.host_api.specs.declared.targets.Bindings.{Bindings as BindingsLent}
 use Rattle.host_api.specs.declared.targets.Part.{Part as PartWritten}
 use Rattle.host_api.specs.declared.targets.Part.TheVariants as written
 
--- what a part, a row, what is found in open places, and what is found mean
+-- the code's parts, rows and bindings as those of the definitions
 abbrev pub part_of : PartWritten → Part
 part_of (written.Word w) = word w.now
 part_of written.Site = site

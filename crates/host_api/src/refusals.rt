@@ -10,7 +10,7 @@ use std::alloc::AllocError;
 /// Why a request is refused. A reply names the reason.
 #[derive(Debug, Drop, PartialEq, Eq)]
 pub enum Refusal {
-    /// A change, or the undo of one, is refused; or what a request reads is not there.
+    /// A change, or the undo of one, is refused; or what a request reads or uploads to is not there.
     Change(ChangeRefusal),
     /// The text is no name of a site or an alias.
     BadName,
@@ -36,7 +36,7 @@ pub enum Refusal {
     NotSatisfiable(u64),
 }
 
-/// What a reply says of a refused change: its name, and the status code.
+// What a reply says of a refused change: its name, and the status code.
 fn shown_of_change(reason: &ChangeRefusal) -> (&'static str, StatusCode)
     ensures name { result.0.now ≡ (shown_of_change reason.now).0 }
     ensures short { length result.0.now ≤ 14 }

@@ -1,4 +1,4 @@
--- What a call answers that may be refused.
+-- The answers of calls that may be refused.
 use Rattle.std.specs.Prelude.{◌≡◌, Option, Some, None, Result, Ok, Err}
 use Rattle.host_names.specs.declared.refusals.ChangeRefusal.{ChangeRefusal}
 use Rattle.host_names.specs.declared.refusals.ChangeError.{ChangeError}

@@ -20,7 +20,7 @@ pub enum ChangeRefusal {
     /// A file of the deploy was not uploaded; of several the one of the least digest is named.
     #[error("not complete")]
     NotComplete(Digest),
-    /// There is no deploy of that number, open or kept, as it is needed.
+    /// There is no deploy of that number that is kept, or, where an open one will do, open.
     #[error("no such deploy")]
     NoSuchDeploy,
     /// There is no file at that path.

@@ -32,7 +32,7 @@ opens_published host (Open site files auto) = is_published (with_entry host (Cha
 opens_published host command = false
 
 -- What a host has where a command runs out of memory, which is not refused: what was there; or the command's entry too,
--- where a deploy is published that it opened.
+-- where a deploy would be published that it opened.
 abbrev pub CommandRunsOut : Host → Command → Host → Type 0
 CommandRunsOut host command next =
     (commit_refusal host command ≡ None)
@@ -48,7 +48,7 @@ abbrev pub deploy_refusal : Host → ℕ → (SiteName → Command) → Option C
 deploy_refusal host n command = refusal_on host command (site_of_deploy (entry_at host.entries n))
 
 -- What a host has where an upload runs out of memory, whose bytes are accepted: what was there, where no file of their
--- digest was; or the bytes too, where the deploy is published that they complete.
+-- digest was; or the bytes too, where the deploy would be published that they complete.
 abbrev pub UploadRunsOut : Host → ℕ → List ℕ → List ℕ → Host → Type 0
 UploadRunsOut host n path bytes next =
     (at : SiteName × Digest) × (judge_upload host n path bytes ≡ Ok at)

@@ -42,7 +42,7 @@ SaysEnd says_fail (Err fault) said new_said = IsSaid says_fail (fault_line fault
 
 -- ---- what is done
 
--- the words ask for nothing that the program does, and some text says so
+-- the words ask for nothing that the program does, and some text is said
 abbrev pub IsRefused : (says_fail : Type 0) → List (List ℕ) → ℕ → (said new_said : Stream) → Type 0
 IsRefused says_fail words status said new_said =
     (¬ (AskForSolo words)) × (status ≡ 1) × ((text : List ℕ) × (text ≢ []) × IsSaid says_fail text said new_said)

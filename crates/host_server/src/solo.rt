@@ -60,8 +60,7 @@ fn status_after<E: Sink>(errors: &mut E, ended: Result<(), ConnectionFault>) -> 
 /// Runs the program for the words after its name, and answers its exit status: `solo` serves one connection, over
 /// an empty host. Where the status isn't 0, `errors` is told why; else nothing is written there.
 ///
-/// That the words ask for nothing is known where they were read. That memory ran out before that is said of any words, since
-/// no contract tells when it does.
+/// Memory may run out while the words are read, whatever they are: no contract tells when it does.
 pub fn run_solo<S: AsStr, D: Duplex, E: Sink>(
     alloc: Global,
     words: &[S],

@@ -38,7 +38,7 @@ pub record HeadFields : Type 0 where
   pub allow : Option (List ℕ)
   pub close : Bool
 
--- the same of a head of the code
+-- what the code's type for a head holds
 abbrev pub fields_of : ReplyHead → HeadFields
 fields_of h = record {
   status = h.status;
@@ -75,11 +75,11 @@ head_text h = flat_map ended_line (head_lines h) ++ crlf
 abbrev pub reply_text : HeadFields → List ℕ → List ℕ
 reply_text h body = head_text h ++ body
 
--- a byte that is in no line's end
+-- a byte that is neither CR nor LF
 abbrev pub is_within_line : ℕ → Bool
 is_within_line b = not (b == 13) && not (b == 10)
 
--- a line is not empty, and no byte of it is in a line's end
+-- a line is not empty, and has neither CR nor LF
 pub record IsLine (line : List ℕ) : Type 0 where
   pub some : 0 < length line
   pub one : list_all is_within_line line ≡ true

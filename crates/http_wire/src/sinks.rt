@@ -6,7 +6,7 @@ ghost use Rattle.http_wire.specs.Sending.{AppendsFront};
 use std::io::Write;
 use thiserror::Error;
 
-/// A write failed, or took no byte; nothing was written.
+/// A write failed, or took no byte.
 #[derive(Clone, Copy, Debug, PartialEq, Eq, Error)]
 #[error("the write failed")]
 pub struct WriteFailed;

@@ -133,7 +133,7 @@ restore_touches site m None draft c = publish_touches site m draft c
 
 -- What a command means under the number n, to a state.
 pub record Meaning : Type 0 where
-  -- the site that it is for, which no number and no state makes another
+  -- the site that it is for, whatever the number and the state are
   pub site : SiteName
   -- the first reason to refuse it with these uploads, if there is one
   pub refusal : Contents → Option ChangeRefusal
