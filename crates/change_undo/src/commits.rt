@@ -1,5 +1,5 @@
 //! The commit of a command.
-ghost use Rattle.std.specs.Prelude.{◌≡◌, ◌↔◌, ◌<◌, [], ◌∷◌, ◌++◌, false, Some, None, Err, IfOk, OnOk, OnErr, vec_len, vec_capacity};
+ghost use Rattle.std.specs.Prelude.{◌≡◌, ◌<◌, [], ◌∷◌, ◌++◌, false, Some, IfOk, OnOk, OnErr, vec_len, vec_capacity};
 ghost use Rattle.site_change.specs.Changes.{applied, refusal};
 ghost use Rattle.host_names.specs.Refusals.{IsRefusedBy};
 ghost use Rattle.site_change.specs.declared.plans.Plan.{Plan};

@@ -1,5 +1,5 @@
 //! Histories: changes are committed at their end, and undone by an entry of their own.
-ghost use Rattle.std.specs.Prelude.{◌≡◌, ◌↔◌, ◌+◌, ◌≤◌, ◌<◌, [], ◌∷◌, ◌++◌, length, nat_le, false, Some, None, true, Err, IsErrOf, List, ℕ, IfOk, OnOk, OnErr, option_copied, option_map};
+ghost use Rattle.std.specs.Prelude.{◌≡◌, ◌+◌, ◌≤◌, ◌<◌, [], ◌∷◌, ◌++◌, length, nat_le, Some, None, Err, List, ℕ, IfOk, OnOk, OnErr, option_copied, option_map};
 ghost use Rattle.std.specs.FinMap as map;
 ghost use Rattle.host_names.specs.Blobs.{Contents};
 ghost use Rattle.host_names.specs.Refusals.{IsRefusedBy};
@@ -7,7 +7,7 @@ ghost use Rattle.host_names.specs.declared.names.SiteName.{SiteName as Site};
 ghost use Rattle.site_state.specs.Files.{Paths};
 ghost use Rattle.site_state.specs.States.{draft_at, kept_at};
 ghost use Rattle.site_state.specs.declared.values.Draft.{Draft as Opened};
-ghost use Rattle.site_change.specs.Changes.{applied, refusal};
+ghost use Rattle.site_change.specs.Changes.{applied};
 ghost use Rattle.change_undo.specs.declared.entries.Entry.TheVariants as entry;
 ghost use Rattle.change_undo.specs.Clashes;
 ghost use Rattle.change_undo.specs.Effects.{UndoesChange};

@@ -1,5 +1,5 @@
 //! What a command writes into the state, and what takes it back.
-ghost use Rattle.std.specs.Prelude.{◌≡◌, ◌↔◌, map, All, Err, Some, None, IfOk, IsTrue, OnOk};
+ghost use Rattle.std.specs.Prelude.{◌≡◌, map, All, Some, None, IfOk, IsTrue};
 ghost use Rattle.std.specs.List.Sorted.{IsStrictlySortedBy};
 ghost use Rattle.std.specs.Map.{keys_of};
 ghost use Rattle.host_names.specs.Cells.{cell_cmp};

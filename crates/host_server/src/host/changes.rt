@@ -1,10 +1,9 @@
 //! What a host tells of changes and undos.
-ghost use Rattle.std.specs.Prelude.{◌≡◌, ◌≢◌, ◌⊎◌, true, false, Some, None, IsTrue, OnOk, OnErr, IfOk, IfErr, Err, IsErrOf};
+ghost use Rattle.std.specs.Prelude.{◌≡◌, ◌⊎◌, true, false, Some, None, IsTrue, OnOk, OnErr, IfOk, IfErr, Err, IsErrOf};
 ghost use Rattle.site_change.specs.declared.commands.Command.TheVariants as command;
-ghost use Rattle.change_undo.specs.Histories.{entry_at, may_take_memory};
+ghost use Rattle.change_undo.specs.Histories.{may_take_memory};
 ghost use Rattle.change_undo.specs.declared.entries.Entry.TheVariants as entry;
 ghost use Rattle.host_server.specs.Answers.{Grows};
-ghost use Rattle.host_server.specs.Hosts.{with_entry, with_upload};
 ghost use Rattle.host_names.specs.declared.names.SiteName.{SiteName as Site};
 ghost use Rattle.host_server.specs.Memory.{CommandRunsOut, deploy_refusal, is_published};
 ghost use Rattle.host_server.specs.Outcomes;

@@ -5,7 +5,7 @@ ghost use Rattle.host_server.specs.Hosts.{state_of};
 ghost use Rattle.host_server.specs.Outcomes;
 ghost use Rattle.host_server.specs.Outcomes.{is_refusal, told_by};
 ghost use Rattle.host_server.specs.Shown as spec;
-ghost use Rattle.site_state.specs.States.{draft_at, kept_at};
+ghost use Rattle.site_state.specs.States.{draft_at};
 
 use super::views::HostView;
 use change_undo::Entry;

@@ -1,5 +1,5 @@
 //! A host on one thread, with its history and its uploads in memory.
-ghost use Rattle.std.specs.Prelude.{◌≡◌, ◌≢◌, ◌≤◌, ◌⊎◌, Option, ℕ, [], Some, None, Ok, Err, IfOk, IfErr, OnOk, OnErr, length, nat_le, option_copied, option_map};
+ghost use Rattle.std.specs.Prelude.{◌≡◌, ◌≤◌, Option, [], Some, None, IfOk, OnOk, OnErr, length, nat_le, option_copied, option_map};
 ghost use Rattle.std.specs.FinMap as map;
 ghost use Rattle.host_names.specs.Blobs.{digest_of};
 ghost use Rattle.host_names.specs.Refusals.{IsRefusedBy};

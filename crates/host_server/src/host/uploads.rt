@@ -1,7 +1,7 @@
 //! Uploads to deploys.
 ghost use Rattle.std.specs.Prelude.{◌≡◌, ◌⊎◌, false, Ok, Err, OnErr, IfOk, IfErr, IsErrOf};
 ghost use Rattle.host_server.specs.Answers.{Grows};
-ghost use Rattle.host_server.specs.Hosts.{state_of, with_upload};
+ghost use Rattle.host_server.specs.Hosts.{state_of};
 ghost use Rattle.host_server.specs.Outcomes.{Does, kept, upload_outcome};
 ghost use Rattle.host_server.specs.Memory.{UploadRunsOut};
 ghost use Rattle.host_server.specs.Outcomes;
