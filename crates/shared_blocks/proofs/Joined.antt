@@ -1,6 +1,6 @@
 -- What is where in blocks that are joined.
-use Rattle.std.proofs.Common.{◌≡◌, ℕ, zero, suc, ◌+◌, ◌-◌, ◌*◌, ◌<◌, ◌≤◌, List, [], ◌∷◌, ◌++◌, length, get_or, slice_get, append_assoc, refl, sym, ap, subst, ◌∙◌, arith}
-use Rattle.std.proofs.lemmas.List.{length-append}
+use Rattle.std.proofs.Common.{◌≡◌, ℕ, zero, suc, ◌+◌, ◌-◌, ◌*◌, ◌<◌, ◌≤◌, List, [], ◌∷◌, ◌++◌, length, get_or, set, slice_get, append_assoc, refl, sym, ap, subst, ◌∙◌, arith}
+use Rattle.std.proofs.lemmas.List.{length-append, set-append_left, set-append_right}
 use Rattle.shared_blocks.specs.Blocks.{AreFull, joined}
 
 module _ {T : Type 0} where
@@ -49,3 +49,28 @@ module _ {T : Type 0} where
       let all = length-joined blocks full in
       let whole = length-append (joined blocks) last in
       omega (arith, all, whole, blocks_are, last_are)
+
+  -- ---- writes
+
+  -- a write into a full block
+  pub set-full : (blocks : List (List T)) (last : List T) (q r k : ℕ) (a : T) → AreFull blocks → q < length blocks → r < 128 → k ≡ q * 128 + r
+      → joined (set blocks q (set (get_or blocks q []) r a)) ++ last ≡ set (joined blocks ++ last) k a
+  set-full [] last q r k a full lt small at = absurd (omega (arith, lt))
+  set-full (b ∷ blocks) last zero r k a full lt small at =
+      let first : length b ≡ 128 = full 0 [] (omega arith) in
+      let place : r ≡ k = omega (arith, at) in
+      append_assoc (set b r a) (joined blocks) last ∙ sym (set-append_left b (joined blocks ++ last) r a (omega (arith, first, small)))
+      ∙ ap (λ l. set l r a) (sym (append_assoc b (joined blocks) last)) ∙ ap (λ i. set ((b ++ joined blocks) ++ last) i a) place
+  set-full (b ∷ blocks) last (suc q) r k a full lt small at =
+      let first : length b ≡ 128 = full 0 [] (omega arith) in
+      append_assoc b (joined (set blocks q (set (get_or blocks q []) r a))) last
+      ∙ ap (λ l. b ++ l) (set-full blocks last q r (q * 128 + r) a (λ j d l. full (suc j) d (omega (arith, l))) (omega (arith, lt)) small refl)
+      ∙ ap (λ i. b ++ set (joined blocks ++ last) i a) (omega (arith, at)) ∙ sym (set-append_right b (joined blocks ++ last) 128 k a first (omega (arith, at)))
+      ∙ ap (λ l. set l k a) (sym (append_assoc b (joined blocks) last))
+
+  -- a write past the full blocks
+  pub set-last : (blocks : List (List T)) (last : List T) (k : ℕ) (a : T) → AreFull blocks → length blocks * 128 ≤ k
+      → joined blocks ++ set last (k - length blocks * 128) a ≡ set (joined blocks ++ last) k a
+  set-last blocks last k a full past =
+      let all = length-joined blocks full in
+      sym (set-append_right (joined blocks) last (length blocks * 128) k a all past)

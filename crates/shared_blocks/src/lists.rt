@@ -1,5 +1,5 @@
 //! A list in blocks.
-ghost use Rattle.std.specs.Prelude.{◌≡◌, ◌++◌, ◌∷◌, [], true, IfOk, OnOk, OnErr, length, option_copied, slice_get};
+ghost use Rattle.std.specs.Prelude.{◌≡◌, ◌<◌, ◌++◌, ◌∷◌, [], set, true, IfOk, OnOk, OnErr, length, option_copied, slice_get};
 ghost use Rattle.shared_blocks.specs.Copies.{AreSame};
 
 use crate::blocks::{BLOCK_LIMIT, Block};
@@ -33,6 +33,22 @@ fn item_at<T>(items: &[T], place: usize) -> Option<&T>
     ensures { option_copied result ≡ slice_get items.now place }
 {
     items.get(place)
+}
+
+/// A block of these items with another one at a place.
+fn with_item<T: Clone + Drop>(
+    alloc: Global,
+    items: &[T],
+    place: usize,
+    item: T,
+) -> Result<Block<T>, AllocError>
+    requires clones { AreSame T.is_clone }
+    requires within { place < length items.now }
+    ensures { IfOk result (λ block. block ≡ set items.now place item) }
+{
+    let mut items = items.to_vec(alloc)?;
+    items[place] = item;
+    Block::new(alloc, items)
 }
 
 impl<T: Drop> SharedList<T> {
@@ -103,6 +119,28 @@ impl<T: Drop> SharedList<T> {
     {
         self.reserve()?;
         self.push_reserved(item);
+        Ok(())
+    }
+
+    /// Writes an item over the one at a place, from 0 on. On an error nothing changes.
+    pub fn set(&mut self, place: usize, item: T) -> Result<(), AllocError>
+    where
+        T: Clone,
+        requires clones { AreSame T.is_clone }
+        requires within { place < length self.old.items }
+        ensures ok { OnOk result (self.new.items ≡ set self.old.items place item) }
+        ensures err { OnErr result (self.new.items ≡ self.old.items) }
+        ensures room { self.new.has_room ≡ self.old.has_room }
+    {
+        let block = place / BLOCK_LIMIT;
+        if block < self.full.len() {
+            let alloc = *self.last.allocator();
+            let items = self.full[block].as_slice();
+            self.full[block] = with_item(alloc, items, place % BLOCK_LIMIT, item)?;
+        } else {
+            let past = place - self.full.len() * BLOCK_LIMIT;
+            self.last[past] = item;
+        }
         Ok(())
     }
 
