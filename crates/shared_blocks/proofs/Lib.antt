@@ -1,1 +1,5 @@
 mod Joined
+pub mod Entries
+pub mod Edits
+mod Parts
+mod Lookups

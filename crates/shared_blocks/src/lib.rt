@@ -3,5 +3,11 @@
 
 mod blocks;
 mod lists;
+mod maps;
+mod merge;
+mod probes;
+mod searches;
 
 pub use lists::SharedList;
+pub use maps::SharedMap;
+pub use probes::Probe;
