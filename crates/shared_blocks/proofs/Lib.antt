@@ -3,3 +3,4 @@ pub mod Entries
 pub mod Edits
 mod Parts
 mod Lookups
+mod Below

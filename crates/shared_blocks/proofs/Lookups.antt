@@ -3,7 +3,7 @@ use Rattle.std.proofs.Common.{◌≡◌, ℕ, zero, suc, ◌<◌, ◌≤◌, Boo
 use Rattle.std.specs.FinMap.{find}
 use Rattle.std.specs.Cmp.{IsTotalOrder}
 use Rattle.std.specs.List.{AllByRecursion}
-use Rattle.std.specs.List.Sorted.{IsPartitionedBy, IsPartitionPoint}
+use Rattle.std.specs.List.Sorted.{IsPartitionedBy, IsPartitionPoint, IsStrictlySortedBy}
 use Rattle.std.specs.Map.{keys_of}
 use Rattle.std.proofs.lemmas.Bool.{false≢true}
 use Rattle.std.proofs.lemmas.List.{append-nil}
@@ -24,6 +24,10 @@ not_le Equal e = cc e
 not_le Greater e = refl
 
 module _ {K X : Type 0} {R : K → K → Ordering} (o : IsTotalOrder R) where
+  pub AreBlocks-none : AreBlocks {K = K} {V = X} R []
+  unfolding IsStrictlySortedBy
+  AreBlocks-none = record { filled = λ k d lt. absurd (omega (arith, lt)); sorted = tt }
+
   filled_rest : (b : List (K × X)) (blocks : List (List (K × X))) → HaveItems (b ∷ blocks) → HaveItems blocks
   filled_rest b blocks filled k d lt = filled (suc k) d (omega (arith, lt))
 
