@@ -181,7 +181,7 @@ module _ {K X : Type 0} {R : K → K → Ordering} (o : IsTotalOrder R) where
       ap (λ r. by_order r (listed c.0 c.1 ++ e ∷ (front ++ es)) (listed c.0 c.1 ++ (front ++ es)) (e ∷ edited R (front ++ es) c.0 c.1)) (greater_back o e.0 c.0 h.0.0)
       ∙ ap (λ l. e ∷ l) (edited-front front es c cs h.1)
 
-  edited_by-front : (front es : List (K × X)) (cs : List (K × Option X)) → Before front cs → edited_by R (front ++ es) cs ≡ front ++ edited_by R es cs
+  pub edited_by-front : (front es : List (K × X)) (cs : List (K × Option X)) → Before front cs → edited_by R (front ++ es) cs ≡ front ++ edited_by R es cs
   edited_by-front front es [] h = refl
   edited_by-front front es (c ∷ cs) h =
       ap (λ l. edited_by R l cs) (edited-front front es c cs h) ∙ edited_by-front front (edited R es c.0 c.1) cs (Before-tail front c cs h)

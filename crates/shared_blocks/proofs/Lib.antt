@@ -4,3 +4,4 @@ pub mod Edits
 mod Parts
 mod Lookups
 mod Below
+mod WrittenBlocks

@@ -1,5 +1,5 @@
 -- How a sorted map is kept.
-use Rattle.std.specs.Prelude.{◌≢◌, Bool, false, List, [], ◌∷◌, All}
+use Rattle.std.specs.Prelude.{◌≢◌, Bool, false, List, [], ◌∷◌, All, Option, Some, None}
 use Rattle.std.specs.List.Sorted.{IsStrictlySortedBy}
 use Rattle.std.specs.Map.{keys_of}
 use Rattle.std.specs.declared.cmp.Ordering.{Ordering}
@@ -19,3 +19,9 @@ pub record AreBlocks {K V : Type 0} (cmp : K → K → Ordering) (blocks : List 
 abbrev pub starts_by : {K V : Type 0} → (K → K → Ordering) → K → List (K × V) → Bool
 starts_by cmp key [] = false
 starts_by cmp key (e ∷ es) = is_le (cmp e.0 key)
+
+-- the first key of some blocks
+abbrev pub first_key : {K V : Type 0} → List (List (K × V)) → Option K
+first_key [] = None
+first_key ([] ∷ blocks) = None
+first_key ((e ∷ es) ∷ blocks) = Some e.0

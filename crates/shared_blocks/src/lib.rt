@@ -5,8 +5,10 @@ mod blocks;
 mod lists;
 mod maps;
 mod merge;
+mod pieces;
 mod probes;
 mod searches;
+mod writes;
 
 pub use lists::SharedList;
 pub use maps::SharedMap;

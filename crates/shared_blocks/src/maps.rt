@@ -1,12 +1,15 @@
 //! A sorted map in blocks.
-ghost use Rattle.std.specs.Prelude.{◌≡◌, [], IfOk, option_copied};
+ghost use Rattle.std.specs.Prelude.{◌≡◌, [], IfOk, OnErr, OnOk, option_copied};
 ghost use Rattle.std.specs.FinMap.{find};
 ghost use Rattle.std.specs.List.Sorted.{IsStrictlySortedBy};
 ghost use Rattle.std.specs.Map.{keys_of};
+ghost use Rattle.shared_blocks.specs.Copies.{AreSame};
+ghost use Rattle.shared_blocks.specs.Edits.{edited, edited_by};
 
 use crate::blocks::Block;
 use crate::probes::Probe;
 use crate::searches::{find_in, starts_by};
+use crate::writes::written;
 use std::alloc::{AllocError, Global};
 use std::marker::Model;
 
@@ -56,6 +59,38 @@ impl<K: Ord + Drop, V: Drop> SharedMap<K, V> {
             return None;
         }
         find_in(self.blocks[past - 1].as_slice(), probe)
+    }
+
+    /// Writes edits, whose keys strictly rise: at each key this value, or none. All are written, or on an error none. The
+    /// work is linear in the blocks into which an edit falls, and else a count for each block.
+    pub fn write_all(&mut self, edits: Vec<(K, Option<V>)>) -> Result<(), AllocError>
+    where
+        K: Clone,
+        V: Clone,
+        requires keys { AreSame K.is_clone }
+        requires values { AreSame V.is_clone }
+        requires rising { IsStrictlySortedBy K.cmp (keys_of edits.items) }
+        ensures ok { OnOk result (self.new ≡ edited_by K.cmp self.old edits.items) }
+        ensures err { OnErr result (self.new ≡ self.old) }
+    {
+        let alloc = *self.blocks.allocator();
+        self.blocks = written(alloc, self.blocks.as_slice(), edits)?;
+        Ok(())
+    }
+
+    /// Writes a value at a key, or none. On an error nothing changes.
+    pub fn write(&mut self, key: K, value: Option<V>) -> Result<(), AllocError>
+    where
+        K: Clone,
+        V: Clone,
+        requires keys { AreSame K.is_clone }
+        requires values { AreSame V.is_clone }
+        ensures ok { OnOk result (self.new ≡ edited K.cmp self.old key value) }
+        ensures err { OnErr result (self.new ≡ self.old) }
+    {
+        let mut edits = Vec::new(*self.blocks.allocator());
+        edits.push((key, value))?;
+        self.write_all(edits)
     }
 
     /// A copy, which shares all blocks.
