@@ -5,3 +5,5 @@ mod Parts
 mod Lookups
 mod Below
 mod WrittenBlocks
+mod Filters
+mod Between

@@ -29,11 +29,11 @@ module _ {K X : Type 0} (R : K → K → Ordering) where
   unfolding IsStrictlySortedBy
   Rise-cons e es over rise = (over, rise)
 
-  Over-left : (x : K) (xs ys : List (K × X)) → Over x (xs ++ ys) → Over x xs
+  pub Over-left : (x : K) (xs ys : List (K × X)) → Over x (xs ++ ys) → Over x xs
   Over-left x [] ys over = tt
   Over-left x (e ∷ xs) ys over = (over.0, Over-left x xs ys over.1)
 
-  Over-right : (x : K) (xs ys : List (K × X)) → Over x (xs ++ ys) → Over x ys
+  pub Over-right : (x : K) (xs ys : List (K × X)) → Over x (xs ++ ys) → Over x ys
   Over-right x [] ys over = over
   Over-right x (e ∷ xs) ys over = Over-right x xs ys over.1
 

@@ -25,3 +25,8 @@ abbrev pub first_key : {K V : Type 0} → List (List (K × V)) → Option K
 first_key [] = None
 first_key ([] ∷ blocks) = None
 first_key ((e ∷ es) ∷ blocks) = Some e.0
+
+-- whether the first key passes a test
+abbrev pub starts : {K V : Type 0} → (K → Bool) → List (K × V) → Bool
+starts test [] = false
+starts test (e ∷ es) = test e.0

@@ -1,5 +1,5 @@
 //! A sorted map in blocks.
-ghost use Rattle.std.specs.Prelude.{◌≡◌, [], IfOk, OnErr, OnOk, option_copied};
+ghost use Rattle.std.specs.Prelude.{◌≡◌, [], IfOk, OnErr, OnOk, filter, option_copied};
 ghost use Rattle.std.specs.FinMap.{find};
 ghost use Rattle.std.specs.List.Sorted.{IsStrictlySortedBy};
 ghost use Rattle.std.specs.Map.{keys_of};
@@ -8,7 +8,9 @@ ghost use Rattle.shared_blocks.specs.Edits.{edited, edited_by};
 
 use crate::blocks::Block;
 use crate::probes::Probe;
+use crate::ranges::{Range, pairs_in};
 use crate::searches::{find_in, starts_by};
+use crate::spans::Span;
 use crate::writes::written;
 use std::alloc::{AllocError, Global};
 use std::marker::Model;
@@ -59,6 +61,13 @@ impl<K: Ord + Drop, V: Drop> SharedMap<K, V> {
             return None;
         }
         find_in(self.blocks[past - 1].as_slice(), probe)
+    }
+
+    /// The pairs whose keys are in a span, by key. Takes no memory.
+    pub fn range<S: Span<K>>(&self, span: &S) -> Range<'_, K, V>
+        ensures { result ≡ filter (λ e. S.within span.now e.0) self.now }
+    {
+        pairs_in(self.blocks.as_slice(), span)
     }
 
     /// Writes edits, whose keys strictly rise: at each key this value, or none. All are written, or on an error none. The
