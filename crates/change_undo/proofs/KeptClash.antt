@@ -9,7 +9,7 @@ use Rattle.host_names.specs.Cells.{cell_cmp}
 use Rattle.host_names.specs.CellOrder.{cell_cmp_total, cell_cmp-IsAntisymmetric}
 use Rattle.host_names.specs.declared.cells.Cell.{Cell}
 use Rattle.site_state.specs.States.{State}
-use Rattle.site_state.proofs.Entries.{less_back}
+use Rattle.shared_blocks.proofs.Entries.{less_back}
 use Rattle.site_change.specs.declared.commands.Command.{Command}
 use Rattle.site_change.specs.declared.plans.Change.{Change as CellChange}
 use Rattle.site_change.specs.declared.plans.Plan.{Plan}

@@ -1,10 +1,5 @@
 pub mod AtError
-pub mod Entries
 pub mod Items
-pub mod Ranges
-pub mod LiveRange
-pub mod AliasRange
-pub mod Edits
 pub mod Written
 pub mod LackingDigests
 pub mod LeastAlias

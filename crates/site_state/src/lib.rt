@@ -5,12 +5,10 @@ mod drafts;
 mod files;
 mod laws;
 mod listings;
-mod merge;
 mod paths;
 mod site_cells;
 mod states;
 mod values;
-mod writes;
 
 pub use drafts::{least_missing, missing};
 pub use files::File;

@@ -11,8 +11,8 @@ use Rattle.host_names.specs.Cells.{cell_cmp, site_of}
 use Rattle.host_names.specs.CellOrder.{texts-IsAntisymmetric}
 use Rattle.site_state.specs.States.{is_alias_of}
 use Rattle.site_state.specs.AliasRange.{has_earlier_kind, by_site, is_before_aliases}
-use Rattle.site_state.proofs.LiveRange.{texts, then_less}
-use Rattle.site_state.proofs.Ranges.{StandTogether}
+use Rattle.site_state.specs.SpanOfLive.{texts, then_less}
+use Rattle.shared_blocks.specs.Spans.{StandTogether}
 
 -- of two cells of one site the earlier has no later kind
 rest_less : (r s : Ordering) → r ≡ Equal → ordering_then r s ≡ Less → s ≡ Less
@@ -117,5 +117,5 @@ alias_first site a (Live other q) less behind alias = absurd (false≢true alias
 alias_first site a (Kept other q) less behind alias = absurd (false≢true alias)
 alias_first site a (Draft other q) less behind alias = absurd (false≢true alias)
 
-pub aliases_together : (site : SiteName) → StandTogether (λ c. is_before_aliases c site) (is_alias_of site)
+pub aliases_together : (site : SiteName) → StandTogether cell_cmp (λ c. is_before_aliases c site) (is_alias_of site)
 aliases_together site = record { falls = before_falls site; apart = no_alias site; first = alias_first site }

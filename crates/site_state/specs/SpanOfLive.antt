@@ -11,7 +11,7 @@ use Rattle.host_names.specs.Cells.{cell_cmp, site_of}
 use Rattle.host_names.specs.CellOrder.{texts-IsAntisymmetric}
 use Rattle.site_state.specs.States.{is_live_of}
 use Rattle.site_state.specs.LiveRange.{is_of_site_before}
-use Rattle.site_state.proofs.Ranges.{StandTogether}
+use Rattle.shared_blocks.specs.Spans.{StandTogether}
 
 abbrev pub texts : List ℕ → List ℕ → Ordering
 texts = slice_cmp nat_cmp
@@ -77,7 +77,7 @@ live_earlier a (Kept other n) site less late live = absurd (false≢true live)
 live_earlier a (Alias other n) site less late live = absurd (false≢true live)
 live_earlier a (Draft other n) site less late live = absurd (false≢true live)
 
-pub live_together : (site : SiteName) → StandTogether (λ c. is_of_site_before c site) (is_live_of site)
+pub live_together : (site : SiteName) → StandTogether cell_cmp (λ c. is_of_site_before c site) (is_live_of site)
 live_together site = record {
   falls = λ a b. before_earlier a b site;
   apart = λ c. not_live_before c site;
