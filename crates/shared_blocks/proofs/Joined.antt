@@ -1,5 +1,5 @@
 -- What is where in blocks that are joined.
-use Rattle.std.proofs.Common.{◌≡◌, ℕ, zero, suc, ◌+◌, ◌-◌, ◌*◌, ◌<◌, ◌≤◌, List, [], ◌∷◌, ◌++◌, length, get_or, set, slice_get, append_assoc, refl, sym, ap, subst, ◌∙◌, arith}
+use Rattle.std.proofs.Common.{◌≡◌, ℕ, zero, suc, ◌+◌, ◌-◌, ◌*◌, ◌<◌, ◌≤◌, List, [], ◌∷◌, ◌++◌, length, get_or, set, slice_get, append_assoc, refl, sym, ap, ◌∙◌, arith}
 use Rattle.std.proofs.lemmas.List.{length-append, set-append_left, set-append_right}
 use Rattle.shared_blocks.specs.Blocks.{AreFull, joined}
 

@@ -1,17 +1,15 @@
 -- In which block a key is, if it is in any.
-use Rattle.std.proofs.Common.{◌≡◌, ℕ, zero, suc, ◌<◌, ◌≤◌, Bool, true, false, List, [], ◌∷◌, ◌++◌, length, get_or, Option, Some, None, Ordering, Less, Equal, Greater, is_le, refl, sym, ap, subst, ◌∙◌, arith}
+use Rattle.std.proofs.Common.{◌≡◌, ℕ, zero, suc, ◌<◌, ◌≤◌, true, false, List, [], ◌∷◌, ◌++◌, length, get_or, Option, None, Ordering, Less, Equal, Greater, is_le, refl, ap, ◌∙◌, arith}
 use Rattle.std.specs.FinMap.{find}
 use Rattle.std.specs.Cmp.{IsTotalOrder}
-use Rattle.std.specs.List.{AllByRecursion}
 use Rattle.std.specs.List.Sorted.{IsPartitionedBy, IsPartitionPoint, IsStrictlySortedBy}
 use Rattle.std.specs.Map.{keys_of}
 use Rattle.std.proofs.lemmas.Bool.{false≢true}
-use Rattle.std.proofs.lemmas.List.{append-nil}
 use Rattle.std.proofs.lemmas.Map.Keys.{sorted_head}
 use Rattle.shared_blocks.specs.Blocks.{joined}
 use Rattle.shared_blocks.specs.Maps.{AreBlocks, HaveItems, starts_by}
 use Rattle.shared_blocks.proofs.Entries.{less_back}
-use Rattle.shared_blocks.proofs.Parts.{Rise, Over, Under, Apart, Rise-left, Rise-right, Apart-append, Under-first, Over-less, Over-append, Under-less, Under-tied, find-over, find-past, find-before}
+use Rattle.shared_blocks.proofs.Parts.{Rise, Over, Under, Rise-left, Rise-right, Apart-append, Under-first, Over-less, Under-less, Under-tied, find-over, find-past, find-before}
 
 le_cases : (o : Ordering) → is_le o ≡ true → (A : Type 0) → (o ≡ Less → A) → (o ≡ Equal → A) → A
 le_cases Less e A less tie = less refl

@@ -58,7 +58,7 @@ fn write_blocks<K: Ord + Clone + Drop, V: Clone + Drop>(
     requires keys { AreSame K.is_clone }
     requires values { AreSame V.is_clone }
     requires filled { HaveItems written.old.items }
-    requires blocks { AreBlocks K.cmp blocks.now }
+    requires sound { AreBlocks K.cmp blocks.now }
     requires edits_rise { IsStrictlySortedBy K.cmp (keys_of edits.old.items) }
     ensures whole { OnOk result (joined written.new.items ++ edited_by K.cmp [] edits.new.items
         ≡ joined written.old.items ++ edited_by K.cmp (joined blocks.now) edits.old.items) }
@@ -85,7 +85,12 @@ fn merge_rest<K: Ord + Clone + Drop, V: Clone + Drop>(
 {
     let no_blocks: Vec<Block<(K, V)>> = Vec::new(alloc);
     let no_pairs: Vec<(K, V)> = Vec::new(alloc);
-    merge_block(alloc, no_pairs.as_slice(), edits, first_key(no_blocks.as_slice()))
+    merge_block(
+        alloc,
+        no_pairs.as_slice(),
+        edits,
+        first_key(no_blocks.as_slice()),
+    )
 }
 
 /// The blocks with these edits written over them.
@@ -96,10 +101,10 @@ pub(crate) fn written<K: Ord + Clone + Drop, V: Clone + Drop>(
 ) -> Result<Vec<Block<(K, V)>>, AllocError>
     requires keys { AreSame K.is_clone }
     requires values { AreSame V.is_clone }
-    requires blocks { AreBlocks K.cmp blocks.now }
+    requires sound { AreBlocks K.cmp blocks.now }
     requires edits_rise { IsStrictlySortedBy K.cmp (keys_of edits.items) }
     ensures joined { IfOk result (λ written. joined written.items ≡ edited_by K.cmp (joined blocks.now) edits.items) }
-    ensures blocks { IfOk result (λ written. AreBlocks K.cmp written.items) }
+    ensures sound { IfOk result (λ written. AreBlocks K.cmp written.items) }
 {
     let mut edits = VecDeque::from_vec(edits);
     let mut written = Vec::with_capacity(alloc, blocks.len())?;

@@ -1,4 +1,4 @@
-use Rattle.std.proofs.Common.{rules, ◌≡◌, ◌-◌, ◌*◌, ◌<◌, ◌≤◌, ◌/◌, ◌%◌, length, slice_get, vec_len, sym, ap, ◌∙◌, arith, List, []}
+use Rattle.std.proofs.Common.{rules, ◌≡◌, ◌-◌, ◌*◌, ◌<◌, ◌≤◌, ◌/◌, ◌%◌, length, slice_get, vec_len, sym, ap, ◌∙◌, arith, []}
 use Rattle.std.proofs.lemmas.List.{get_or_default}
 use Rattle.shared_blocks.specs.Lists.{Shared}
 use Rattle.shared_blocks.proofs.Joined.{slice_get-full, slice_get-last}
