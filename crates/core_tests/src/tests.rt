@@ -1,4 +1,5 @@
 //! One file of tests for each library, and what they share.
+mod blocks;
 mod commands;
 mod fixtures;
 mod growths;
