@@ -1,9 +1,10 @@
 -- The clash of a change, by the plans that are kept.
-use Rattle.std.proofs.Common.{◌≡◌, ◌⊎◌, inl, inr, ℕ, zero, suc, ◌+◌, ◌<◌, ◌≤◌, ◌==◌, Bool, true, false, not, cond, ◌||◌, ◌&&◌, List, [], ◌∷◌, drop, length, get_or, find, Option, Some, None, refl, sym, ap, subst, ◌∙◌, arith, eq-eqb}
+use Rattle.std.proofs.Common.{◌≡◌, ◌⊎◌, inl, inr, ℕ, zero, suc, ◌+◌, ◌<◌, ◌≤◌, ◌==◌, Bool, true, false, not, cond, ◌||◌, ◌&&◌, List, [], ◌∷◌, drop, length, find, Option, Some, None, refl, sym, ap, subst, ◌∙◌, arith, eq-eqb}
 use Rattle.std.specs.List.{AllByRecursion, list_any, list_all}
 use Rattle.std.specs.List.Sorted.{IsStrictlySortedBy}
 use Rattle.std.specs.declared.cmp.Ordering.TheVariants.{Less, Equal, Greater}
-use Rattle.std.proofs.lemmas.Bool.{eqb-true}
+use Rattle.std.proofs.lemmas.Bool.{cases_lt, eqb-true}
+use Rattle.std.specs.FinMap as map
 use Rattle.host_names.specs.Blobs.{Contents}
 use Rattle.host_names.specs.Cells.{cell_cmp}
 use Rattle.host_names.specs.CellOrder.{cell_cmp_total, cell_cmp-IsAntisymmetric}
@@ -16,16 +17,20 @@ use Rattle.site_change.specs.declared.plans.Plan.{Plan}
 use Rattle.site_change.specs.Changes.{same_cell, applied, touches, changes}
 use Rattle.site_change.specs.Plans.{IsChange}
 use Rattle.site_change.proofs.Effects.{one_cell, same_cell-itself}
+use Rattle.site_change.proofs.Locality.{is_local}
 use Rattle.site_change.proofs.Touching.{changed}
+use Rattle.site_change.specs.TouchedCells.{is_touched}
+use Rattle.change_undo.specs.Histories.{same_site}
 use Rattle.change_undo.specs.declared.entries.Entry.{Entry}
 use Rattle.change_undo.specs.declared.entries.Entry.TheVariants.{Change, Undo}
-use Rattle.change_undo.specs.declared.planned_entries.PlannedEntry.{PlannedEntry}
 use Rattle.change_undo.specs.Clashes.{changed_cells, in_cell, first_touch, clash_in}
-use Rattle.change_undo.specs.Kept.{ArePlanned, cells_of, first_touched, kept_touch}
+use Rattle.change_undo.specs.Kept.{ArePlanned, cells_of, first_touched, kept_touch, plan_at, plan_of}
 use Rattle.change_undo.specs.Plans.{IsPlanOf, IsPlanned, state_after}
-use Rattle.change_undo.specs.PlannedEntries.{marked_live, with_change}
+use Rattle.change_undo.specs.PlannedEntries.{PlannedEntry, marked_live, with_change}
 use Rattle.change_undo.proofs.ChangedCells.{is_listed}
 use Rattle.change_undo.proofs.FirstTouch.{not_among, changed-sorted}
+use Rattle.change_undo.proofs.Marked.{number_at}
+use Rattle.change_undo.proofs.Sites.{AreAllOf, none-of_another, touches-site}
 
 -- ---- lists of cells that rise
 
@@ -102,29 +107,63 @@ plan-cells uploads state n command plan is =
       ] refl
     ] refl
 
+-- all of them are of the site of the command
+plan-site : (uploads : Contents) (state : State) (n : ℕ) (command : Command) (plan : Plan) → IsPlanOf uploads state n command plan
+    → AreAllOf plan.touched.site (cells_of plan.changes.items)
+plan-site uploads state n command plan is c listed =
+    let change = plan-lists uploads state n command plan.changes.items c is.changes.each listed in
+    touches-site command n state c ((is_local command n state uploads).changed c change) ∙ sym is.touched.0
+
 -- ---- the first that touches some cells
 
-kept-touch : (uploads : Contents) (cells : List Cell) (state : State) (n : ℕ) (logged : List PlannedEntry) → ArePlanned uploads state n logged
-    → first_touch uploads cells state (marked_live n logged) ≡ kept_touch cells n logged
-kept-touch uploads cells state n [] planned = refl
-kept-touch uploads cells state n (l ∷ logged) planned = one (λ s rest. kept-touch uploads cells s (n + 1) logged rest) l.is_undone l.entry l.plan planned.0 planned.1
+-- what a plan of another site touches is none of these cells
+passed_over : (uploads : Contents) (state : State) (n : ℕ) (command : Command) (plan later : Plan) → AreAllOf plan.touched.site (cells_of plan.changes.items)
+    → IsPlanOf uploads state n command later → find (touches command n state) (cells_of plan.changes.items) ≡ first_touched plan (Some later)
+passed_over uploads state n command plan later all is =
+    let cells = cells_of plan.changes.items in
+    let told : find (touches command n state) cells ≡ find (is_touched later.touched) cells = λ i. find (λ c. sym (is.touched.1 c) i) cells in
+    told ∙ elim (same_site later.touched.site plan.touched.site) as (λ t. same_site later.touched.site plan.touched.site ≡ t
+    → find (is_touched later.touched) cells ≡ cond t (find (is_touched later.touched) cells) None) [
+      | true ↦ λ e. refl
+      | false ↦ λ e. none-of_another (is_touched later.touched) plan.touched.site later.touched.site cells all
+          (λ c touched. touches-site command n state c (sym (is.touched.1 c) ∙ touched) ∙ sym is.touched.0) e
+    ] refl
+
+kept-touch : (uploads : Contents) (plan : Plan) (state : State) (n : ℕ) (logged : List PlannedEntry) → AreAllOf plan.touched.site (cells_of plan.changes.items)
+    → ArePlanned uploads state n logged → first_touch uploads (cells_of plan.changes.items) state (marked_live n logged) ≡ kept_touch plan n logged
+kept-touch uploads plan state n [] all planned = refl
+kept-touch uploads plan state n (l ∷ logged) all planned = one (λ s rest. kept-touch uploads plan s (n + 1) logged all rest) l.is_undone l.entry l.plan planned.0 planned.1
   where
-    one : ((s : State) → ArePlanned uploads s (n + 1) logged → first_touch uploads cells s (marked_live (n + 1) logged) ≡ kept_touch cells (n + 1) logged)
-        → (gone : Bool) (entry : Entry) (plan : Option Plan) → IsPlanned uploads state n gone entry plan → ArePlanned uploads (state_after uploads state n gone entry) (n + 1) logged
-        → first_touch uploads cells state (with_change gone n entry (marked_live (n + 1) logged)) ≡ in_cell n (first_touched cells plan) (kept_touch cells (n + 1) logged)
-    one next gone (Undo site k) plan is rest = next state rest ∙ ap (λ o. in_cell n (first_touched cells o) (kept_touch cells (n + 1) logged)) (sym is)
-    one next true (Change command) plan is rest = next state rest ∙ ap (λ o. in_cell n (first_touched cells o) (kept_touch cells (n + 1) logged)) (sym is)
+    one : ((s : State) → ArePlanned uploads s (n + 1) logged → first_touch uploads (cells_of plan.changes.items) s (marked_live (n + 1) logged) ≡ kept_touch plan (n + 1) logged)
+        → (gone : Bool) (entry : Entry) (its : Option Plan) → IsPlanned uploads state n gone entry its → ArePlanned uploads (state_after uploads state n gone entry) (n + 1) logged
+        → first_touch uploads (cells_of plan.changes.items) state (with_change gone n entry (marked_live (n + 1) logged)) ≡ in_cell n (first_touched plan its) (kept_touch plan (n + 1) logged)
+    one next gone (Undo site k) its is rest = next state rest ∙ ap (λ o. in_cell n (first_touched plan o) (kept_touch plan (n + 1) logged)) (sym is)
+    one next true (Change command) its is rest = next state rest ∙ ap (λ o. in_cell n (first_touched plan o) (kept_touch plan (n + 1) logged)) (sym is)
     one next false (Change command) None is rest = absurd is
-    one next false (Change command) (Some plan) is rest =
-        ap (in_cell n (find (touches command n state) cells)) (next (applied command n state uploads) rest)
-        ∙ (λ i. in_cell n (find (λ c. sym (is.touched.1 c) i) cells) (kept_touch cells (n + 1) logged))
+    one next false (Change command) (Some later) is rest =
+        ap (in_cell n (find (touches command n state) (cells_of plan.changes.items))) (next (applied command n state uploads) rest)
+        ∙ ap (λ o. in_cell n o (kept_touch plan (n + 1) logged)) (passed_over uploads state n command plan later all is)
+
+-- the same, an entry further
+kept_touch-step : (plan : Plan) (n i : ℕ) (logged : List PlannedEntry) → i < length logged
+    → kept_touch plan n (drop i logged) ≡ in_cell n (first_touched plan (plan_at logged i)) (kept_touch plan (n + 1) (drop (suc i) logged))
+kept_touch-step plan n i [] within = absurd (omega (arith, within))
+kept_touch-step plan n zero (x ∷ logged) within = refl
+kept_touch-step plan n (suc i) (x ∷ logged) within = kept_touch-step plan n i logged (omega (arith, within))
+
+pub kept_touch-at : (plan : Plan) (i : ℕ) (logged : List PlannedEntry) → i < length logged
+    → kept_touch plan (i + 1) (drop i logged) ≡ in_cell (i + 1) (first_touched plan (plan_of logged (i + 1))) (kept_touch plan (i + 1 + 1) (drop (i + 1) logged))
+kept_touch-at plan i logged within =
+    let next : i + 1 ≡ suc i = omega arith in
+    kept_touch-step plan (i + 1) i logged within
+    ∙ (λ j. in_cell (i + 1) (first_touched plan (sym (number_at (plan_at logged) (i + 1) i next) j)) (kept_touch plan (i + 1 + 1) (drop (sym next j) logged)))
 
 -- ---- the clash of a change
 
 -- the first of these entries that touches a cell which the plan changes, with the first such cell
 abbrev pub plan_clash : Option Plan → ℕ → List PlannedEntry → Option (ℕ × Cell)
 plan_clash None n later = None
-plan_clash (Some plan) n later = kept_touch (cells_of plan.changes.items) n later
+plan_clash (Some plan) n later = kept_touch plan n later
 
 -- of a number that is not among them
 pub clash-absent : (uploads : Contents) (k n : ℕ) (state : State) (logged : List PlannedEntry) → (k < n) ⊎ (n + length logged ≤ k) → clash_in uploads k state (marked_live n logged) ≡ None
@@ -147,11 +186,10 @@ clash-absent uploads k n state (l ∷ logged) outside =
         ] refl
 
 -- of one at a place among them
-pub clash-kept : (uploads : Contents) (k n i : ℕ) (state : State) (logged : List PlannedEntry) (l : PlannedEntry) → k ≡ n + i → i < length logged → l ≡ get_or logged i l
-    → ArePlanned uploads state n logged → clash_in uploads k state (marked_live n logged) ≡ plan_clash l.plan (k + 1) (drop (suc i) logged)
-clash-kept uploads k n i state [] l at within is planned = absurd (omega (arith, within))
-clash-kept uploads k n zero state (x ∷ logged) l at within is planned =
-    one x.is_undone x.entry x.plan planned.0 planned.1 ∙ ap (λ (y : PlannedEntry). plan_clash y.plan (k + 1) logged) (sym is)
+pub clash-kept : (uploads : Contents) (k n i : ℕ) (state : State) (logged : List PlannedEntry) → k ≡ n + i → i < length logged
+    → ArePlanned uploads state n logged → clash_in uploads k state (marked_live n logged) ≡ plan_clash (plan_at logged i) (k + 1) (drop (suc i) logged)
+clash-kept uploads k n i state [] at within planned = absurd (omega (arith, within))
+clash-kept uploads k n zero state (x ∷ logged) at within planned = one x.is_undone x.entry x.plan planned.0 planned.1
   where
     one : (gone : Bool) (entry : Entry) (plan : Option Plan) → IsPlanned uploads state n gone entry plan → ArePlanned uploads (state_after uploads state n gone entry) (n + 1) logged
         → clash_in uploads k state (with_change gone n entry (marked_live (n + 1) logged)) ≡ plan_clash plan (k + 1) logged
@@ -162,14 +200,15 @@ clash-kept uploads k n zero state (x ∷ logged) l at within is planned =
         let number : k ≡ n = omega (arith, at) in
         let next = applied command n state uploads in
         ap (λ t. cond t (first_touch uploads (changed_cells command n state uploads) next (marked_live (n + 1) logged)) (clash_in uploads k next (marked_live (n + 1) logged))) (eq-eqb k n number)
-        ∙ kept-touch uploads (changed_cells command n state uploads) next (n + 1) logged rest
-        ∙ (λ i. kept_touch (sym (plan-cells uploads state n command plan planned_here) i) (sym number i + 1) logged)
-clash-kept uploads k n (suc i) state (x ∷ logged) l at within is planned =
-    one (λ s rest. clash-kept uploads k (n + 1) i s logged l (omega (arith, at)) (omega (arith, within)) is rest) x.is_undone x.entry planned.1
+        ∙ ap (λ cells. first_touch uploads cells next (marked_live (n + 1) logged)) (sym (plan-cells uploads state n command plan planned_here))
+        ∙ kept-touch uploads plan next (n + 1) logged (plan-site uploads state n command plan planned_here) rest
+        ∙ (λ i. kept_touch plan (sym number i + 1) logged)
+clash-kept uploads k n (suc i) state (x ∷ logged) at within planned =
+    one (λ s rest. clash-kept uploads k (n + 1) i s logged (omega (arith, at)) (omega (arith, within)) rest) x.is_undone x.entry planned.1
   where
-    one : ((s : State) → ArePlanned uploads s (n + 1) logged → clash_in uploads k s (marked_live (n + 1) logged) ≡ plan_clash l.plan (k + 1) (drop (suc i) logged))
+    one : ((s : State) → ArePlanned uploads s (n + 1) logged → clash_in uploads k s (marked_live (n + 1) logged) ≡ plan_clash (plan_at logged i) (k + 1) (drop (suc i) logged))
         → (gone : Bool) (entry : Entry) → ArePlanned uploads (state_after uploads state n gone entry) (n + 1) logged
-        → clash_in uploads k state (with_change gone n entry (marked_live (n + 1) logged)) ≡ plan_clash l.plan (k + 1) (drop (suc i) logged)
+        → clash_in uploads k state (with_change gone n entry (marked_live (n + 1) logged)) ≡ plan_clash (plan_at logged i) (k + 1) (drop (suc i) logged)
     one next gone (Undo site j) rest = next state rest
     one next true (Change command) rest = next state rest
     one next false (Change command) rest =
@@ -178,3 +217,21 @@ clash-kept uploads k n (suc i) state (x ∷ logged) l at within is planned =
       where
         other : (k == n) ≡ false
         other = elim (k == n) as (λ t. (k == n) ≡ t → t ≡ false) [ true ↦ λ e. absurd (omega (arith, at, eqb-true k n e)) | false ↦ λ e. refl ] refl
+
+-- of a number, by its plan
+pub clash-by_plan : (uploads : Contents) (k : ℕ) (logged : List PlannedEntry) → ArePlanned uploads map.empty 1 logged
+    → clash_in uploads k map.empty (marked_live 1 logged) ≡ plan_clash (plan_of logged k) (k + 1) (drop k logged)
+clash-by_plan uploads zero logged planned = clash-absent uploads 0 1 map.empty logged (inl (omega arith))
+clash-by_plan uploads (suc i) logged planned = elim (cases_lt i (length logged)) [
+  | inl within ↦
+      clash-kept uploads (suc i) 1 i map.empty logged (omega arith) within planned
+      ∙ ap (λ o. plan_clash o (suc i + 1) (drop (suc i) logged)) (sym (number_at (plan_at logged) (suc i) i refl))
+  | inr beyond ↦
+      clash-absent uploads (suc i) 1 map.empty logged (inr (omega (arith, beyond)))
+      ∙ ap (λ o. plan_clash o (suc i + 1) (drop (suc i) logged)) (sym (number_at (plan_at logged) (suc i) i refl ∙ plan_at-beyond logged i beyond))
+]
+  where
+    plan_at-beyond : (logged : List PlannedEntry) (i : ℕ) → length logged ≤ i → plan_at logged i ≡ None
+    plan_at-beyond [] i beyond = refl
+    plan_at-beyond (x ∷ logged) zero beyond = absurd (omega (arith, beyond))
+    plan_at-beyond (x ∷ logged) (suc i) beyond = plan_at-beyond logged i (omega (arith, beyond))

@@ -1,5 +1,5 @@
 -- The plans that a history keeps are those of its changes, each in its place.
-use Rattle.std.proofs.Common.{◌≡◌, ℕ, zero, suc, ◌+◌, ◌<◌, ◌==◌, Bool, true, false, not, cond, List, [], ◌∷◌, ◌++◌, length, get_or, set, Option, Some, None, unwrap_or, refl, sym, ap, subst, ◌∙◌, arith, eq-eqb}
+use Rattle.std.proofs.Common.{◌≡◌, ℕ, zero, suc, ◌+◌, ◌-◌, ◌<◌, ◌==◌, Bool, true, false, not, cond, List, [], ◌∷◌, ◌++◌, length, get_or, set, Option, Some, None, unwrap_or, refl, sym, ap, subst, ◌∙◌, arith, eq-eqb}
 use Rattle.std.proofs.lemmas.Bool.{eqb-true}
 use Rattle.std.specs.FinMap as map
 use Rattle.std.specs.List.{AllByRecursion}
@@ -19,12 +19,11 @@ use Rattle.site_change.proofs.Locality.{is_local, same_value-same}
 use Rattle.site_change.proofs.Touching.{changed}
 use Rattle.change_undo.specs.declared.entries.Entry.{Entry}
 use Rattle.change_undo.specs.declared.entries.Entry.TheVariants.{Change, Undo}
-use Rattle.change_undo.specs.declared.planned_entries.PlannedEntry.{PlannedEntry}
-use Rattle.change_undo.specs.Kept.{ArePlanned, plan_at}
+use Rattle.change_undo.specs.Kept.{ArePlanned}
 use Rattle.change_undo.specs.LiveChanges.{is_among, live_from}
 use Rattle.change_undo.specs.Plans.{IsPlanOf, IsPlanned, state_after, ArePlans}
 use Rattle.change_undo.specs.Clashes.{changed_cells, first_touch, clash_in}
-use Rattle.change_undo.specs.PlannedEntries.{marked_live, with_change}
+use Rattle.change_undo.specs.PlannedEntries.{PlannedEntry, marked_live, with_change, with_undone}
 use Rattle.change_undo.proofs.ChangedCells.{is_listed}
 use Rattle.change_undo.proofs.WithoutClash.{avoid_all}
 
@@ -64,13 +63,6 @@ plans-grow uploads more state after gone n (entry ∷ entries) (plan ∷ plans) 
           plan-grows uploads more state n command plan within parts.0 is,
           subst P (sym same) (next (applied command n state uploads) parts.1 rest),
         )
-
--- ---- one entry
-
-pub plan_at-is : (i : ℕ) (logged : List PlannedEntry) (l : PlannedEntry) → i < length logged → l ≡ get_or logged i l → l.plan ≡ plan_at logged i
-plan_at-is i [] l within at = absurd (omega (arith, within))
-plan_at-is zero (x ∷ logged) l within at = ap (λ (y : PlannedEntry). y.plan) at
-plan_at-is (suc i) (x ∷ logged) l within at = plan_at-is i logged l (omega (arith, within)) at
 
 -- ---- one entry more
 
@@ -153,11 +145,6 @@ planned-push_undo uploads state n [] site k planned = (refl, tt)
 planned-push_undo uploads state n (x ∷ logged) site k planned =
     (planned.0, planned-push_undo uploads (state_after uploads state n x.is_undone x.entry) (n + 1) logged site k planned.1)
 
-pub marked_live-push_undo : (n : ℕ) (logged : List PlannedEntry) (site : SiteName) (k : ℕ)
-    → marked_live n (logged ++ record { entry = Undo site k; is_undone = false; plan = None } ∷ []) ≡ marked_live n logged
-marked_live-push_undo n [] site k = refl
-marked_live-push_undo n (x ∷ logged) site k = ap (with_change x.is_undone n x.entry) (marked_live-push_undo (n + 1) logged site k)
-
 differs_before : (command : Command) (n : ℕ) (state : State) (uploads : Contents) → Differs (changes command n state uploads) state (applied command n state uploads) state
 differs_before command n state uploads c =
     elim (changes command n state uploads c) as (λ t. changes command n state uploads c ≡ t → map.get state c ≡ cond t (map.get state c) (map.get (applied command n state uploads) c)) [
@@ -170,13 +157,10 @@ differs_before command n state uploads c =
     not_false false e = cc e
 
 -- marking a change that has no clash
-pub planned-mark : (uploads : Contents) (state : State) (n i k : ℕ) (logged : List PlannedEntry) (l : PlannedEntry) → k ≡ n + i → i < length logged → l ≡ get_or logged i l
-    → clash_in uploads k state (marked_live n logged) ≡ None → ArePlanned uploads state n logged
-    → ArePlanned uploads state n (set logged i (record { entry = l.entry; is_undone = true; plan = None }))
-planned-mark uploads state n i k [] l at within is clear planned = absurd (omega (arith, within))
-planned-mark uploads state n zero k (x ∷ logged) l at within is clear planned =
-    let P : PlannedEntry → Type 0 = λ y. ArePlanned uploads state n (record { entry = y.entry; is_undone = true; plan = None } ∷ logged) in
-    subst P (sym is) (one x.is_undone x.entry clear planned.1)
+pub planned-undone : (uploads : Contents) (state : State) (n i k : ℕ) (logged : List PlannedEntry) → k ≡ n + i
+    → clash_in uploads k state (marked_live n logged) ≡ None → ArePlanned uploads state n logged → ArePlanned uploads state n (with_undone i logged)
+planned-undone uploads state n i k [] at clear planned = tt
+planned-undone uploads state n zero k (x ∷ logged) at clear planned = one x.is_undone x.entry clear planned.1
   where
     one : (gone : Bool) (entry : Entry) → clash_in uploads k state (with_change gone n entry (marked_live (n + 1) logged)) ≡ None
         → ArePlanned uploads (state_after uploads state n gone entry) (n + 1) logged
@@ -191,14 +175,14 @@ planned-mark uploads state n zero k (x ∷ logged) l at within is clear planned 
         (clash_in uploads k next (marked_live (n + 1) logged))) here) ∙ clear in
         let avoid = avoid_all uploads (changed_cells command n state uploads) test next (marked_live (n + 1) logged) (λ c e. is_listed command n state uploads c ∙ e) none in
         (refl, planned-without uploads test state next state (n + 1) logged (differs_before command n state uploads) avoid rest)
-planned-mark uploads state n (suc i) k (x ∷ logged) l at within is clear planned =
-    (planned.0, one (λ s clear rest. planned-mark uploads s (n + 1) i k logged l (omega (arith, at)) (omega (arith, within)) is clear rest) x.is_undone x.entry clear planned.1)
+planned-undone uploads state n (suc i) k (x ∷ logged) at clear planned =
+    (planned.0, one (λ s clear rest. planned-undone uploads s (n + 1) i k logged (omega (arith, at)) clear rest) x.is_undone x.entry clear planned.1)
   where
     one : ((s : State) → clash_in uploads k s (marked_live (n + 1) logged) ≡ None → ArePlanned uploads s (n + 1) logged
-        → ArePlanned uploads s (n + 1) (set logged i (record { entry = l.entry; is_undone = true; plan = None })))
+        → ArePlanned uploads s (n + 1) (with_undone i logged))
         → (gone : Bool) (entry : Entry) → clash_in uploads k state (with_change gone n entry (marked_live (n + 1) logged)) ≡ None
         → ArePlanned uploads (state_after uploads state n gone entry) (n + 1) logged
-        → ArePlanned uploads (state_after uploads state n gone entry) (n + 1) (set logged i (record { entry = l.entry; is_undone = true; plan = None }))
+        → ArePlanned uploads (state_after uploads state n gone entry) (n + 1) (with_undone i logged)
     one next gone (Undo site j) clear rest = next state clear rest
     one next true (Change command) clear rest = next state clear rest
     one next false (Change command) clear rest =
@@ -209,3 +193,10 @@ planned-mark uploads state n (suc i) k (x ∷ logged) l at within is clear plann
         ] refl in
         next after (sym (ap (λ t. cond t (first_touch uploads (changed_cells command n state uploads) after (marked_live (n + 1) logged))
         (clash_in uploads k after (marked_live (n + 1) logged))) other) ∙ clear) rest
+
+-- a change without a clash marked, and its undo appended
+pub planned-after_undo : (uploads : Contents) (logged : List PlannedEntry) (site : SiteName) (k : ℕ) → 0 < k → clash_in uploads k map.empty (marked_live 1 logged) ≡ None
+    → ArePlanned uploads map.empty 1 logged
+    → ArePlanned uploads map.empty 1 (with_undone (k - 1) logged ++ record { entry = Undo site k; is_undone = false; plan = None } ∷ [])
+planned-after_undo uploads logged site k some clear planned =
+    planned-push_undo uploads map.empty 1 (with_undone (k - 1) logged) site k (planned-undone uploads map.empty 1 (k - 1) k logged (omega (arith, some)) clear planned)

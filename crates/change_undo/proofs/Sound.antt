@@ -15,18 +15,17 @@ use Rattle.site_change.specs.Changes.{IsWithin, applied, refusal, run_from}
 use Rattle.change_undo.specs.declared.entries.Entry.{Entry}
 use Rattle.change_undo.specs.declared.entries.Entry.TheVariants.{Change, Undo}
 use Rattle.host_names.specs.declared.refusals.ChangeRefusal.TheVariants.{HistoryFull}
-use Rattle.change_undo.specs.declared.planned_entries.PlannedEntry.{PlannedEntry}
 use Rattle.change_undo.specs.Clashes.{clash_in}
 use Rattle.change_undo.specs.Effects.{UndoesChange}
 use Rattle.change_undo.specs.Histories.{Past, undone, is_among, run, change_refusal, undo_refusal, may_take_memory, IsLegal, IsUndoRefusedBy}
 use Rattle.change_undo.specs.Kept.{ArePlanned, AreWritable, befores_of, plan_at}
-use Rattle.change_undo.specs.PlannedEntries.{AreMarked, entries_of, marked_live}
+use Rattle.change_undo.specs.PlannedEntries.{PlannedEntry, AreMarked, entries_of, marked_live, with_undone}
 use Rattle.change_undo.specs.Past.{IsRunOver, IsSound, past_of, plans_of}
 use Rattle.change_undo.specs.Plans.{IsPlanOf, IsPlanned, state_after, ArePlans, IsHistoryOver}
 use Rattle.change_undo.proofs.LeavingOut.{undo-effect}
-use Rattle.change_undo.proofs.Marks.{marked_live-is, after_change}
-use Rattle.change_undo.proofs.Planned.{planned-push, plans-grow}
-use Rattle.change_undo.proofs.Runs.{guard, history-grows, next-not_undone, clear_where_allowed, run-change, run-undo, run-undone_at_once, within_limit}
+use Rattle.change_undo.proofs.Marked.{marked_live-is, after_change, after_undo, length-undone, with_undo}
+use Rattle.change_undo.proofs.Planned.{planned-push, planned-after_undo, plans-grow}
+use Rattle.change_undo.proofs.Runs.{guard, history-grows, next-not_undone, clear_where_allowed, run-change, run-undo, run-undone_at_once, within_limit, named-within}
 use Rattle.change_undo.proofs.WritingBack.{writes-back}
 
 pub length-entries_of : (logged : List PlannedEntry) → length (entries_of logged) ≡ length logged
@@ -101,42 +100,53 @@ sound-new limit some bounded = record {
 
 -- ---- after a commit
 
-abbrev pub IsAppended : List PlannedEntry → List PlannedEntry → Contents → State → ℕ → Command → Type 0
-IsAppended logged items uploads state number command =
-    (plan : Plan) × (items ≡ logged ++ record { entry = Change command; is_undone = false; plan = Some plan } ∷ []) × IsPlanOf uploads state number command plan
+-- the entry of a change that lives
+abbrev pub entry_of : Command → Plan → PlannedEntry
+entry_of command plan = record { entry = Change command; is_undone = false; plan = Some plan }
 
-run-append : (logged items : List PlannedEntry) (uploads : Contents) (state after : State) (number : ℕ) (command : Command) → AreMarked (undone (entries_of logged)) 1 logged
-    → IsRunOver uploads logged state → number ≡ length logged + 1 → refusal command number state uploads ≡ None → IsAppended logged items uploads state number command
-    → after ≡ applied command number state uploads → AreMarked (undone (entries_of items)) 1 items × IsRunOver uploads items after
-run-append logged items uploads state after number command marked over at ok is effect =
+run-append : (logged : List PlannedEntry) (uploads : Contents) (state after : State) (number : ℕ) (command : Command) (plan : Plan) → AreMarked (undone (entries_of logged)) 1 logged
+    → IsRunOver uploads logged state → number ≡ length logged + 1 → refusal command number state uploads ≡ None → IsPlanOf uploads state number command plan
+    → after ≡ applied command number state uploads
+    → AreMarked (undone (entries_of (logged ++ entry_of command plan ∷ []))) 1 (logged ++ entry_of command plan ∷ []) × IsRunOver uploads (logged ++ entry_of command plan ∷ []) after
+run-append logged uploads state after number command plan marked over at ok is effect =
     let es = entries_of logged in
+    let new = entry_of command plan in
     let n : number ≡ length es + 1 = at ∙ ap (λ (m : ℕ). m + 1) (sym (length-entries_of logged)) in
     let accepted : refusal command (length es + 1) state uploads ≡ None = ap (λ (m : ℕ). refusal command m state uploads) (sym n) ∙ ok in
     let more = run-change uploads es command state over.legal over.ran accepted in
-    let new : PlannedEntry = record { entry = Change command; is_undone = false; plan = Some is.0 } in
     let pushed = after_change logged new command marked (next_number logged uploads state over) refl refl in
     let reached : applied command (length es + 1) state uploads ≡ after = ap (λ (m : ℕ). applied command m state uploads) (sym n) ∙ sym effect in
-    let P : List PlannedEntry → Type 0 = λ items. AreMarked (undone (entries_of items)) 1 items × IsRunOver uploads items after in
     let Q : List Entry → Type 0 = IsLegal uploads in
-    subst P (sym is.1) (
+    (
       pushed.1,
       record {
         legal = subst Q (sym pushed.0) more.1;
         ran = ap (run uploads) pushed.0 ∙ more.0 ∙ ap Some reached;
-        planned = planned-push uploads map.empty state 1 number logged new (omega (arith, at)) (marked_run logged uploads state marked over) over.planned is.2;
+        planned = planned-push uploads map.empty state 1 number logged new (omega (arith, at)) (marked_run logged uploads state marked over) over.planned is;
       },
     )
 
-pub sound-append : (limit : ℕ) (logged items : List PlannedEntry) (uploads : Contents) (state after : State) (number : ℕ) (command : Command)
-    → IsSound limit logged state → IsHistoryOver uploads (past_of limit logged state) → number ≡ length logged + 1 → number ≤ limit
-    → refusal command number state uploads ≡ None → IsAppended logged items uploads state number command → after ≡ applied command number state uploads
+-- a command that is decided as the next entry, appended with its plan
+pub sound-commit : (limit : ℕ) (logged items : List PlannedEntry) (uploads : Contents) (state after : State) (count : ℕ) (command : Command) (plan : Plan) → IsSound limit logged state
+    → (past : Past) → past_of limit logged state ≡ past → IsHistoryOver uploads past → count ≡ length past.entries → false ≡ nat_le past.limit (length past.entries)
+    → refusal command (count + 1) state uploads ≡ None → IsPlanOf uploads state (count + 1) command plan → items ≡ logged ++ entry_of command plan ∷ []
+    → after ≡ applied command (count + 1) state uploads
     → IsSound limit items after × IsHistoryOver uploads (past_of limit items after)
-sound-append limit logged items uploads state after number command sound over at room ok is effect =
-    let new = run-append logged items uploads state after number command sound.marked (run-over limit uploads logged state sound.marked over) at ok is effect in
-    let longer : length items ≡ length logged + 1 = ap (λ (ls : List PlannedEntry). length ls) is.1 ∙ length-append logged (record { entry = Change command; is_undone = false; plan = Some is.0 } ∷ []) in (
-      record { some = sound.some; bounded = sound.bounded; room = omega (arith, longer, at, room); marked = new.0; uploads = uploads; over = new.1 },
-      over-run limit uploads items after new.0 new.1,
+sound-commit limit logged items uploads state after count command plan sound past same over number room ok is appended effect =
+    let H : Past → Type 0 = λ p. IsHistoryOver uploads p × (count ≡ length p.entries) × (false ≡ nat_le p.limit (length p.entries)) in
+    let here = subst H (sym same) (over, number, room) in
+    let at : count + 1 ≡ length logged + 1 = omega (arith, here.1, length-entries_of logged) in
+    let new = run-append logged uploads state after (count + 1) command plan sound.marked (run-over limit uploads logged state sound.marked here.0) at ok is effect in
+    let longer = length-append logged (entry_of command plan ∷ []) in
+    let less = below limit (length (entries_of logged)) here.2 in
+    let P : List PlannedEntry → Type 0 = λ items. IsSound limit items after × IsHistoryOver uploads (past_of limit items after) in
+    subst P (sym appended) (
+      record { some = sound.some; bounded = sound.bounded; room = omega (arith, longer, less, length-entries_of logged); marked = new.0; uploads = uploads; over = new.1 },
+      over-run limit uploads (logged ++ entry_of command plan ∷ []) after new.0 new.1,
     )
+  where
+    below : (limit n : ℕ) → false ≡ nat_le limit n → n < limit
+    below limit n e = elim (cases_lt n limit) [ inl less ↦ less | inr over ↦ cc (e ∙ le-leb limit n over) ]
 
 -- ---- after an undo
 
@@ -147,16 +157,6 @@ out_of_memory reason (Ok n) h memory = absurd h
 out_of_memory reason (Err (change.Refused told)) h memory = cc h
 out_of_memory reason (Err change.OutOfMemory) h memory = memory
 
--- where no reason against the undo was found, there is none
-pub allowed_by : (limit : ℕ) (logged items : List PlannedEntry) (uploads : Contents) (state : State) (site : SiteName) (k : ℕ) (reason : Option ChangeRefusal) → IsRunOver uploads logged state
-    → items ≡ logged → ((u : Contents) → ArePlanned u map.empty 1 items → reason ≡ undo_refusal u limit (entries_of items) site k) → reason ≡ None
-    → change_refusal uploads (entries_of logged) site k ≡ None
-allowed_by limit logged items uploads state site k reason over is told none =
-    let P : List PlannedEntry → Type 0 = ArePlanned uploads map.empty 1 in
-    within_limit uploads limit (entries_of logged) site k (
-    ap (λ (xs : List PlannedEntry). undo_refusal uploads limit (entries_of xs) site k) (sym is) ∙ sym (told uploads (subst P (sym is) over.planned)) ∙ none
-    )
-
 -- a change that may be undone has no clash
 clear-of : (logged : List PlannedEntry) (uploads : Contents) (site : SiteName) (k : ℕ) → AreMarked (undone (entries_of logged)) 1 logged → change_refusal uploads (entries_of logged) site k ≡ None
     → clash_in uploads k map.empty (marked_live 1 logged) ≡ None
@@ -165,33 +165,35 @@ clear-of logged uploads site k marked ok =
     ∙ clear_where_allowed uploads (entries_of logged) site k ok
 
 pub run-undone : (logged items : List PlannedEntry) (uploads : Contents) (state after : State) (site : SiteName) (k : ℕ) → AreMarked (undone (entries_of logged)) 1 logged
-    → IsRunOver uploads logged state → change_refusal uploads (entries_of logged) site k ≡ None → entries_of items ≡ entries_of logged ++ Undo site k ∷ []
-    → after ≡ with_cells state (befores_of (plan_at logged (k - 1)))
-    → ((u : Contents) → ArePlanned u map.empty 1 logged → clash_in u k map.empty (marked_live 1 logged) ≡ None → ArePlanned u map.empty 1 items)
-    → IsRunOver uploads items after
-run-undone logged items uploads state after site k marked over ok is effect planned =
+    → IsRunOver uploads logged state → change_refusal uploads (entries_of logged) site k ≡ None → items ≡ with_undo site k logged
+    → after ≡ with_cells state (befores_of (plan_at logged (k - 1))) → AreMarked (undone (entries_of items)) 1 items × IsRunOver uploads items after
+run-undone logged items uploads state after site k marked over ok is effect =
+    let named = named-within uploads (entries_of logged) site k ok in
+    let new = after_undo logged site k marked (next_number logged uploads state over) named.0 (omega (arith, named.1, length-entries_of logged)) in
     let before = run-undo uploads (entries_of logged) site k state over.legal over.ran ok in
     let back = writes-back uploads logged state site k marked over ok in
+    let P : List PlannedEntry → Type 0 = λ items. AreMarked (undone (entries_of items)) 1 items × IsRunOver uploads items after in
     let Q : List Entry → Type 0 = IsLegal uploads in
-    record {
-      legal = subst Q (sym is) before.2;
-      ran = ap (run uploads) is ∙ back.1 ∙ ap Some (sym effect);
-      planned = planned uploads over.planned (clear-of logged uploads site k marked ok);
-    }
+    subst P (sym is) (
+      new.1,
+      record {
+        legal = subst Q (sym new.0) before.2;
+        ran = ap (run uploads) new.0 ∙ back.1 ∙ ap Some (sym effect);
+        planned = planned-after_undo uploads logged site k named.0 (clear-of logged uploads site k marked ok) over.planned;
+      },
+    )
 
-pub writable : (limit : ℕ) (logged : List PlannedEntry) (state : State) (site : SiteName) (k : ℕ) → IsSound limit logged state
-    → ((u : Contents) → IsRunOver u logged state → change_refusal u (entries_of logged) site k ≡ None) → AreWritable state (befores_of (plan_at logged (k - 1)))
-writable limit logged state site k sound ok = (writes-back sound.uploads logged state site k sound.marked sound.over (ok sound.uploads sound.over)).0
+-- there is no reason against the undo
+abbrev pub IsAllowed : Past → SiteName → ℕ → Type 0
+IsAllowed past site k = (u : Contents) → IsHistoryOver u past → undo_refusal u past.limit past.entries site k ≡ None
 
--- what the plans tell of the reason against an undo is so over each uploads over which the history is what it is
-pub over_all : (Q : Option ChangeRefusal → Type 0) (limit : ℕ) (logged items : List PlannedEntry) (state : State) (site : SiteName) (k : ℕ) → AreMarked (undone (entries_of logged)) 1 logged
-    → items ≡ logged → ((u : Contents) → ArePlanned u map.empty 1 items → Q (undo_refusal u limit (entries_of items) site k))
-    → (past : Past) → past_of limit logged state ≡ past → (uploads : Contents) → IsHistoryOver uploads past → Q (undo_refusal uploads past.limit past.entries site k)
-over_all Q limit logged items state site k marked same told past is uploads over =
-    let H : Past → Type 0 = IsHistoryOver uploads in
-    let P : List PlannedEntry → Type 0 = λ ls. ArePlanned uploads map.empty 1 ls → Q (undo_refusal uploads limit (entries_of ls) site k) in
-    let R : Past → Type 0 = λ p. Q (undo_refusal uploads p.limit p.entries site k) in
-    subst R is (subst P same (told uploads) (run-over limit uploads logged state marked (subst H (sym is) over)).planned)
+-- so that the number is that of an entry, and what its cells had before it can be written
+pub undo-fits : (limit : ℕ) (logged : List PlannedEntry) (state : State) (site : SiteName) (k : ℕ) → IsSound limit logged state → IsAllowed (past_of limit logged state) site k
+    → (0 < k) × (k ≤ length logged) × AreWritable state (befores_of (plan_at logged (k - 1)))
+undo-fits limit logged state site k sound allowed =
+    let ok = within_limit sound.uploads limit (entries_of logged) site k (allowed sound.uploads (over-run limit sound.uploads logged state sound.marked sound.over)) in
+    let named = named-within sound.uploads (entries_of logged) site k ok in
+    (named.0, omega (arith, named.1, length-entries_of logged), (writes-back sound.uploads logged state site k sound.marked sound.over ok).0)
 
 room_where : (uploads : Contents) (limit : ℕ) (entries : List Entry) (site : SiteName) (k : ℕ) → undo_refusal uploads limit entries site k ≡ None → length entries < limit
 room_where uploads limit entries site k ok =
@@ -202,38 +204,35 @@ room_where uploads limit entries site k ok =
     ]
 
 pub sound-undo : (limit : ℕ) (logged items : List PlannedEntry) (state after : State) (site : SiteName) (k : ℕ) → IsSound limit logged state
-    → ((u : Contents) → IsHistoryOver u (past_of limit logged state) → undo_refusal u limit (entries_of logged) site k ≡ None)
-    → entries_of items ≡ entries_of logged ++ Undo site k ∷ [] → AreMarked (undone (entries_of items)) 1 items
-    → after ≡ with_cells state (befores_of (plan_at logged (k - 1)))
-    → ((u : Contents) → ArePlanned u map.empty 1 logged → clash_in u k map.empty (marked_live 1 logged) ≡ None → ArePlanned u map.empty 1 items)
+    → IsAllowed (past_of limit logged state) site k → items ≡ with_undo site k logged → after ≡ with_cells state (befores_of (plan_at logged (k - 1)))
     → IsSound limit items after
-sound-undo limit logged items state after site k sound ok is marked effect planned =
-    let none = ok sound.uploads (over-run limit sound.uploads logged state sound.marked sound.over) in
-    let longer : length (entries_of items) ≡ length (entries_of logged) + 1 = ap (λ (es : List Entry). length es) is ∙ length-append (entries_of logged) (Undo site k ∷ []) in
+sound-undo limit logged items state after site k sound allowed is effect =
+    let none = allowed sound.uploads (over-run limit sound.uploads logged state sound.marked sound.over) in
+    let ok = within_limit sound.uploads limit (entries_of logged) site k none in
     let less = room_where sound.uploads limit (entries_of logged) site k none in
-    let same = length-entries_of items in
+    let new = run-undone logged items sound.uploads state after site k sound.marked sound.over ok is effect in
+    let longer : length items ≡ length logged + 1 =
+    ap (λ (ls : List PlannedEntry). length ls) is ∙ length-append (with_undone (k - 1) logged) (record { entry = Undo site k; is_undone = false; plan = None } ∷ [])
+    ∙ ap (λ (n : ℕ). n + 1) (length-undone (k - 1) logged) in
     record {
       some = sound.some;
       bounded = sound.bounded;
-      room = omega (arith, longer, less, same);
-      marked = marked;
+      room = omega (arith, longer, less, length-entries_of logged);
+      marked = new.0;
       uploads = sound.uploads;
-      over = run-undone logged items sound.uploads state after site k sound.marked sound.over (within_limit sound.uploads limit (entries_of logged) site k none) is effect planned;
+      over = new.1;
     }
 
 pub over-undo : (limit : ℕ) (logged items : List PlannedEntry) (state after : State) (site : SiteName) (k : ℕ) → AreMarked (undone (entries_of logged)) 1 logged
-    → (past : Past) → past_of limit logged state ≡ past → ((u : Contents) → IsHistoryOver u past → undo_refusal u past.limit past.entries site k ≡ None)
-    → entries_of items ≡ entries_of logged ++ Undo site k ∷ [] → AreMarked (undone (entries_of items)) 1 items
-    → after ≡ with_cells state (befores_of (plan_at logged (k - 1)))
-    → ((u : Contents) → ArePlanned u map.empty 1 logged → clash_in u k map.empty (marked_live 1 logged) ≡ None → ArePlanned u map.empty 1 items)
-    → (uploads : Contents) → IsHistoryOver uploads past → IsHistoryOver uploads (past_of limit items after)
-over-undo limit logged items state after site k marked past is ok entries new_marked effect planned uploads over =
-    let H : Past → Type 0 = λ p. IsHistoryOver uploads p × (undo_refusal uploads p.limit p.entries site k ≡ None) in
-    let here : H (past_of limit logged state) = subst H (sym is) (over, ok uploads over) in
-    over-run limit uploads items after new_marked
-    (run-undone logged items uploads state after site k marked (run-over limit uploads logged state marked here.0) (within_limit uploads limit (entries_of logged) site k here.1) entries effect planned)
+    → IsAllowed (past_of limit logged state) site k → items ≡ with_undo site k logged → after ≡ with_cells state (befores_of (plan_at logged (k - 1)))
+    → (uploads : Contents) → IsHistoryOver uploads (past_of limit logged state) → IsHistoryOver uploads (past_of limit items after)
+over-undo limit logged items state after site k marked allowed is effect uploads over =
+    let run = run-over limit uploads logged state marked over in
+    let ok = within_limit uploads limit (entries_of logged) site k (allowed uploads over) in
+    let new = run-undone logged items uploads state after site k marked run ok is effect in
+    over-run limit uploads items after new.0 new.1
 
-pub effect-over : (old new : Past) (site : SiteName) (k : ℕ) → ((u : Contents) → IsHistoryOver u old → undo_refusal u old.limit old.entries site k ≡ None)
+pub effect-over : (old new : Past) (site : SiteName) (k : ℕ) → IsAllowed old site k
     → ((u : Contents) → IsHistoryOver u old → IsHistoryOver u new) → new.entries ≡ old.entries ++ Undo site k ∷ []
     → (uploads : Contents) → IsHistoryOver uploads old → UndoesChange uploads old new k
 effect-over old new site k ok after is uploads over =
