@@ -1,18 +1,12 @@
 -- What the marks of the entries tell.
-use Rattle.std.proofs.Common.{◌≡◌, ℕ, zero, suc, ◌+◌, ◌-◌, ◌<◌, ◌≤◌, ◌==◌, nat_le, Bool, true, false, not, cond, ◌||◌, List, [], ◌∷◌, ◌++◌, get_or, set, length, slice_get, Option, Some, None, option_map, unwrap_or, refl, sym, ap, subst, ◌∙◌, arith, eq-eqb, if◌then◌else◌}
-use Rattle.std.specs.FinMap as map
-use Rattle.std.proofs.lemmas.List.{length-map, append-nil, length-append}
-use Rattle.std.proofs.lemmas.Bool.{leb-true, eqb-true}
-use Rattle.std.specs.Str.{bytes_eq}
+use Rattle.std.proofs.Common.{◌≡◌, ℕ, zero, suc, ◌+◌, ◌-◌, ◌<◌, ◌≤◌, ◌==◌, Bool, true, false, cond, ◌||◌, List, [], ◌∷◌, ◌++◌, length, slice_get, Option, Some, None, option_map, unwrap_or, refl, sym, ap, subst, ◌∙◌, arith, eq-eqb}
+use Rattle.std.proofs.lemmas.List.{append-nil}
+use Rattle.std.proofs.lemmas.Bool.{eqb-true}
 use Rattle.site_change.specs.declared.commands.Command.{Command}
-use Rattle.host_names.specs.Blobs.{Contents}
 use Rattle.host_names.specs.declared.names.SiteName.{SiteName}
-use Rattle.site_change.specs.Changes.{site_of_command}
 use Rattle.change_undo.specs.declared.entries.Entry.{Entry}
 use Rattle.change_undo.specs.declared.entries.Entry.TheVariants.{Change, Undo}
-use Rattle.host_names.specs.declared.refusals.ChangeRefusal.TheVariants.{HistoryFull, NoSuchChange, AlreadyUndone, Clash}
-use Rattle.change_undo.specs.Clashes.{clash, clash_in}
-use Rattle.change_undo.specs.Histories.{marked as with_mark, undone, is_among, live_from, site_of_entry, same_site, entry_at, marked_entry, refusal_at, undo_refusal}
+use Rattle.change_undo.specs.Histories.{marked as with_mark, undone, is_among, live_from, entry_at, marked_entry}
 use Rattle.change_undo.proofs.Live.{is_among-push, undone-append}
 use Rattle.change_undo.specs.declared.marks.Mark.{Mark}
 use Rattle.change_undo.specs.PlannedEntries.{PlannedEntry, entries_of, marks_of, mark_at, AreMarked, marked_live, with_change, with_undone}

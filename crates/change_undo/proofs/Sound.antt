@@ -116,8 +116,7 @@ run-append logged uploads state after number command plan marked over at ok is e
     let more = run-change uploads es command state over.legal over.ran accepted in
     let pushed = after_change logged new command marked (next_number logged uploads state over) refl refl in
     let reached : applied command (length es + 1) state uploads ≡ after = ap (λ (m : ℕ). applied command m state uploads) (sym n) ∙ sym effect in
-    let Q : List Entry → Type 0 = IsLegal uploads in
-    (
+    let Q : List Entry → Type 0 = IsLegal uploads in (
       pushed.1,
       record {
         legal = subst Q (sym pushed.0) more.1;

@@ -30,7 +30,7 @@ pub const GREATEST_LIMIT: u64 = 1_000_000;
 
 /// The entries so far, and the state that the changes among them give that no undo names. Contracts see the limit,
 /// the entries, what each change that lives changed and touched, and the state. The state is always what those changes
-/// give when they run from nothing in the order of their numbers.
+/// give when they run from nothing in the order of their numbers. Copies share the entries and what is kept of them.
 #[derive(Drop)]
 pub struct History {
     limit: u64,
@@ -97,7 +97,7 @@ impl History {
         self.limit <= self.records.len()
     }
 
-    /// The entries alone.
+    /// The entries. That takes no memory.
     pub fn log(&self) -> &Log
         ensures { result.now ≡ self.now.entries }
     {
@@ -124,7 +124,8 @@ impl History {
     /// The clash of the change of a number: the number of the first later change that was not undone and reads or writes
     /// a cell which that change changed; and the first such cell, in the order of cells. None where no later change does
     /// so, and for each number that isn't that of a change, or that of one that was undone. Numbers count over all sites.
-    /// The work is at most a look-up of each changed cell for each later change.
+    /// The work is a look at each later entry, and at most a look-up of each changed cell for each later change of the
+    /// same site.
     pub fn clash(&self, change: u64) -> Option<(u64, &Cell)>
         ensures { (uploads : Contents) → IsHistoryOver uploads self.now
             → option_map (λ found. (found.0, found.1.now)) result ≡ Clashes.clash uploads self.now.entries change }
@@ -158,7 +159,7 @@ impl History {
     /// Undoes the change of a number, which belongs to this site, by the next entry. Answers that entry's number. Each cell
     /// that the change changed has then what it had before the change, and every other cell what it has now. Where a later
     /// change that was not undone reads or writes what this one changed, the undo is refused by its clash. On an error
-    /// nothing changes. The work is linear in the state and the cells.
+    /// nothing changes. The work is that of `State::set_cells` with these cells, and a count for each block of the entries.
     pub fn undo(&mut self, site: &SiteName, change: u64) -> Result<u64, ChangeError>
         ensures refused { (uploads : Contents) → IsHistoryOver uploads self.old
             → Histories.IsUndoRefusedBy (Histories.undo_refusal uploads self.old.limit self.old.entries site.now change) result }
@@ -180,7 +181,8 @@ impl History {
         Ok(number)
     }
 
-    /// A copy, which shares the entries and what is kept of them with this one until either changes.
+    /// A copy. Neither sees what is done to the other. The work is that of `State::copy`, and a count for each block of
+    /// the entries.
     pub fn copy(&self) -> Result<History, AllocError>
         ensures { IfOk result (λ copy. copy ≡ self.now) }
     {

@@ -114,7 +114,7 @@ impl Records {
         Ok(())
     }
 
-    /// The marks after the undo of the change of this number.
+    /// The marks after the undo of the change of this number. They are a copy, so that an undo can still fail.
     fn marks_after_undo(&self, change: u64) -> Result<SharedList<Mark>, AllocError>
         requires some { 0 < change }
         requires within { change ≤ length self.now }

@@ -1,6 +1,4 @@
-use Rattle.std.proofs.Common.{◌+◌, subst, ◌∙◌}
-use Rattle.change_undo.specs.Histories.{Past}
-use Rattle.change_undo.specs.Plans.{IsHistoryOver}
+use Rattle.std.proofs.Common.{◌∙◌}
 use Rattle.change_undo.proofs.Sound.{sound-commit}
 use Rattle.change_undo.proofs.histories.History.commit.Goals as goal
 

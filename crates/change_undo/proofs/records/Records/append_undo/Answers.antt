@@ -1,5 +1,4 @@
 use Rattle.std.proofs.Common.{List, [], ◌∷◌, ◌++◌, ◌-◌, length, false, None, arith, sym, ap, ◌∙◌}
-use Rattle.host_names.specs.declared.names.SiteName.{SiteName}
 use Rattle.change_undo.specs.declared.entries.Entry.{Entry}
 use Rattle.change_undo.specs.declared.entries.Entry.TheVariants as entry
 use Rattle.change_undo.specs.declared.marks.Mark.{Mark}

@@ -1,4 +1,4 @@
-use Rattle.std.proofs.Common.{ℕ, List, slice_get, sym, ap, ◌∙◌, ◌-◌}
+use Rattle.std.proofs.Common.{List, slice_get, sym, ap, ◌∙◌, ◌-◌}
 use Rattle.change_undo.specs.declared.marks.Mark.{Mark}
 use Rattle.change_undo.specs.PlannedEntries.{marks_of}
 use Rattle.change_undo.proofs.Marked.{from_one}
