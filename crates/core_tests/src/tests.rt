@@ -1,9 +1,11 @@
 //! One file of tests for each library, and what they share.
 mod commands;
+mod copies;
 mod fixtures;
 mod growths;
 mod histories;
 mod hosts;
+mod logs;
 mod names;
 mod ranges;
 mod states;
