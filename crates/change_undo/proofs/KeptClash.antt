@@ -166,7 +166,7 @@ plan_clash None n later = None
 plan_clash (Some plan) n later = kept_touch plan n later
 
 -- of a number that is not among them
-pub clash-absent : (uploads : Contents) (k n : ℕ) (state : State) (logged : List PlannedEntry) → (k < n) ⊎ (n + length logged ≤ k) → clash_in uploads k state (marked_live n logged) ≡ None
+clash-absent : (uploads : Contents) (k n : ℕ) (state : State) (logged : List PlannedEntry) → (k < n) ⊎ (n + length logged ≤ k) → clash_in uploads k state (marked_live n logged) ≡ None
 clash-absent uploads k n state [] outside = refl
 clash-absent uploads k n state (l ∷ logged) outside =
     one (λ s. clash-absent uploads k (n + 1) s logged (elim outside [ inl below ↦ inl (omega (arith, below)) | inr beyond ↦ inr (omega (arith, beyond)) ])) l.is_undone l.entry
@@ -186,7 +186,7 @@ clash-absent uploads k n state (l ∷ logged) outside =
         ] refl
 
 -- of one at a place among them
-pub clash-kept : (uploads : Contents) (k n i : ℕ) (state : State) (logged : List PlannedEntry) → k ≡ n + i → i < length logged
+clash-kept : (uploads : Contents) (k n i : ℕ) (state : State) (logged : List PlannedEntry) → k ≡ n + i → i < length logged
     → ArePlanned uploads state n logged → clash_in uploads k state (marked_live n logged) ≡ plan_clash (plan_at logged i) (k + 1) (drop (suc i) logged)
 clash-kept uploads k n i state [] at within planned = absurd (omega (arith, within))
 clash-kept uploads k n zero state (x ∷ logged) at within planned = one x.is_undone x.entry x.plan planned.0 planned.1
