@@ -1,5 +1,5 @@
 //! Copies of histories: what is done to the one leaves the other, also where they share blocks of entries.
-use super::fixtures::{assert_holds, assert_text, uploaded};
+use super::fixtures::{assert_text, uploaded};
 use super::growths::{assert_commit, assert_undo, seen};
 use super::hosts::{Host, assert_told, command, host_of};
 use change_undo::History;
@@ -21,22 +21,34 @@ one cancel 2 -> 5";
 /// What is seen of the history afterwards.
 const PUT_TO: &str = "5 by one, draft 1; 5 needs 2 at draft 2";
 
-/// The drafts below 9 of a history that has opened many.
+/// What is seen of a history that has opened 129 deploys.
 const OPENED: &str =
-    "by one, draft 1, draft 2, draft 3, draft 4, draft 5, draft 6, draft 7, draft 8";
+    "129 by one, draft 1, draft 2, draft 3, draft 4, draft 5, draft 6, draft 7, draft 8";
 
-/// The same, but that the fifth was taken back.
+/// What is seen once the fifth of 129 was taken back.
+const TAKEN_BACK: &str = "130 by one, draft 1, draft 2, draft 3, draft 4, draft 6, draft 7, draft 8";
+
+/// What is seen once the fifth of 130 was taken back.
 const FIFTH_TAKEN_BACK: &str =
-    "by one, draft 1, draft 2, draft 3, draft 4, draft 6, draft 7, draft 8";
+    "131 by one, draft 1, draft 2, draft 3, draft 4, draft 6, draft 7, draft 8; 5 is undone";
 
-/// Asserts what is seen of a history.
+/// What is seen of a history, and whether an undo names its fifth entry.
+fn seen_with_fifth(alloc: Global, history: &History) -> Result<String, Fail> {
+    let mut text = seen(alloc, history)?;
+    if let Some((_, true)) = history.marked_entry(5) {
+        text.push_str("; 5 is undone")?;
+    }
+    Ok(text)
+}
+
+/// Asserts that.
 fn assert_seen(
     rt: &impl Abort,
     alloc: Global,
     history: &History,
     wanted: &str,
 ) -> Result<(), Fail> {
-    let text = seen(alloc, history)?;
+    let text = seen_with_fifth(alloc, history)?;
     assert_text(rt, "a history", text.as_str(), wanted);
     Ok(())
 }
@@ -49,24 +61,44 @@ fn assert_apart(
     rows: &str,
     wanted: &str,
 ) -> Result<(), Fail> {
-    let before = seen(host.alloc, other)?;
+    let before = seen_with_fifth(host.alloc, other)?;
     assert_told(rt, host, rows)?;
     assert_seen(rt, host.alloc, &host.history, wanted)?;
     assert_seen(rt, host.alloc, other, before.as_str())
 }
 
+/// The same where the other one is a copy.
+fn assert_copy_apart(
+    rt: &impl Abort,
+    host: &mut Host,
+    rows: &str,
+    wanted: &str,
+) -> Result<(), Fail> {
+    let copy = host.history.copy()?;
+    assert_apart(rt, host, &copy, rows, wanted)
+}
+
+/// The same where the host goes on with a copy, and the other one is the original.
+fn assert_original_apart(
+    rt: &impl Abort,
+    host: &mut Host,
+    rows: &str,
+    wanted: &str,
+) -> Result<(), Fail> {
+    let original = host.go_on_with_a_copy()?;
+    assert_apart(rt, host, &original, rows, wanted)
+}
+
 #[test]
 fn what_is_done_to_a_history_leaves_its_copy(rt: HostRuntime) -> Result<(), Fail> {
     let mut host = host_of(&rt, rt.alloc(), PUBLISHED)?;
-    let copy = host.history.copy()?;
-    assert_apart(&rt, &mut host, &copy, PUT, PUT_TO)
+    assert_copy_apart(&rt, &mut host, PUT, PUT_TO)
 }
 
 #[test]
 fn what_is_done_to_a_copy_leaves_the_history(rt: HostRuntime) -> Result<(), Fail> {
     let mut host = host_of(&rt, rt.alloc(), PUBLISHED)?;
-    let original = host.go_on_with_a_copy()?;
-    assert_apart(&rt, &mut host, &original, PUT, PUT_TO)
+    assert_original_apart(&rt, &mut host, PUT, PUT_TO)
 }
 
 /// Opens deploys until there are so many.
@@ -85,51 +117,36 @@ fn host_of_many(alloc: Global, count: u64) -> Result<Host, Fail> {
     Ok(host)
 }
 
-/// Whether an undo names the fifth change.
-fn is_fifth_undone(history: &History) -> bool {
-    matches!(history.marked_entry(5), Some((_, true)))
-}
-
-/// Takes the fifth of 130 changes back in a host, and asserts that another history keeps it.
-fn assert_fifth_apart(rt: &impl Abort, host: &mut Host, other: &History) -> Result<(), Fail> {
-    let wanted = format!(in host.alloc; "131 {FIFTH_TAKEN_BACK}")?;
-    assert_apart(rt, host, other, "one undo 5 -> 131", wanted.as_str())?;
-    assert_holds(rt, "undone", is_fifth_undone(&host.history), true);
-    assert_holds(rt, "undone in the other", is_fifth_undone(other), false);
-    Ok(())
-}
+/// The fifth of 130 changes is taken back.
+const FIFTH: &str = "one undo 5 -> 131";
 
 #[test]
 fn an_undo_in_a_full_block_leaves_the_copy(rt: HostRuntime) -> Result<(), Fail> {
     let mut host = host_of_many(rt.alloc(), 130)?;
-    let copy = host.history.copy()?;
-    assert_fifth_apart(&rt, &mut host, &copy)
+    assert_copy_apart(&rt, &mut host, FIFTH, FIFTH_TAKEN_BACK)
 }
 
 #[test]
 fn an_undo_in_a_full_block_of_a_copy_leaves_the_history(rt: HostRuntime) -> Result<(), Fail> {
     let mut host = host_of_many(rt.alloc(), 130)?;
-    let original = host.go_on_with_a_copy()?;
-    assert_fifth_apart(&rt, &mut host, &original)
+    assert_original_apart(&rt, &mut host, FIFTH, FIFTH_TAKEN_BACK)
 }
 
 #[test]
 fn closing_a_block_without_memory(rt: HostRuntime) -> Result<(), Fail> {
     let mut host = host_of_many(rt.alloc(), 128)?;
-    let wanted = format!(in rt.alloc(); "129 {OPENED}")?;
-    assert_commit(&rt, &mut host, "open /a.txt=hello", wanted.as_str())
+    assert_commit(&rt, &mut host, "open /a.txt=hello", OPENED)
 }
 
 #[test]
 fn taking_back_in_a_full_block_without_memory(rt: HostRuntime) -> Result<(), Fail> {
     let mut host = host_of_many(rt.alloc(), 129)?;
-    let wanted = format!(in rt.alloc(); "130 {FIFTH_TAKEN_BACK}")?;
-    assert_undo(&rt, &mut host, 5, wanted.as_str())
+    assert_undo(&rt, &mut host, 5, TAKEN_BACK)
 }
 
 /// Copies the history of a host, so that the same is seen of the copy; or leaves it as it was, out of memory.
 fn assert_copy(rt: &impl Abort, host: &Host) -> Result<(), Fail> {
-    let before = seen(host.alloc, &host.history)?;
+    let before = seen_with_fifth(host.alloc, &host.history)?;
     match host.history.copy() {
         Ok(copy) => assert_seen(rt, host.alloc, &copy, before.as_str()),
         Err(error) => {
