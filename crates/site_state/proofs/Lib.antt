@@ -7,6 +7,7 @@ pub mod AliasRange
 pub mod Edits
 pub mod Written
 pub mod LackingDigests
+pub mod FirstLacking
 pub mod LeastAlias
 pub mod Named
 pub mod Two
