@@ -3,7 +3,7 @@ use Rattle.change_undo.specs.Histories.{Past}
 use Rattle.change_undo.specs.PlannedEntries.{entries_of}
 use Rattle.change_undo.specs.Plans.{IsHistoryOver}
 use Rattle.std.proofs.Common.{subst}
-use Rattle.change_undo.proofs.Opened.{AreOpened, opened, opened-draft, opened-kept}
+use Rattle.change_undo.proofs.Opened.{AreOpened, opened, opened-kept}
 use Rattle.change_undo.proofs.Sound.{some_over}
 use Rattle.change_undo.proofs.histories.History.state.Goals as goal
 
@@ -16,7 +16,7 @@ pub returns-clause-opened : goal.returns-clause-opened
 returns-clause-opened c =
     let P : Past → Type 0 = λ p. AreOpened p.entries c.self.inside.state in
     let are = subst P c.self.view_is (opened c.self.invariant.uploads (entries_of c.self.inside.logged.items) c.self.inside.state c.self.invariant.over.ran) in
-    λ site number draft is. opened-draft c.args.self.now.entries c.self.inside.state site number draft are is
+    are.drafts
 
 pub returns-clause-kept : goal.returns-clause-kept
 returns-clause-kept c =
