@@ -17,17 +17,7 @@ use super::views::HostView;
 use host_api::{Items, Refusal, Told};
 use host_names::{ChangeRefusal, SiteName};
 use site_change::{Command, MOST_FILES};
-use site_state::{Draft, Listing, least_missing, missing};
-
-/// Whether the deploy of a number publishes itself now.
-fn is_ready<H: HostView>(host: &H, site: &SiteName, number: u64) -> bool
-    ensures { result ≡ Outcomes.is_ready (H.host host.now) site.now number }
-{
-    match host.state().draft(site, number) {
-        Some(draft) => draft.auto && least_missing(draft, host.uploads()).is_none(),
-        None => false,
-    }
-}
+use site_state::{Draft, Listing, missing};
 
 /// Whether a deploy of these files may be opened, or the first reason why not. It takes no memory.
 fn judge_opening<H: HostView>(host: &H, files: &Listing) -> Result<(), ChangeRefusal>
@@ -56,7 +46,7 @@ impl SoloHouse {
         ensures err { OnErr result (self.new ≡ self.old) }
         ensures grows { Grows self.old self.new }
     {
-        if !is_ready(self, site, number) {
+        if !self.is_ready(site, number) {
             return Ok(None);
         }
         let site = site.copied();
