@@ -47,17 +47,21 @@ pub(crate) fn open(
     }
 }
 
-/// The uploads of these files to a deploy.
-pub(crate) fn uploads(alloc: Global, deploy: u64, files: Range<u64>) -> Result<Vec<Upload>> {
-    let mut uploads = Vec::new(alloc);
+/// Adds the uploads of these files to a deploy.
+pub(crate) fn plan(
+    alloc: Global,
+    planned: &mut Vec<Upload>,
+    deploy: u64,
+    files: Range<u64>,
+) -> Result<()> {
     for number in files {
-        uploads.push(Upload {
+        planned.push(Upload {
             deploy,
             path: path(alloc, number)?,
             bytes: content(alloc, number)?,
         })?;
     }
-    Ok(uploads)
+    Ok(())
 }
 
 /// Uploads each of these, in their order.
@@ -73,17 +77,22 @@ pub(crate) fn upload_all(house: &mut SoloHouse, uploads: Vec<Upload>) -> Result<
     Ok(())
 }
 
-/// A host whose site serves so many files, all of one content.
-pub(crate) fn serving(alloc: Global, count: u64) -> Result<SoloHouse> {
-    let mut house = empty_host(alloc);
+/// Opens a deploy of these files, and uploads all of them.
+pub(crate) fn fill(alloc: Global, house: &mut SoloHouse, files: Range<u64>) -> Result<()> {
+    let deploy = open(alloc, house, files.start..files.end, Contents::Own)?;
+    let mut planned = Vec::new(alloc);
+    plan(alloc, &mut planned, deploy, files)?;
+    upload_all(house, planned)
+}
+
+/// Makes the site serve so many files, all of one content, which is uploaded.
+pub(crate) fn serve(alloc: Global, house: &mut SoloHouse, count: u64) -> Result<()> {
+    fill(alloc, house, 0..1)?;
     for first in (0..count).step_by(MOST_FILES) {
         let end = count.min(first.saturating_add(MOST_FILES as u64));
-        let deploy = open(alloc, &mut house, first..end, Contents::First)?;
-        if first == 0 {
-            upload_all(&mut house, uploads(alloc, deploy, 0..1)?)?;
-        }
+        let _ = open(alloc, house, first..end, Contents::First)?;
     }
-    Ok(house)
+    Ok(())
 }
 
 /// Renames the first file of the site, or renames it back.

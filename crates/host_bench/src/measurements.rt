@@ -2,8 +2,9 @@
 ghost use Rattle.std.specs.Prelude.{◌≡◌};
 
 use crate::files::Contents;
-use crate::hosts::{Upload, empty_host, open, rename, serving, upload_all, uploads};
+use crate::hosts::{Upload, empty_host, fill, open, plan, rename, serve, upload_all};
 use anyhow::Result;
+use host_server::SoloHouse;
 use std::alloc::Global;
 use std::time::{Duration, Instant};
 
@@ -59,41 +60,52 @@ fn each(took: Duration, calls: u64) -> u128 {
     took.as_nanos().checked_div(u128::from(calls)).unwrap_or(0)
 }
 
-/// The time of one of so many renamings in a site that serves so many files.
-fn renamings(rt: &HostRuntime, files: u64, times: u64) -> Result<u128> {
-    let mut house = serving(rt.alloc(), files)?;
+/// The time of so many renamings.
+fn time_renamings(rt: &HostRuntime, house: &mut SoloHouse, times: u64) -> Result<Duration> {
     let begun = Instant::now(rt)?;
     for turn in 0..times {
-        rename(rt.alloc(), &mut house, turn % 2 == 1)?;
+        rename(rt.alloc(), house, turn % 2 == 1)?;
     }
-    Ok(each(begun.elapsed(rt)?, times))
+    Ok(begun.elapsed(rt)?)
 }
 
-/// The time of one of the uploads to open deploys of so many files, but for the last of each, which would publish it.
-fn puts(rt: &HostRuntime, files: u64) -> Result<u128> {
-    let alloc = rt.alloc();
-    let mut house = empty_host(alloc);
-    let mut planned: Vec<Vec<Upload>> = Vec::new(alloc);
-    let mut calls = 0u64;
+/// The time of one of so many renamings in a site that serves so many files.
+fn renamings(rt: &HostRuntime, files: u64, times: u64) -> Result<u128> {
+    let mut house = empty_host(rt.alloc());
+    serve(rt.alloc(), &mut house, files)?;
+    Ok(each(time_renamings(rt, &mut house, times)?, times))
+}
+
+/// Opens deploys of so many files each, and gives the uploads to them but for the last of each, which would publish it.
+fn plan_all(alloc: Global, house: &mut SoloHouse, files: u64) -> Result<Vec<Upload>> {
+    let mut planned = Vec::new(alloc);
     for first in (0..FILES).step_by(files.max(1) as usize) {
         let end = first.saturating_add(files);
-        let number = open(alloc, &mut house, first..end, Contents::Own)?;
-        planned.push(uploads(alloc, number, first..end.saturating_sub(1))?)?;
-        calls = calls.saturating_add(files.saturating_sub(1));
+        let deploy = open(alloc, house, first..end, Contents::Own)?;
+        plan(alloc, &mut planned, deploy, first..end.saturating_sub(1))?;
     }
+    Ok(planned)
+}
+
+/// The time of these uploads.
+fn time_uploads(rt: &HostRuntime, house: &mut SoloHouse, planned: Vec<Upload>) -> Result<Duration> {
     let begun = Instant::now(rt)?;
-    for uploads in planned {
-        upload_all(&mut house, uploads)?;
-    }
-    Ok(each(begun.elapsed(rt)?, calls))
+    upload_all(house, planned)?;
+    Ok(begun.elapsed(rt)?)
+}
+
+/// The time of one of the uploads to open deploys of so many files, which stay open.
+fn puts(rt: &HostRuntime, files: u64) -> Result<u128> {
+    let mut house = empty_host(rt.alloc());
+    let planned = plan_all(rt.alloc(), &mut house, files)?;
+    let calls = planned.len() as u64;
+    Ok(each(time_uploads(rt, &mut house, planned)?, calls))
 }
 
 /// The time of a deploy of so many files, from before its opening to its publishing.
 fn deploy(rt: &HostRuntime, files: u64) -> Result<u128> {
-    let alloc = rt.alloc();
-    let mut house = empty_host(alloc);
+    let mut house = empty_host(rt.alloc());
     let begun = Instant::now(rt)?;
-    let number = open(alloc, &mut house, 0..files, Contents::Own)?;
-    upload_all(&mut house, uploads(alloc, number, 0..files)?)?;
+    fill(rt.alloc(), &mut house, 0..files)?;
     Ok(begun.elapsed(rt)?.as_nanos())
 }
