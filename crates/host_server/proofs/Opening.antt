@@ -1,5 +1,5 @@
 -- A deploy that was opened, and published if it was ready.
-use Rattle.std.proofs.Common.{◌≡◌, inl, inr, ℕ, ◌+◌, ◌==◌, Bool, true, false, cond, ◌&&◌, is_none, slice_get, unwrap_or, length, List, [], ◌∷◌, ◌++◌, Option, Some, None, Result, Ok, Err, OnErr, refl, sym, ap, subst, ◌∙◌, arith, eq-eqb}
+use Rattle.std.proofs.Common.{◌≡◌, inl, inr, ℕ, ◌==◌, Bool, true, false, cond, ◌&&◌, is_none, slice_get, unwrap_or, length, List, [], ◌∷◌, Option, Some, None, Result, Ok, Err, OnErr, refl, sym, ap, subst, ◌∙◌, arith, eq-eqb}
 use Rattle.std.specs.FinMap as map
 use Rattle.std.proofs.lemmas.Bool.{eqb-true}
 use Rattle.host_names.specs.Blobs.{Contents}
@@ -8,7 +8,7 @@ use Rattle.host_names.specs.declared.digests.Digest.{Digest}
 use Rattle.host_names.specs.declared.names.SiteName.{SiteName}
 use Rattle.site_state.specs.Listings.{Listed}
 use Rattle.site_state.specs.Missing.{AreMissing, least_missing_of}
-use Rattle.site_state.specs.States.{State, draft_at, as_draft}
+use Rattle.site_state.specs.States.{draft_at, as_draft}
 use Rattle.site_state.specs.declared.values.Value.TheVariants as value
 use Rattle.site_change.proofs.Effects.{get-with_cell, same_cell-itself}
 use Rattle.change_undo.proofs.Runs.{guard, legal-runs, run-change}
