@@ -17,4 +17,5 @@ pub mod KeptClash
 pub mod LeavingOut
 pub mod WritingBack
 pub mod Sound
+pub mod Drafts
 pub mod Opened

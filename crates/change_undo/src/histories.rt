@@ -12,7 +12,7 @@ ghost use Rattle.change_undo.specs.declared.entries.Entry.TheVariants as entry;
 ghost use Rattle.change_undo.specs.Clashes;
 ghost use Rattle.change_undo.specs.Effects.{UndoesChange};
 ghost use Rattle.change_undo.specs.Histories;
-ghost use Rattle.change_undo.specs.Openings.{Opens};
+ghost use Rattle.change_undo.specs.Openings.{Opens, OpensDraft};
 ghost use Rattle.change_undo.specs.Plans.{IsHistoryOver};
 
 use crate::entries::Entry;
@@ -70,11 +70,11 @@ impl History {
     }
 
     /// The state: what the changes that no undo names give from nothing. The number of an open or kept deploy is that of
-    /// the entry that opened it.
+    /// the entry that opened it, and an open deploy lists what that entry did.
     pub fn state(&self) -> &State
         ensures value { result.now ≡ self.now.state }
         ensures over { (uploads : Contents) × IsHistoryOver uploads self.now }
-        ensures opened { (site : Site) (number : ℕ) (draft : Opened) → draft_at result.now site number ≡ Some draft → Opens self.now.entries site number }
+        ensures opened { (site : Site) (number : ℕ) (draft : Opened) → draft_at result.now site number ≡ Some draft → OpensDraft self.now.entries site number draft }
         ensures kept { (site : Site) (number : ℕ) (tree : Paths (List ℕ)) → kept_at result.now site number ≡ Some tree → Opens self.now.entries site number }
     {
         &self.state
