@@ -111,10 +111,10 @@ all_listed patch ms es files listed moved sorted =
     let turned : IsPermutation files (onto es []) = IsPermutation-trans _ _ _ (IsPermutation-sym _ _ moved) (subst (λ l. IsPermutation l (onto es [])) (append-nil es) around) in
     let apart : AreApart files = IsDistinct-from_sorted path_cmp (paths_of files) sorted in
     let apart2 : AreApart (onto es []) = IsDistinct-IsPermutation same_path (eq_by_cmp_equiv nat_list_cmp_total).symm (paths_of files) (paths_of (onto es []))
-        (IsPermutation-map (λ e. e.0) files (onto es []) turned) apart in
+    (IsPermutation-map (λ e. e.0) files (onto es []) turned) apart in
     all_more patch ms es [] listed apart2
     ∙ ap Ok (same_map nat_list_cmp_total paths-IsAntisymmetric _ _ (λ q.
-        get-files_in (onto es []) q ∙ sym (at-permuted files (onto es []) turned apart apart2 q) ∙ sym (get-files_in files q)))
+    get-files_in (onto es []) q ∙ sym (at-permuted files (onto es []) turned apart apart2 q) ∙ sym (get-files_in files q)))
 
 -- ---- the look at neighbours
 
