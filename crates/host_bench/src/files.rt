@@ -72,13 +72,18 @@ fn push_path(
     Ok(entries.push((path, listed))?)
 }
 
-/// What a patch lists that adds these files.
-pub(crate) fn listing(alloc: Global, files: Range<u64>, contents: Contents) -> Result<Listing> {
+/// What a deploy, or a patch, lists that has these files.
+pub(crate) fn listing(
+    alloc: Global,
+    is_patch: bool,
+    files: Range<u64>,
+    contents: Contents,
+) -> Result<Listing> {
     let mut entries = no_entries(alloc);
     for number in files {
         let listed = listed(alloc, number, contents)?;
         push_path(&mut entries, path(alloc, number)?, listed)?;
     }
     let paths = PathMap::from_sorted(alloc, entries)?;
-    Ok(Listing::new(true, paths)?)
+    Ok(Listing::new(is_patch, paths)?)
 }

@@ -5,9 +5,10 @@ use crate::files::{Contents, content, listing, path};
 use anyhow::{Result, anyhow};
 use change_undo::GREATEST_LIMIT;
 use host_api::{Refusal, Told};
-use host_names::{FilePath, SiteName};
+use host_names::{AliasName, FilePath, SiteName};
 use host_server::SoloHouse;
 use site_change::{Command, MOST_FILES};
+use site_state::Listing;
 use std::alloc::Global;
 use std::ops::Range;
 
@@ -29,6 +30,19 @@ fn expected(told: Result<Told, Refusal>) -> Result<Told> {
     told.map_err(|refusal| anyhow!("the host refused it: {}", refusal.name()))
 }
 
+/// Opens a deploy of what is listed, and answers its number.
+fn open_listing(house: &mut SoloHouse, files: Listing) -> Result<u64> {
+    let opening = Command::Open {
+        site: SiteName::new("one")?,
+        files,
+        auto: true,
+    };
+    match expected(house.change(opening))? {
+        Told::Opened { id, .. } => Ok(id),
+        _ => Err(anyhow!("an opening told something else")),
+    }
+}
+
 /// Opens a deploy that adds these files to the site, and answers its number.
 pub(crate) fn open(
     alloc: Global,
@@ -36,15 +50,25 @@ pub(crate) fn open(
     files: Range<u64>,
     contents: Contents,
 ) -> Result<u64> {
-    let opening = Command::Open {
-        site: SiteName::new("one")?,
-        files: listing(alloc, files, contents)?,
-        auto: true,
-    };
-    match expected(house.change(opening))? {
-        Told::Opened { id, .. } => Ok(id),
-        _ => Err(anyhow!("an opening told something else")),
-    }
+    open_listing(house, listing(alloc, true, files, contents)?)
+}
+
+/// Keeps a deploy of one file, which is uploaded, and answers its number.
+pub(crate) fn keep(alloc: Global, house: &mut SoloHouse, file: u64) -> Result<u64> {
+    let end = file.saturating_add(1);
+    let deploy = open_listing(house, listing(alloc, false, file..end, Contents::Own)?)?;
+    let mut planned = Vec::new(alloc);
+    plan(alloc, &mut planned, deploy, file..end)?;
+    upload_all(house, planned)?;
+    Ok(deploy)
+}
+
+/// Moves an alias of the site to a deploy.
+pub(crate) fn move_alias(house: &mut SoloHouse, number: u64) -> Result<()> {
+    let site = SiteName::new("one")?;
+    let name = AliasName::new("next")?;
+    let _ = expected(house.change(Command::MoveAlias { site, name, number }))?;
+    Ok(())
 }
 
 /// Adds the uploads of these files to a deploy.

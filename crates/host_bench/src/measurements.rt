@@ -1,8 +1,11 @@
 //! The measurements: each makes its host, and then takes the time of some calls.
 ghost use Rattle.std.specs.Prelude.{◌≡◌};
 
+use crate::copies::time_copies;
 use crate::files::Contents;
-use crate::hosts::{Upload, empty_host, fill, open, plan, rename, serve, upload_all};
+use crate::hosts::{
+    Upload, empty_host, fill, keep, move_alias, open, plan, rename, serve, upload_all,
+};
 use anyhow::Result;
 use host_server::SoloHouse;
 use std::alloc::Global;
@@ -13,10 +16,15 @@ pub(crate) const LIST: &str =
     "rename FILES     nanoseconds of a renaming in a site that serves so many files
 put FILES        nanoseconds of an upload to an open deploy of so many files that stays open
 deploy FILES     nanoseconds of a deploy of so many files of 64 bytes: its opening and all uploads
-history CHANGES  nanoseconds of a change where so many rename one file";
+history CHANGES  nanoseconds of a change where so many rename one file
+moves CHANGES    nanoseconds of a change where so many move one alias
+copy ENTRIES     nanoseconds of a copy of a history of so many entries and cells, with one commit on it";
 
 /// How many renamings are timed in a site.
 const RENAMINGS: u64 = 400;
+
+/// How many copies are timed of a history.
+const COPIES: u64 = 400;
 
 /// How many files the deploys have together to which uploads are timed.
 const FILES: u64 = 10_000;
@@ -28,6 +36,8 @@ pub(crate) enum Measurement {
     Put(u64),
     Deploy(u64),
     History(u64),
+    Moves(u64),
+    Copy(u64),
 }
 
 impl Measurement {
@@ -40,6 +50,8 @@ impl Measurement {
             "put" => Some(Measurement::Put(count)),
             "deploy" => Some(Measurement::Deploy(count)),
             "history" => Some(Measurement::History(count)),
+            "moves" => Some(Measurement::Moves(count)),
+            "copy" => Some(Measurement::Copy(count)),
             _ => None,
         }
     }
@@ -51,6 +63,8 @@ impl Measurement {
             Measurement::Put(files) => puts(rt, *files),
             Measurement::Deploy(files) => deploy(rt, *files),
             Measurement::History(changes) => renamings(rt, 1, *changes),
+            Measurement::Moves(changes) => moves(rt, *changes),
+            Measurement::Copy(entries) => copies(rt, *entries),
         }
     }
 }
@@ -74,6 +88,24 @@ fn renamings(rt: &HostRuntime, files: u64, times: u64) -> Result<u128> {
     let mut house = empty_host(rt.alloc());
     serve(rt.alloc(), &mut house, files)?;
     Ok(each(time_renamings(rt, &mut house, times)?, times))
+}
+
+/// The time of one of so many moves of an alias between two deploys.
+fn moves(rt: &HostRuntime, times: u64) -> Result<u128> {
+    let mut house = empty_host(rt.alloc());
+    let first = keep(rt.alloc(), &mut house, 0)?;
+    let second = keep(rt.alloc(), &mut house, 1)?;
+    let begun = Instant::now(rt)?;
+    for turn in 0..times {
+        let number = if turn % 2 == 0 { first } else { second };
+        move_alias(&mut house, number)?;
+    }
+    Ok(each(begun.elapsed(rt)?, times))
+}
+
+/// The time of one of the copies of a history of so many entries and cells, with one commit on it.
+fn copies(rt: &HostRuntime, entries: u64) -> Result<u128> {
+    Ok(each(time_copies(rt, entries, COPIES)?, COPIES))
 }
 
 /// Opens deploys of so many files each, and gives the uploads to them but for the last of each, which would publish it.
