@@ -26,7 +26,8 @@ const OPENED: &str =
     "129 by one, draft 1, draft 2, draft 3, draft 4, draft 5, draft 6, draft 7, draft 8";
 
 /// What is seen once the fifth of 129 was taken back.
-const TAKEN_BACK: &str = "130 by one, draft 1, draft 2, draft 3, draft 4, draft 6, draft 7, draft 8";
+const TAKEN_BACK: &str =
+    "130 by one, draft 1, draft 2, draft 3, draft 4, draft 6, draft 7, draft 8";
 
 /// What is seen once the fifth of 130 was taken back.
 const FIFTH_TAKEN_BACK: &str =
