@@ -56,6 +56,21 @@ class Deploys(Program):
             (A, HELLO_FILE), (B, ABC_FILE), (undoing(2), entry(3)),
         ])
 
+    def test_of_many_files_replace_one_another_and_are_undone_whole(self):
+        paths = [f"/{number:04}.txt" for number in range(1000)]
+        some = [0, 1, 2, 62, 63, 64, 65, 127, 128, 129, 500, 501, 997, 998, 999]
+
+        def reads(site, replies):
+            return [(read(f"/s/{site}{paths[number]}"), replies[number % 2]) for number in some]
+
+        self.assert_converses([
+            (opening(dict.fromkeys(paths, HELLO)), opened(1, HELLO)), (upload(1, "0000.txt", b"hello"), uploaded(b"hello", 2)),
+            (opening(dict.fromkeys(paths, HELLO), "two"), opened(3, published=4)), *reads("one", [HELLO_FILE, HELLO_FILE]),
+            (opening(dict.fromkeys(paths[::2], ABC)), opened(5, ABC)), (upload(5, "0000.txt", b"abc"), uploaded(b"abc", 6)),
+            *reads("one", [ABC_FILE, NO_FILE]), *reads("two", [HELLO_FILE, HELLO_FILE]),
+            (undoing(6), entry(7)), *reads("one", [HELLO_FILE, HELLO_FILE]), (undoing(2), entry(8)), *reads("one", [NO_FILE, NO_FILE]),
+        ])
+
     def test_name_each_missing_digest_once_in_order(self):
         texts = [str(number).encode() for number in range(50)]
         files = {f"/{place}": digest_of(texts[place % 50]) for place in range(150)}
