@@ -3,6 +3,7 @@
 What is expected follows from docs/HTTP.md and docs/CHANGES.md.
 """
 
+import itertools
 import unittest
 
 from client import (
@@ -53,6 +54,21 @@ class Deploys(Program):
             (A_HELLO, uploaded(b"hello")), (A, NO_FILE), (upload(1, "b.txt", b"hello"), WRONG_DIGEST),
             (B_ABC, uploaded(b"abc", 2)), (B_ABC, uploaded(b"abc")), (upload(1, "b.txt", b"hello"), WRONG_DIGEST),
             (A, HELLO_FILE), (B, ABC_FILE), (undoing(2), entry(3)),
+        ])
+
+    def test_of_many_files_replace_one_another_and_are_undone_whole(self):
+        paths = [f"/{number:04}.txt" for number in range(1000)]
+        some = [0, 1, 2, 62, 63, 64, 65, 127, 128, 129, 500, 501, 997, 998, 999]
+
+        def reads(site, replies):
+            return [(read(f"/s/{site}{paths[number]}"), replies[number % 2]) for number in some]
+
+        self.assert_converses([
+            (opening(dict.fromkeys(paths, HELLO)), opened(1, HELLO)), (upload(1, "0000.txt", b"hello"), uploaded(b"hello", 2)),
+            (opening(dict.fromkeys(paths, HELLO), "two"), opened(3, published=4)), *reads("one", [HELLO_FILE, HELLO_FILE]),
+            (opening(dict.fromkeys(paths[::2], ABC)), opened(5, ABC)), (upload(5, "0000.txt", b"abc"), uploaded(b"abc", 6)),
+            *reads("one", [ABC_FILE, NO_FILE]), *reads("two", [HELLO_FILE, HELLO_FILE]),
+            (undoing(6), entry(7)), *reads("one", [HELLO_FILE, HELLO_FILE]), (undoing(2), entry(8)), *reads("one", [NO_FILE, NO_FILE]),
         ])
 
     def test_name_each_missing_digest_once_in_order(self):
@@ -124,6 +140,70 @@ class Deploys(Program):
             (opening({"a.txt": ABC}), opened(1, ABC)), (A_HELLO, WRONG_DIGEST),
             (upload(1, "b.txt", b"hello"), NOT_LISTED), (upload(9, "a.txt", b"hello"), NO_DEPLOY),
             (opening({"a.txt": HELLO}), opened(2, HELLO)), (change("GET changes"), listed("1 open", "2 open")),
+        ])
+
+
+class Completeness(Program):
+    """A deploy is published by the upload of the last content that it lacks, in whatever order they come."""
+
+    # What a deploy lists, in the order of its paths: removals at the ends and between, and two contents that stand twice.
+    LISTED = {"a": None, "b": b"1", "c": b"2", "d": None, "e": b"1", "f": b"3", "g": b"2", "h": None}
+
+    def uploads_until(self, number, paths, lacking, entry_number):
+        """Uploads to these paths of a deploy, the last of which publishes it as this entry."""
+        exchanges = []
+        for path in paths:
+            content = self.LISTED[path]
+            lacking = lacking - {content}
+            exchanges.append((upload(number, path, content), uploaded(content, None if lacking else entry_number)))
+            if not lacking:
+                break
+        return exchanges
+
+    def test_comes_with_the_last_upload_in_every_order(self):
+        digests = {path: content and digest_of(content) for path, content in self.LISTED.items()}
+        contents = set(self.LISTED.values()) - {None}
+        files = [path for path in self.LISTED if self.LISTED[path]]
+        for paths in itertools.permutations(files):
+            self.assert_converses([
+                (opening(digests, patch=True), opened(1, *sorted(map(digest_of, contents)))),
+                *self.uploads_until(1, paths, contents, 2), (read("f"), sent(b"3", kind="application/octet-stream")),
+            ])
+
+    def test_comes_to_each_of_two_deploys_that_are_filled_in_turn(self):
+        first = {f"a{number:02}": str(number).encode() for number in range(20)}
+        second = {f"b{number:02}": str(number).encode() for number in range(10, 30)}
+        fills = [(number, path, content) for pair in zip(first.items(), reversed(second.items()))
+                 for number, (path, content) in zip((1, 2), pair)]
+        lacking = {1: set(first.values()), 2: set(second.values())}
+        exchanges = [
+            (opening({path: digest_of(content) for path, content in files.items()}),
+             opened(number, *sorted(map(digest_of, files.values()))))
+            for number, files in ((1, first), (2, second))
+        ]
+        entries, open_deploys = 2, {1, 2}
+        for number, path, content in fills:
+            if number not in open_deploys:
+                continue
+            for contents in lacking.values():
+                contents.discard(content)
+            published = None
+            if not lacking[number]:
+                entries += 1
+                published = entries
+                open_deploys.discard(number)
+            exchanges.append((upload(number, path, content), uploaded(content, published)))
+        self.assertFalse(open_deploys)
+        self.assert_converses(exchanges)
+
+    def test_outlasts_the_undo_of_a_publishing_and_of_a_cancelling(self):
+        files = {"a.txt": HELLO, "b.txt": ABC}
+        self.assert_converses([
+            (opening(files), opened(1, ABC, HELLO)), (A_HELLO, uploaded(b"hello")), (cancelling(1), entry(2)),
+            (A_HELLO, NO_DEPLOY), (undoing(2), entry(3)), (A_HELLO, uploaded(b"hello")), (B_ABC, uploaded(b"abc", 4)),
+            (undoing(4), entry(5)), (B, NO_FILE), (showing(1), stands(1, "open")), (A_HELLO, uploaded(b"hello", 6)),
+            (B, ABC_FILE), (undoing(6), entry(7)), (undoing(1), entry(8)),
+            (B_ABC, NO_DEPLOY),
         ])
 
 

@@ -1,16 +1,19 @@
 """The first run again and again, each time with one of its allocations refused: never a wrong answer.
 
-The program is the real one. A small library in C stands before its allocator (refuse_allocation.c).
+The program is the real one. A small library in C stands before its allocator (refuse_allocation.c). Other runs have
+little room for all their memory, and bodies that are announced as larger.
 """
 
 import os
 import pathlib
+import resource
 import subprocess
 import tempfile
 import unittest
 
-from client import EXAMPLES, HERE, PROGRAM, SECONDS, Program, content_length, cut_after, refused
+from client import EXAMPLES, HERE, LARGEST_FILE, PROGRAM, SECONDS, Program, content_length, cut_after, refused, run, upload
 
+MEBIBYTE = 1 << 20
 SOURCE = HERE / "refuse_allocation.c"
 NO_MEMORY = b"filehost: out of memory\n"
 
@@ -89,6 +92,28 @@ class RefusedAllocations(Program):
                     self.assertTrue(is_right(pieces(out)), out.decode())
                 refused += out != whole[1]
         self.assertGreater(refused, 20)
+
+
+class AnnouncedBodies(Program):
+    # room for all memory of a run, its program and libraries included, which take less than 4 MiB of it
+    ROOM = 12 * MEBIBYTE
+
+    def run_in_little_room(self, came):
+        """Runs an upload of the largest file, of which so many bytes come."""
+
+        def limit_room():
+            resource.setrlimit(resource.RLIMIT_AS, (self.ROOM, self.ROOM))
+
+        largest = upload(1, "file", bytes(LARGEST_FILE))
+        return run("solo", given=largest[:len(largest) - LARGEST_FILE + came], preexec_fn=limit_room)
+
+    def test_take_memory_only_for_the_bytes_that_come(self):
+        for came in (0, 1, 3 * MEBIBYTE):
+            with self.subTest(came=came):
+                self.assertEqual(self.run_in_little_room(came), (0, b"", b""))
+
+    def test_that_come_whole_and_have_no_room_are_refused(self):
+        self.assertEqual(self.run_in_little_room(LARGEST_FILE), (0, refused("OutOfMemory", "Connection: close"), b""))
 
 
 if __name__ == "__main__":

@@ -1,6 +1,6 @@
 pub mod Live
 pub mod Runs
-pub mod Marks
+pub mod Marked
 pub mod PlanWrites
 pub mod Found
 pub mod Clashing
@@ -11,8 +11,11 @@ pub mod FirstTouch
 pub mod TheClash
 pub mod GrowingClash
 pub mod Planned
+pub mod Sites
+pub mod WithMarks
 pub mod KeptClash
 pub mod LeavingOut
 pub mod WritingBack
 pub mod Sound
+pub mod Drafts
 pub mod Opened

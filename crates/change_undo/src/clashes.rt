@@ -1,16 +1,16 @@
 //! The clash of a change: what is in the way of leaving it out.
-ghost use Rattle.std.specs.Prelude.{◌≡◌, ◌<◌, ◌+◌, ◌-◌, ◌^◌, ◌≤◌, drop, find, length, option_copied, option_map};
+ghost use Rattle.std.specs.Prelude.{◌≡◌, ◌+◌, Some, drop, find, option_copied, option_map};
 ghost use Rattle.site_change.specs.TouchedCells.{is_touched};
 ghost use Rattle.std.specs.FinMap as map;
 ghost use Rattle.host_names.specs.Blobs.{Contents};
 ghost use Rattle.change_undo.specs.Clashes.{clash_in};
 ghost use Rattle.change_undo.specs.Kept as spec;
-ghost use Rattle.change_undo.specs.Kept.{ArePlanned, cells_of};
+ghost use Rattle.change_undo.specs.Kept.{ArePlanned, cells_of, plan_of};
 ghost use Rattle.change_undo.specs.PlannedEntries.{marked_live};
 
-use crate::planned_entries::PlannedEntry;
+use crate::records::Records;
 use host_names::Cell;
-use site_change::{Change, Touched};
+use site_change::{Change, Plan, Touched};
 
 /// The first cell of some changes that is touched.
 fn first_touched<'a>(changes: &'a [Change], touched: &Touched) -> Option<&'a Cell>
@@ -24,39 +24,49 @@ fn first_touched<'a>(changes: &'a [Change], touched: &Touched) -> Option<&'a Cel
     None
 }
 
-/// The first of these entries that touches a cell of some changes, with the first such cell. The first entry has this
-/// number.
-fn kept_touch<'a>(
-    logged: &[PlannedEntry],
-    first: u64,
-    changes: &'a [Change],
-) -> Option<(u64, &'a Cell)>
-    requires { first + length logged.now < 2 ^ 64 }
-    ensures { option_map (λ found. (found.0, found.1.now)) result ≡ spec.kept_touch (cells_of changes.now) first logged.now }
+/// The first cell that a plan changes and a later one touches. That of another site is passed over at once: cells of
+/// two sites never touch.
+fn touched_later<'a>(plan: &'a Plan, later: &Plan) -> Option<&'a Cell>
+    ensures { option_copied result ≡ spec.first_touched plan.now (Some later.now) }
 {
-    let mut number = first;
-    'entries: for kept in logged {
-        if let Some(plan) = &kept.plan {
-            if let Some(cell) = first_touched(changes, &plan.touched) {
+    if later.touched.site != plan.touched.site {
+        return None;
+    }
+    first_touched(plan.changes.as_slice(), &later.touched)
+}
+
+impl Records {
+    /// The first cell that a plan changes and the change of a later number touches, if that lives.
+    fn touched_by<'a>(&self, number: u64, plan: &'a Plan) -> Option<&'a Cell>
+        ensures { option_copied result ≡ spec.first_touched plan.now (plan_of self.now number) }
+    {
+        match self.plan(number) {
+            Some(later) => touched_later(plan, later),
+            None => None,
+        }
+    }
+
+    /// The first entry after a change that touches a cell which its plan changes, with the first such cell.
+    fn kept_touch<'a>(&self, change: u64, plan: &'a Plan) -> Option<(u64, &'a Cell)>
+        ensures { option_map (λ found. (found.0, found.1.now)) result ≡ spec.kept_touch plan.now (change + 1) (drop change self.now) }
+    {
+        'entries: for place in change..self.len() {
+            let number = place + 1;
+            if let Some(cell) = self.touched_by(number, plan) {
                 return Some((number, cell));
             }
         }
-        number += 1;
+        None
     }
-    None
-}
 
-/// The first later change that lives and touches a cell which this change changed, with the first such cell.
-pub(crate) fn clash_of(logged: &[PlannedEntry], change: u64) -> Option<(u64, &Cell)>
-    ensures { (uploads : Contents) → ArePlanned uploads map.empty 1 logged.now
-        → option_map (λ found. (found.0, found.1.now)) result ≡ clash_in uploads change map.empty (marked_live 1 logged.now) }
-{
-    if change == 0 || (logged.len() as u64) < change {
-        return None;
-    }
-    let later = logged.split_at(change as usize).1;
-    match &logged[change as usize - 1].plan {
-        Some(plan) => kept_touch(later, change + 1, plan.changes.as_slice()),
-        None => None,
+    /// The first later change that lives and touches a cell which this change changed, with the first such cell.
+    pub(crate) fn clash(&self, change: u64) -> Option<(u64, &Cell)>
+        ensures { (uploads : Contents) → ArePlanned uploads map.empty 1 self.now
+            → option_map (λ found. (found.0, found.1.now)) result ≡ clash_in uploads change map.empty (marked_live 1 self.now) }
+    {
+        match self.plan(change) {
+            Some(plan) => self.kept_touch(change, plan),
+            None => None,
+        }
     }
 }

@@ -12,19 +12,17 @@ ghost use Rattle.change_undo.specs.declared.entries.Entry.TheVariants as entry;
 ghost use Rattle.change_undo.specs.Clashes;
 ghost use Rattle.change_undo.specs.Effects.{UndoesChange};
 ghost use Rattle.change_undo.specs.Histories;
-ghost use Rattle.change_undo.specs.Openings.{Opens};
+ghost use Rattle.change_undo.specs.Openings.{Opens, OpensDraft};
 ghost use Rattle.change_undo.specs.Plans.{IsHistoryOver};
 
-use crate::clashes::clash_of;
-use crate::commits::append;
 use crate::entries::Entry;
-use crate::planned_entries::PlannedEntry;
-use crate::refusals::undo_refusal;
-use crate::undos::take_back;
+use crate::logs::Log;
+use crate::records::Records;
+use crate::writes::decided;
 use host_names::{Cell, ChangeError, ChangeRefusal, SiteName, Uploads};
 use site_change::Command;
 use site_state::State;
-use std::alloc::Global;
+use std::alloc::{AllocError, Global};
 use std::marker::Model;
 
 /// The greatest limit of a history, in entries.
@@ -32,11 +30,11 @@ pub const GREATEST_LIMIT: u64 = 1_000_000;
 
 /// The entries so far, and the state that the changes among them give that no undo names. Contracts see the limit,
 /// the entries, what each change that lives changed and touched, and the state. The state is always what those changes
-/// give when they run from nothing in the order of their numbers.
+/// give when they run from nothing in the order of their numbers. Copies share the entries and what is kept of them.
 #[derive(Drop)]
 pub struct History {
     limit: u64,
-    logged: Vec<PlannedEntry>,
+    records: Records,
     state: State,
 }
 
@@ -52,9 +50,9 @@ impl Model for History {
 
     ghost coded = { coded_past (coded_list entry.the_row.coded) (coded_list (coded_option plan.the_row.coded)) states.the_row.coded };
 
-    ghost view = { λ h. past_of h.limit h.logged.items h.state };
+    ghost view = { λ h. past_of h.limit h.records h.state };
 
-    ghost invariant = { λ h. IsSound h.limit h.logged.items h.state };
+    ghost invariant = { λ h. IsSound h.limit h.records h.state };
 }
 
 impl History {
@@ -66,17 +64,17 @@ impl History {
     {
         History {
             limit,
-            logged: Vec::new(alloc),
+            records: Records::new(alloc),
             state: State::new(alloc),
         }
     }
 
     /// The state: what the changes that no undo names give from nothing. The number of an open or kept deploy is that of
-    /// the entry that opened it.
+    /// the entry that opened it, and an open deploy lists what that entry did.
     pub fn state(&self) -> &State
         ensures value { result.now ≡ self.now.state }
         ensures over { (uploads : Contents) × IsHistoryOver uploads self.now }
-        ensures opened { (site : Site) (number : ℕ) (draft : Opened) → draft_at result.now site number ≡ Some draft → Opens self.now.entries site number }
+        ensures opened { (site : Site) (number : ℕ) (draft : Opened) → draft_at result.now site number ≡ Some draft → OpensDraft self.now.entries site number draft }
         ensures kept { (site : Site) (number : ℕ) (tree : Paths (List ℕ)) → kept_at result.now site number ≡ Some tree → Opens self.now.entries site number }
     {
         &self.state
@@ -89,24 +87,28 @@ impl History {
         ensures some { 1 ≤ self.now.limit }
         ensures bounded { self.now.limit ≤ 1000000 }
     {
-        self.logged.len() as u64
+        self.records.len()
     }
 
     /// Whether it has as many entries as its limit says.
     pub fn is_full(&self) -> bool
         ensures { result ≡ nat_le self.now.limit (length self.now.entries) }
     {
-        self.limit <= self.logged.len() as u64
+        self.limit <= self.records.len()
+    }
+
+    /// The entries. That takes no memory.
+    pub fn log(&self) -> &Log
+        ensures { result.now ≡ self.now.entries }
+    {
+        self.records.log()
     }
 
     /// The entry of a number, from 1 on.
     pub fn entry(&self, number: u64) -> Option<&Entry>
         ensures { option_copied result ≡ Histories.entry_at self.now.entries number }
     {
-        if number == 0 || (self.logged.len() as u64) < number {
-            return None;
-        }
-        Some(&self.logged[number as usize - 1].entry)
+        self.log().entry(number)
     }
 
     /// The entry of a number, from 1 on, and whether an undo names it.
@@ -114,22 +116,21 @@ impl History {
         ensures { option_map (λ found. (found.0.now, found.1)) result
             ≡ Histories.marked_entry self.now.entries number }
     {
-        if number == 0 || (self.logged.len() as u64) < number {
-            return None;
-        }
-        let named = &self.logged[number as usize - 1];
-        Some((&named.entry, named.is_undone))
+        let entry = self.entry(number)?;
+        let mark = self.records.mark(number)?;
+        Some((entry, mark.is_undone))
     }
 
     /// The clash of the change of a number: the number of the first later change that was not undone and reads or writes
     /// a cell which that change changed; and the first such cell, in the order of cells. None where no later change does
     /// so, and for each number that isn't that of a change, or that of one that was undone. Numbers count over all sites.
-    /// The work is at most a look-up of each changed cell for each later change.
+    /// The work is a look at each later entry, and at most a look-up of each changed cell for each later change of the
+    /// same site.
     pub fn clash(&self, change: u64) -> Option<(u64, &Cell)>
         ensures { (uploads : Contents) → IsHistoryOver uploads self.now
             → option_map (λ found. (found.0, found.1.now)) result ≡ Clashes.clash uploads self.now.entries change }
     {
-        clash_of(self.logged.as_slice(), change)
+        self.records.clash(change)
     }
 
     /// Commits a command as the next entry, with these uploads, over which the history is what it is. Answers its number.
@@ -144,18 +145,21 @@ impl History {
         ensures err { OnErr result (self.new ≡ self.old) }
         ensures limit { self.new.limit ≡ self.old.limit }
     {
-        if self.limit <= self.logged.len() as u64 {
+        if self.is_full() {
             return Err(ChangeError::Refused(ChangeRefusal::HistoryFull));
         }
-        let number = self.logged.len() as u64 + 1;
-        append(&mut self.logged, &mut self.state, uploads, number, command)?;
+        let number = self.len() + 1;
+        let alloc = self.records.allocator();
+        let decision = decided(alloc, &self.state, uploads, number, &command)?;
+        self.records
+            .append_change(command, &mut self.state, decision)?;
         Ok(number)
     }
 
     /// Undoes the change of a number, which belongs to this site, by the next entry. Answers that entry's number. Each cell
     /// that the change changed has then what it had before the change, and every other cell what it has now. Where a later
     /// change that was not undone reads or writes what this one changed, the undo is refused by its clash. On an error
-    /// nothing changes. The work is linear in the state and the cells.
+    /// nothing changes. The work is that of `State::set_cells` with these cells, and a count for each block of the entries.
     pub fn undo(&mut self, site: &SiteName, change: u64) -> Result<u64, ChangeError>
         ensures refused { (uploads : Contents) → IsHistoryOver uploads self.old
             → Histories.IsUndoRefusedBy (Histories.undo_refusal uploads self.old.limit self.old.entries site.now change) result }
@@ -169,11 +173,23 @@ impl History {
         ensures err { OnErr result (self.new ≡ self.old) }
         ensures limit { self.new.limit ≡ self.old.limit }
     {
-        if let Some(reason) = undo_refusal(self.limit, self.logged.as_slice(), site, change)? {
+        if let Some(reason) = self.undo_refusal(site, change)? {
             return Err(ChangeError::Refused(reason));
         }
-        let number = self.logged.len() as u64 + 1;
-        take_back(&mut self.logged, &mut self.state, site, change)?;
+        let number = self.len() + 1;
+        self.records.append_undo(site, change, &mut self.state)?;
         Ok(number)
+    }
+
+    /// A copy. Neither sees what is done to the other. The work is that of `State::copy`, and a count for each block of
+    /// the entries.
+    pub fn copy(&self) -> Result<History, AllocError>
+        ensures { IfOk result (λ copy. copy ≡ self.now) }
+    {
+        Ok(History {
+            limit: self.limit,
+            records: self.records.copy()?,
+            state: self.state.copy()?,
+        })
     }
 }

@@ -2,13 +2,14 @@
 #![tactic(auto)]
 
 mod clashes;
-mod commits;
 mod entries;
 mod histories;
 mod laws;
-mod planned_entries;
+mod logs;
+mod marks;
+mod records;
 mod refusals;
-mod undos;
+mod shared;
 mod writes;
 
 pub use entries::Entry;
@@ -18,3 +19,4 @@ pub use laws::{
     a_legal_history_has_a_run, an_allowed_undo_leaves_a_legal_history, histories_outlast_uploads,
     the_clash_is_found, the_newest_change_has_no_clash,
 };
+pub use logs::Log;

@@ -1,5 +1,5 @@
 //! What a command writes into the state, and what takes it back.
-ghost use Rattle.std.specs.Prelude.{◌≡◌, map, All, Some, None, IfOk, IsTrue};
+ghost use Rattle.std.specs.Prelude.{◌≡◌, map, All, Some, None, IfOk, IsTrue, option_copied};
 ghost use Rattle.std.specs.List.Sorted.{IsStrictlySortedBy};
 ghost use Rattle.std.specs.Map.{keys_of};
 ghost use Rattle.host_names.specs.Cells.{cell_cmp};
@@ -82,8 +82,8 @@ fn befores(alloc: Global, changes: &[Change]) -> Result<Vec<Write>, AllocError>
 }
 
 /// What the cells that a plan changes had before; nothing where there is no plan.
-pub(crate) fn befores_of(alloc: Global, plan: &Option<Plan>) -> Result<Vec<Write>, AllocError>
-    ensures { IfOk result (λ writes. writes.items ≡ spec.befores_of plan.now) }
+pub(crate) fn befores_of(alloc: Global, plan: Option<&Plan>) -> Result<Vec<Write>, AllocError>
+    ensures { IfOk result (λ writes. writes.items ≡ spec.befores_of (option_copied plan.entry)) }
 {
     match plan {
         Some(plan) => befores(alloc, plan.changes.as_slice()),

@@ -1,9 +1,12 @@
 //! One file of tests for each library, and what they share.
+mod blocks;
 mod commands;
+mod copies;
 mod fixtures;
 mod growths;
 mod histories;
 mod hosts;
+mod logs;
 mod names;
 mod ranges;
 mod states;

@@ -8,4 +8,5 @@ pub mod PathTexts
 mod ObjectBodies
 mod ListedFiles
 mod LawfulListings
+mod SortedFiles
 pub mod RoutesTaken

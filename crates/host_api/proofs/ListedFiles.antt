@@ -17,7 +17,7 @@ use Rattle.host_names.specs.Hex.{IsDigestText}
 use Rattle.host_names.specs.Path.{is_path}
 use Rattle.host_names.specs.declared.digests.Digest.{Digest}
 use Rattle.site_state.specs.Files.{IsByPath}
-use Rattle.site_state.proofs.Entries.{is_sorted-from}
+use Rattle.shared_blocks.proofs.Entries.{is_sorted-from}
 use Rattle.host_api.specs.Bodies.{digest_in, listed_in, files_in, with_one}
 use Rattle.host_api.specs.declared.refusals.Refusal.{Refusal}
 use Rattle.host_api.specs.declared.refusals.Refusal.TheVariants.{BadBody, BadDigest}
@@ -29,7 +29,7 @@ abbrev pub path_cmp : List ℕ → List ℕ → Ordering
 path_cmp = slice_cmp nat_cmp
 
 -- the value at a path
-abbrev at : List Entry → List ℕ → Option (Option Digest)
+abbrev pub at : List Entry → List ℕ → Option (Option Digest)
 at files path = lookup (is_at (path_cmp path)) files
 
 undecoded : (r : Result (List ℕ) FromHexError) → (IsOk r → ⊥) → result_ok r ≡ None
@@ -50,10 +50,10 @@ find-lookup : (files : List Entry) (path : List ℕ) → find path_cmp path file
 find-lookup [] path = refl
 find-lookup (file ∷ files) path = ap (cond (eq_by_cmp path_cmp path file.0) (Some file.1)) (find-lookup files path)
 
-get-files_in : (files : List Entry) (path : List ℕ) → get (files_in files) path ≡ at files path
+pub get-files_in : (files : List Entry) (path : List ℕ) → get (files_in files) path ≡ at files path
 get-files_in files path = get-from_entries nat_list_cmp_total files path ∙ find-lookup files path
 
-paths-IsAntisymmetric : IsAntisymmetric path_cmp
+pub paths-IsAntisymmetric : IsAntisymmetric path_cmp
 paths-IsAntisymmetric = slice_cmp-IsAntisymmetric nat_cmp-IsAntisymmetric
 
 -- files that differ at one path

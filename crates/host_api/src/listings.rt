@@ -1,5 +1,5 @@
 //! What the body of the opening of a deploy says: the files, whether the deploy stays open, and whether it is a patch.
-ghost use Rattle.std.specs.Prelude.{◌≡◌, ◌≢◌, true, false, codes, Ok, Err, Option, Some, None, IfOk, IfErr, OnOk, option_map, option_and_then};
+ghost use Rattle.std.specs.Prelude.{◌≡◌, ◌≢◌, true, false, codes, Ok, Err, Option, Some, None, IsPermutation, IsTrue, IfSome, IfOk, IfErr, OnOk, option_map, option_and_then};
 ghost use Rattle.std.specs.BTreeMap.{BTreeMap};
 ghost use Rattle.std.specs.FinMap as map;
 ghost use Rattle.serde_json.specs.Find.{get, as_object};
@@ -108,8 +108,42 @@ fn list_one(
     Ok(())
 }
 
-// The files that the members list, by path.
-fn files_of(
+// Sorts files by path, and answers whether each path is there once.
+fn sort_by_path(files: &mut Vec<(FilePath, Option<Digest>)>) -> bool
+    ensures same { IsPermutation files.old.items files.new.items }
+    ensures sorted { IsTrue result → IsByPath files.new.items }
+{
+    files.sort_unstable_by(|one, other| one.0.cmp(&other.0));
+    files.is_sorted_by(|one, other| one.0 < other.0)
+}
+
+// The files that the members list, by path, by one pass over them and one sort. None where a member is refused: this
+// doesn't tell which is the first.
+fn files_at_once(
+    alloc: Global,
+    is_patch: bool,
+    members: &Map<String, Value>,
+) -> Option<Vec<(FilePath, Option<Digest>)>>
+    ensures listed { IfSome result (λ files.
+        spec.with_all is_patch map.empty (members_view members.now.entries)
+        ≡ Ok (spec.files_in files.items)) }
+    ensures sorted { IfSome result (λ files. IsByPath files.items) }
+{
+    let mut files = Vec::with_capacity(alloc, members.len()).ok()?;
+    'members: for (key, value) in members {
+        let path = path_of(alloc, key.as_str()).ok()?;
+        let listed = listed_in(is_patch, value).ok()?;
+        files.push((path, listed)).ok()?;
+    }
+    if sort_by_path(&mut files) {
+        Some(files)
+    } else {
+        None
+    }
+}
+
+// The files that the members list, one after another, up to the first that is refused.
+fn files_in_turn(
     alloc: Global,
     is_patch: bool,
     members: &Map<String, Value>,
@@ -127,16 +161,35 @@ fn files_of(
     Ok(files)
 }
 
-// The files of a map, as a list that can be shared.
-fn paths_of(
+// The files of a map, by path.
+fn entries_of(
     alloc: Global,
     files: BTreeMap<FilePath, Option<Digest>>,
-) -> Result<PathMap<Option<Digest>>, AllocError>
-    ensures pairs { IfOk result (λ paths. paths ≡ files.entries) }
-    ensures sorted { IfOk result (λ paths. IsByPath files.entries) }
+) -> Result<Vec<(FilePath, Option<Digest>)>, AllocError>
+    ensures pairs { IfOk result (λ entries. entries.items ≡ files.entries) }
+    ensures sorted { IfOk result (λ entries. IsByPath files.entries) }
 {
-    let entries = files.into_iter().collect(alloc)?;
-    PathMap::from_sorted(alloc, entries)
+    files.into_iter().collect(alloc)
+}
+
+// The files that the members list, by path, or the first reason against one.
+fn files_of(
+    alloc: Global,
+    is_patch: bool,
+    members: &Map<String, Value>,
+) -> Result<Vec<(FilePath, Option<Digest>)>, Refusal>
+    ensures ok { IfOk result (λ files.
+        spec.with_all is_patch map.empty (members_view members.now.entries)
+        ≡ Ok (spec.files_in files.items)) }
+    ensures sorted { IfOk result (λ files. IsByPath files.items) }
+    ensures refused { IfErr result (λ refusal. refusal ≢ Refusal.OutOfMemory →
+        spec.with_all is_patch map.empty (members_view members.now.entries) ≡ Err refusal) }
+{
+    if let Some(files) = files_at_once(alloc, is_patch, members) {
+        return Ok(files);
+    }
+    let files = files_in_turn(alloc, is_patch, members)?;
+    Ok(entries_of(alloc, files)?)
 }
 
 /// The listing that the members are.
@@ -154,7 +207,7 @@ pub(crate) fn listed(
         spec.with_all is_patch map.empty (members_view members.now.entries) ≡ Err refusal) }
 {
     let files = files_of(alloc, is_patch, members)?;
-    let Ok(paths) = paths_of(alloc, files) else {
+    let Ok(paths) = PathMap::from_sorted(alloc, files) else {
         return Err(Refusal::OutOfMemory);
     };
     match Listing::new(is_patch, paths) {

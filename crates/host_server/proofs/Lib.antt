@@ -2,6 +2,7 @@ pub mod FieldTexts
 pub mod Telling
 mod Memory
 pub mod Kept
+pub mod Reached
 pub mod Refusing
 pub mod Opening
 pub mod Entering

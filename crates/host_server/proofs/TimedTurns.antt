@@ -1,5 +1,5 @@
 -- What a connection reads and writes, one call after another.
-use Rattle.std.proofs.Common.{◌≡◌, inl, inr, ℕ, List, [], ◌∷◌, ◌++◌, length, Bool, false, Some, None, Result, Ok, Err, OnOk, codes, refl, sym, ap, subst, ◌∙◌, append_assoc, append-nil}
+use Rattle.std.proofs.Common.{◌≡◌, inl, inr, ℕ, List, [], ◌∷◌, ◌++◌, length, Bool, false, Some, None, Result, Ok, Err, OnOk, codes, refl, sym, ap, subst, ◌∙◌, append_assoc, append-nil, arith}
 use Rattle.std.specs.Prelude.{vec_len}
 use Rattle.std.specs.declared.vec.Vec.{Vec}
 use Rattle.std.specs.Io.KnownBytes.{Consumes, prepend_known}
@@ -187,8 +187,8 @@ body_stops body_fault.ReadFault head_only parts size buffer rest events named an
 }
 body_stops body_fault.OutOfMemory head_only parts size buffer rest events named announced reads = record {
   nothing_put = reads.nothing_put;
-  ends = subst GoesOn (sym reads.ends) tt;
-  of_stream = λ left new_left gives. (named, (size, (reads.of_stream left new_left gives).0, announced));
+  ends = reads.ends;
+  of_stream = λ left new_left gives. (named, (size, omega (arith, (reads.of_stream left new_left gives).2), announced));
 }
 
 pub body_missed : {S A : Type 0} (saw : S → Event → S → Type 0) (old new : S) (why : BodyFault) (head_only : Bool) (parts : RequestParts) (size : ℕ) (buffer rest : List ℕ)

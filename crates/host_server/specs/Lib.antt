@@ -1,5 +1,6 @@
 -- what a host has, and what changes it
 pub mod Hosts
+pub mod Readiness
 pub mod Reasons
 pub mod Outcomes
 pub mod Memory

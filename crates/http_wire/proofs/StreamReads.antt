@@ -1,5 +1,5 @@
 -- What the reads of a head and a body take from their own stream.
-use Rattle.std.proofs.Common.{◌≡◌, ◌≢◌, ℕ, ◌<◌, List, length, Option, Result, Ok, Err, IfOk, IfErr, IfSome, IsErrOf, refl, subst}
+use Rattle.std.proofs.Common.{◌≡◌, ◌≢◌, ℕ, ◌<◌, List, length, Option, Result, Ok, Err, IfOk, IfErr, IfSome, IsErrOf, refl, subst, arith}
 use Rattle.std.specs.Prelude.{vec_len}
 use Rattle.std.specs.declared.vec.Vec.{Vec}
 use Rattle.std.specs.Io.KnownBytes.{Keeps, Consumes, IsAtEnd}
@@ -42,19 +42,19 @@ body_ok (Ok body) size old new is = is
 body_ok (Err fault) size old new is = tt
 
 pub body_part : {A : Type 0} (result : Result (Vec ℕ A) BodyFault) (size : ℕ) (old new : Option (List ℕ)) → BodyIsOf result size old new
-    → IfErr result (λ e. e ≢ body_fault.OutOfMemory → (bytes : List ℕ) × Consumes old new bytes × (length bytes < size))
+    → IfErr result (λ e. (bytes : List ℕ) × Consumes old new bytes × (length bytes < size))
 body_part (Ok body) size old new is = tt
-body_part (Err body_fault.Ended) size old new is = λ other. is.0
-body_part (Err body_fault.ReadFault) size old new is = λ other. is
-body_part (Err body_fault.OutOfMemory) size old new is = λ other. absurd (other refl)
+body_part (Err body_fault.Ended) size old new is = is.0
+body_part (Err body_fault.ReadFault) size old new is = is
+body_part (Err body_fault.OutOfMemory) size old new is = is
 
 pub body_ended : {A : Type 0} (result : Result (Vec ℕ A) BodyFault) (size : ℕ) (old new : Option (List ℕ)) → BodyIsOf result size old new
     → IsErrOf result body_fault.Ended → IsAtEnd new × IfSome old (λ left. length left < size)
 body_ended result size old new is err = let ended = subst (λ r. BodyIsOf r size old new) err is in ended.1
 
 pub body_memory : {A : Type 0} (result : Result (Vec ℕ A) BodyFault) (size : ℕ) (old new : Option (List ℕ)) → BodyIsOf result size old new
-    → IsErrOf result body_fault.OutOfMemory → (0 < size) × Keeps old new
-body_memory result size old new is err = subst (λ r. BodyIsOf r size old new) err is
+    → IsErrOf result body_fault.OutOfMemory → 0 < size
+body_memory result size old new is err = let part = subst (λ r. BodyIsOf r size old new) err is in omega (arith, part.2)
 
 pub body_failed : {B : Type 0} (read_fails : Type 0) (result : Result B BodyFault) (events : List Event) → BodyEnds result events → (IsLatest ReadFails events → read_fails)
     → IsErrOf result body_fault.ReadFault → read_fails

@@ -72,14 +72,14 @@ BodyIsOf (Ok body) size old new = (vec_len body ≡ size) × Consumes old new bo
 BodyIsOf (Err body_fault.Ended) size old new =
     TakesPart size old new × (IsAtEnd new × IfSome old (λ left. length left < size))
 BodyIsOf (Err body_fault.ReadFault) size old new = TakesPart size old new
-BodyIsOf (Err body_fault.OutOfMemory) size old new = (0 < size) × Keeps old new
+BodyIsOf (Err body_fault.OutOfMemory) size old new = TakesPart size old new
 
--- how the reads end with each answer: without memory there is none
+-- how the reads end with each answer
 abbrev pub BodyEnds : {B : Type 0} → Result B BodyFault → List Event → Type 0
 BodyEnds (Ok body) events = GoesOn events
 BodyEnds (Err body_fault.Ended) events = IsLatest AtEnd events
 BodyEnds (Err body_fault.ReadFault) events = IsLatest ReadFails events
-BodyEnds (Err body_fault.OutOfMemory) events = events ≡ []
+BodyEnds (Err body_fault.OutOfMemory) events = GoesOn events
 
 -- the same of the reading of a body of this size
 pub record ReadsBody {A : Type 0} (result : Result (Vec ℕ A) BodyFault) (size : ℕ) (buffer new_buffer : List ℕ) (events : List Event) : Type 0 where
@@ -105,23 +105,3 @@ pub record FindsHead (result : Result ℕ HeadFault) (buffer new_buffer : List �
   pub nothing_put : all_put events ≡ []
   pub grown : new_buffer ≡ buffer ++ all_got events
   pub found : HeadFound result new_buffer events
-
--- the place from start on was filled by what came, or as much of it as came
-abbrev pub RestRead : Result (Unit {0}) BodyFault → (start : ℕ) → (place new_place : List ℕ) → List Event → Type 0
-RestRead (Ok done) start place new_place events =
-    (all_put events ≡ []) × GoesOn events × (new_place ≡ take start place ++ all_got events)
-RestRead (Err body_fault.Ended) start place new_place events =
-    (all_put events ≡ []) × IsLatest AtEnd events × (length (take start place ++ all_got events) < length place)
-RestRead (Err body_fault.ReadFault) start place new_place events =
-    (all_put events ≡ []) × IsLatest ReadFails events × (length (take start place ++ all_got events) < length place)
-RestRead (Err body_fault.OutOfMemory) start place new_place events = ⊥
-
--- the place was filled by the front of the buffer and what came, or both are fewer than its size and are taken
-abbrev pub PlaceRead : Result (Unit {0}) BodyFault → (buffer new_buffer : List ℕ) → (size : ℕ) → (place : List ℕ) → List Event → Type 0
-PlaceRead (Ok done) buffer new_buffer size place events =
-    (all_put events ≡ []) × GoesOn events × (place ++ new_buffer ≡ buffer ++ all_got events)
-PlaceRead (Err body_fault.Ended) buffer new_buffer size place events =
-    (all_put events ≡ []) × IsLatest AtEnd events × (length (buffer ++ all_got events) < size) × (new_buffer ≡ [])
-PlaceRead (Err body_fault.ReadFault) buffer new_buffer size place events =
-    (all_put events ≡ []) × IsLatest ReadFails events × (length (buffer ++ all_got events) < size) × (new_buffer ≡ [])
-PlaceRead (Err body_fault.OutOfMemory) buffer new_buffer size place events = ⊥

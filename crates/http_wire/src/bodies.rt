@@ -1,58 +1,46 @@
 //! Bodies of requests.
-ghost use Rattle.std.specs.Prelude.{◌≡◌, ◌≤◌, ◌⊎◌, [], ◌++◌, length, take};
+ghost use Rattle.std.specs.Prelude.{◌≡◌, ◌≤◌, ◌<◌, ◌+◌, ◌⊎◌, [], ◌++◌, OnOk, OnErr, vec_len, vec_capacity};
 ghost use Rattle.http_wire.specs.Timing.{Ran};
-ghost use Rattle.http_wire.specs.Wires.{AwaitsBody, ReadsBody, RestRead, PlaceRead};
+ghost use Rattle.http_wire.specs.Wires.{AwaitsBody, ReadsBody};
 
-use crate::buffers::{Buffer, read_behind};
+use crate::buffers::Buffer;
 use crate::duplexes::Duplex;
 use crate::faults::BodyFault;
+use std::alloc::AllocError;
 
-// Moves the front of the buffer to the front of the body, as much as there is and as fits.
-fn move_front(buffer: &mut Buffer, body: &mut [u8]) -> usize
-    ensures within { result ≤ length body.old }
-    ensures moved { take result body.new ++ buffer.new ≡ buffer.old }
-    ensures all { (result ≡ length body.old) ⊎ (buffer.new ≡ []) }
+// Makes room for `more` bytes, and for as many again as the body then has, up to `size`: so a body has room for no
+// more than twice the bytes that came, and takes few allocations.
+fn make_room(body: &mut Vec<u8>, more: usize, size: usize) -> Result<(), AllocError>
+    requires { vec_len body.old + more ≤ size }
+    ensures same { body.new.items ≡ body.old.items }
+    ensures len { vec_len body.new ≡ vec_len body.old }
+    ensures room { OnOk result (vec_len body.old + more ≤ vec_capacity body.new) }
+    ensures full { OnErr result (0 < more) }
 {
-    let bytes = buffer.as_slice();
-    let count = bytes.len().min(body.len());
-    body[..count].copy_from_slice(&bytes[..count]);
-    buffer.consume(count);
-    count
+    let len = body.len() + more;
+    if len <= body.capacity() {
+        return Ok(());
+    }
+    body.reserve_exact(more + len.min(size - len))
 }
 
-// Reads into the place from `start` on, until it is full.
-fn read_rest<D: Duplex>(duplex: &mut D, place: &mut [u8], start: usize) -> Result<(), BodyFault>
-    requires { start ≤ length place.old }
-    ensures { Ran D.saw (AwaitsBody (take start place.old) (length place.old)) duplex.old duplex.new
-        (RestRead result start place.old place.new) }
+// Moves the front of the buffer to the end of the body, as much as there is and as the body lacks of its size.
+fn move_front(buffer: &mut Buffer, body: &mut Vec<u8>, size: usize) -> Result<(), AllocError>
+    requires { vec_len body.old ≤ size }
+    ensures moved { body.new.items ++ buffer.new ≡ body.old.items ++ buffer.old }
+    ensures within { vec_len body.new ≤ size }
+    ensures all { OnOk result ((vec_len body.new ≡ size) ⊎ (buffer.new ≡ [])) }
+    ensures cut { OnErr result (vec_len body.new < size) }
 {
-    let mut at = start;
-    'reads: while at < place.len() {
-        let Ok(count) = read_behind(duplex, place, at) else {
-            return Err(BodyFault::ReadFault);
-        };
-        if count == 0 {
-            return Err(BodyFault::Ended);
-        }
-        at += count;
-    }
+    let bytes = buffer.as_slice();
+    let count = bytes.len().min(size - body.len());
+    make_room(body, count, size)?;
+    body.extend_from_slice(&bytes[..count])?;
+    buffer.consume(count);
     Ok(())
 }
 
-// Fills a place, from the buffer and then from the stream after it.
-fn read_into<D: Duplex>(
-    buffer: &mut Buffer,
-    duplex: &mut D,
-    place: &mut [u8],
-) -> Result<(), BodyFault>
-    ensures { Ran D.saw (AwaitsBody buffer.old (length place.old)) duplex.old duplex.new
-        (PlaceRead result buffer.old buffer.new (length place.old) place.new) }
-{
-    let start = move_front(buffer, place);
-    read_rest(duplex, place, start)
-}
-
-/// Reads a body of so many bytes, from the buffer and then from the stream after it.
+/// Reads a body of so many bytes, from the buffer and then from the stream after it. Memory is taken as the bytes come.
 pub fn read_body<D: Duplex>(
     buffer: &mut Buffer,
     duplex: &mut D,
@@ -60,13 +48,17 @@ pub fn read_body<D: Duplex>(
 ) -> Result<Vec<u8>, BodyFault>
     ensures { Ran D.saw (AwaitsBody buffer.old count) duplex.old duplex.new (ReadsBody result count buffer.old buffer.new) }
 {
-    let alloc = buffer.allocator();
-    if count == 0 {
-        return Ok(Vec::new(alloc));
+    let size = count as usize;
+    let mut body = Vec::new(buffer.allocator());
+    move_front(buffer, &mut body, size)?;
+    'reads: while body.len() < size {
+        let Ok(came) = buffer.fill(duplex) else {
+            return Err(BodyFault::ReadFault);
+        };
+        if came == 0 {
+            return Err(BodyFault::Ended);
+        }
+        move_front(buffer, &mut body, size)?;
     }
-    let mut body = vec![in alloc; 0; count as usize]?;
-    match read_into(buffer, duplex, &mut body) {
-        Ok(()) => Ok(body),
-        Err(fault) => Err(fault),
-    }
+    Ok(body)
 }

@@ -10,7 +10,7 @@ use crate::fields::{Fields, Values};
 use http::method::MethodError;
 use http::{Method, Version};
 use httparse::Status;
-use httparse::spans::{EMPTY_HEADER_SPAN, HeaderSpan, RequestSpans, parse_request};
+use httparse::spans::{EMPTY_HEADER_SPAN, HeaderSpan, RequestSpans, Span, parse_request};
 use std::alloc::{AllocError, Global};
 use std::marker::Model;
 use std::str;
@@ -23,26 +23,27 @@ pub const FIELD_LIMIT: usize = 64;
 pub struct Head {
     text: Vec<u8>,
     method: Method,
-    target: String,
+    target: Span,
     minor: u8,
     fields: Vec<HeaderSpan>,
 }
 
 impl Model for Head {
-    ghost use Rattle.std.specs.Prelude.{map, All, vec_len, string_bytes};
-    ghost use Rattle.httparse.specs.Spans.{header_bytes, IsHeaderWithin};
+    ghost use Rattle.std.specs.Prelude.{map, All, vec_len, IsUtf8};
+    ghost use Rattle.httparse.specs.Spans.{span_bytes, header_bytes, IsWithin, IsHeaderWithin};
     ghost use Rattle.http_wire.specs.Requests.{RequestParts};
 
     ghost Value = { RequestParts };
 
     ghost view = { λ h. record {
       method = h.method;
-      target = string_bytes h.target;
+      target = span_bytes h.text.items h.target;
       minor = h.minor;
       fields = map (header_bytes h.text.items) h.fields.items;
     } };
 
-    ghost invariant = { λ h. All (IsHeaderWithin (vec_len h.text)) h.fields.items };
+    ghost invariant = { λ h. IsWithin (vec_len h.text) h.target × IsUtf8 (span_bytes h.text.items h.target)
+        × All (IsHeaderWithin (vec_len h.text)) h.fields.items };
 }
 
 // Whether a target begins with a slash.
@@ -83,21 +84,20 @@ impl Head {
         let Some(spans) = find_parts(text, &mut room) else {
             return Ok(None);
         };
-        let Ok(target) = str::from_utf8(spans.path.of(text)) else {
+        if str::from_utf8(spans.path.of(text)).is_err() {
             return Ok(None);
-        };
+        }
         let method = match Method::from_bytes(alloc, spans.method.of(text)) {
             Ok(method) => method,
             Err(MethodError::Invalid) => return Ok(None),
             Err(MethodError::OutOfMemory) => return Err(AllocError),
         };
-        let target = String::from_str(alloc, target)?;
         let fields = room[..spans.headers].to_vec(alloc)?;
         let text = text.to_vec(alloc)?;
         Ok(Some(Head {
             text,
             method,
-            target,
+            target: spans.path,
             minor: spans.version,
             fields,
         }))
@@ -125,7 +125,10 @@ impl Head {
     pub fn target(&self) -> &str
         ensures { result.now ≡ self.now.target }
     {
-        self.target.as_str()
+        match str::from_utf8(self.target.of(&self.text)) {
+            Ok(target) => target,
+            Err(_) => unreachable!(),
+        }
     }
 
     /// All fields, in order: the name and the value of each.

@@ -64,25 +64,22 @@ impl Wire {
         take_head(&mut self.buffer, duplex)
     }
 
-    /// Reads a body of `count` bytes. Reads only where what came before is fewer bytes, and writes nothing. A body of
-    /// none takes no memory.
+    /// Reads a body of `count` bytes. Reads only where what came before is fewer bytes, and writes nothing. Memory is
+    /// taken as the bytes come, for twice as many at most and no more than `count`; a body of none takes none.
     pub fn read_body<D: Duplex>(&mut self, duplex: &mut D, count: u64) -> Result<Vec<u8>, BodyFault>
         ensures ok { let old = prepend_known self.old (D.left duplex.old) in
             let new = prepend_known self.new (D.left duplex.new) in
             IfOk result (λ body. (vec_len body ≡ count) × Consumes old new body.items) }
 
-        // A fault takes a part of the body, and never the whole; without memory nothing is taken.
+        // An error takes a part of the body, and never the whole.
         ensures part { let old = prepend_known self.old (D.left duplex.old) in
             let new = prepend_known self.new (D.left duplex.new) in
-            IfErr result (λ e. e ≢ BodyFault.OutOfMemory
-            → (bytes : List ℕ) × Consumes old new bytes × (length bytes < count)) }
+            IfErr result (λ e. (bytes : List ℕ) × Consumes old new bytes × (length bytes < count)) }
         ensures ended { let old = prepend_known self.old (D.left duplex.old) in
             let new = prepend_known self.new (D.left duplex.new) in
             IsErrOf result BodyFault.Ended → IsAtEnd new × IfSome old (λ left. length left < count) }
         ensures failed { IsErrOf result BodyFault.ReadFault → D.read_fails }
-        ensures memory { let old = prepend_known self.old (D.left duplex.old) in
-            let new = prepend_known self.new (D.left duplex.new) in
-            IsErrOf result BodyFault.OutOfMemory → (0 < count) × Keeps old new }
+        ensures memory { IsErrOf result BodyFault.OutOfMemory → 0 < count }
         ensures ran { Ran D.saw (AwaitsBody self.old count) duplex.old duplex.new (ReadsBody result count self.old self.new) }
     {
         read_body(&mut self.buffer, duplex, count)

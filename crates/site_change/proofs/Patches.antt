@@ -18,7 +18,7 @@ use Rattle.site_state.specs.Files.{Paths, IsByPath}
 use Rattle.site_state.specs.States.{State, may_stand}
 use Rattle.site_state.specs.declared.values.Value.{Value}
 use Rattle.site_state.specs.declared.values.Value.TheVariants as value
-use Rattle.site_state.proofs.Entries.{key_at-less}
+use Rattle.shared_blocks.proofs.Entries.{key_at-less}
 use Rattle.site_change.specs.declared.plans.Change.{Change}
 use Rattle.site_change.specs.Changes.{same_cell, file_at, is_listed, with_listed, with_patch}
 use Rattle.site_change.specs.Differences.{Reading, AreChangesIn, AreListedChanges, change_at}

@@ -10,6 +10,7 @@ ghost use Rattle.site_change.specs.Differences.{AreLiveChanges, AreSides, IsStep
 
 use crate::plans::{Change, push_some};
 use host_names::{Cell, CellRef, FilePath, SiteName};
+use shared_blocks::Range;
 use site_state::{File, Value};
 use std::alloc::{AllocError, Global};
 use std::cmp::Ordering;
@@ -24,7 +25,7 @@ type Listed = (FilePath, File);
 #[derive(Drop)]
 struct Step<'a> {
     change: Option<Change>,
-    live: &'a [Entry],
+    live: Range<'a, Cell, Value>,
     tree: &'a [Listed],
 }
 
@@ -100,13 +101,13 @@ impl<'a> Step<'a> {
     /// The first step along two lists that are in the order of the paths; none where both are at their ends.
     fn next(
         site: &SiteName,
-        live: &'a [Entry],
+        live: Range<'a, Cell, Value>,
         tree: &'a [Listed],
     ) -> Result<Option<Step<'a>>, AllocError>
-        requires { AreSides site.now live.now tree.now }
+        requires { AreSides site.now live tree.now }
         ensures { IfOk result (λ step. MatchOption step
-            ((live.now ≡ []) × (tree.now ≡ []))
-            (λ s. IsStep site.now live.now tree.now s.change s.live.now s.tree.now)) }
+            ((live.entry ≡ []) × (tree.now ≡ []))
+            (λ s. IsStep site.now live.entry tree.now s.change s.live s.tree.now)) }
     {
         let (change, live, tree) = match (live.split_first(), tree.split_first()) {
             (None, None) => return Ok(None),
@@ -129,11 +130,11 @@ impl<'a> Step<'a> {
 pub fn live_changes<'a>(
     alloc: Global,
     site: &SiteName,
-    live: &'a [Entry],
+    live: Range<'a, Cell, Value>,
     tree: &'a [Listed],
 ) -> Result<Vec<Change>, AllocError>
-    requires { AreSides site.now live.now tree.now }
-    ensures { IfOk result (λ changes. AreLiveChanges site.now live.now tree.now changes.items) }
+    requires { AreSides site.now live tree.now }
+    ensures { IfOk result (λ changes. AreLiveChanges site.now live.entry tree.now changes.items) }
 {
     let mut changes = Vec::new(alloc);
     let mut live_left = live;

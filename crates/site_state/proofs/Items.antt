@@ -1,5 +1,5 @@
 -- The items of a state, and the map that they mean.
-use Rattle.std.proofs.Common.{◌≡◌, ℕ, true, false, cond, List, [], ◌∷◌, get_or, Option, Some, None, Result, Ok, Err, OnOk, OnErr, IsTrue, All, refl, sym, ap, subst, ◌∙◌}
+use Rattle.std.proofs.Common.{Bor, is_some, IfSome, option_copied, ◌≡◌, ℕ, true, false, cond, List, [], ◌∷◌, get_or, Option, Some, None, Result, Ok, Err, OnOk, OnErr, IsTrue, All, refl, sym, ap, subst, ◌∙◌}
 use Rattle.std.specs.FinMap as finmap
 use Rattle.std.specs.List.{AllByRecursion}
 use Rattle.std.specs.Ordering.{eq_by_cmp, is_eq}
@@ -9,12 +9,11 @@ use Rattle.host_names.specs.Cells.{cell_cmp}
 use Rattle.host_names.specs.CellOrder.{cell_cmp_total, cell_cmp-IsAntisymmetric}
 use Rattle.site_state.specs.declared.values.Value.{Value}
 use Rattle.site_state.specs.States.{State, AreOfKind, is_of_kind, may_stand, with_cell, with_cells}
-use Rattle.site_state.specs.Edits.{listed, edited, edited_by}
+use Rattle.shared_blocks.specs.Edits.{listed, edited, edited_by}
 use Rattle.site_state.specs.Items.{AreItems, AreOfState}
 use Rattle.site_state.specs.Named.{AliasesNamed}
-use Rattle.site_state.specs.Places.{IsPlace, IsGap}
-use Rattle.site_state.proofs.Edits.{equal, Rises-edited, find-edited, AllByRecursion-edited}
-use Rattle.site_state.proofs.Entries.{is_sorted-from, find_at, find_in_gap}
+use Rattle.shared_blocks.proofs.Edits.{equal, Rises-edited, find-edited, AllByRecursion-edited}
+use Rattle.shared_blocks.proofs.Entries.{is_sorted-from, find_at, find_in_gap}
 
 abbrev pub Items : Type 0
 Items = List (Cell × Value)
@@ -26,29 +25,19 @@ state_of items = finmap.from_sorted items
 pub get-state_of : (items : Items) (cell : Cell) → AreItems items → finmap.get (state_of items) cell ≡ finmap.find cell_cmp cell items
 get-state_of items cell are = finmap.get-from_sorted cell_cmp items cell (is_sorted-from cell_cmp items are.sorted)
 
--- the item at the place of a cell is what is in the cell
-pub found_at : (items : Items) (state : State) (cell : Cell) (i : ℕ) (e : Cell × Value) → AreItems items → state_of items ≡ state
-    → IsPlace cell_cmp cell items i → e ≡ get_or items i e → (Some e.1 ≡ finmap.get state cell) × IsTrue (is_of_kind cell e.1)
-found_at items state cell i e are is place at =
-    let key : e.0 ≡ cell = cell_cmp-IsAntisymmetric e.0 cell (ap (λ (p : Cell × Value). cell_cmp p.0 cell) at ∙ place.has_key e) in
-    let kind : IsTrue (is_of_kind e.0 e.1) = subst (λ (p : Cell × Value). IsTrue (is_of_kind p.0 p.1)) (sym at) (All-from_recursion (λ (p : Cell × Value). IsTrue (is_of_kind p.0 p.1)) items are.of_kind i e place.in_range) in (
-      sym (ap (λ s. finmap.get s cell) (sym is) ∙ get-state_of items cell are ∙ find_at cell_cmp cell_cmp_total cell items i e are.sorted place.in_range (place.has_key e) ∙ ap (λ (p : Cell × Value). Some p.1) (sym at)),
-      ap (λ c. is_of_kind c e.1) (sym key) ∙ kind,
-    )
-
--- a cell that has a gap has nothing in it
-pub nothing_at : (items : Items) (state : State) (cell : Cell) (i : ℕ) → AreItems items → state_of items ≡ state → IsGap cell_cmp cell items i → None ≡ finmap.get state cell
-nothing_at items state cell i are is gap =
-    sym (ap (λ s. finmap.get s cell) (sym is) ∙ get-state_of items cell are ∙ find_in_gap cell_cmp cell_cmp_total cell items i gap)
-
 -- what is found in a cell is of the cell's kind
-found_of_kind : (items : Items) (c : Cell) → AllByRecursion (λ e. IsTrue (is_of_kind e.0 e.1)) items → IsTrue (may_stand c (finmap.find cell_cmp c items))
+pub found_of_kind : (items : Items) (c : Cell) → AllByRecursion (λ e. IsTrue (is_of_kind e.0 e.1)) items → IsTrue (may_stand c (finmap.find cell_cmp c items))
 found_of_kind [] c kinds = refl
 found_of_kind (e ∷ items) c kinds =
     elim (is_eq (cell_cmp c e.0)) as (λ t. is_eq (cell_cmp c e.0) ≡ t → IsTrue (may_stand c (cond t (Some e.1) (finmap.find cell_cmp c items)))) [
       | true ↦ λ tie. ap (λ x. is_of_kind x e.1) (cell_cmp-IsAntisymmetric c e.0 (equal (cell_cmp c e.0) tie)) ∙ kinds.0
       | false ↦ λ _. found_of_kind items c kinds.1
     ] refl
+
+-- the same of what is lent
+pub kind_shown : (c : Cell) (lent : Option (Bor Value)) (value : Option Value) → option_copied lent ≡ value → IsTrue (may_stand c value) → IfSome lent (λ v. IsTrue (is_of_kind c v.now))
+kind_shown c None value shows kind = tt
+kind_shown c (Some v) value shows kind = ap (may_stand c) shows ∙ kind
 
 pub of_kind_as : (items : Items) (state : State) → AreItems items → state_of items ≡ state → AreOfKind state
 of_kind_as items state are is c =
@@ -64,8 +53,8 @@ get-with_cell state cell None q = finmap.get-remove cell_cmp_total state cell q
 -- the items after a write are items, and mean the map after it
 pub AreItems-edited : (items : Items) (cell : Cell) (value : Option Value) → AreItems items → IsTrue (may_stand cell value) → AreItems (edited cell_cmp items cell value)
 AreItems-edited items cell value are kind = record {
-  sorted = Rises-edited cell_cmp_total cell_cmp-IsAntisymmetric items cell value are.sorted;
-  of_kind = AllByRecursion-edited cell_cmp_total cell_cmp-IsAntisymmetric (λ (e : Cell × Value). IsTrue (is_of_kind e.0 e.1)) items cell value (new cell value kind) are.of_kind;
+  sorted = Rises-edited cell_cmp_total items cell value are.sorted;
+  of_kind = AllByRecursion-edited cell_cmp_total (λ (e : Cell × Value). IsTrue (is_of_kind e.0 e.1)) items cell value (new cell value kind) are.of_kind;
 }
   where
     new : (cell : Cell) (value : Option Value) → IsTrue (may_stand cell value) → AllByRecursion (λ (e : Cell × Value). IsTrue (is_of_kind e.0 e.1)) (listed cell value)
@@ -114,6 +103,31 @@ wrote_or_kept (Ok x) old new state cell value are is kind ok err =
     let done = wrote old new state cell value are is kind ok in
     record { items = done.items; ok = done.map; err = tt }
 wrote_or_kept (Err x) old new state cell value are is kind ok err = record { items = subst AreItems (sym err) are; ok = tt; err = ap state_of err ∙ is }
+
+-- many writes that may fail, and then change nothing
+pub wrote_all_or_kept : {A E : Type 0} (r : Result A E) (old new : Items) (state : State) (cells : List (Cell × Option Value)) → AreItems old → state_of old ≡ state → All (λ (e : Cell × Option Value). IsTrue (may_stand e.0 e.1)) cells
+    → OnOk r (new ≡ edited_by cell_cmp old cells) → OnErr r (new ≡ old)
+    → record { items : AreItems new; ok : OnOk r (state_of new ≡ with_cells state cells); err : OnErr r (state_of new ≡ state) }
+wrote_all_or_kept (Ok x) old new state cells are is kinds ok err =
+    let done = wrote_all old new state cells are is kinds ok in
+    record { items = done.items; ok = done.map; err = tt }
+wrote_all_or_kept (Err x) old new state cells are is kinds ok err = record { items = subst AreItems (sym err) are; ok = tt; err = ap state_of err ∙ is }
+
+-- what isn't there
+pub none_from : {A : Type 0} (x : Option A) → is_some x ≡ false → x ≡ None
+none_from None none = refl
+none_from (Some a) none = cc none
+
+-- nothing written where nothing is
+pub kept_by_nothing : (state : State) (cell : Cell) (value : Option Value) → value ≡ None → finmap.get state cell ≡ None → state ≡ with_cell state cell value
+kept_by_nothing state cell value none absent =
+    finmap.same_map cell_cmp_total cell_cmp-IsAntisymmetric state (with_cell state cell None) (λ q.
+    sym (get-with_cell state cell None q
+    ∙ elim (eq_by_cmp cell_cmp q cell) as (λ b. eq_by_cmp cell_cmp q cell ≡ b → cond b None (finmap.get state q) ≡ finmap.get state q) [
+      | true ↦ λ e. sym (ap (finmap.get state) (cell_cmp-IsAntisymmetric q cell (equal _ e)) ∙ absent)
+      | false ↦ λ _. refl
+    ] refl))
+    ∙ ap (with_cell state cell) (sym none)
 
 -- the items are those of a state again, where each alias names a kept deploy
 pub named_as : (old : Items) (state : State) → AreOfState old → state_of old ≡ state → AliasesNamed state

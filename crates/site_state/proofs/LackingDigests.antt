@@ -135,7 +135,7 @@ least_step contents items files i item least next same lt at is =
     ∙ sym (ap (lesser least) (at_drop_more (least_missing_of contents) files i item within ∙ ap (λ (e : List ℕ × Option Digest). lesser (if_lacking contents e.1) rest) (sym here)))
 
 -- of two digests the lesser is there where either is
-some_left : (a b : Option Digest) → IsSome a → IsSome (lesser a b)
+pub some_left : (a b : Option Digest) → IsSome a → IsSome (lesser a b)
 some_left None b h = cc
 some_left (Some a) None h = refl
 some_left (Some a) (Some b) h = elim (is_gt (digest_cmp a b)) as (λ t. IsSome (cond t (Some b) (Some a))) [ true ↦ refl | false ↦ refl ]

@@ -1,12 +1,8 @@
 pub mod AtError
-pub mod Entries
 pub mod Items
-pub mod Ranges
-pub mod LiveRange
-pub mod AliasRange
-pub mod Edits
 pub mod Written
 pub mod LackingDigests
+pub mod FirstLacking
 pub mod LeastAlias
 pub mod Named
 pub mod Two

@@ -12,8 +12,8 @@ use Rattle.host_names.specs.Cells.{cell_cmp}
 use Rattle.host_names.specs.CellOrder.{cell_cmp_total, cell_cmp-IsAntisymmetric}
 use Rattle.site_state.specs.declared.values.Value.{Value}
 use Rattle.site_state.specs.States.{State, with_cell, with_cells}
-use Rattle.site_state.proofs.Edits.{at_key, equal}
-use Rattle.site_state.proofs.Entries.{find_at, find-absent}
+use Rattle.shared_blocks.proofs.Edits.{at_key, equal}
+use Rattle.shared_blocks.proofs.Entries.{find_at, find-absent}
 use Rattle.site_state.proofs.Items.{get-with_cell}
 
 -- the cells and what is written into each

@@ -10,8 +10,8 @@ pub mod Missing
 pub mod SameValues
 -- what only private functions need: how a state is kept, and where a cell is in it
 pub mod Items
-pub mod Places
 pub mod LiveRange
 pub mod AliasRange
-pub mod Edits
-pub mod Merge
+-- that the files, and the aliases, of a site are side by side
+pub mod SpanOfLive
+pub mod SpanOfAliases

@@ -1,6 +1,7 @@
 -- Which files of a deploy have not been uploaded.
-use Rattle.std.specs.Prelude.{◌≡◌, ◌↔◌, List, [], ◌∷◌, filter_map, Bool, true, false, not, Option, Some, None, Contains, if◌then◌else◌}
+use Rattle.std.specs.Prelude.{◌≡◌, ◌↔◌, ℕ, List, [], ◌∷◌, filter_map, Bool, true, false, not, Option, Some, None, is_none, Contains, if◌then◌else◌}
 use Rattle.std.specs.FinMap.{contains_key}
+use Rattle.std.specs.List.{prefix_len}
 use Rattle.std.specs.List.Sorted.{IsStrictlySortedBy}
 use Rattle.std.specs.Ordering.{is_gt}
 use Rattle.host_names.specs.Blobs.{Contents}
@@ -43,3 +44,8 @@ IsLeastMissing contents files None = (digest : Digest) → Contains (digests_of 
 IsLeastMissing contents files (Some least) =
     Contains (digests_of files) least × (is_lacking contents least ≡ true)
     × ((digest : Digest) → Contains (digests_of files) digest → is_lacking contents digest ≡ true → is_gt (digest_cmp least digest) ≡ false)
+
+-- how many files are listed, from the first on, before one is lacking: its place, or the number of all where none is; a
+-- removal lacks nothing
+abbrev pub first_lacking_of : Contents → Paths (Option Digest) → ℕ
+first_lacking_of contents files = prefix_len (λ f. is_none (if_lacking contents f.1)) files

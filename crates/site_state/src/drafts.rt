@@ -1,7 +1,7 @@
 //! Which files of a deploy have not been uploaded.
-ghost use Rattle.std.specs.Prelude.{◌≡◌, ◌++◌, IfOk, IsSome, OnErr, OnOk, filter_map, option_to_list, slice_get};
+ghost use Rattle.std.specs.Prelude.{◌≡◌, ◌↔◌, ◌≤◌, ◌++◌, None, length, IfOk, IsSome, OnErr, OnOk, filter_map, option_to_list, slice_get};
 ghost use Rattle.site_state.specs.Missing;
-ghost use Rattle.site_state.specs.Missing.{AreMissing, least_missing_of};
+ghost use Rattle.site_state.specs.Missing.{AreMissing, first_lacking_of, least_missing_of};
 
 use crate::values::Draft;
 use host_names::{Digest, FilePath, Uploads};
@@ -87,4 +87,19 @@ pub fn least_missing<U: Uploads>(draft: &Draft, uploads: &U) -> Option<Digest>
         least = lesser(least, if_lacking(uploads, listed));
     }
     least
+}
+
+/// The first place at which a deploy lists a file that was not uploaded; the number of its places where there is none.
+/// The search begins at a place before which nothing is lacking. Takes no memory.
+pub fn first_lacking<U: Uploads>(draft: &Draft, uploads: &U, from: usize) -> usize
+    requires { from ≤ first_lacking_of (U.contents uploads.now) draft.now.files.1 }
+    ensures first { result ≡ first_lacking_of (U.contents uploads.now) draft.now.files.1 }
+    ensures complete { (result ≡ length draft.now.files.1) ↔ (least_missing_of (U.contents uploads.now) draft.now.files.1 ≡ None) }
+{
+    let files = draft.files.entries();
+    let mut place = from;
+    while place < files.len() && if_lacking(uploads, &files[place].1).is_none() {
+        place += 1;
+    }
+    place
 }

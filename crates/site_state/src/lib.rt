@@ -5,14 +5,12 @@ mod drafts;
 mod files;
 mod laws;
 mod listings;
-mod merge;
 mod paths;
 mod site_cells;
 mod states;
 mod values;
-mod writes;
 
-pub use drafts::{least_missing, missing};
+pub use drafts::{first_lacking, least_missing, missing};
 pub use files::File;
 pub use laws::{the_alias_for_a_deploy_is_least, the_least_missing_digest_is_least};
 pub use listings::{Listing, NotAPatch};

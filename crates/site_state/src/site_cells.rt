@@ -1,4 +1,4 @@
-//! Where the files and the aliases of a site are among all cells.
+//! Where a cell, and the files and the aliases of a site, are among all cells.
 ghost use Rattle.std.specs.Prelude.{◌≡◌, option_copied};
 ghost use Rattle.site_state.specs.AliasRange;
 ghost use Rattle.site_state.specs.Aliases;
@@ -6,7 +6,8 @@ ghost use Rattle.site_state.specs.LiveRange;
 ghost use Rattle.site_state.specs.States;
 
 use crate::values::Value;
-use host_names::{AliasName, Cell, SiteName};
+use host_names::{AliasName, Cell, CellRef, SiteName};
+use shared_blocks::{Probe, Range, Span};
 use std::cmp::Ordering;
 
 /// Whether a cell comes before all those of a site.
@@ -47,17 +48,77 @@ pub fn is_live_of(cell: &Cell, site: &SiteName) -> bool
     }
 }
 
+/// A cell that is looked up by its parts.
+#[derive(Drop)]
+pub struct Sought<'a>(pub CellRef<'a>);
+
+impl<'a> Probe<Cell> for Sought<'a> {
+    ghost use Rattle.host_names.specs.Cells.{cell_of};
+
+    ghost sought = { λ s. cell_of s.0 };
+
+    fn compare(&self, cell: &Cell) -> Ordering {
+        cell.as_ref().compare(self.0)
+    }
+}
+
+/// The paths of a site.
+#[derive(Drop)]
+pub struct LiveOf<'a>(pub &'a SiteName);
+
+impl<'a> Span<Cell> for LiveOf<'a> {
+    ghost use Rattle.site_state.specs.SpanOfLive.{live_together};
+
+    ghost before = { λ s cell. LiveRange.is_of_site_before cell s.0.now };
+
+    ghost within = { λ s. States.is_live_of s.0.now };
+
+    ghost together = { λ s. live_together s.0.now };
+
+    fn is_before(&self, cell: &Cell) -> bool {
+        is_of_site_before(cell, self.0)
+    }
+
+    fn is_within(&self, cell: &Cell) -> bool {
+        is_live_of(cell, self.0)
+    }
+}
+
+/// The aliases of a site.
+#[derive(Drop)]
+pub struct AliasesOf<'a>(pub &'a SiteName);
+
+impl<'a> Span<Cell> for AliasesOf<'a> {
+    ghost use Rattle.site_state.specs.SpanOfAliases.{aliases_together};
+
+    ghost before = { λ s cell. AliasRange.is_before_aliases cell s.0.now };
+
+    ghost within = { λ s. States.is_alias_of s.0.now };
+
+    ghost together = { λ s. aliases_together s.0.now };
+
+    fn is_before(&self, cell: &Cell) -> bool {
+        is_before_aliases(cell, self.0)
+    }
+
+    fn is_within(&self, cell: &Cell) -> bool {
+        is_alias_of(cell, self.0)
+    }
+}
+
 /// The first of these aliases that names the deploy of a number.
-pub fn first_alias(aliases: &[(Cell, Value)], number: u64) -> Option<&AliasName>
-    ensures { option_copied result ≡ Aliases.first_alias number aliases.now }
+pub fn first_alias<'a>(aliases: Range<'a, Cell, Value>, number: u64) -> Option<&'a AliasName>
+    ensures { option_copied result ≡ Aliases.first_alias number aliases.entry }
 {
-    'aliases: for (cell, value) in aliases {
+    let mut left = aliases;
+    'aliases: while let Some(((cell, value), rest)) = left.split_first() {
         if matches!(value, Value::Alias(own) if *own == number) {
             return match cell {
                 Cell::Alias(_, name) => Some(name),
                 Cell::Live(..) | Cell::Kept(..) | Cell::Draft(..) => None,
             };
         }
+        left = rest;
     }
     None
 }

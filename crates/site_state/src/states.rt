@@ -1,5 +1,5 @@
 //! The state: a finite map from cells to values.
-ghost use Rattle.std.specs.Prelude.{◌≡◌, true, option_copied, All, None, IfOk, IfSome, IsSome, IsTrue, OnOk, OnErr};
+ghost use Rattle.std.specs.Prelude.{◌≡◌, ◌⊎◌, true, option_copied, All, IfOk, IfSome, IsSome, IsTrue, OnOk, OnErr};
 ghost use Rattle.std.specs.FinMap as map;
 ghost use Rattle.std.specs.List.Sorted.{IsStrictlySortedBy};
 ghost use Rattle.std.specs.Map.{keys_of};
@@ -7,23 +7,18 @@ ghost use Rattle.host_names.specs.Cells.{cell_cmp, cell_of};
 ghost use Rattle.site_state.specs.Named.{AliasesNamed};
 
 use crate::files::File;
-use crate::merge::merge;
-use crate::site_cells::{
-    first_alias, is_alias_of, is_before_aliases, is_live_of, is_of_site_before,
-};
+use crate::site_cells::{AliasesOf, LiveOf, Sought, first_alias};
 use crate::values::{Draft, Tree, Value};
-use crate::writes::{search, write};
 use host_names::{AliasName, Cell, CellRef, FilePath, SiteName};
+use shared_blocks::{Range, SharedMap};
 use std::alloc::{AllocError, Global};
 use std::marker::Model;
-use std::mem;
 
 /// What is in each cell. Contracts see a finite map. Each value is of its cell's kind, and each alias names a
 /// deploy of its site that is kept.
 #[derive(Drop)]
 pub struct State {
-    /// By cell; each cell is there once.
-    items: Vec<(Cell, Value)>,
+    cells: SharedMap<Cell, Value>,
 }
 
 impl Model for State {
@@ -37,9 +32,9 @@ impl Model for State {
 
     ghost coded = { map.code cell.the_row.coded value.the_row.coded };
 
-    ghost view = { λ s. map.from_sorted s.items.items };
+    ghost view = { λ s. map.from_sorted s.cells };
 
-    ghost invariant = { λ s. AreOfState s.items.items };
+    ghost invariant = { λ s. AreOfState s.cells };
 }
 
 impl State {
@@ -51,7 +46,7 @@ impl State {
         ensures { result ≡ map.empty }
     {
         State {
-            items: Vec::new(alloc),
+            cells: SharedMap::new(alloc),
         }
     }
 
@@ -60,10 +55,7 @@ impl State {
         ensures found { option_copied result ≡ map.get self.now (cell_of sought.entry) }
         ensures of_kind { IfSome result (λ value. IsTrue (is_of_kind (cell_of sought.entry) value.now)) }
     {
-        match search(self.items.as_slice(), sought) {
-            Ok(place) => Some(&self.items[place].1),
-            Err(_) => None,
-        }
+        self.cells.find(&Sought(sought))
     }
 
     /// What is in a cell.
@@ -85,14 +77,10 @@ impl State {
     }
 
     /// The files that a site serves, each in its cell, by path.
-    pub fn live(&self, site: &SiteName) -> &[(Cell, Value)]
-        ensures { result.now ≡ live_entries self.now site.now }
+    pub fn live(&self, site: &SiteName) -> Range<'_, Cell, Value>
+        ensures { result ≡ live_entries self.now site.now }
     {
-        let items = self.items.as_slice();
-        let start = items.partition_point(|item| is_of_site_before(&item.0, site));
-        let rest = &items[start..];
-        let count = rest.partition_point(|item| is_live_of(&item.0, site));
-        &rest[..count]
+        self.cells.range(&LiveOf(site))
     }
 
     /// The files of the deploy that is kept under a number.
@@ -116,14 +104,10 @@ impl State {
     }
 
     /// The aliases of a site, each in its cell, by name.
-    fn aliases(&self, site: &SiteName) -> &[(Cell, Value)]
-        ensures { result.now ≡ alias_entries self.now site.now }
+    fn aliases(&self, site: &SiteName) -> Range<'_, Cell, Value>
+        ensures { result ≡ alias_entries self.now site.now }
     {
-        let items = self.items.as_slice();
-        let start = items.partition_point(|item| is_before_aliases(&item.0, site));
-        let after = &items[start..];
-        let count = after.partition_point(|item| is_alias_of(&item.0, site));
-        &after[..count]
+        self.cells.range(&AliasesOf(site))
     }
 
     /// The first alias of a site, by name, that names the deploy of a number.
@@ -148,14 +132,14 @@ impl State {
         ensures { AliasesNamed self.now }
     {
         // The proof knows what the type keeps only where a field is used.
-        let _ = &self.items;
+        let _ = &self.cells;
     }
 
     /// What is in each cell is of the cell's kind.
     pub fn values_are_of_kind(&self)
         ensures { AreOfKind self.now }
     {
-        let _ = &self.items;
+        let _ = &self.cells;
     }
 
     /// Whether this may be written into a cell: it is of the cell's kind, or nothing, and each alias names a kept
@@ -181,20 +165,23 @@ impl State {
         }
     }
 
-    /// Writes into one cell a value of its kind, or nothing. That takes memory only where a value comes into an empty
-    /// cell; without memory nothing changes.
+    /// Writes into one cell a value of its kind, or nothing. On an error nothing changes. Nothing into an empty cell takes
+    /// no memory.
     pub fn set_cell(&mut self, cell: Cell, value: Option<Value>) -> Result<(), AllocError>
         requires of_kind { IsTrue (may_stand cell value) }
         requires named { AliasesNamed (with_cell self.old cell value) }
         ensures ok { OnOk result (self.new ≡ with_cell self.old cell value) }
         ensures err { OnErr result (self.new ≡ self.old) }
-        ensures memory { OnErr result (IsSome value × (map.get self.old cell ≡ None)) }
+        ensures memory { OnErr result (IsSome value ⊎ IsSome (map.get self.old cell)) }
     {
-        write(&mut self.items, cell, value)
+        if value.is_none() && self.value(&cell).is_none() {
+            return Ok(());
+        }
+        self.cells.write(cell, value)
     }
 
-    /// Writes into each of these cells, which strictly rise, a value of its kind, or nothing. All are written,
-    /// or, without memory, none. The work is linear in the state and the cells.
+    /// Writes into each of these cells, which strictly rise, a value of its kind, or nothing. All are written, or, out of
+    /// memory, none. The work is that of copying what lies around each cell, and else a count for each hundred cells.
     pub fn set_cells(&mut self, cells: Vec<(Cell, Option<Value>)>) -> Result<(), AllocError>
         requires rising { IsStrictlySortedBy cell_cmp (keys_of cells.items) }
         requires of_kind { All (λ e. IsTrue (may_stand e.0 e.1)) cells.items }
@@ -202,20 +189,15 @@ impl State {
         ensures ok { OnOk result (self.new ≡ with_cells self.old cells.items) }
         ensures err { OnErr result (self.new ≡ self.old) }
     {
-        let alloc = *self.items.allocator();
-        let mut merged = Vec::with_capacity(alloc, self.items.len() + cells.len())?;
-        let items = mem::replace(&mut self.items, Vec::new(alloc));
-        merge(items, cells, &mut merged);
-        self.items = merged;
-        Ok(())
+        self.cells.write_all(cells)
     }
 
-    /// A copy, which shares the files, the trees and the lists.
+    /// A copy, which shares all that neither writes into later. The work is a count for each hundred cells.
     pub fn copy(&self) -> Result<State, AllocError>
         ensures { IfOk result (λ copy. copy ≡ self.now) }
     {
         Ok(State {
-            items: self.items.as_slice().to_vec(*self.items.allocator())?,
+            cells: self.cells.copy()?,
         })
     }
 }

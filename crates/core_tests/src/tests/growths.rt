@@ -27,7 +27,7 @@ fn push_clashes(text: &mut String, history: &History) -> Result<(), AllocError> 
 
 /// What is seen of a history: the number of its entries, what is served at the site `one`, and the clashes of its changes.
 /// It takes memory once, so that few places lie outside what is tested.
-fn seen(alloc: Global, history: &History) -> Result<String, Fail> {
+pub(crate) fn seen(alloc: Global, history: &History) -> Result<String, Fail> {
     let mut text = String::with_capacity(alloc, 200)?;
     write!(text, "{} by ", history.len())?;
     push_site(&mut text, history.state(), "one")?;
@@ -67,7 +67,12 @@ fn assert_commit_after(
 }
 
 /// Commits a command that is accepted, and leaves what is wanted; or leaves all as it was, out of memory.
-fn assert_commit(rt: &impl Abort, host: &mut Host, words: &str, wanted: &str) -> Result<(), Fail> {
+pub(crate) fn assert_commit(
+    rt: &impl Abort,
+    host: &mut Host,
+    words: &str,
+    wanted: &str,
+) -> Result<(), Fail> {
     let before = seen(host.alloc, &host.history)?;
     assert_commit_after(rt, host, words, before.as_str(), wanted)
 }
@@ -105,7 +110,12 @@ fn assert_undo_after(
 }
 
 /// Undoes a change, which is allowed, and leaves what is wanted; or leaves all as it was, out of memory.
-fn assert_undo(rt: &impl Abort, host: &mut Host, change: u64, wanted: &str) -> Result<(), Fail> {
+pub(crate) fn assert_undo(
+    rt: &impl Abort,
+    host: &mut Host,
+    change: u64,
+    wanted: &str,
+) -> Result<(), Fail> {
     let before = seen(host.alloc, &host.history)?;
     assert_undo_after(rt, host, change, before.as_str(), wanted)
 }

@@ -5,8 +5,9 @@ use super::fixtures::{assert_text, draft, halves, uploaded};
 use change_undo::{GREATEST_LIMIT, History};
 use host_names::{AliasName, ChangeError, FilePath, MemoryUploads, SiteName};
 use site_change::Command;
-use std::alloc::Global;
+use std::alloc::{AllocError, Global};
 use std::marker::Model;
+use std::mem;
 use std::process::Abort;
 use std::test::Fail;
 
@@ -115,6 +116,12 @@ impl Host {
 
     pub(crate) fn undo(&mut self, site: &SiteName, change: u64) -> Result<u64, ChangeError> {
         self.history.undo(site, change)
+    }
+
+    /// Goes on with a copy of the history, and gives the original.
+    pub(crate) fn go_on_with_a_copy(&mut self) -> Result<History, AllocError> {
+        let copy = self.history.copy()?;
+        Ok(mem::replace(&mut self.history, copy))
     }
 }
 

@@ -17,17 +17,7 @@ use super::views::HostView;
 use host_api::{Items, Refusal, Told};
 use host_names::{ChangeRefusal, SiteName};
 use site_change::{Command, MOST_FILES};
-use site_state::{Draft, Listing, least_missing, missing};
-
-/// Whether the deploy of a number publishes itself now.
-fn is_ready<H: HostView>(host: &H, site: &SiteName, number: u64) -> bool
-    ensures { result ≡ Outcomes.is_ready (H.host host.now) site.now number }
-{
-    match host.state().draft(site, number) {
-        Some(draft) => draft.auto && least_missing(draft, host.uploads()).is_none(),
-        None => false,
-    }
-}
+use site_state::{Draft, Listing, missing};
 
 /// Whether a deploy of these files may be opened, or the first reason why not. It takes no memory.
 fn judge_opening<H: HostView>(host: &H, files: &Listing) -> Result<(), ChangeRefusal>
@@ -56,15 +46,33 @@ impl SoloHouse {
         ensures err { OnErr result (self.new ≡ self.old) }
         ensures grows { Grows self.old self.new }
     {
-        if !is_ready(self, site, number) {
+        let is_ready = self.is_ready(site, number);
+        self.publish_if(is_ready, site, number)
+    }
+
+    /// The same of a deploy of which it is known whether it is ready.
+    fn publish_if(
+        &mut self,
+        is_ready: bool,
+        site: &SiteName,
+        number: u64,
+    ) -> Result<Option<u64>, Refusal>
+        requires { is_ready ≡ Outcomes.is_ready self.old site.now number }
+        ensures done { Publishes result self.new (published_if_ready self.old site.now number) }
+        ensures memory { IsErrOf result Refusal.OutOfMemory → IsTrue (is_published self.old site.now number) }
+        ensures err { OnErr result (self.new ≡ self.old) }
+        ensures grows { Grows self.old self.new }
+    {
+        if !is_ready {
             return Ok(None);
         }
         let site = site.copied();
         let entry = self.commit(Command::Publish { site, number })?;
+        self.forget(number);
         Ok(Some(entry))
     }
 
-    /// Opens a deploy, and publishes it if it is ready.
+    /// Opens a deploy, and publishes it if it is ready, which it is where it publishes itself and nothing is required.
     fn open(&mut self, site: SiteName, files: Listing, auto: bool) -> Result<Told, Refusal>
         ensures done { DoesCommit result self.new self.old (command.Open site files auto) }
         ensures told { IfOk result (λ told. Outcomes.is_refusal told ≡ false) }
@@ -74,12 +82,14 @@ impl SoloHouse {
         ensures grows { Grows self.old self.new }
     {
         judge_opening(self, &files)?;
+        self.lawful();
         let draft = Draft { auto, files };
         let required = missing(self.uploads().allocator(), &draft, self.uploads())?;
+        let is_ready = auto && required.is_empty();
         let owner = site.copied();
         let Draft { auto, files } = draft;
         let id = self.commit(Command::Open { site, files, auto })?;
-        let published = self.publish_if_ready(&owner, id)?;
+        let published = self.publish_if(is_ready, &owner, id)?;
         Ok(Told::Opened {
             id,
             published,
@@ -123,6 +133,7 @@ impl SoloHouse {
         ensures grows { Grows self.old self.new }
     {
         let number = self.undo(site, change)?;
+        self.forget(change);
         Ok(Told::Entered { number })
     }
 
@@ -135,7 +146,9 @@ impl SoloHouse {
         ensures grows { Grows self.old self.new }
     {
         let site = owner(self, number)?;
-        self.enter(Command::Cancel { site, number })
+        let told = self.enter(Command::Cancel { site, number })?;
+        self.forget(number);
+        Ok(told)
     }
 
     /// Removes a deploy that was published whole, in the site that has it. On an error nothing changes.

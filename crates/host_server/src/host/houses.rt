@@ -7,9 +7,11 @@ ghost use Rattle.change_undo.specs.Histories.{run, entry_at, marked_entry, IsUnd
 ghost use Rattle.change_undo.specs.declared.entries.Entry.TheVariants as entry;
 ghost use Rattle.host_server.specs.Answers.{Grows};
 ghost use Rattle.host_server.specs.Hosts.{Host, state_of, next_number, with_entry, with_upload, IsLawful};
+ghost use Rattle.host_server.specs.Outcomes;
 ghost use Rattle.host_server.specs.Reasons;
 ghost use Rattle.host_server.specs.Reasons.{commit_refusal};
 
+use super::readiness::Readiness;
 use change_undo::{Entry, History};
 use host_names::{BlobInfo, ChangeError, MemoryUploads, SiteName, Uploads};
 use site_change::Command;
@@ -17,11 +19,13 @@ use site_state::State;
 use std::alloc::{AllocError, Global};
 use std::marker::Model;
 
-/// A host on one thread. Contracts see its entries, their limit, and its uploads; the state is what these give.
+/// A host on one thread. Contracts see its entries, their limit, and its uploads; the state is what these give. The
+/// readiness of its deploys is kept for speed alone.
 #[derive(Drop)]
 pub struct SoloHouse {
     history: History,
     uploads: MemoryUploads,
+    readiness: Readiness,
 }
 
 impl Model for SoloHouse {
@@ -29,7 +33,8 @@ impl Model for SoloHouse {
     ghost use Rattle.change_undo.specs.contracts.entries.Entry as entry;
     ghost use Rattle.host_names.specs.contracts.uploads.MemoryUploads as memory;
     ghost use Rattle.host_server.specs.Answers.{Grows};
-    ghost use Rattle.host_server.specs.Hosts.{Host, host_of, coded_host, IsKept};
+    ghost use Rattle.host_server.specs.Hosts.{Host, host_of, coded_host};
+    ghost use Rattle.host_server.specs.Readiness.{IsKeptWith};
 
     ghost Value = { Host };
 
@@ -37,7 +42,7 @@ impl Model for SoloHouse {
 
     ghost view = { λ h. host_of h.history h.uploads };
 
-    ghost invariant = { λ h. IsKept h.history h.uploads };
+    ghost invariant = { λ h. IsKeptWith h.history h.uploads h.readiness.places };
 }
 
 impl SoloHouse {
@@ -50,6 +55,7 @@ impl SoloHouse {
         SoloHouse {
             history: History::new(alloc, limit),
             uploads: MemoryUploads::new(alloc),
+            readiness: Readiness::new(alloc),
         }
     }
 
@@ -135,5 +141,23 @@ impl SoloHouse {
         ensures grows { Grows self.old self.new }
     {
         self.uploads.add_file(file)
+    }
+
+    /// Whether the deploy of a number publishes itself now.
+    pub(crate) fn is_ready(&mut self, site: &SiteName, number: u64) -> bool
+        ensures ready { result ≡ Outcomes.is_ready self.old site.now number }
+        ensures same { self.new ≡ self.old }
+    {
+        match self.history.state().draft(site, number) {
+            Some(draft) => draft.auto && self.readiness.is_complete(&self.uploads, number, draft),
+            None => false,
+        }
+    }
+
+    /// Forgets how far the files of a deploy were uploaded, which is no longer open.
+    pub(crate) fn forget(&mut self, number: u64)
+        ensures { self.new ≡ self.old }
+    {
+        self.readiness.forget(number);
     }
 }

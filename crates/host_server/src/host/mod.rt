@@ -4,6 +4,7 @@ mod change_lists;
 mod changes;
 mod deploys;
 mod houses;
+mod readiness;
 mod uploads;
 mod versions;
 mod views;

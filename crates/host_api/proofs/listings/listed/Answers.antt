@@ -5,5 +5,5 @@ use Rattle.host_api.proofs.listings.listed.Goals as goal
 
 pub unreachable-requires : goal.unreachable-requires
 unreachable-requires c =
-    false≢true (c.in-Err.ensures.lawful.1 (members_lawful c.args.is_patch (members_view c.args.members.now.entries) c.in_ok-files.files.entries c.in-Ok.paths c.in-Ok.ensures.sorted c.in-Ok.ensures.pairs
+    false≢true (c.in-Err.ensures.lawful.1 (members_lawful c.args.is_patch (members_view c.args.members.now.entries) c.in_ok-files.files.items c.in-Ok.paths c.in_ok-files.ensures.sorted c.in-Ok.ensures
     c.in_ok-files.ensures.ok))

@@ -42,3 +42,13 @@ returns-in-Err-ReadFault g c =
     (ReadsBody {A = Global} (Err why) c.in-Ok.size c.args.wire.now c.read_body.new.self) in
     body_missed {A = Global} g.D.Duplex.saw c.args.duplex.now c.read_body.new.duplex body_fault.ReadFault (bytes_eq c.args.head.now.method (codes "HEAD")) c.args.head.now c.in-Ok.size c.args.wire.now c.read_body.new.self
     refl announced (subst P c.in-Err-ReadFault.field-0-is c.in-Err-ReadFault.ensures.ran)
+
+pub returns-in-Err-OutOfMemory : goal.returns-in-Err-OutOfMemory
+returns-in-Err-OutOfMemory g c =
+    let limit : c.body_limit-limit.result ≡ limit_of c.args.head.now = first_of (cc, search rules) in
+    let announced : AnnouncesBody c.args.head.now.fields (limit_of c.args.head.now) c.in-Ok.size =
+    subst (λ (n : ℕ). AnnouncesBody c.args.head.now.fields n c.in-Ok.size) limit c.in-Ok.ensures.ok in
+    let P : BodyFault → Type 0 = λ why. Ran g.D.Duplex.saw (AwaitsBody c.args.wire.now c.in-Ok.size) c.args.duplex.now c.read_body.new.duplex
+    (ReadsBody {A = Global} (Err why) c.in-Ok.size c.args.wire.now c.read_body.new.self) in
+    body_missed {A = Global} g.D.Duplex.saw c.args.duplex.now c.read_body.new.duplex body_fault.OutOfMemory c.is_head_only-in-Err-OutOfMemory.result c.args.head.now c.in-Ok.size c.args.wire.now
+    c.read_body.new.self c.is_head_only-in-Err-OutOfMemory.ensures announced (subst P c.in-Err-OutOfMemory.field-0-is c.in-Err-OutOfMemory.ensures.ran)

@@ -1,4 +1,4 @@
-use Rattle.std.proofs.Common.{◌≡◌, ℕ, List, Option, Some, None, refl}
+use Rattle.std.proofs.Common.{Option, Some, None, refl}
 use Rattle.std.specs.Option.{option_map}
 use Rattle.http_wire.specs.Replies.{fields_of}
 use Rattle.http_wire.specs.declared.field_texts.FieldText.{FieldText}

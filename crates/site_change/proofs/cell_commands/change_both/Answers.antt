@@ -2,7 +2,7 @@ use Rattle.std.proofs.Common.{inl, inr, IfOk, sym, ap, subst, ◌∙◌}
 use Rattle.std.specs.Ordering.{is_eq}
 use Rattle.host_names.specs.CellOrder.{cell_cmp_total}
 use Rattle.site_state.specs.States.{State}
-use Rattle.site_state.proofs.Entries.{less_back}
+use Rattle.shared_blocks.proofs.Entries.{less_back}
 use Rattle.site_change.specs.Plans.{IsDifference}
 use Rattle.site_change.proofs.Deciding.{swapped}
 use Rattle.site_change.proofs.cell_commands.change_both.Goals as goal

@@ -4,5 +4,5 @@ use Rattle.site_change.proofs.live.live_changes.Goals as goal
 pub returns : goal.returns
 returns c =
     let ends = rw c.in_default.is at c.in_ok-step.ensures in
-    at_ends c.args.site.now c.args.live.now c.args.tree.now c.loop-changes.live_left.now c.loop-changes.tree_left.now c.loop-changes.changes.items
+    at_ends c.args.site.now c.args.live c.args.tree.now c.loop-changes.live_left c.loop-changes.tree_left.now c.loop-changes.changes.items
     c.loop-changes.invariant.behind ends.0 ends.1

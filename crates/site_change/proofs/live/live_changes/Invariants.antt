@@ -7,7 +7,7 @@ use Rattle.site_change.proofs.live.live_changes.Given as goal
 abbrev pub invariant-loop-changes : goal.invariant-loop-changes
 invariant-loop-changes l = record {
   sides : AreSides l.site l.live_left l.tree_left;
-  behind : (rest : List Change) → AreLiveChanges l.site l.live_left l.tree_left rest → AreLiveChanges l.site l.live l.tree (l.changes.items ++ rest);
+  behind : (rest : List Change) → AreLiveChanges l.site l.live_left l.tree_left rest → AreLiveChanges l.site l.fn.live l.tree (l.changes.items ++ rest);
 }
 
 abbrev pub decreases-loop-changes : goal.decreases-loop-changes

@@ -9,6 +9,6 @@ live_changes-requires c = rw (c.live.ensures, c.entries.ensures.pairs) (sides_of
 
 pub returns : goal.returns
 returns c =
-    publish_plan c.args.site.now c.args.number c.args.tree c.args.state.now c.live.result.now c.entries.result.now (cell.Kept c.copied.result c.args.number) (cell.Draft c.copied-2.result c.args.number)
+    publish_plan c.args.site.now c.args.number c.args.tree c.args.state.now c.live.result c.entries.result.now (cell.Kept c.copied.result c.args.number) (cell.Draft c.copied-2.result c.args.number)
     c.in_ok-changes.changes.items c.push_change.new.changes.items c.push_change-2.new.changes.items c.live.ensures c.entries.ensures.pairs c.in_ok-changes.ensures
     (ap (λ (s : SiteName). cell.Kept s c.args.number) c.copied.ensures) c.in_ok-push_change.ensures (ap (λ (s : SiteName). cell.Draft s c.args.number) c.copied-2.ensures) c.in_ok-push_change-2.ensures

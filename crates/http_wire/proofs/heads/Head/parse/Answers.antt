@@ -16,15 +16,10 @@ returns-in-Err-OutOfMemory-clause-memory c =
     let found = c.in-Some.ensures.found in
     something_said _ found.0 found.1 found.2
 
-pub returns-in_err-target-clause-memory : goal.returns-in_err-target-clause-memory
-returns-in_err-target-clause-memory c =
-    let found = c.in-Some.ensures.found in
-    on_err c.from_residual.result (something_said _ found.0 found.1 found.2)
-
 pub returns-in_err-fields-clause-memory : goal.returns-in_err-fields-clause-memory
 returns-in_err-fields-clause-memory c =
     let found = c.in-Some.ensures.found in
-    on_err c.from_residual-in_err-fields.result (something_said _ found.0 found.1 found.2)
+    on_err c.from_residual.result (something_said _ found.0 found.1 found.2)
 
 pub returns-in_err-text-clause-memory : goal.returns-in_err-text-clause-memory
 returns-in_err-text-clause-memory c =

@@ -16,7 +16,7 @@ is_empty = empty_of_len none (len-entries none ∙ ap length (entries-from_sorte
 
 pub invariant_of-result : goal.invariant_of-result
 unfolding IsStrictlySortedBy
-invariant_of-result c = rw c.new.ensures.items (record { are_items = record { sorted = tt; of_kind = tt }; named = subst AliasesNamed (sym is_empty) named_empty })
+invariant_of-result c = rw c.new.ensures (record { are_items = record { sorted = tt; of_kind = tt }; named = subst AliasesNamed (sym is_empty) named_empty })
 
 pub returns : goal.returns
-returns c = rw c.new.ensures.items is_empty
+returns c = rw c.new.ensures is_empty

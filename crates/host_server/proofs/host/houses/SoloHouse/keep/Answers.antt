@@ -1,4 +1,5 @@
 use Rattle.host_server.proofs.Kept.{kept_by_upload}
+use Rattle.host_server.proofs.Reached.{reached_by_upload}
 use Rattle.std.proofs.Common.{subst}
 use Rattle.host_server.specs.Answers.{Grows}
 use Rattle.host_server.specs.Hosts.{Host, host_of}
@@ -6,9 +7,12 @@ use Rattle.host_server.proofs.Growing.{grows_uploads}
 use Rattle.host_server.proofs.host.houses.SoloHouse.keep.Goals as goal
 
 pub invariant_of-self : goal.invariant_of-self
-invariant_of-self c =
-    kept_by_upload c.add_file.result c.self.inside.history c.self.inside.uploads c.add_file.new.self c.args.file c.self.invariant
-    c.add_file.ensures.ok c.add_file.ensures.err
+invariant_of-self c = record {
+  over = kept_by_upload c.add_file.result c.self.inside.history c.self.inside.uploads c.add_file.new.self c.args.file c.self.invariant.over
+      c.add_file.ensures.ok c.add_file.ensures.err;
+  reached = reached_by_upload c.add_file.result c.self.inside.history.entries c.self.inside.uploads c.add_file.new.self c.self.inside.readiness.places c.args.file
+      c.self.invariant.reached c.add_file.ensures.ok c.add_file.ensures.err;
+}
 
 pub returns-clause-grows : goal.returns-clause-grows
 returns-clause-grows c =

@@ -1,4 +1,4 @@
-use Rattle.std.proofs.Common.{rules, ◌≡◌, inl, inr, refl, List, Result, Ok, Err, subst, sym, ap, ◌∙◌}
+use Rattle.std.proofs.Common.{rules, ◌≡◌, ◌&&◌, vec_len, is_none, slice_get, inl, inr, refl, List, Result, Ok, Err, subst, sym, ap, ◌∙◌}
 use Rattle.host_names.specs.declared.digests.Digest.{Digest}
 use Rattle.host_api.specs.declared.refusals.Refusal.{Refusal}
 use Rattle.host_api.specs.declared.refusals.Refusal.TheVariants as refusal
@@ -7,24 +7,35 @@ use Rattle.host_api.specs.declared.texts.Told.TheVariants.{Opened}
 use Rattle.site_change.specs.declared.commands.Command.TheVariants.{Open}
 use Rattle.host_server.specs.Outcomes.{DoesCommit, entered}
 use Rattle.host_server.proofs.Growing.{grows_then}
-use Rattle.host_server.proofs.Opening.{answer, on_err, open_done, open_refused}
+use Rattle.host_server.proofs.Opening.{answer, on_err, open_done, open_refused, none_required, ready_as_opened}
+use Rattle.host_server.proofs.host.houses.SoloHouse.open.Goals.{then-auto, else-auto}
 use Rattle.host_server.proofs.host.houses.SoloHouse.open.Goals as goal
+
+pub publish_if-requires : goal.publish_if-requires
+publish_if-requires c =
+    let ready = ready_as_opened c.args.self.now c.commit.new.self c.uploads-2.result.now c.copied-owner.result c.args.site c.args.files c.args.auto c.in_ok-id.id c.in_ok-required.required.items
+    c.lawful.ensures c.uploads-2.ensures c.in_ok-required.ensures.least_first c.in_ok-id.ensures.refused c.in_ok-id.ensures.entries c.in_ok-id.ensures.number (search rules) in
+    elim c.if-auto.branch [
+      | then-auto w ↦ none_required c.in_ok-required.required.items (vec_len c.in_ok-required.required) c.args.auto c.if-auto.is_ready w.is_empty-is_ready.result
+          (search rules) w.is_empty-is_ready.ensures w.if-auto.true w.is_ready-is ∙ ready
+      | else-auto w ↦ w.is_ready-is ∙ w.if-auto.false ∙ sym (ap (λ t. t && is_none (slice_get c.in_ok-required.required.items 0)) w.if-auto.false) ∙ ready
+    ]
 
 pub returns-in_err-published-clause-done : goal.returns-in_err-published-clause-done
 returns-in_err-published-clause-done c =
-    let done = open_done c.args.self.now c.commit.new.self c.publish_if_ready.new.self c.uploads-2.result.now c.copied-owner.result c.args.site c.args.files c.args.auto c.in_ok-id.id
-    c.in_ok-required.required.items c.publish_if_ready.result c.uploads-2.ensures c.in_ok-required.ensures.exactly c.in_ok-id.ensures.refused c.in_ok-id.ensures.entries
-    c.in_ok-id.ensures.number (search rules) c.publish_if_ready.ensures.done in
-    let P : Result Told Refusal → Type 0 = λ r. DoesCommit r c.publish_if_ready.new.self c.args.self.now (Open c.args.site c.args.files c.args.auto) in
+    let done = open_done c.args.self.now c.commit.new.self c.publish_if.new.self c.uploads-2.result.now c.copied-owner.result c.args.site c.args.files c.args.auto c.in_ok-id.id
+    c.in_ok-required.required.items c.publish_if.result c.uploads-2.ensures c.in_ok-required.ensures.exactly c.in_ok-id.ensures.refused c.in_ok-id.ensures.entries
+    c.in_ok-id.ensures.number (search rules) c.publish_if.ensures.done in
+    let P : Result Told Refusal → Type 0 = λ r. DoesCommit r c.publish_if.new.self c.args.self.now (Open c.args.site c.args.files c.args.auto) in
     let is : c.from_residual-in_err-published.result ≡ Err c.in_err-published.field-0.0 = search rules in
     subst P (ap (answer c.in_ok-id.id c.in_ok-required.required.items) c.in_err-published.was ∙ sym is) done
 
 pub returns-clause-done : goal.returns-clause-done
 returns-clause-done c =
-    let done = open_done c.args.self.now c.commit.new.self c.publish_if_ready.new.self c.uploads-2.result.now c.copied-owner.result c.args.site c.args.files c.args.auto c.in_ok-id.id
-    c.in_ok-required.required.items c.publish_if_ready.result c.uploads-2.ensures c.in_ok-required.ensures.exactly c.in_ok-id.ensures.refused c.in_ok-id.ensures.entries
-    c.in_ok-id.ensures.number (search rules) c.publish_if_ready.ensures.done in
-    let P : Result Told Refusal → Type 0 = λ r. DoesCommit r c.publish_if_ready.new.self c.args.self.now (Open c.args.site c.args.files c.args.auto) in
+    let done = open_done c.args.self.now c.commit.new.self c.publish_if.new.self c.uploads-2.result.now c.copied-owner.result c.args.site c.args.files c.args.auto c.in_ok-id.id
+    c.in_ok-required.required.items c.publish_if.result c.uploads-2.ensures c.in_ok-required.ensures.exactly c.in_ok-id.ensures.refused c.in_ok-id.ensures.entries
+    c.in_ok-id.ensures.number (search rules) c.publish_if.ensures.done in
+    let P : Result Told Refusal → Type 0 = λ r. DoesCommit r c.publish_if.new.self c.args.self.now (Open c.args.site c.args.files c.args.auto) in
     subst P (ap (answer c.in_ok-id.id c.in_ok-required.required.items) c.in_ok-published.was
     ∙ ap (λ (d : List Digest). Ok (Opened c.in_ok-id.id c.in_ok-published.published d)) (sym c.from.ensures)) done
 
@@ -35,11 +46,11 @@ returns-in_err-published-clause-stands c =
 
 pub returns-in_err-published-clause-grows : goal.returns-in_err-published-clause-grows
 returns-in_err-published-clause-grows c =
-    grows_then c.args.self.now c.commit.new.self c.publish_if_ready.new.self c.commit.ensures.grows c.publish_if_ready.ensures.grows
+    grows_then c.args.self.now c.commit.new.self c.publish_if.new.self c.commit.ensures.grows c.publish_if.ensures.grows
 
 pub returns-clause-grows : goal.returns-clause-grows
 returns-clause-grows c =
-    grows_then c.args.self.now c.commit.new.self c.publish_if_ready.new.self c.commit.ensures.grows c.publish_if_ready.ensures.grows
+    grows_then c.args.self.now c.commit.new.self c.publish_if.new.self c.commit.ensures.grows c.publish_if.ensures.grows
 
 pub returns-in_err-judge_opening-clause-done : goal.returns-in_err-judge_opening-clause-done
 returns-in_err-judge_opening-clause-done c =

@@ -2,6 +2,7 @@ use Rattle.std.proofs.Common.{subst}
 use Rattle.host_server.specs.Hosts.{Host}
 use Rattle.host_server.specs.Reasons.{undo_refusal}
 use Rattle.host_server.proofs.Kept.{kept_by_undo}
+use Rattle.host_server.proofs.Reached.{reached_by_history}
 use Rattle.change_undo.specs.Histories.{IsUndoRefusedBy}
 use Rattle.change_undo.specs.declared.entries.Entry.TheVariants.{Undo}
 use Rattle.host_server.specs.Answers.{Grows}
@@ -10,13 +11,16 @@ use Rattle.host_server.proofs.Growing.{grows_past, same_entries}
 use Rattle.host_server.proofs.host.houses.SoloHouse.undo.Goals as goal
 
 pub invariant_of-self : goal.invariant_of-self
-invariant_of-self c =
-    kept_by_undo c.undo.result c.self.inside.history c.undo.new.self c.self.inside.uploads c.self.invariant c.undo.ensures.over c.undo.ensures.err
+invariant_of-self c = record {
+  over = kept_by_undo c.undo.result c.self.inside.history c.undo.new.self c.self.inside.uploads c.self.invariant.over c.undo.ensures.over c.undo.ensures.err;
+  reached = reached_by_history c.undo.result c.self.inside.history c.undo.new.self c.self.inside.uploads c.self.inside.readiness.places (Undo c.args.site.now c.args.change)
+      c.self.invariant.reached c.undo.ensures.entries (same_entries c.undo.result c.self.inside.history c.undo.new.self c.undo.ensures.err);
+}
 
 pub returns-clause-refused : goal.returns-clause-refused
 returns-clause-refused c =
     let P : Host → Type 0 = λ h. IsUndoRefusedBy (undo_refusal h c.args.site.now c.args.change) c.undo.result in
-    subst P c.self.view_is (c.undo.ensures.refused c.self.inside.uploads c.self.invariant)
+    subst P c.self.view_is (c.undo.ensures.refused c.self.inside.uploads c.self.invariant.over)
 
 pub returns-clause-grows : goal.returns-clause-grows
 returns-clause-grows c =

@@ -1,0 +1,164 @@
+//! The entries of a history with their marks.
+ghost use Rattle.std.specs.Prelude.{◌≡◌, ◌-◌, ◌<◌, ◌≤◌, [], ◌∷◌, ◌++◌, length, All, false, None, Some, IfOk, OnOk, OnErr, IsTrue, option_copied};
+ghost use Rattle.std.specs.List.Sorted.{IsStrictlySortedBy};
+ghost use Rattle.std.specs.Map.{keys_of};
+ghost use Rattle.host_names.specs.Cells.{cell_cmp};
+ghost use Rattle.site_state.specs.Named.{AliasesNamed};
+ghost use Rattle.site_state.specs.States.{may_stand, with_cells};
+ghost use Rattle.change_undo.specs.declared.entries.Entry.TheVariants as entry;
+ghost use Rattle.change_undo.specs.Kept.{AreWritable, befores_of as befores_in, plan_at, plan_of};
+ghost use Rattle.change_undo.specs.PlannedEntries.{entries_of, mark_at, marks_of, with_undone};
+
+use crate::entries::Entry;
+use crate::logs::Log;
+use crate::marks::Mark;
+use crate::writes::{Decision, befores_of};
+use host_names::SiteName;
+use shared_blocks::SharedList;
+use site_change::{Command, Plan};
+use site_state::State;
+use std::alloc::{AllocError, Global};
+use std::marker::Model;
+
+/// Entries, numbered from 1, each with its mark. Contracts see them together. Copies share both.
+#[derive(Drop)]
+pub(crate) struct Records {
+    log: Log,
+    marks: SharedList<Mark>,
+}
+
+impl Model for Records {
+    ghost use Rattle.std.specs.Prelude.{◌≡◌, List, length};
+    ghost use Rattle.change_undo.specs.contracts.entries.Entry as entry;
+    ghost use Rattle.site_change.specs.contracts.plans.Plan as plan;
+    ghost use Rattle.change_undo.specs.PlannedEntries.{PlannedEntry, coded_planned, with_marks};
+
+    ghost Value = { List PlannedEntry };
+
+    ghost coded = { coded_planned entry.the_row.coded plan.the_row.coded };
+
+    ghost view = { λ r. with_marks r.log r.marks.items };
+
+    ghost invariant = { λ r. length r.log ≡ length r.marks.items };
+}
+
+impl Records {
+    /// No entries, which take no memory.
+    pub(crate) fn new(alloc: Global) -> Records
+        ensures { result ≡ [] }
+    {
+        Records {
+            log: Log::new(alloc),
+            marks: SharedList::new(alloc),
+        }
+    }
+
+    /// Where its memory comes from.
+    pub(crate) fn allocator(&self) -> Global {
+        self.log.allocator()
+    }
+
+    /// The entries alone.
+    pub(crate) fn log(&self) -> &Log
+        ensures { result.now ≡ entries_of self.now }
+    {
+        &self.log
+    }
+
+    /// The number of entries.
+    pub(crate) fn len(&self) -> u64
+        ensures { result ≡ length self.now }
+    {
+        self.log.len()
+    }
+
+    /// The mark of the entry of a number, from 1 on.
+    pub(crate) fn mark(&self, number: u64) -> Option<&Mark>
+        ensures { option_copied result ≡ mark_at self.now number }
+    {
+        if number == 0 {
+            return None;
+        }
+        self.marks.get(number as usize - 1)
+    }
+
+    /// What the change of a number, from 1 on, changes and touches in its place, if it lives.
+    pub(crate) fn plan(&self, number: u64) -> Option<&Plan>
+        ensures { option_copied result ≡ plan_of self.now number }
+    {
+        match self.mark(number) {
+            Some(mark) => mark.plan(),
+            None => None,
+        }
+    }
+
+    /// Appends a change, and writes into the state what was decided. Without memory nothing changes.
+    pub(crate) fn append_change(
+        &mut self,
+        command: Command,
+        state: &mut State,
+        decision: Decision,
+    ) -> Result<(), AllocError>
+        requires rising { IsStrictlySortedBy cell_cmp (keys_of decision.writes.items) }
+        requires of_kind { All (λ e. IsTrue (may_stand e.0 e.1)) decision.writes.items }
+        requires named { AliasesNamed (with_cells state.old decision.writes.items) }
+        ensures entries { OnOk result (self.new ≡ self.old ++ record { entry = entry.Change command; is_undone = false; plan = Some decision.plan } ∷ []) }
+        ensures state { OnOk result (state.new ≡ with_cells state.old decision.writes.items) }
+        ensures err { OnErr result ((self.new ≡ self.old) × (state.new ≡ state.old)) }
+    {
+        let Decision { plan, writes } = decision;
+        let mark = Mark::of_change(self.log.allocator(), plan)?;
+        self.marks.reserve()?;
+        self.log.append(Entry::Change(command), state, writes)?;
+        self.marks.push_reserved(mark);
+        Ok(())
+    }
+
+    /// The marks after the undo of the change of this number. They are a copy, so that an undo can still fail.
+    fn marks_after_undo(&self, change: u64) -> Result<SharedList<Mark>, AllocError>
+        requires some { 0 < change }
+        requires within { change ≤ length self.now }
+        ensures { IfOk result (λ marks. marks.items ≡ marks_of (with_undone (change - 1) self.now) ++ record { is_undone = false; plan = None } ∷ []) }
+    {
+        let mut marks = self.marks.copy()?;
+        marks.set(change as usize - 1, Mark::undone())?;
+        marks.push(Mark::of_undo())?;
+        Ok(marks)
+    }
+
+    /// Appends the undo of the change of this number, marks that change, and gives each cell that it changed what it had
+    /// before. Without memory nothing changes.
+    pub(crate) fn append_undo(
+        &mut self,
+        site: &SiteName,
+        change: u64,
+        state: &mut State,
+    ) -> Result<(), AllocError>
+        requires some { 0 < change }
+        requires within { change ≤ length self.old }
+        requires writable { AreWritable state.old (befores_in (plan_at self.old (change - 1))) }
+        ensures entries { OnOk result (self.new ≡ with_undone (change - 1) self.old ++ record { entry = entry.Undo site.now change; is_undone = false; plan = None } ∷ []) }
+        ensures state { OnOk result (state.new ≡ with_cells state.old (befores_in (plan_at self.old (change - 1)))) }
+        ensures err { OnErr result ((self.new ≡ self.old) × (state.new ≡ state.old)) }
+    {
+        let writes = befores_of(self.log.allocator(), self.plan(change))?;
+        let marks = self.marks_after_undo(change)?;
+        let entry = Entry::Undo {
+            site: site.copied(),
+            change,
+        };
+        self.log.append(entry, state, writes)?;
+        self.marks = marks;
+        Ok(())
+    }
+
+    /// A copy, which shares the entries and the marks.
+    pub(crate) fn copy(&self) -> Result<Records, AllocError>
+        ensures { IfOk result (λ copy. copy ≡ self.now) }
+    {
+        Ok(Records {
+            log: self.log.copy()?,
+            marks: self.marks.copy()?,
+        })
+    }
+}

@@ -1,0 +1,134 @@
+//! Hosts that measurements are made on, and what is put to them.
+ghost use Rattle.std.specs.Prelude.{◌≡◌};
+
+use crate::files::{Contents, content, listing, path};
+use anyhow::{Result, anyhow};
+use change_undo::GREATEST_LIMIT;
+use host_api::{Refusal, Told};
+use host_names::{AliasName, FilePath, SiteName};
+use host_server::SoloHouse;
+use site_change::{Command, MOST_FILES};
+use site_state::Listing;
+use std::alloc::Global;
+use std::ops::Range;
+
+/// A file that is to be uploaded to a deploy.
+#[derive(Drop)]
+pub(crate) struct Upload {
+    pub(crate) deploy: u64,
+    pub(crate) path: FilePath,
+    pub(crate) bytes: Vec<u8>,
+}
+
+/// A host without entries.
+pub(crate) fn empty_host(alloc: Global) -> SoloHouse {
+    SoloHouse::new(alloc, GREATEST_LIMIT)
+}
+
+/// What a call told, which no measurement expects to be refused.
+fn expected(told: Result<Told, Refusal>) -> Result<Told> {
+    told.map_err(|refusal| anyhow!("the host refused it: {}", refusal.name()))
+}
+
+/// Opens a deploy of what is listed, and answers its number.
+fn open_listing(house: &mut SoloHouse, files: Listing) -> Result<u64> {
+    let opening = Command::Open {
+        site: SiteName::new("one")?,
+        files,
+        auto: true,
+    };
+    match expected(house.change(opening))? {
+        Told::Opened { id, .. } => Ok(id),
+        _ => Err(anyhow!("an opening told something else")),
+    }
+}
+
+/// Opens a deploy that adds these files to the site, and answers its number.
+pub(crate) fn open(
+    alloc: Global,
+    house: &mut SoloHouse,
+    files: Range<u64>,
+    contents: Contents,
+) -> Result<u64> {
+    open_listing(house, listing(alloc, true, files, contents)?)
+}
+
+/// Keeps a deploy of one file, which is uploaded, and answers its number.
+pub(crate) fn keep(alloc: Global, house: &mut SoloHouse, file: u64) -> Result<u64> {
+    let end = file.saturating_add(1);
+    let deploy = open_listing(house, listing(alloc, false, file..end, Contents::Own)?)?;
+    let mut planned = Vec::new(alloc);
+    plan(alloc, &mut planned, deploy, file..end)?;
+    upload_all(house, planned)?;
+    Ok(deploy)
+}
+
+/// Moves an alias of the site to a deploy.
+pub(crate) fn move_alias(house: &mut SoloHouse, number: u64) -> Result<()> {
+    let site = SiteName::new("one")?;
+    let name = AliasName::new("next")?;
+    let _ = expected(house.change(Command::MoveAlias { site, name, number }))?;
+    Ok(())
+}
+
+/// Adds the uploads of these files to a deploy.
+pub(crate) fn plan(
+    alloc: Global,
+    planned: &mut Vec<Upload>,
+    deploy: u64,
+    files: Range<u64>,
+) -> Result<()> {
+    for number in files {
+        planned.push(Upload {
+            deploy,
+            path: path(alloc, number)?,
+            bytes: content(alloc, number)?,
+        })?;
+    }
+    Ok(())
+}
+
+/// Uploads each of these, in their order.
+pub(crate) fn upload_all(house: &mut SoloHouse, uploads: Vec<Upload>) -> Result<()> {
+    for upload in uploads {
+        let Upload {
+            deploy,
+            path,
+            bytes,
+        } = upload;
+        let _ = expected(house.upload(deploy, &path, bytes))?;
+    }
+    Ok(())
+}
+
+/// Opens a deploy of these files, and uploads all of them.
+pub(crate) fn fill(alloc: Global, house: &mut SoloHouse, files: Range<u64>) -> Result<()> {
+    let deploy = open(alloc, house, files.start..files.end, Contents::Own)?;
+    let mut planned = Vec::new(alloc);
+    plan(alloc, &mut planned, deploy, files)?;
+    upload_all(house, planned)
+}
+
+/// Makes the site serve so many files, all of one content, which is uploaded.
+pub(crate) fn serve(alloc: Global, house: &mut SoloHouse, count: u64) -> Result<()> {
+    fill(alloc, house, 0..1)?;
+    for first in (0..count).step_by(MOST_FILES) {
+        let end = count.min(first.saturating_add(MOST_FILES as u64));
+        let _ = open(alloc, house, first..end, Contents::First)?;
+    }
+    Ok(())
+}
+
+/// Renames the first file of the site, or renames it back.
+pub(crate) fn rename(alloc: Global, house: &mut SoloHouse, back: bool) -> Result<()> {
+    let here = path(alloc, 0)?;
+    let there = FilePath::read(alloc, "/renamed")?;
+    let (source, target) = if back { (there, here) } else { (here, there) };
+    let site = SiteName::new("one")?;
+    let _ = expected(house.change(Command::Rename {
+        site,
+        source,
+        target,
+    }))?;
+    Ok(())
+}

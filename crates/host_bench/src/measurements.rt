@@ -1,0 +1,143 @@
+//! The measurements: each makes its host, and then takes the time of some calls.
+ghost use Rattle.std.specs.Prelude.{◌≡◌};
+
+use crate::copies::time_copies;
+use crate::files::Contents;
+use crate::hosts::{
+    Upload, empty_host, fill, keep, move_alias, open, plan, rename, serve, upload_all,
+};
+use anyhow::Result;
+use host_server::SoloHouse;
+use std::alloc::Global;
+use std::time::{Duration, Instant};
+
+/// What can be measured, a line each.
+pub(crate) const LIST: &str =
+    "rename FILES     nanoseconds of a renaming in a site that serves so many files
+put FILES        nanoseconds of an upload to an open deploy of so many files that stays open
+deploy FILES     nanoseconds of a deploy of so many files of 64 bytes: its opening and all uploads
+history CHANGES  nanoseconds of a change where so many rename one file
+moves CHANGES    nanoseconds of a change where so many move one alias
+copy ENTRIES     nanoseconds of a copy of a history of so many entries and cells, with one commit on it";
+
+/// How many renamings are timed in a site.
+const RENAMINGS: u64 = 400;
+
+/// How many copies are timed of a history.
+const COPIES: u64 = 400;
+
+/// How many files the deploys have together to which uploads are timed.
+const FILES: u64 = 10_000;
+
+/// A measurement, with how many files or changes it has.
+#[derive(Clone, Copy)]
+pub(crate) enum Measurement {
+    Rename(u64),
+    Put(u64),
+    Deploy(u64),
+    History(u64),
+    Moves(u64),
+    Copy(u64),
+}
+
+impl Measurement {
+    /// The measurement of these words, if there is one. It has one file or change at least.
+    pub(crate) fn read(name: &str, count: &str) -> Option<Measurement> {
+        let count = count.parse::<u64>().ok()?;
+        match name {
+            _ if count == 0 => None,
+            "rename" => Some(Measurement::Rename(count)),
+            "put" => Some(Measurement::Put(count)),
+            "deploy" => Some(Measurement::Deploy(count)),
+            "history" => Some(Measurement::History(count)),
+            "moves" => Some(Measurement::Moves(count)),
+            "copy" => Some(Measurement::Copy(count)),
+            _ => None,
+        }
+    }
+
+    /// Makes the measurement, and answers its number.
+    pub(crate) fn run(&self, rt: &HostRuntime) -> Result<u128> {
+        match self {
+            Measurement::Rename(files) => renamings(rt, *files, RENAMINGS),
+            Measurement::Put(files) => puts(rt, *files),
+            Measurement::Deploy(files) => deploy(rt, *files),
+            Measurement::History(changes) => renamings(rt, 1, *changes),
+            Measurement::Moves(changes) => moves(rt, *changes),
+            Measurement::Copy(entries) => copies(rt, *entries),
+        }
+    }
+}
+
+/// The nanoseconds of one of so many calls.
+fn each(took: Duration, calls: u64) -> u128 {
+    took.as_nanos().checked_div(u128::from(calls)).unwrap_or(0)
+}
+
+/// The time of so many renamings.
+fn time_renamings(rt: &HostRuntime, house: &mut SoloHouse, times: u64) -> Result<Duration> {
+    let begun = Instant::now(rt)?;
+    for turn in 0..times {
+        rename(rt.alloc(), house, turn % 2 == 1)?;
+    }
+    Ok(begun.elapsed(rt)?)
+}
+
+/// The time of one of so many renamings in a site that serves so many files.
+fn renamings(rt: &HostRuntime, files: u64, times: u64) -> Result<u128> {
+    let mut house = empty_host(rt.alloc());
+    serve(rt.alloc(), &mut house, files)?;
+    Ok(each(time_renamings(rt, &mut house, times)?, times))
+}
+
+/// The time of one of so many moves of an alias between two deploys.
+fn moves(rt: &HostRuntime, times: u64) -> Result<u128> {
+    let mut house = empty_host(rt.alloc());
+    let first = keep(rt.alloc(), &mut house, 0)?;
+    let second = keep(rt.alloc(), &mut house, 1)?;
+    let begun = Instant::now(rt)?;
+    for turn in 0..times {
+        let number = if turn % 2 == 0 { first } else { second };
+        move_alias(&mut house, number)?;
+    }
+    Ok(each(begun.elapsed(rt)?, times))
+}
+
+/// The time of one of the copies of a history of so many entries and cells, with one commit on it.
+fn copies(rt: &HostRuntime, entries: u64) -> Result<u128> {
+    Ok(each(time_copies(rt, entries, COPIES)?, COPIES))
+}
+
+/// Opens deploys of so many files each, and gives the uploads to them but for the last of each, which would publish it.
+fn plan_all(alloc: Global, house: &mut SoloHouse, files: u64) -> Result<Vec<Upload>> {
+    let mut planned = Vec::new(alloc);
+    for first in (0..FILES).step_by(files.max(1) as usize) {
+        let end = first.saturating_add(files);
+        let deploy = open(alloc, house, first..end, Contents::Own)?;
+        plan(alloc, &mut planned, deploy, first..end.saturating_sub(1))?;
+    }
+    Ok(planned)
+}
+
+/// The time of these uploads.
+fn time_uploads(rt: &HostRuntime, house: &mut SoloHouse, planned: Vec<Upload>) -> Result<Duration> {
+    let begun = Instant::now(rt)?;
+    upload_all(house, planned)?;
+    Ok(begun.elapsed(rt)?)
+}
+
+/// The time of one of the uploads to open deploys of so many files, which stay open.
+fn puts(rt: &HostRuntime, files: u64) -> Result<u128> {
+    let mut house = empty_host(rt.alloc());
+    let planned = plan_all(rt.alloc(), &mut house, files)?;
+    let calls = planned.len() as u64;
+    Ok(each(time_uploads(rt, &mut house, planned)?, calls))
+}
+
+/// The time of a deploy of so many files, from before its opening to its publishing.
+fn deploy(rt: &HostRuntime, files: u64) -> Result<u128> {
+    let mut house = empty_host(rt.alloc());
+    let begun = Instant::now(rt)?;
+    fill(rt.alloc(), &mut house, 0..files)?;
+    Ok(begun.elapsed(rt)?.as_nanos())
+}
