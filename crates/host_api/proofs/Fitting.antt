@@ -13,9 +13,6 @@ use Rattle.host_api.proofs.Cuts.{cut}
 
 -- ---- cuts
 
-no_slash : List ℕ → Bool
-no_slash text = list_all (λ b. not (eqb b 47)) text
-
 whole : (text : List ℕ) → before 47 text ++ from_first 47 text ≡ text
 whole text =
     let n = prefix_len (λ c. not (eqb c 47)) text in
@@ -33,14 +30,6 @@ free_front c text n false is more = refl
 before_free : (text : List ℕ) → HasNoSlash (before 47 text)
 before_free [] = refl
 before_free (c ∷ text) = free_front c text _ (not (eqb c 47)) refl (before_free text)
-
-led_from : (c : ℕ) (text back : List ℕ) (t : Bool) → eqb c 47 ≡ t → is_rest back ≡ true → is_rest (cond t (c ∷ text) back) ≡ true
-led_from c text back true is led = is
-led_from c text back false is led = led
-
-from_led : (text : List ℕ) → is_rest (from_first 47 text) ≡ true
-from_led [] = refl
-from_led (c ∷ text) = led_from c text (from_first 47 text) (eqb c 47) refl (from_led text)
 
 -- a segment is what is before the next slash
 segment_cut : (segment back : List ℕ) → HasNoSlash segment → is_rest back ≡ true

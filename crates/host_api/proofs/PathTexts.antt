@@ -12,7 +12,7 @@ use Rattle.std.specs.Result.{IfOk, IsErrOf}
 use Rattle.std.specs.Str.{IsUtf8, IsAscii, is_utf8}
 use Rattle.percent_encoding.specs.Percent.{percent_decode}
 use Rattle.percent_encoding.proofs.PercentLemmas.{percent_decode-nil, percent_decode_not_percent}
-use Rattle.host_names.specs.Path.{is_path, is_relative_path, with_slash}
+use Rattle.host_names.specs.Path.{is_path, with_slash}
 use Rattle.host_names.specs.declared.paths.PathError.{PathError}
 use Rattle.host_names.specs.declared.paths.PathError.TheVariants as path_error
 use Rattle.host_api.specs.Targets.{if_path, ends_with_slash, with_index}
@@ -105,16 +105,6 @@ if_right true true x y e = absurd (cc e)
 if_right true false x y e = refl
 if_right false t x y e = refl
 
--- a path with a slash put before it is itself
-slashed_path : (text : List ℕ) → is_path text ≡ true → with_slash text ≡ text
-slashed_path [] h = absurd (cc h)
-slashed_path (b ∷ text) h = ap (λ t. cond t (b ∷ text) (47 ∷ b ∷ text)) (and_parts (eqb b 47) (is_relative_path text) h).0
-
--- a text that may be empty, and otherwise begins with a slash, is a path with the slash or is none
-rest_path : (text : List ℕ) → is_rest text ≡ true → is_path (with_slash text) ≡ is_path text
-rest_path [] h = refl
-rest_path (b ∷ text) h = rw h (rw h refl)
-
 -- decoding keeps the slash
 pub decoded_rest : (rest : List ℕ) → is_rest rest ≡ true → is_rest (percent_decode rest) ≡ true
 decoded_rest [] h = rw percent_decode-nil refl
@@ -122,28 +112,12 @@ decoded_rest (b ∷ rest) h =
     let e = eqb-true b 47 h in
     rw (percent_decode_not_percent b rest (omega arith)) h
 
-led_cases : (t : Bool) (b : ℕ) (text : List ℕ) → eqb b 47 ≡ true → is_rest (cond t ((b ∷ text) ++ codes "index.html") (b ∷ text)) ≡ true
-led_cases true b text h = h
-led_cases false b text h = h
-
-index_rest : (text : List ℕ) → is_rest text ≡ true → is_rest (with_index text) ≡ true
-index_rest [] h = refl
-index_rest (b ∷ text) h = led_cases (ends_with_slash (b ∷ text)) b text h
-
 -- ---- what no path is
 
 -- a text that is longer than a path
 too_long : (text : List ℕ) → 1024 < length text → is_path text ≡ false
 too_long [] h = absurd (omega arith)
 too_long (b ∷ text) h = grind (arith, nat_tests)
-
-long_slash : (t : Bool) (text : List ℕ) → 1024 < length text → is_path (cond t text (47 ∷ text)) ≡ false
-long_slash true text h = too_long text h
-long_slash false text h = too_long (47 ∷ text) (omega arith)
-
-too_long_slashed : (text : List ℕ) → 1024 < length text → is_path (with_slash text) ≡ false
-too_long_slashed [] h = absurd (omega arith)
-too_long_slashed (b ∷ text) h = long_slash (eqb b 47) (b ∷ text) h
 
 long_index : (t : Bool) (text : List ℕ) → 1024 < length text → is_path (cond t (text ++ codes "index.html") text) ≡ false
 long_index true text h = too_long (text ++ codes "index.html") (omega (arith, length-append text (codes "index.html")))
@@ -155,9 +129,6 @@ unlawful text h = if_right _ _ (Some text) None h
 -- a text that is longer than a path, of a page or of a file
 pub long_page : (text : List ℕ) → 1024 < length text → if_path (with_index text) ≡ None
 long_page text h = unlawful _ (long_index (ends_with_slash text) text h)
-
-pub long_file : (text : List ℕ) → 1024 < length text → if_path (with_slash text) ≡ None
-long_file text h = unlawful _ (too_long_slashed text h)
 
 -- bytes that are no text
 pub raw_page : (text : List ℕ) → is_utf8 text ≡ false → if_path (with_index text) ≡ None
@@ -188,35 +159,8 @@ keeps text (Err path_error.OutOfMemory) utf8 bad is_bad same lawful =
     let path_is = not_false (is_path (with_slash text)) (λ h. cc (bad h)) in
     known _ (Err path_error.OutOfMemory) (Some (with_slash text)) (if_true _ _ (Some (with_slash text)) None text_is path_is) (inr refl)
 
--- a text that begins with a slash, or is empty, is kept as it is
-if_slashed : (s t : Bool) (text : List ℕ) (slashed : List ℕ) → s ≡ t → is_path slashed ≡ is_path text → (is_path text ≡ true → slashed ≡ text)
-    → cond (s && is_path slashed) (Some slashed) None ≡ cond (t && is_path text) (Some text) None
-if_slashed true false text slashed e same kept = absurd (cc e)
-if_slashed false true text slashed e same kept = absurd (cc e)
-if_slashed false false text slashed e same kept = refl
-if_slashed true true text slashed e same kept = by_test (is_path text) (is_path slashed) same kept
-  where
-    by_test : (p q : Bool) → q ≡ p → (p ≡ true → slashed ≡ text) → cond q (Some slashed) None ≡ cond p (Some text) None
-    by_test true true e kept = ap Some (kept refl)
-    by_test false false e kept = refl
-    by_test true false e kept = absurd (cc e)
-    by_test false true e kept = absurd (cc e)
-
-pub rest_kept : (text : List ℕ) → is_rest text ≡ true → if_path (with_slash text) ≡ if_path text
-rest_kept text led = if_slashed _ _ text (with_slash text) (with_slash-utf8 text) (rest_path text led) (slashed_path text)
-
--- the page of a text that begins with a slash, or is empty
-pub page_kept : (text page : List ℕ) (result : Result (List ℕ) PathError) → is_rest text ≡ true → page ≡ with_index text
-    → KeepsPath (if_path (with_slash page)) result → KeepsPath (if_path (with_index text)) result
-page_kept text page result led e h =
-    let led_page : is_rest page ≡ true = subst (λ (t : List ℕ). is_rest t ≡ true) (sym e) (index_rest text led) in
-    known _ result (if_path (with_slash page)) (ap if_path (sym e) ∙ sym (rest_kept page led_page)) h
-
 pub folder : (text : List ℕ) → ends_with_slash text ≡ true → with_index text ≡ text ++ codes "index.html"
 folder text h = rw h refl
-
-pub no_folder : (text : List ℕ) → ends_with_slash text ≡ false → text ≡ with_index text
-no_folder text h = rw h refl
 
 -- nothing is kept where there is no path
 pub none_kept : (o : Option (List ℕ)) → o ≡ None → KeepsPath o (Err path_error.BadPath)

@@ -1,5 +1,5 @@
 -- What members list, collected in their order and then sorted by path.
-use Rattle.std.proofs.Common.{◌≡◌, ℕ, Bool, true, false, cond, List, [], ◌∷◌, ◌++◌, map, Option, Some, None, Ok, IsPermutation, is_some, refl, sym, ap, subst, ◌∙◌, append-nil, append_assoc, Ordering, get_or, length, ◌+◌, ◌<◌, ap₂, arith}
+use Rattle.std.proofs.Common.{◌≡◌, ℕ, Bool, true, false, cond, List, [], ◌∷◌, ◌++◌, map, Option, Some, None, Ok, IsPermutation, is_some, refl, sym, ap, subst, ◌∙◌, append-nil, Ordering, get_or, length, ◌+◌, ◌<◌, ap₂, arith}
 use Rattle.std.specs.Cmp.Lexicographic.{nat_list_cmp_total}
 use Rattle.std.specs.FinMap.{empty, same_map}
 use Rattle.std.specs.List.{IsDistinct, AllByRecursion, AllAdjacentBelow}
@@ -29,14 +29,6 @@ AreListed patch (member key value ms) (e ∷ es) =
 -- what was collected of all members, where these are left
 abbrev pub SoFar : Bool → (all left : Members) → List Entry → Type 0
 SoFar patch all left done = (es : List Entry) → AreListed patch left es → AreListed patch all (done ++ es)
-
-pub none_listed : (patch : Bool) (all : Members) → SoFar patch all all []
-none_listed patch all es listed = listed
-
-pub one_listed : (patch : Bool) (all left : Members) (done : List Entry) (key : List ℕ) (value : Data) (e : Entry) → e.0 ≡ with_slash key → is_path (with_slash key) ≡ true
-    → listed_in patch value ≡ Ok e.1 → SoFar patch all (member key value left) done → SoFar patch all left (done ++ e ∷ [])
-one_listed patch all left done key value e same lawful good so es listed =
-    subst (AreListed patch all) (sym (append_assoc done (e ∷ []) es)) (so (e ∷ es) (same, lawful, good, listed))
 
 -- all of them were collected
 pub finished : (patch : Bool) (all left : Members) (done : List Entry) → left ≡ no_members → SoFar patch all left done → AreListed patch all done

@@ -1,5 +1,5 @@
 //! What the body of the opening of a deploy says: the files, whether the deploy stays open, and whether it is a patch.
-ghost use Rattle.std.specs.Prelude.{◌≡◌, ◌≢◌, true, false, codes, Ok, Err, Option, Some, None, IsPermutation, IsTrue, IfSome, IfOk, IfErr, OnOk, option_map, option_and_then};
+ghost use Rattle.std.specs.Prelude.{◌≡◌, ◌≢◌, true, false, Ok, Err, Option, Some, None, IsPermutation, IsTrue, IfSome, IfOk, IfErr, OnOk, option_map, option_and_then};
 ghost use Rattle.std.specs.BTreeMap.{BTreeMap};
 ghost use Rattle.std.specs.FinMap as map;
 ghost use Rattle.serde_json.specs.Find.{get, as_object};

@@ -1,8 +1,6 @@
 //! The paths of files that targets write (RFC 3986, section 3.3). They are decoded and judged without the heap, so that
 //! memory is taken for a path alone.
-ghost use Rattle.std.specs.Prelude.{◌≡◌, ◌<◌, ◌++◌, IsTrue, IfOk, IfErr, MatchOption, MatchResult, codes, drop, length};
-ghost use Rattle.std.specs.List.{list_any};
-ghost use Rattle.std.specs.Str.{is_utf8};
+ghost use Rattle.std.specs.Prelude.{◌≡◌, ◌<◌, ◌++◌, IsTrue, MatchOption, codes, drop, length};
 ghost use Rattle.percent_encoding.specs.Percent as percent;
 ghost use Rattle.host_names.specs.Path.{with_slash};
 ghost use Rattle.host_api.specs.Targets as spec;

@@ -3,6 +3,7 @@
 
 ghost use Rattle.std.specs.Prelude.{◌≡◌};
 
+mod connections;
 mod copies;
 mod files;
 mod hosts;

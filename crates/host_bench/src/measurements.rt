@@ -1,6 +1,7 @@
 //! The measurements: each makes its host, and then takes the time of some calls.
 ghost use Rattle.std.specs.Prelude.{◌≡◌};
 
+use crate::connections::{REQUESTS, time_gets};
 use crate::copies::time_copies;
 use crate::files::Contents;
 use crate::hosts::{
@@ -13,12 +14,16 @@ use std::time::{Duration, Instant};
 
 /// What can be measured, a line each.
 pub(crate) const LIST: &str =
-    "rename FILES     nanoseconds of a renaming in a site that serves so many files
+    "get FILES        nanoseconds of a GET of a file of 64 bytes in a site that serves so many, in connections of 100
+rename FILES     nanoseconds of a renaming in a site that serves so many files
 put FILES        nanoseconds of an upload to an open deploy of so many files that stays open
 deploy FILES     nanoseconds of a deploy of so many files of 64 bytes: its opening and all uploads
 history CHANGES  nanoseconds of a change where so many rename one file
 moves CHANGES    nanoseconds of a change where so many move one alias
 copy ENTRIES     nanoseconds of a copy of a history of so many entries and cells, with one commit on it";
+
+/// How many connections of GETs are timed in a site.
+const CONNECTIONS: u64 = 1_000;
 
 /// How many renamings are timed in a site.
 const RENAMINGS: u64 = 400;
@@ -32,6 +37,7 @@ const FILES: u64 = 10_000;
 /// A measurement, with how many files or changes it has.
 #[derive(Clone, Copy)]
 pub(crate) enum Measurement {
+    Get(u64),
     Rename(u64),
     Put(u64),
     Deploy(u64),
@@ -46,6 +52,7 @@ impl Measurement {
         let count = count.parse::<u64>().ok()?;
         match name {
             _ if count == 0 => None,
+            "get" => Some(Measurement::Get(count)),
             "rename" => Some(Measurement::Rename(count)),
             "put" => Some(Measurement::Put(count)),
             "deploy" => Some(Measurement::Deploy(count)),
@@ -59,6 +66,7 @@ impl Measurement {
     /// Makes the measurement, and answers its number.
     pub(crate) fn run(&self, rt: &HostRuntime) -> Result<u128> {
         match self {
+            Measurement::Get(files) => gets(rt, *files),
             Measurement::Rename(files) => renamings(rt, *files, RENAMINGS),
             Measurement::Put(files) => puts(rt, *files),
             Measurement::Deploy(files) => deploy(rt, *files),
@@ -72,6 +80,14 @@ impl Measurement {
 /// The nanoseconds of one of so many calls.
 fn each(took: Duration, calls: u64) -> u128 {
     took.as_nanos().checked_div(u128::from(calls)).unwrap_or(0)
+}
+
+/// The time of one GET of a file in a site that serves so many.
+fn gets(rt: &HostRuntime, files: u64) -> Result<u128> {
+    let mut house = empty_host(rt.alloc());
+    serve(rt.alloc(), &mut house, files)?;
+    let took = time_gets(rt, &mut house, CONNECTIONS)?;
+    Ok(each(took, CONNECTIONS.saturating_mul(REQUESTS)))
 }
 
 /// The time of so many renamings.
