@@ -64,13 +64,35 @@ def written_path(text):
     return path_of(decoded(text)[1:])
 
 
-def asked_range(request):
-    """The first and the last position of the range that is asked for, if one is."""
+GREATEST = 2**64 - 1
+
+
+def specs_of(value):
+    """What a value of Range asks for: for each element the numbers before and after its dash, None where it has none.
+
+    It is None of a value that is ignored.
+    """
+    unit, equals, elements = value.partition("=")
+    texts = [text for element in elements.split(",") if (text := element.strip(" \t"))]
+    found = [re.fullmatch("([0-9]*)-([0-9]*)", text) for text in texts]
+    if (unit.lower(), equals) != ("bytes", "=") or None in found or "-" in texts:
+        return None
+    specs = [tuple(min(int(number), GREATEST) if number else None for number in parts.groups()) for parts in found]
+    is_in_order = all(None in spec or spec[0] <= spec[1] for spec in specs)
+    return specs if 1 <= len(specs) <= 16 and is_in_order else None
+
+
+def chosen(specs, size):
+    """The first and the last position of each spec that has a byte of a file of so many."""
+    ends = [(max(size - last, 0), None) if first is None else (first, last) for first, last in specs]
+    return [(first, size - 1 if last is None else min(last, size - 1)) for first, last in ends if first < size]
+
+
+def asked_specs(request):
+    """What the request asks for by its Range, if it counts and is understood."""
     values = request.values_of("range")
     if request.method == "GET" and len(values) == 1 and not request.values_of("if-range"):
-        plain = re.fullmatch("bytes=([0-9]+)-([0-9]+)", values[0])
-        if plain and int(plain[1]) <= int(plain[2]):
-            return int(plain[1]), int(plain[2])
+        return specs_of(values[0])
     return None
 
 
@@ -118,16 +140,17 @@ def telling(value, status="200 OK", fields=()):
 
 
 def sending(request, path, content):
-    """The file, or the range of it that is asked for."""
+    """The file, or the range of it that is asked for. Where several are chosen, the file is sent whole so far."""
     _, dot, ending = path.rpartition("/")[2].rpartition(".")
     kind = TYPES.get(dot and ending.lower(), "application/octet-stream")
     fields = (f'ETag: "{digest_of(content)}"', "Accept-Ranges: bytes")
-    asked = asked_range(request)
-    if asked is None or not content:
+    specs = asked_specs(request)
+    intervals = chosen(specs or [], len(content))
+    if specs is None or not content or len(intervals) > 1:
         return "200 OK", kind, content, fields
-    first, last = asked[0], min(asked[1], len(content) - 1)
-    if first >= len(content):
+    if not intervals:
         raise Refused("NotSatisfiable", f"Content-Range: bytes */{len(content)}")
+    first, last = intervals[0]
     fields += (f"Content-Range: bytes {first}-{last}/{len(content)}",)
     return "206 Partial Content", kind, content[first:last + 1], fields
 

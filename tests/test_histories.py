@@ -164,7 +164,8 @@ class Generator:
         path, fields = self.mostly(files, PATHS), ()
         if self.happens(0.5):
             first = self.random.randrange(8)
-            fields = (f"Range: bytes={first}-{first + self.random.randrange(-1, 8)}",)
+            last = self.one_of(("", first + self.random.randrange(-1, 8)))
+            fields = (f"Range: bytes={self.one_of(('', first))}-{last}",)
         if self.happens(0.05):
             fields += (self.one_of(("Range: bytes=1-2", "If-Range: x", "range: bytes=0-")),)
         target = "/" if path == "/index.html" and self.happens(0.3) else self.target(path)

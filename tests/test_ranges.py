@@ -3,13 +3,21 @@
 What is expected follows from docs/HTTP.md, "Reading a file".
 """
 
+import collections
+import concurrent.futures
+import random
 import unittest
 
-from client import LARGEST_FILE, digest_of, refused, sent
+from client import LARGEST_FILE, REQUESTS, Program, digest_of, refused, sent
+from plain_model import Request, chosen, specs_of
+from test_histories import Run, in_json
 from test_interface import CHANGES, OTHER, Interface, change, get, publishing, put, row, served, uploading
 
 CONTENT = b"hello world"
 GREATEST = 18_446_744_073_709_551_615
+VALUES = 20_000
+BATCHES = 20
+PROGRAMS_AT_ONCE = 2
 
 
 def part(content, first, last, kind=OTHER):
@@ -52,6 +60,64 @@ class Ranges(Interface):
             ("bytes=0-4\t", (0, 4)),
         ])
 
+    def test_have_a_first_position_alone(self):
+        self.assert_parts([
+            ("bytes=0-", (0, 10)),
+            ("bytes=6-", (6, 10)),
+            ("bytes=10-", (10, 10)),
+            ("bytes=0000000010-", (10, 10)),
+            ("bytes=11-", none_of(CONTENT)),
+            (f"bytes={GREATEST}-", none_of(CONTENT)),
+            (f"bytes={GREATEST + 1}-", none_of(CONTENT)),
+        ])
+        self.assert_parts([("bytes=0-", (0, 0)), ("bytes=1-", none_of(b"1"))], "/one")
+        self.assert_parts([("bytes=65536-", (65536, 65536)), ("bytes=1-", (1, 65536))], "/long")
+
+    def test_count_from_the_end(self):
+        self.assert_parts([
+            ("bytes=-1", (10, 10)),
+            ("bytes=-5", (6, 10)),
+            ("bytes=-005", (6, 10)),
+            ("bytes=-10", (1, 10)),
+            ("bytes=-11", (0, 10)),
+            ("bytes=-12", (0, 10)),
+            (f"bytes=-{GREATEST}", (0, 10)),
+            (f"bytes=-{100 * '9'}", (0, 10)),
+            ("bytes=-0", none_of(CONTENT)),
+            ("bytes=-000", none_of(CONTENT)),
+        ])
+        self.assert_parts([("bytes=-1", (0, 0)), ("bytes=-2", (0, 0))], "/one")
+        self.assert_parts([("bytes=-1", (65536, 65536)), ("bytes=-65537", (0, 65536))], "/long")
+
+    def test_have_a_unit_in_any_case(self):
+        self.assert_parts([(f"{unit}=6-10", (6, 10)) for unit in ("Bytes", "BYTES", "bYtEs", "byteS")])
+
+    def test_have_blanks_around_them(self):
+        self.assert_parts([(f"bytes={element}", (6, 10)) for element in (
+            " 6-10", "\t6-10", "  \t  6-10", "6-10 ,", "6-10\t \t,", " 6- ,", " -5\t,", ",\t6-10 \t, ")])
+
+    def test_have_empty_elements_around_them(self):
+        self.assert_parts([(f"bytes={elements}", (6, 10)) for elements in (
+            ",6-10", "6-10,", ",,6-10,,", " , ,\t6-,", ",-5", f"{500 * ','}6-10{500 * ' ,'}", f"{9_000 * ','}6-10")])
+
+    def test_are_the_only_ones_that_can_be_satisfied(self):
+        ahead = ",".join(15 * ["11-"])
+        self.assert_parts([
+            ("bytes=20-,,0-0", (0, 0)),
+            ("bytes=0-0,-0", (0, 0)),
+            ("bytes=11-,-5,12-13", (6, 10)),
+            (f"bytes={ahead},6-10", (6, 10)),
+            (f"bytes=,{ahead},,\t6-10,", (6, 10)),
+            (f"bytes={ahead},11-,6-10", served("/a", CONTENT)),
+            ("bytes=20-,-0", none_of(CONTENT)),
+            (f"bytes={ahead},-0", none_of(CONTENT)),
+        ])
+
+    def test_are_not_sent_where_several_are_chosen_so_far(self):
+        whole = served("/a", CONTENT)
+        values = ["bytes=0-4,-5", "bytes=0-0,2-2", "bytes=0-9,0-9", "bytes=0-,0-", ", ".join(["BYTES=0-0", *15 * ["1-1"]])]
+        self.assert_parts([(value, whole) for value in values])
+
     def test_end_with_the_file(self):
         self.assert_parts([
             ("bytes=6-11", (6, 10)),
@@ -83,21 +149,18 @@ class Ranges(Interface):
 
     def test_are_ignored_of_an_empty_file(self):
         whole = served("/none", b"")
-        self.assert_parts([("bytes=0-0", whole), ("bytes=5-9", whole), ("bytes=4-2", whole)], "/none")
+        values = ["bytes=0-0", "bytes=5-9", "bytes=4-2", "bytes=0-", "bytes=5-", "bytes=-5", "bytes=-0", "bytes=0-,-1"]
+        self.assert_parts([(value, whole) for value in values], "/none")
 
     def test_are_ignored_where_they_are_none(self):
         whole = served("/a", CONTENT)
         values = ["bytes=4-2", "bytes=10-9", "bytes=", "bytes=0 -4", "bytes=0- 4", "lines=0-1", "", "bytes", "bytes=-",
                   "bytes=0-4x", "bytes=x0-4", "bytes=0--4", "bytes=+0-4", "bytes=0-+4", "bytes 0-4", "bytes:0-4",
                   "bytes =0-4", "=0-4", "0-4", "bytes=0x0-0x4", "bytes=0-4;", "bytes=0-4-", "bytes=0.0-4", "byte=0-4",
-                  "xbytes=0-4", f"bytes={GREATEST}-0"]
-        self.assert_parts([(value, whole) for value in values])
-
-    def test_are_ignored_in_other_forms_so_far(self):
-        """These are right by RFC 9110, section 14.1.2, which allows a server to ignore them."""
-        whole = served("/a", CONTENT)
-        values = ["Bytes=0-4", "BYTES=0-4", "bytes=0-", "bytes=-5", "bytes=-0", "bytes= 0-4", "bytes=0-4,-5",
-                  "bytes=,0-4", "bytes=0-4,", "bytes=0-0,2-2"]
+                  "xbytes=0-4", f"bytes={GREATEST}-0", "bytes=,", "bytes= ,\t,", "bytes==0-4", "bytes= =0-4", "bytes=0-4 5",
+                  "bytes=0-4 6-7", "bytes=- 5", "bytes=6 -", "bytes=--5", "bytes=5--", "bytes=-5-", "bytes=5", "bytes=-,0-4",
+                  "bytes=0-4,-", "bytes=0-4,x", "bytes=x,0-4", "bytes=0-4,4-2", "bytes=0-4;6-7", "bytes=0-4\xa0",
+                  "bytes=\xb2-\xb3", "octets=0-4", "b\xfdtes=0-4", f"bytes={','.join(17 * ['0-0'])}"]
         self.assert_parts([(value, whole) for value in values])
 
     def test_count_for_get_where_they_come_once_without_a_condition(self):
@@ -133,6 +196,73 @@ class Ranges(Interface):
             *publishing("one", 1, {"/a.txt": CONTENT}),
             get("/s/one/a.txt", part(CONTENT, 6, 10, text), "Range: bytes=6-10"),
         ])
+
+
+def drawn_number(draw):
+    """A number near the sizes of the files or near the greatest one, perhaps with zeros before it."""
+    near = draw.choice((0, 0, 5, 10, 65_537, GREATEST, 10**30)) + draw.randrange(-2, 6)
+    return draw.choice(("", "", "", "0", "000")) + str(max(near, 0))
+
+
+def drawn_element(draw):
+    first, last = drawn_number(draw), drawn_number(draw)
+    if draw.random() < 0.9:
+        first, last = sorted((first, last), key=int)
+    spec = draw.choices((f"{first}-{last}", f"{first}-", f"-{last}", "", "-", first), (10, 8, 8, 4, 1, 1))[0]
+    return draw.choice(("", "", " ", "\t", " \t ")) + spec + draw.choice(("", "", " ", "\t\t"))
+
+
+def drawn_value(draw):
+    """A value that mostly is in the grammar, with few elements or about as many as there may be."""
+    count = draw.choices((1, 2, 3, draw.randrange(12, 22)), (12, 4, 2, 1))[0]
+    unit = draw.choices(("bytes=", "BYTES=", "bYteS=", "bytes =", "byte=", "lines=", "bytes"), (20, 2, 2, 1, 1, 1, 1))[0]
+    value = unit + ",".join(drawn_element(draw) for _ in range(count))
+    if draw.random() < 0.2:
+        place = draw.randrange(len(value) + 1)
+        value = value[:place] + draw.choice("0123456789-,= \tbB;x+") + value[place + draw.randrange(2):]
+    return value
+
+
+def kind_of(value, size):
+    """What the plain reading says of a value: that it is ignored, or how many intervals it chooses."""
+    specs = specs_of(value.strip(" \t"))
+    return "ignored" if specs is None else ("none", "one", "several")[min(len(chosen(specs, size)), 2)]
+
+
+def tally_of_values(seed):
+    """Asks for the files by drawn values, on a few connections. Tells how often each kind was met, or what is wrong."""
+    draw, tally = random.Random(seed), collections.Counter()
+    sizes = (0, 1, 10, 65_537)
+    files = {size: bytes(place % 251 for place in range(size)) for size in sizes}
+    listing = in_json(files={f"/{size}": digest_of(content) for size, content in files.items()})
+    before = [Request("POST", "/api/v1/sites/one/deploys", body=listing)]
+    before += [Request("PUT", f"/api/v1/deploys/1/files/{size}", body=content) for size, content in files.items()]
+    while sum(tally.values()) < VALUES // BATCHES:
+        made = Run()
+        made.ask(before)
+        for _ in range(REQUESTS - len(before)):
+            size, value = draw.choices(sizes, (2, 4, 12, 1))[0], drawn_value(draw)
+            tally[kind_of(value, size)] += 1
+            made.ask([Request("GET", f"/s/one/{size}", (f"Range: {value}",))])
+        try:
+            made.replies()
+        except AssertionError as error:
+            return tally, f"the values of seed {seed}:\n{error}"
+    return tally, None
+
+
+class DrawnValues(Program):
+    """Values of `Range` that are drawn by chance, against a plain reading of them."""
+
+    def test_are_read_as_by_the_plain_model(self):
+        with concurrent.futures.ProcessPoolExecutor(PROGRAMS_AT_ONCE) as pool:
+            tallies, faults = zip(*pool.map(tally_of_values, range(BATCHES)))
+        for fault in filter(None, faults):
+            self.fail(fault)
+        tally = sum(tallies, collections.Counter())
+        self.assertGreaterEqual(tally.total(), VALUES)
+        for kind in ("ignored", "none", "one", "several"):
+            self.assertGreater(tally[kind], VALUES // 20, tally)
 
 
 class LargeFiles(Interface):

@@ -52,18 +52,21 @@ class Reads(Program):
             ("GET", "a.txt", ["RANGE:\tbytes=1-3 "], part(b"hello", 1, 3)),
             ("GET", "w.txt", ["Range: bytes=10-10"], part(b"hello world", 10, 10)),
             ("GET", "w.txt", ["Range: bytes=2-18446744073709551615"], part(b"hello world", 2, 10)),
+            ("GET", "w.txt", ["Range: bytes=0-"], part(b"hello world", 0, 10)),
+            ("GET", "w.txt", ["Range: Bytes=-5"], part(b"hello world", 6, 10)),
+            ("GET", "w.txt", ["Range: bytes=20-,,0-0"], part(b"hello world", 0, 0)),
         ])
 
     def test_refuse_a_range_behind_the_end(self):
         refusal = refused("NotSatisfiable", "Content-Range: bytes */5")
         ranges = ("5-9", "5-5", "6-6", "5-18446744073709551616", "18446744073709551615-18446744073709551615",
-                  "18446744073709551616-18446744073709551616", "99999999999999999999-18446744073709551615")
+                  "18446744073709551616-18446744073709551616", "99999999999999999999-18446744073709551615", "5-", "-0")
         self.assert_reads([("GET", "a.txt", [f"Range: bytes={positions}"], refusal) for positions in ranges])
 
     def test_give_the_whole_where_a_range_does_not_count(self):
         others = (
-            "bytes=2-1", "lines=1-2", "Bytes=1-2", "bytes=1-", "bytes=-2", "bytes=-", "bytes=", "bytes", "bytes=1", "",
-            "bytes=1-2,4-4", "bytes=1-2,", "bytes= 1-2", "bytes=1 -2", "bytes=1- 2", "bytes =1-2", "bytes=+1-2",
+            "bytes=2-1", "lines=1-2", "Byte=1-2", "bytes=-", "bytes=", "bytes", "bytes=1", "",
+            "bytes=1-2,4-4", "bytes=1-2;", "bytes=1 -2", "bytes=1- 2", "bytes =1-2", "bytes=+1-2",
             "bytes=1-0x2", "bytes=1-2-3", "1-2", "bytes=a-b", "bytes=9-8", "bytes=18446744073709551616-1",
         )
         rows = [[], *([f"Range: {value}"] for value in others)]

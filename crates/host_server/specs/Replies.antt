@@ -112,7 +112,7 @@ abbrev pub slice : List ℕ → ℕ → ℕ → List ℕ
 slice file first last = slice_range file first (last + 1)
 
 -- what is chosen of the file (RFC 9110, sections 15.3.7 and 15.5.17); several ranges are not served in parts yet, but as the
--- whole file: no value that is read asks for several
+-- whole file, as if the field were ignored (section 14.2)
 abbrev pub file_answer : List ℕ → List ℕ → Choice → Answer
 file_answer path file Whole = part_answer 200 path file None file
 file_answer path file (One first last) =

@@ -1,14 +1,7 @@
 -- The longest front of a text whose bytes are all of one kind.
-use Rattle.std.proofs.Common.{◌≡◌, ℕ, ◌<◌, List, [], ◌∷◌, ◌++◌, refl, subst, arith}
+use Rattle.std.proofs.Common.{◌≡◌, ℕ, List, [], ◌∷◌, ◌++◌, refl, subst}
 use Rattle.std.specs.List.{AllByRecursion}
-use Rattle.std.specs.Char.{digit_value}
-use Rattle.std.specs.Str.Parse.{AllDigits}
-use Rattle.range_spec.specs.Reading.{BeginsNoDigit}
-
--- the text doesn't begin with a byte of this kind
-abbrev pub BeginsNo : (ℕ → Type 0) → List ℕ → Type 0
-BeginsNo P [] = Unit {0}
-BeginsNo P (byte ∷ rest) = P byte → ⊥
+use Rattle.range_spec.specs.Reading.{BeginsNo}
 
 -- there is one such front
 pub fronts_agree : (P : ℕ → Type 0) (a b x y : List ℕ) → AllByRecursion P a → AllByRecursion P b → BeginsNo P x → BeginsNo P y → a ++ x ≡ b ++ y → (a ≡ b) × (x ≡ y)
@@ -22,14 +15,10 @@ fronts_agree P (c ∷ a) (d ∷ b) x y all_a all_b no_x no_y e =
     let tails : a ≡ b = both.0 in
     (cc, both.1)
 
--- a byte that is a decimal digit
-abbrev pub IsDigit : ℕ → Type 0
-IsDigit byte = digit_value byte < 10
+pub all_append : (P : ℕ → Type 0) (xs ys : List ℕ) → AllByRecursion P xs → AllByRecursion P ys → AllByRecursion P (xs ++ ys)
+all_append P [] ys h k = k
+all_append P (x ∷ xs) ys h k = (h.0, all_append P xs ys h.1 k)
 
-pub all_digits : (ds : List ℕ) → AllDigits 10 ds → AllByRecursion IsDigit ds
-all_digits [] h = tt
-all_digits (d ∷ ds) h = (h.0, all_digits ds h.1)
-
-pub begins_no_digit : (text : List ℕ) → BeginsNoDigit text → BeginsNo IsDigit text
-begins_no_digit [] h = tt
-begins_no_digit (c ∷ text) h = λ is. omega (arith, h, is)
+pub all_weaker : (P Q : ℕ → Type 0) → ((b : ℕ) → P b → Q b) → (xs : List ℕ) → AllByRecursion P xs → AllByRecursion Q xs
+all_weaker P Q f [] h = tt
+all_weaker P Q f (x ∷ xs) h = (f x h.0, all_weaker P Q f xs h.1)

@@ -1,5 +1,10 @@
+mod Bytes
+mod Elements
 mod Fronts
 mod OneReading
-mod Plain
 mod Positions
 mod Selecting
+mod Separators
+mod SpecTexts
+mod Tails
+mod Values

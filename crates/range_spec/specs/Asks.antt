@@ -34,9 +34,12 @@ IsSpecText text (From first (Some last)) =
     (a : List ℕ) × (b : List ℕ) × IsPosition a first × IsPosition b last × (text ≡ a ++ codes "-" ++ b)
 IsSpecText text (Suffix n) = (a : List ℕ) × IsPosition a n × (text ≡ codes "-" ++ a)
 
--- spaces and tabs
+-- a space or a tab
+abbrev pub IsBlankByte : ℕ → Type 0
+IsBlankByte byte = (byte ≡ 32) ⊎ (byte ≡ 9)
+
 abbrev pub IsBlank : List ℕ → Type 0
-IsBlank text = AllByRecursion (λ b. (b ≡ 32) ⊎ (b ≡ 9)) text
+IsBlank text = AllByRecursion IsBlankByte text
 
 -- an element is blanks around nothing or around one spec, and this is what it asks for
 abbrev pub IsElement : List ℕ → List Spec → Type 0

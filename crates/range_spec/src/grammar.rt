@@ -1,9 +1,9 @@
 //! The value of a Range field.
-ghost use Rattle.std.specs.Prelude.{◌≡◌, ◌+◌, ◌-◌, ◌*◌, ◌^◌, ◌↔◌, ℕ, min, [], ◌∷◌, IsTrue, IsSome, IfSome, IfNone, Some};
-ghost use Rattle.range_spec.specs.Asks.{IsInOrder, IsAskable};
-ghost use Rattle.range_spec.specs.Reading.{BeginsNoDigit, IsDigitBefore, IsPositionBefore};
-ghost use Rattle.range_spec.specs.Understood.{IsPlainText, IsSinglePlainRange, IsUnderstoodAs};
+ghost use Rattle.std.specs.Prelude.{◌≡◌, ◌↔◌, List, IsTrue, IsSome, IfSome, Some};
+ghost use Rattle.range_spec.specs.Asks.{IsInOrder, IsAskable, AsksRanges};
+ghost use Rattle.range_spec.specs.Understood.{IsUnderstoodAs};
 
+use crate::reading::{range_set, specs_of_set};
 use arrayvec::ArrayVec;
 use std::marker::Model;
 
@@ -66,21 +66,18 @@ impl Specs {
         ensures askable { IsSome result ↔ IsAskable specs.now }
         ensures value { IfSome result (λ list. list ≡ specs.now) }
     {
-        if specs.is_empty() || !specs.iter().all(|spec| spec.is_in_order()) {
-            return None;
-        }
-        let list = ArrayVec::try_from(specs).ok()?;
-        Some(Specs { list })
+        Specs::of(ArrayVec::try_from(specs).ok()?)
     }
 
-    /// The list of one spec.
-    fn one(spec: Spec) -> Self
-        requires { IsInOrder spec }
-        ensures { result ≡ spec ∷ [] }
+    /// The same of specs of which there are 16 at most.
+    fn of(list: ArrayVec<Spec, 16>) -> Option<Self>
+        ensures askable { IsSome result ↔ IsAskable list.items }
+        ensures value { IfSome result (λ specs. specs ≡ list.items) }
     {
-        let mut list = ArrayVec::new();
-        list.push(spec);
-        Specs { list }
+        if list.is_empty() || !list.iter().all(|spec| spec.is_in_order()) {
+            return None;
+        }
+        Some(Specs { list })
     }
 
     /// The specs, in the order asked.
@@ -101,59 +98,20 @@ pub enum Asked {
     Specs(Specs),
 }
 
-/// Reads the value of a Range field, in one pass. So far it reads a single range with both its positions, as
-/// `bytes=0-499`, and ignores every other text.
+/// Reads the value of a Range field, in one pass whatever its length.
 pub fn parse(value: &[u8]) -> Asked
     ensures understood { IsUnderstoodAs value.now result }
-    ensures each_plain { (first last : ℕ) → IsSinglePlainRange value.now first last
-        → result ≡ Asked.Specs (Spec.From first (Some last) ∷ []) }
 {
-    match plain_pair(value) {
-        Some((first, last)) if first <= last => {
-            let spec = Spec::From(first, Some(last));
-            Asked::Specs(Specs::one(spec))
-        }
-        _ => Asked::Ignore,
+    match specs_asked(value) {
+        Some(specs) => Asked::Specs(specs),
+        None => Asked::Ignore,
     }
 }
 
-/// The two positions of `bytes=FIRST-LAST`.
-fn plain_pair(value: &[u8]) -> Option<(u64, u64)>
-    ensures found { IfSome result (λ pair. IsPlainText value.now pair.0 pair.1) }
-    ensures none { IfNone result ((first last : ℕ) → IsPlainText value.now first last → ⊥) }
+/// The specs that a value asks for, if it asks for some.
+fn specs_asked(value: &[u8]) -> Option<Specs>
+    ensures { (specs : List Spec) → (result ≡ Some specs) ↔ AsksRanges value.now specs }
 {
-    let (first, rest) = leading_position(value.strip_prefix(b"bytes=")?)?;
-    let (last, rest) = leading_position(rest.strip_prefix(b"-")?)?;
-    rest.is_empty().then_some((first, last))
-}
-
-/// The position at the front, and what follows it.
-fn leading_position(text: &[u8]) -> Option<(u64, &[u8])>
-    ensures found { IfSome result (λ found. IsPositionBefore text.now found.0 found.1.now) }
-    ensures ended { IfSome result (λ found. BeginsNoDigit found.1.now) }
-    ensures none { IfNone result (BeginsNoDigit text.now) }
-{
-    let (digit, mut rest) = leading_digit(text)?;
-    let mut position = u64::from(digit);
-    while let Some((digit, after)) = leading_digit(rest) {
-        position = with_digit(position, digit);
-        rest = after;
-    }
-    Some((position, rest))
-}
-
-/// The position with one more digit. One above the greatest `u64` counts as that.
-fn with_digit(position: u64, digit: u8) -> u64
-    ensures { result ≡ min (position * 10 + digit) (2 ^ 64 - 1) }
-{
-    position.saturating_mul(10).saturating_add(u64::from(digit))
-}
-
-/// The value of the digit at the front, and what follows it.
-fn leading_digit(text: &[u8]) -> Option<(u8, &[u8])>
-    ensures found { IfSome result (λ found. IsDigitBefore text.now found.0 found.1.now) }
-    ensures none { IfNone result (BeginsNoDigit text.now) }
-{
-    let (byte, rest) = text.split_first()?;
-    byte.is_ascii_digit().then(|| (byte - b'0', rest))
+    let set = range_set(value)?;
+    Specs::of(specs_of_set(set)?)
 }

@@ -4,6 +4,7 @@
 
 mod grammar;
 mod laws;
+mod reading;
 mod selection;
 
 pub use grammar::{Asked, Spec, Specs, parse};

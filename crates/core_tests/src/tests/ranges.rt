@@ -1,10 +1,11 @@
-//! What a Range field asks for, and what lists of specs choose, most of which no connection asks for yet.
+//! What a Range field asks for, and what lists of specs choose, most of which no connection shows yet.
 ghost use Rattle.std.specs.Prelude.{Some, None, [], ◌∷◌, ◌++◌, codes};
 ghost use Rattle.range_spec.specs.Asks.{AsksRanges};
 
 use super::fixtures::{assert_holds, assert_text, halves};
 use range_spec::{Asked, Choice, Spec, Specs, parse, select};
 use std::alloc::{AllocError, Global};
+use std::process::Abort;
 use std::test::Fail;
 
 const GREATEST: u64 = u64::MAX;
@@ -17,6 +18,32 @@ fn told_parsed(alloc: Global, value: &str) -> Result<String, AllocError> {
     }
 }
 
+/// Each of these values asks for what the row says.
+fn assert_parsed(rt: &impl Abort, alloc: Global, rows: &str) -> Result<(), Fail> {
+    for row in rows.lines() {
+        let (value, wanted) = halves(row, " -> ")?;
+        let text = told_parsed(alloc, value)?;
+        assert_text(rt, value, text.as_str(), wanted);
+    }
+    Ok(())
+}
+
+#[test]
+fn specs_are_separated_by_commas(rt: HostRuntime) -> Result<(), Fail> {
+    let rows = "\
+BYTES=0-4,-5 -> [From(0, Some(4)), Suffix(5)]
+bytes= ,20- ,,\t0-0, -> [From(20, None), From(0, Some(0))]
+bytes=-0,5-,5- -> [Suffix(0), From(5, None), From(5, None)]
+bytes=,,-1,-2,-3,-4,-5,-6,-7,-8,,,,,-9,-1,-2,-3,-4,-5,-6,-7,, -> [Suffix(1), Suffix(2), Suffix(3), Suffix(4), Suffix(5), Suffix(6), Suffix(7), Suffix(8), Suffix(9), Suffix(1), Suffix(2), Suffix(3), Suffix(4), Suffix(5), Suffix(6), Suffix(7)]
+bytes=-1,-2,-3,-4,-5,-6,-7,-8,-9,-1,-2,-3,-4,-5,-6,-7,-8 -> ignored
+bytes=0-0,4-2 -> ignored
+bytes=0-0 2-2 -> ignored
+bytes=0-0;2-2 -> ignored
+bytes=, \t, -> ignored
+bytes= -> ignored";
+    assert_parsed(&rt, rt.alloc(), rows)
+}
+
 #[test]
 fn a_position_above_the_greatest_counts_as_that(rt: HostRuntime) -> Result<(), Fail> {
     let rows = "\
@@ -25,12 +52,7 @@ bytes=6-18446744073709551616000 -> [From(6, Some(18446744073709551615))]
 bytes=18446744073709551615-18446744073709551616 -> [From(18446744073709551615, Some(18446744073709551615))]
 bytes=18446744073709551617-18446744073709551616 -> [From(18446744073709551615, Some(18446744073709551615))]
 bytes=18446744073709551617-0 -> ignored";
-    for row in rows.lines() {
-        let (value, wanted) = halves(row, " -> ")?;
-        let text = told_parsed(rt.alloc(), value)?;
-        assert_text(&rt, value, text.as_str(), wanted);
-    }
-    Ok(())
+    assert_parsed(&rt, rt.alloc(), rows)
 }
 
 /// Whether these make a list, which has them in their order then.

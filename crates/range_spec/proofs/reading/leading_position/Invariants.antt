@@ -1,6 +1,6 @@
 use Rattle.std.proofs.Common.{length}
 use Rattle.range_spec.specs.Reading.{IsPositionBefore}
-use Rattle.range_spec.proofs.grammar.leading_position.Given as goal
+use Rattle.range_spec.proofs.reading.leading_position.Given as goal
 
 abbrev pub invariant-loop-digit : goal.invariant-loop-digit
 invariant-loop-digit l = IsPositionBefore l.text l.position l.rest

@@ -1,0 +1,9 @@
+use Rattle.std.proofs.Common.{length}
+use Rattle.range_spec.specs.Reading.{AreBlanksBefore}
+use Rattle.range_spec.proofs.reading.after_blanks.Given as goal
+
+abbrev pub invariant-loop-byte : goal.invariant-loop-byte
+invariant-loop-byte l = AreBlanksBefore l.text l.rest
+
+abbrev pub decreases-loop-byte : goal.decreases-loop-byte
+decreases-loop-byte l = length l.rest
