@@ -1,5 +1,5 @@
 -- What a publish leaves in each cell.
-use Rattle.std.proofs.Common.{◌≡◌, ◌≢◌, ℕ, Bool, true, false, cond, ◌||◌, List, [], ◌∷◌, Option, Some, None, is_some, option_map, unwrap_or, refl, sym, ap, subst, ◌∙◌}
+use Rattle.std.proofs.Common.{◌≡◌, ◌≢◌, ℕ, Bool, true, false, cond, List, [], ◌∷◌, Option, Some, None, is_some, option_map, unwrap_or, refl, sym, ap, subst, ◌∙◌}
 use Rattle.std.specs.FinMap as finmap
 use Rattle.std.specs.Cmp.Lexicographic.{slice_cmp}
 use Rattle.std.specs.Ordering.{is_eq, nat_cmp}
@@ -11,18 +11,18 @@ use Rattle.host_names.specs.declared.digests.Digest.{Digest}
 use Rattle.host_names.specs.declared.names.SiteName.{SiteName}
 use Rattle.site_state.specs.Files.{Paths, at_path}
 use Rattle.site_state.specs.Missing.{if_lacking, least_missing_of}
-use Rattle.site_state.specs.States.{State, draft_at, is_live_of}
+use Rattle.site_state.specs.States.{State, draft_at}
 use Rattle.site_state.specs.declared.values.Draft.{Draft}
 use Rattle.site_state.specs.declared.values.Value.{Value}
 use Rattle.site_state.specs.declared.values.Value.TheVariants as value
 use Rattle.site_change.specs.declared.commands.Command.TheVariants.{Publish}
 use Rattle.host_names.specs.declared.refusals.ChangeRefusal.TheVariants.{NotComplete}
-use Rattle.site_change.specs.Changes.{same_cell, file_at, tree_of, is_listed, with_patch, with_published, published, publish_refusal, refusal, applied}
+use Rattle.site_change.specs.Changes.{same_cell, file_at, tree_of, with_patch, with_published, published, publish_refusal, refusal, applied}
 use Rattle.site_change.specs.Laws.{LeavesPatch, LeavesDeploy}
 use Rattle.site_change.proofs.Effects.{one_cell, same_cell-itself, same_paths, bytes_eq-itself, get-published}
 use Rattle.site_change.proofs.SameFiles.{no_option}
 use Rattle.site_change.proofs.Listings.{none_missing, there}
-use Rattle.site_change.proofs.Patches.{Listings, listed_value, get-with_patch, unlisted}
+use Rattle.site_change.proofs.Patches.{Listings, listed_value, get-with_patch, not_listed, unlisted}
 
 apart : (c d : Cell) → c ≢ d → same_cell c d ≡ false
 apart c d other = elim (same_cell c d) as (λ t. same_cell c d ≡ t → t ≡ false) [
@@ -103,15 +103,6 @@ module _ (site : SiteName) (m : ℕ) (uploads : Contents) (files : Listings) (st
         | false ↦ refl
       ])
 
-  not_listed : (files : Listings) (c : Cell) → is_live_of site c ≡ false → is_listed site files c ≡ false
-  not_listed [] c other = refl
-  not_listed (f ∷ files) c other = elim (same_cell c (cell.Live site f.0)) as (λ t. same_cell c (cell.Live site f.0) ≡ t → (t || is_listed site files c) ≡ false) [
-    | true ↦ λ e.
-        let live : is_live_of site c ≡ true = rw (one_cell c (cell.Live site f.0) e) (bytes_eq-itself site.0) in
-        cc (sym other ∙ live)
-    | false ↦ λ e. not_listed files c other
-  ] refl
-
   patched : least_missing_of uploads files ≡ None → LeavesPatch site m uploads files state (with_patch site m uploads files state)
   patched complete =
       let after = with_patch site m uploads files state in
@@ -130,7 +121,7 @@ module _ (site : SiteName) (m : ℕ) (uploads : Contents) (files : Listings) (st
         others = λ c other not_draft.
             get-with_patch site uploads m files state c
             ∙ ap (λ t. cond t None (listed_value site uploads files c (finmap.get state c))) (apart c draft not_draft)
-            ∙ unlisted site uploads files c (finmap.get state c) (not_listed files c other);
+            ∙ unlisted site uploads files c (finmap.get state c) (not_listed site files c other);
       }
 
   -- ---- a full deploy

@@ -1,21 +1,20 @@
 -- What a patch leaves in each cell, and what it changes.
-use Rattle.std.proofs.Common.{◌≡◌, ◌⊎◌, inl, inr, ℕ, zero, suc, ◌+◌, ◌<◌, ◌≤◌, Bool, true, false, cond, ◌||◌, List, [], ◌∷◌, ◌++◌, take, take_all, length, get_or, Option, Some, None, option_map, option_to_list, refl, sym, ap, subst, ◌∙◌, arith}
+use Rattle.std.proofs.Common.{◌≡◌, ◌⊎◌, inl, inr, ℕ, zero, suc, ◌+◌, ◌<◌, ◌≤◌, Bool, true, false, cond, ◌||◌, List, [], ◌∷◌, ◌++◌, take, take_all, length, get_or, Option, Some, None, is_some, option_map, option_to_list, refl, sym, ap, subst, ◌∙◌, arith}
 use Rattle.std.specs.FinMap as finmap
 use Rattle.std.specs.Cmp.Lexicographic.{slice_cmp}
 use Rattle.std.specs.List.Sorted.{IsStrictlySortedBy}
 use Rattle.std.specs.Ordering.{is_eq, nat_cmp}
 use Rattle.std.specs.declared.cmp.Ordering.TheVariants.{Less}
-use Rattle.std.proofs.lemmas.Cmp.{eq_by_cmp_equiv, tied_itself, nat_list_cmp_total}
+use Rattle.std.proofs.lemmas.Cmp.{tied_itself, nat_list_cmp_total}
 use Rattle.std.proofs.lemmas.List.{take_more}
 use Rattle.host_names.specs.Blobs.{Contents}
 use Rattle.host_names.specs.Cells.{cell_cmp}
-use Rattle.host_names.specs.CellOrder.{cell_cmp_total}
 use Rattle.host_names.specs.declared.digests.Digest.{Digest}
 use Rattle.host_names.specs.declared.names.SiteName.{SiteName}
 use Rattle.host_names.specs.declared.cells.Cell.{Cell}
 use Rattle.host_names.specs.declared.cells.Cell.TheVariants as cell
-use Rattle.site_state.specs.Files.{Paths, IsByPath}
-use Rattle.site_state.specs.States.{State, may_stand}
+use Rattle.site_state.specs.Files.{Paths, IsByPath, at_path}
+use Rattle.site_state.specs.States.{State, may_stand, is_live_of}
 use Rattle.site_state.specs.declared.values.Value.{Value}
 use Rattle.site_state.specs.declared.values.Value.TheVariants as value
 use Rattle.shared_blocks.proofs.Entries.{key_at-less}
@@ -23,14 +22,33 @@ use Rattle.site_change.specs.declared.plans.Change.{Change}
 use Rattle.site_change.specs.Changes.{same_cell, file_at, is_listed, with_listed, with_patch}
 use Rattle.site_change.specs.Differences.{Reading, AreChangesIn, AreListedChanges, change_at}
 use Rattle.site_change.specs.Plans.{IsDifference}
-use Rattle.site_change.specs.TouchedCells.{is_of_patch}
 use Rattle.site_change.proofs.Composing.{reread, change_in_cell, joined, whole, is_cell}
 use Rattle.site_change.proofs.Deciding.{path_before, not_or, or_cases}
 use Rattle.site_change.proofs.Differences.{later_is_other}
-use Rattle.site_change.proofs.Effects.{one_cell, same_cell-itself, get-with_cell}
+use Rattle.site_change.proofs.Effects.{one_cell, same_cell-itself, same_paths, bytes_eq-itself, get-with_cell}
 
 abbrev pub Listings : Type 0
 Listings = Paths (Option Digest)
+
+-- ---- what is listed
+
+pub not_listed : (site : SiteName) (files : Listings) (c : Cell) → is_live_of site c ≡ false → is_listed site files c ≡ false
+not_listed site [] c other = refl
+not_listed site (f ∷ files) c other = elim (same_cell c (cell.Live site f.0)) as (λ t. same_cell c (cell.Live site f.0) ≡ t → (t || is_listed site files c) ≡ false) [
+  | true ↦ λ e.
+      let live : is_live_of site c ≡ true = rw (one_cell c (cell.Live site f.0) e) (bytes_eq-itself site.0) in
+      cc (sym other ∙ live)
+  | false ↦ λ e. not_listed site files c other
+] refl
+
+pub listed_path : (site : SiteName) (files : Listings) (p : List ℕ) → is_listed site files (cell.Live site p) ≡ is_some (at_path files p)
+listed_path site [] p = refl
+listed_path site (f ∷ files) p =
+    ap (λ t. t || is_listed site files (cell.Live site p)) (same_paths site p f.0)
+    ∙ (elim (is_eq (slice_cmp nat_cmp p f.0)) as (λ t. (t || is_listed site files (cell.Live site p)) ≡ is_some (cond t (Some f.1) (at_path files p))) [
+      | true ↦ refl
+      | false ↦ listed_path site files p
+    ])
 
 -- ---- what is in each cell afterwards
 
@@ -119,24 +137,6 @@ module _ (site : SiteName) where
   listed_more : (files : Listings) (f : List ℕ × Option Digest) (c : Cell) → is_listed site (files ++ f ∷ []) c ≡ (is_listed site files c || is_cell (cell.Live site f.0) c)
   listed_more [] f c = or_none (same_cell c (cell.Live site f.0))
   listed_more (e ∷ files) f c = ap (λ t. same_cell c (cell.Live site e.0) || t) (listed_more files f c) ∙ one_or (same_cell c (cell.Live site e.0)) (is_listed site files c) (is_cell (cell.Live site f.0) c)
-
-  or_after : (added draft listed : Bool) → cond added true (draft || listed) ≡ (draft || (listed || added))
-  or_after true true listed = refl
-  or_after true false true = refl
-  or_after true false false = refl
-  or_after false draft true = refl
-  or_after false draft false = refl
-
-  -- of the cells that are touched
-  pub touched_more : (m : ℕ) (files : Listings) (i : ℕ) (d : List ℕ × Option Digest) (at c : Cell) (before after : Bool) → i < length files → d ≡ get_or files i d → at ≡ cell.Live site d.0
-      → before ≡ is_of_patch site m (take i files) c → after ≡ cond (same_cell at c) true before → after ≡ is_of_patch site m (take (i + 1) files) c
-  touched_more m files i d at c before after lt is is_at was is_after =
-      let draft = same_cell c (cell.Draft site m) in
-      let listed = is_listed site (take i files) c in
-      let here : same_cell at c ≡ is_cell (cell.Live site d.0) c = (eq_by_cmp_equiv cell_cmp_total).symm at c ∙ ap (same_cell c) is_at in
-      let more : take (i + 1) files ≡ take i files ++ d ∷ [] = take_more files i d lt ∙ ap (λ x. take i files ++ x ∷ []) (sym is) in
-      is_after ∙ (λ k. cond (here k) true (was k)) ∙ or_after (is_cell (cell.Live site d.0) c) draft listed
-      ∙ ap (λ t. draft || t) (sym (ap (λ l. is_listed site l c) more ∙ listed_more (take i files) d c))
 
 -- ---- what a patch changes
 

@@ -11,17 +11,17 @@ ghost use Rattle.host_names.specs.declared.refusals.ChangeRefusal.TheVariants as
 ghost use Rattle.site_change.specs.Changes.{needed, removal_refusal, rename_refusal, renamed, same_cell};
 ghost use Rattle.site_change.specs.Decisions.{IsDecision};
 ghost use Rattle.site_change.specs.Plans.{IsDifference};
-ghost use Rattle.site_change.specs.TouchedCells.{AreTouched};
+ghost use Rattle.site_change.specs.TouchedCells.{AreTouched, is_among};
 
 use crate::plans::{Change, Plan, push_change};
-use crate::touched::Touched;
+use crate::touched::{Touched, TouchedCells};
 use host_names::{AliasName, Cell, CellRef, ChangeError, ChangeRefusal, FilePath, SiteName};
 use site_state::{File, State, Value};
 use std::alloc::{AllocError, Global};
 use std::cmp::Ordering;
 
 /// A cell, and what is written into it.
-type Write = (Cell, Option<Value>);
+pub(crate) type Write = (Cell, Option<Value>);
 
 /// What changes where this is written into one cell.
 fn change_one(
@@ -54,20 +54,19 @@ fn change_two(
     Ok(changes)
 }
 
-/// The plan of a command that touches the one cell that it writes.
+/// The plan of a command that writes one cell, and touches these.
 pub(crate) fn plan_one(
     alloc: Global,
     state: &State,
     site: &SiteName,
-    cell: Cell,
-    after: Option<Value>,
+    write: Write,
+    touched: TouchedCells,
 ) -> Result<Plan, AllocError>
-    ensures changes { IfOk result (λ plan. IsDifference state.now (with_cell state.now cell after) plan.changes.items) }
-    ensures touched { IfOk result (λ plan. AreTouched site.now (λ c. same_cell c cell) plan.touched) }
+    ensures changes { IfOk result (λ plan. IsDifference state.now (with_cell state.now write.0 write.1) plan.changes.items) }
+    ensures touched { IfOk result (λ plan. AreTouched site.now (is_among site.now touched) plan.touched) }
 {
-    let touched = Touched::one(alloc, site, cell.clone()?)?;
-    let changes = change_one(alloc, state, cell, after)?;
-    Ok(Plan { changes, touched })
+    let changes = change_one(alloc, state, write.0, write.1)?;
+    Ok(Plan::new(changes, Touched::new(site, touched)))
 }
 
 /// What the cancelling of an open deploy changes and touches.
@@ -86,7 +85,8 @@ pub(crate) fn cancel(
         return Err(ChangeError::Refused(ChangeRefusal::NoSuchDraft));
     }
     let draft = Cell::Draft(site.copied(), number);
-    Ok(plan_one(alloc, state, site, draft, None)?)
+    let touched = TouchedCells::Draft(number);
+    Ok(plan_one(alloc, state, site, (draft, None), touched)?)
 }
 
 /// What the removal of a file changes and touches.
@@ -105,7 +105,8 @@ pub(crate) fn remove(
         return Err(ChangeError::Refused(ChangeRefusal::NoSuchFile));
     }
     let live = CellRef::Live(site, path).to_cell()?;
-    Ok(plan_one(alloc, state, site, live, None)?)
+    let touched = TouchedCells::Path(path.clone()?);
+    Ok(plan_one(alloc, state, site, (live, None), touched)?)
 }
 
 /// What changes where these are written into two cells.
@@ -144,21 +145,6 @@ fn change_paths(
     change_both(alloc, state, (left, None), (reached, Some(file)))
 }
 
-/// Two paths, as what a command touches.
-fn touched_paths(
-    alloc: Global,
-    site: &SiteName,
-    one: &FilePath,
-    other: &FilePath,
-) -> Result<Touched, AllocError>
-    ensures { IfOk result (AreTouched site.now
-        (λ c. same_cell c (cell.Live site.now one.now) || same_cell c (cell.Live site.now other.now))) }
-{
-    let one = CellRef::Live(site, one).to_cell()?;
-    let other = CellRef::Live(site, other).to_cell()?;
-    Touched::two(alloc, site, one, other)
-}
-
 /// What the renaming of a file changes and touches.
 pub(crate) fn rename(
     alloc: Global,
@@ -181,9 +167,9 @@ pub(crate) fn rename(
     if state.file(site, target).is_some() {
         return Err(ChangeError::Refused(ChangeRefusal::PathTaken));
     }
-    let touched = touched_paths(alloc, site, source, target)?;
+    let touched = TouchedCells::Paths(source.clone()?, target.clone()?);
     let changes = change_paths(alloc, state, site, source, target, file)?;
-    Ok(Plan { changes, touched })
+    Ok(Plan::new(changes, Touched::new(site, touched)))
 }
 
 /// What the moving of an alias to a kept deploy changes and touches.
@@ -202,11 +188,12 @@ pub(crate) fn move_alias(
     if state.kept(site, number).is_none() {
         return Err(ChangeError::Refused(ChangeRefusal::NoSuchDeploy));
     }
-    let kept = Cell::Kept(site.copied(), number);
-    let touched = Touched::two(alloc, site, kept, Cell::Alias(site.copied(), name.copied()))?;
-    let alias = Cell::Alias(site.copied(), name.copied());
-    let changes = change_one(alloc, state, alias, Some(Value::Alias(number)))?;
-    Ok(Plan { changes, touched })
+    let write = (
+        Cell::Alias(site.copied(), name.copied()),
+        Some(Value::Alias(number)),
+    );
+    let touched = TouchedCells::AliasAndKept(name.copied(), number);
+    Ok(plan_one(alloc, state, site, write, touched)?)
 }
 
 /// What the removal of an alias changes and touches.
@@ -225,7 +212,8 @@ pub(crate) fn remove_alias(
         return Err(ChangeError::Refused(ChangeRefusal::NoSuchAlias));
     }
     let alias = Cell::Alias(site.copied(), name.copied());
-    Ok(plan_one(alloc, state, site, alias, None)?)
+    let touched = TouchedCells::Alias(name.copied());
+    Ok(plan_one(alloc, state, site, (alias, None), touched)?)
 }
 
 /// What the removal of a kept deploy changes and touches.
@@ -246,7 +234,7 @@ pub(crate) fn remove_deploy(
     if let Some(name) = state.alias_for(site, number) {
         return Err(ChangeError::Refused(ChangeRefusal::DeployInUse(name.copied())));
     }
-    let touched = Touched::one_and_aliases(alloc, site, Cell::Kept(site.copied(), number))?;
-    let changes = change_one(alloc, state, Cell::Kept(site.copied(), number), None)?;
-    Ok(Plan { changes, touched })
+    let kept = Cell::Kept(site.copied(), number);
+    let touched = TouchedCells::KeptAndAliases(number);
+    Ok(plan_one(alloc, state, site, (kept, None), touched)?)
 }

@@ -18,6 +18,7 @@ use crate::cell_commands::{
 use crate::commands::Command;
 use crate::plans::Plan;
 use crate::publishing::{publish, restore};
+use crate::touched::TouchedCells;
 use host_names::{Cell, ChangeError, ChangeRefusal, SiteName, Uploads};
 use site_state::{Draft, Listing, State, Value};
 use std::alloc::{AllocError, Global};
@@ -53,7 +54,8 @@ fn open(
     }
     let cell = Cell::Draft(site.copied(), number);
     let draft = opened(files, auto)?;
-    Ok(plan_one(alloc, state, site, cell, Some(draft))?)
+    let touched = TouchedCells::Draft(number);
+    Ok(plan_one(alloc, state, site, (cell, Some(draft)), touched)?)
 }
 
 /// Decides a command by its kind.

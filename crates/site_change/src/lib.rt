@@ -21,4 +21,4 @@ pub use laws::{
     commands_of_few_cells_touch_them_alone, the_removal_of_a_deploy_touches_it_and_the_aliases,
 };
 pub use plans::{Change, Plan};
-pub use touched::Touched;
+pub use touched::{Touched, TouchedCells};

@@ -30,6 +30,18 @@ pub struct Plan {
     pub touched: Touched,
 }
 
+impl Plan {
+    /// A plan of these changes, which has no room for more.
+    pub(crate) fn new(changes: Vec<Change>, touched: Touched) -> Plan
+        ensures changes { result.changes.items ≡ changes.items }
+        ensures touched { result.touched ≡ touched }
+    {
+        let mut changes = changes;
+        changes.shrink_to_fit();
+        Plan { changes, touched }
+    }
+}
+
 /// Adds a change, if there is one, after the others.
 pub fn push_some(changes: &mut Vec<Change>, change: Option<Change>) -> Result<(), AllocError>
     ensures { OnOk result (changes.new.items ≡ changes.old.items ++ option_to_list change) }

@@ -8,21 +8,22 @@ ghost use Rattle.site_state.specs.declared.values.Value.TheVariants as value;
 ghost use Rattle.site_change.specs.declared.commands.Command.TheVariants as command_of;
 ghost use Rattle.site_change.specs.Changes as changes;
 ghost use Rattle.site_change.specs.Changes.{publish_refusal, publish_touches, published, restore_refusal, restored, same_cell, touches, tree_of, with_patch, with_published, with_served};
+ghost use Rattle.host_names.specs.Refusals.{IsRefusedBy};
 ghost use Rattle.site_change.specs.Decisions.{IsDecision};
 ghost use Rattle.site_change.specs.Differences.{AreListedChanges};
 ghost use Rattle.site_change.specs.Plans.{IsDifference};
-ghost use Rattle.site_change.specs.TouchedCells.{AreTouched, is_of_deploy, is_of_patch};
+ghost use Rattle.site_change.specs.TouchedCells.{AreTouched, is_of_deploy};
 
 use crate::live::live_changes;
 use crate::plans::{Change, Plan, push_change};
-use crate::touched::Touched;
+use crate::touched::{Touched, TouchedCells};
 use crate::trees::{file_at, tree_of};
 use host_names::{Cell, CellRef, ChangeError, ChangeRefusal, Digest, FilePath, SiteName, Uploads};
 use site_state::{Draft, Listing, State, Tree, Value, least_missing};
 use std::alloc::{AllocError, Global};
 
 /// What changes where a site comes to serve the files of this tree, and no others, as the deploy of this number.
-fn full_changes(
+fn tree_changes(
     alloc: Global,
     state: &State,
     site: &SiteName,
@@ -42,6 +43,24 @@ fn full_changes(
         None,
     )?;
     Ok(changes)
+}
+
+/// What changes where these files are published, of which none is missing.
+fn full_changes<U: Uploads>(
+    alloc: Global,
+    state: &State,
+    uploads: &U,
+    site: &SiteName,
+    number: u64,
+    files: &Listing,
+) -> Result<Vec<Change>, AllocError>
+    requires { least_missing_of (U.contents uploads.now) files.now.1 ≡ None }
+    ensures { IfOk result (λ changes. IsDifference state.now
+        (with_published site.now number (tree_of (U.contents uploads.now) files.now.1) state.now)
+        changes.items) }
+{
+    let tree = tree_of(alloc, uploads, files)?;
+    tree_changes(alloc, state, site, number, tree)
 }
 
 /// A file, as the value of its cell; nothing for none.
@@ -99,45 +118,41 @@ fn patch_changes<U: Uploads>(
     Ok(changes)
 }
 
-/// The plan of publishing these files, of which none is missing.
-fn plan_full<U: Uploads>(
+/// What the publishing of this draft changes, or why it is refused.
+fn open_changes<U: Uploads>(
     alloc: Global,
     state: &State,
     uploads: &U,
     site: &SiteName,
     number: u64,
-    files: &Listing,
-) -> Result<Plan, AllocError>
-    requires { least_missing_of (U.contents uploads.now) files.now.1 ≡ None }
-    ensures changes { IfOk result (λ plan. IsDifference state.now
-        (with_published site.now number (tree_of (U.contents uploads.now) files.now.1) state.now)
-        plan.changes.items) }
-    ensures touched { IfOk result (λ plan. AreTouched site.now (is_of_deploy site.now number) plan.touched) }
+    draft: &Draft,
+) -> Result<Vec<Change>, ChangeError>
+    ensures refused { IsRefusedBy (publish_refusal (U.contents uploads.now) (Some draft.now)) result }
+    ensures changes { IfOk result (λ changes. IsDifference state.now
+        (published site.now number (U.contents uploads.now) state.now (Some draft.now))
+        changes.items) }
 {
-    let tree = tree_of(alloc, uploads, files)?;
-    let changes = full_changes(alloc, state, site, number, tree)?;
-    let touched = Touched::deploy(alloc, site, number)?;
-    Ok(Plan { changes, touched })
+    if let Some(digest) = least_missing(draft, uploads) {
+        return Err(ChangeError::Refused(ChangeRefusal::NotComplete(digest)));
+    }
+    if draft.files.is_patch() {
+        Ok(patch_changes(alloc, state, uploads, site, number, &draft.files)?)
+    } else {
+        Ok(full_changes(alloc, state, uploads, site, number, &draft.files)?)
+    }
 }
 
-/// The plan of publishing this patch, of which no file is missing.
-fn plan_patch<U: Uploads>(
-    alloc: Global,
-    state: &State,
-    uploads: &U,
-    site: &SiteName,
-    number: u64,
-    files: &Listing,
-) -> Result<Plan, AllocError>
-    requires { least_missing_of (U.contents uploads.now) files.now.1 ≡ None }
-    ensures changes { IfOk result (λ plan. IsDifference state.now
-        (with_patch site.now number (U.contents uploads.now) files.now.1 state.now)
-        plan.changes.items) }
-    ensures touched { IfOk result (λ plan. AreTouched site.now (is_of_patch site.now number files.now.1) plan.touched) }
+/// What the publishing of this draft touches.
+fn touched_by_publishing(site: &SiteName, number: u64, draft: &Draft) -> Result<Touched, AllocError>
+    ensures { IfOk result (AreTouched site.now
+        (λ c. same_cell c (cell.Draft site.now number) || publish_touches site.now number (Some draft.now) c)) }
 {
-    let changes = patch_changes(alloc, state, uploads, site, number, files)?;
-    let touched = Touched::patch(alloc, site, number, files.entries())?;
-    Ok(Plan { changes, touched })
+    if draft.files.is_patch() {
+        let files = draft.files.clone()?;
+        Ok(Touched::new(site, TouchedCells::Patch(number, files)))
+    } else {
+        Ok(Touched::new(site, TouchedCells::Deploy(number)))
+    }
 }
 
 /// What the publishing of this draft changes and touches.
@@ -154,14 +169,9 @@ fn publish_open<U: Uploads>(
         (published site.now number (U.contents uploads.now) state.now (Some draft.now))
         result }
 {
-    if let Some(digest) = least_missing(draft, uploads) {
-        return Err(ChangeError::Refused(ChangeRefusal::NotComplete(digest)));
-    }
-    if draft.files.is_patch() {
-        Ok(plan_patch(alloc, state, uploads, site, number, &draft.files)?)
-    } else {
-        Ok(plan_full(alloc, state, uploads, site, number, &draft.files)?)
-    }
+    let changes = open_changes(alloc, state, uploads, site, number, draft)?;
+    let touched = touched_by_publishing(site, number, draft)?;
+    Ok(Plan::new(changes, touched))
 }
 
 /// What the publishing of an open deploy changes and touches.
@@ -195,11 +205,25 @@ fn serve_kept(
     ensures touched { IfOk result (λ plan. AreTouched site.now (is_of_deploy site.now number) plan.touched) }
 {
     let changes = live_changes(alloc, site, state.live(site), tree.entries())?;
-    let touched = Touched::deploy(alloc, site, number)?;
-    Ok(Plan { changes, touched })
+    let touched = Touched::new(site, TouchedCells::Deploy(number));
+    Ok(Plan::new(changes, touched))
 }
 
-/// What the restoring of this draft changes and touches: what its publishing does, and that no such deploy is kept.
+/// What the restoring of this draft touches: what its publishing does, and that no such deploy is kept.
+fn touched_by_restoring(site: &SiteName, number: u64, draft: &Draft) -> Result<Touched, AllocError>
+    ensures { IfOk result (AreTouched site.now
+        (λ c. same_cell c (cell.Draft site.now number)
+        || (same_cell c (cell.Kept site.now number) || publish_touches site.now number (Some draft.now) c))) }
+{
+    if draft.files.is_patch() {
+        let files = draft.files.clone()?;
+        Ok(Touched::new(site, TouchedCells::PatchAndKept(number, files)))
+    } else {
+        Ok(Touched::new(site, TouchedCells::Deploy(number)))
+    }
+}
+
+/// What the restoring of this draft changes and touches.
 fn restore_open<U: Uploads>(
     alloc: Global,
     state: &State,
@@ -216,12 +240,9 @@ fn restore_open<U: Uploads>(
         (published site.now number (U.contents uploads.now) state.now (Some draft.now))
         result }
 {
-    let Plan {
-        changes,
-        mut touched,
-    } = publish_open(alloc, state, uploads, site, number, draft)?;
-    touched.add(Cell::Kept(site.copied(), number))?;
-    Ok(Plan { changes, touched })
+    let changes = open_changes(alloc, state, uploads, site, number, draft)?;
+    let touched = touched_by_restoring(site, number, draft)?;
+    Ok(Plan::new(changes, touched))
 }
 
 /// What the restoring of a deploy changes and touches.

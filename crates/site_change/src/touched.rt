@@ -1,137 +1,114 @@
 //! What a command touches.
-ghost use Rattle.std.specs.Prelude.{◌≡◌, ◌||◌, IfOk, OnOk};
-ghost use Rattle.std.specs.List.{list_any};
-ghost use Rattle.host_names.specs.declared.cells.Cell.{Cell};
-ghost use Rattle.site_state.specs.States.{is_alias_of};
+ghost use Rattle.std.specs.Prelude.{◌≡◌};
+ghost use Rattle.host_names.specs.Cells.{cell_of};
+ghost use Rattle.site_change.specs.Changes as changes;
 ghost use Rattle.site_change.specs.Changes.{same_cell};
 ghost use Rattle.site_change.specs.TouchedCells as spec;
-ghost use Rattle.site_change.specs.TouchedCells.{AddsTouched, AreTouched, is_of_deploy, is_of_patch};
+ghost use Rattle.site_change.specs.TouchedCells.{AreTouched, is_among};
 
-use host_names::{Cell, CellRef, Digest, FilePath, SiteName};
-use site_state::{is_alias_of, is_live_of};
-use std::alloc::{AllocError, Global};
-use std::collections::BTreeSet;
+use host_names::{AliasName, Cell, CellRef, FilePath, SiteName};
+use site_state::{Listing, is_alias_of, is_live_of};
 
 /// The cells that a command reads or writes, all of one site.
 #[derive(Drop)]
 pub struct Touched {
     /// The site of the command.
     pub site: SiteName,
-    /// Single cells of it.
-    pub cells: BTreeSet<Cell>,
-    /// Whether each path of it is touched as well, whether a file is there or not.
-    pub all_live: bool,
-    /// Whether each alias of it is touched as well, whether it is there or not.
-    pub all_aliases: bool,
+    /// Which of its cells.
+    pub cells: TouchedCells,
 }
 
-/// The cells of a draft and of the paths that it lists.
-fn patched_cells(
-    alloc: Global,
-    site: &SiteName,
-    number: u64,
-    entries: &[(FilePath, Option<Digest>)],
-) -> Result<BTreeSet<Cell>, AllocError>
-    ensures { IfOk result (λ cells. (c : Cell) → list_any (same_cell c) cells.keys ≡ is_of_patch site.now number entries.now c) }
+/// Cells of one site.
+#[derive(Drop)]
+pub enum TouchedCells {
+    /// A path.
+    Path(FilePath),
+    /// Two paths.
+    Paths(FilePath, FilePath),
+    /// The draft of a number.
+    Draft(u64),
+    /// An alias.
+    Alias(AliasName),
+    /// An alias, and the kept deploy of a number.
+    AliasAndKept(AliasName, u64),
+    /// The kept deploy of a number, and every alias, whether it is there or not.
+    KeptAndAliases(u64),
+    /// The draft and the kept deploy of a number, and every path, whether a file is there or not.
+    Deploy(u64),
+    /// The draft of a number, and the listed paths.
+    Patch(u64, Listing),
+    /// The draft and the kept deploy of a number, and the listed paths.
+    PatchAndKept(u64, Listing),
+}
+
+/// Whether a cell is the other.
+fn is_cell(cell: &Cell, other: CellRef<'_>) -> bool
+    ensures { result ≡ same_cell cell.now (cell_of other.entry) }
 {
-    let mut cells = BTreeSet::from_array(alloc, [Cell::Draft(site.copied(), number)])?;
-    for (path, _) in entries {
-        cells.insert(CellRef::Live(site, path).to_cell()?)?;
+    cell.as_ref().compare(other).is_eq()
+}
+
+/// Whether a cell is one of the listed paths of a site.
+fn is_listed(cell: &Cell, site: &SiteName, files: &Listing) -> bool
+    ensures { result ≡ changes.is_listed site.now files.now.1 cell.now }
+{
+    match cell {
+        Cell::Live(own, path) => site == own && files.get(path).is_some(),
+        Cell::Kept(..) | Cell::Alias(..) | Cell::Draft(..) => false,
     }
-    Ok(cells)
+}
+
+impl TouchedCells {
+    /// Whether a cell is among them, as cells of this site.
+    fn contains(&self, site: &SiteName, cell: &Cell) -> bool
+        ensures { result ≡ is_among site.now self.now cell.now }
+    {
+        match self {
+            TouchedCells::Path(path) => is_cell(cell, CellRef::Live(site, path)),
+            TouchedCells::Paths(one, other) => {
+                is_cell(cell, CellRef::Live(site, one)) || is_cell(cell, CellRef::Live(site, other))
+            }
+            TouchedCells::Draft(number) => is_cell(cell, CellRef::Draft(site, *number)),
+            TouchedCells::Alias(name) => is_cell(cell, CellRef::Alias(site, name)),
+            TouchedCells::AliasAndKept(name, number) => {
+                is_cell(cell, CellRef::Kept(site, *number))
+                    || is_cell(cell, CellRef::Alias(site, name))
+            }
+            TouchedCells::KeptAndAliases(number) => {
+                is_cell(cell, CellRef::Kept(site, *number)) || is_alias_of(cell, site)
+            }
+            TouchedCells::Deploy(number) => {
+                is_cell(cell, CellRef::Draft(site, *number))
+                    || is_cell(cell, CellRef::Kept(site, *number))
+                    || is_live_of(cell, site)
+            }
+            TouchedCells::Patch(number, files) => {
+                is_cell(cell, CellRef::Draft(site, *number)) || is_listed(cell, site, files)
+            }
+            TouchedCells::PatchAndKept(number, files) => {
+                is_cell(cell, CellRef::Draft(site, *number))
+                    || is_cell(cell, CellRef::Kept(site, *number))
+                    || is_listed(cell, site, files)
+            }
+        }
+    }
 }
 
 impl Touched {
+    /// These cells of a site.
+    pub(crate) fn new(site: &SiteName, cells: TouchedCells) -> Touched
+        ensures { AreTouched site.now (is_among site.now cells) result }
+    {
+        Touched {
+            site: site.copied(),
+            cells,
+        }
+    }
+
     /// Whether a cell is among them.
     pub fn contains(&self, cell: &Cell) -> bool
         ensures { result ≡ spec.is_touched self.now cell.now }
     {
-        self.cells.contains(cell)
-            || (self.all_live && is_live_of(cell, &self.site))
-            || (self.all_aliases && is_alias_of(cell, &self.site))
-    }
-
-    /// One cell.
-    pub(crate) fn one(alloc: Global, site: &SiteName, cell: Cell) -> Result<Touched, AllocError>
-        ensures { IfOk result (AreTouched site.now (λ c. same_cell c cell)) }
-    {
-        Ok(Touched {
-            site: site.copied(),
-            cells: BTreeSet::from_array(alloc, [cell])?,
-            all_live: false,
-            all_aliases: false,
-        })
-    }
-
-    /// One cell, and every alias of the site.
-    pub(crate) fn one_and_aliases(
-        alloc: Global,
-        site: &SiteName,
-        cell: Cell,
-    ) -> Result<Touched, AllocError>
-        ensures { IfOk result (AreTouched site.now (λ c. same_cell c cell || is_alias_of site.now c)) }
-    {
-        Ok(Touched {
-            site: site.copied(),
-            cells: BTreeSet::from_array(alloc, [cell])?,
-            all_live: false,
-            all_aliases: true,
-        })
-    }
-
-    /// Two cells.
-    pub(crate) fn two(
-        alloc: Global,
-        site: &SiteName,
-        first: Cell,
-        second: Cell,
-    ) -> Result<Touched, AllocError>
-        ensures { IfOk result (AreTouched site.now (λ c. same_cell c first || same_cell c second)) }
-    {
-        Ok(Touched {
-            site: site.copied(),
-            cells: BTreeSet::from_array(alloc, [first, second])?,
-            all_live: false,
-            all_aliases: false,
-        })
-    }
-
-    /// The draft and the kept deploy of this number, and every path of the site.
-    pub(crate) fn deploy(alloc: Global, site: &SiteName, number: u64) -> Result<Touched, AllocError>
-        ensures { IfOk result (AreTouched site.now (is_of_deploy site.now number)) }
-    {
-        let draft = Cell::Draft(site.copied(), number);
-        let kept = Cell::Kept(site.copied(), number);
-        Ok(Touched {
-            site: site.copied(),
-            cells: BTreeSet::from_array(alloc, [draft, kept])?,
-            all_live: true,
-            all_aliases: false,
-        })
-    }
-
-    /// The draft of this number, and the listed paths of the site.
-    pub(crate) fn patch(
-        alloc: Global,
-        site: &SiteName,
-        number: u64,
-        entries: &[(FilePath, Option<Digest>)],
-    ) -> Result<Touched, AllocError>
-        ensures { IfOk result (AreTouched site.now (is_of_patch site.now number entries.now)) }
-    {
-        Ok(Touched {
-            site: site.copied(),
-            cells: patched_cells(alloc, site, number, entries)?,
-            all_live: false,
-            all_aliases: false,
-        })
-    }
-
-    /// Adds a cell.
-    pub(crate) fn add(&mut self, cell: Cell) -> Result<(), AllocError>
-        ensures { OnOk result (AddsTouched cell self.old self.new) }
-    {
-        self.cells.insert(cell)?;
-        Ok(())
+        self.cells.contains(&self.site, cell)
     }
 }

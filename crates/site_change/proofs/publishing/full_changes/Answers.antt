@@ -1,14 +1,10 @@
-use Rattle.std.proofs.Common.{ap}
-use Rattle.host_names.specs.declared.names.SiteName.{SiteName}
-use Rattle.host_names.specs.declared.cells.Cell.TheVariants as cell
-use Rattle.site_change.proofs.Deciding.{sides_of, publish_plan}
+use Rattle.std.proofs.Common.{ℕ, List, IfOk, subst}
+use Rattle.site_state.specs.Files.{Paths}
+use Rattle.site_change.specs.Changes.{with_published}
+use Rattle.site_change.specs.Plans.{IsDifference}
 use Rattle.site_change.proofs.publishing.full_changes.Goals as goal
 
-pub live_changes-requires : goal.live_changes-requires
-live_changes-requires c = rw (c.live.ensures, c.entries.ensures.pairs) (sides_of c.args.state.now c.args.site.now c.args.tree c.entries.ensures.sorted)
-
 pub returns : goal.returns
-returns c =
-    publish_plan c.args.site.now c.args.number c.args.tree c.args.state.now c.live.result c.entries.result.now (cell.Kept c.copied.result c.args.number) (cell.Draft c.copied-2.result c.args.number)
-    c.in_ok-changes.changes.items c.push_change.new.changes.items c.push_change-2.new.changes.items c.live.ensures c.entries.ensures.pairs c.in_ok-changes.ensures
-    (ap (λ (s : SiteName). cell.Kept s c.args.number) c.copied.ensures) c.in_ok-push_change.ensures (ap (λ (s : SiteName). cell.Draft s c.args.number) c.copied-2.ensures) c.in_ok-push_change-2.ensures
+returns g c =
+    let P : Paths (List ℕ) → Type 0 = λ t. IfOk c.tree_changes.result (λ changes. IsDifference c.args.state.now (with_published c.args.site.now c.args.number t c.args.state.now) changes.items) in
+    subst P c.in_ok-tree.ensures c.tree_changes.ensures

@@ -14,5 +14,5 @@ pub returns-clause-changes : goal.returns-clause-changes
 returns-clause-changes c =
     let P : List (Cell × Value) → Type 0 = λ l. AreLiveChanges c.args.site.now l c.entries.result.now c.in_ok-changes.changes.items in
     let Q : Paths (List ℕ) → Type 0 = λ t. AreLiveChanges c.args.site.now (live_entries c.args.state.now c.args.site.now) t c.in_ok-changes.changes.items in
-    served_changes c.args.site.now c.args.tree.now c.args.state.now c.in_ok-changes.changes.items
-    (subst Q c.entries.ensures.pairs (subst P c.live.ensures c.in_ok-changes.ensures))
+    rw c.new.ensures.changes (served_changes c.args.site.now c.args.tree.now c.args.state.now c.in_ok-changes.changes.items
+    (subst Q c.entries.ensures.pairs (subst P c.live.ensures c.in_ok-changes.ensures)))
