@@ -1,5 +1,5 @@
 -- What is where in blocks that are joined.
-use Rattle.std.proofs.Common.{◌≡◌, ℕ, zero, suc, ◌+◌, ◌-◌, ◌*◌, ◌<◌, ◌≤◌, List, [], ◌∷◌, ◌++◌, length, get_or, set, slice_get, append_assoc, refl, sym, ap, ◌∙◌, arith}
+use Rattle.std.proofs.Common.{◌≡◌, ℕ, zero, suc, ◌+◌, ◌-◌, ◌*◌, ◌<◌, ◌≤◌, List, [], ◌∷◌, ◌++◌, length, get_or, set, take, drop, slice_get, append_assoc, refl, sym, ap, ◌∙◌, arith}
 use Rattle.std.proofs.lemmas.List.{length-append, set-append_left, set-append_right}
 use Rattle.shared_blocks.specs.Blocks.{AreFull, joined}
 
@@ -42,6 +42,13 @@ module _ {T : Type 0} where
   slice_get-last blocks last k full past =
       let all = length-joined blocks full in
       slice_get-right (joined blocks) last (k - length blocks * 128) k (omega (arith, all, past))
+
+  -- a block in the place of another
+  pub joined-set : (blocks : List (List T)) (i : ℕ) (b : List T) → i < length blocks → joined (set blocks i b) ≡ joined (take i blocks) ++ (b ++ joined (drop (suc i) blocks))
+  joined-set [] i b lt = absurd (omega (arith, lt))
+  joined-set (a ∷ blocks) zero b lt = refl
+  joined-set (a ∷ blocks) (suc i) b lt =
+      ap (λ l. a ++ l) (joined-set blocks i b (omega (arith, lt))) ∙ sym (append_assoc a (joined (take i blocks)) (b ++ joined (drop (suc i) blocks)))
 
   -- the number of all items
   pub length-all : (blocks : List (List T)) (last : List T) (n m : ℕ) → AreFull blocks → n ≡ length blocks → m ≡ length last → n * 128 + m ≡ length (joined blocks ++ last)

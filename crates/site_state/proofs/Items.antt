@@ -1,9 +1,9 @@
 -- The items of a state, and the map that they mean.
-use Rattle.std.proofs.Common.{Bor, is_some, IfSome, option_copied, ◌≡◌, ℕ, true, false, cond, List, [], ◌∷◌, get_or, Option, Some, None, Result, Ok, Err, OnOk, OnErr, IsTrue, All, refl, sym, ap, subst, ◌∙◌}
+use Rattle.std.proofs.Common.{Bor, is_some, IfSome, option_copied, ◌≡◌, true, false, cond, List, [], ◌∷◌, Option, Some, None, Result, Ok, Err, OnOk, OnErr, IsTrue, All, refl, sym, ap, subst, ◌∙◌}
 use Rattle.std.specs.FinMap as finmap
 use Rattle.std.specs.List.{AllByRecursion}
 use Rattle.std.specs.Ordering.{eq_by_cmp, is_eq}
-use Rattle.std.proofs.lemmas.List.Elements.{All-from_recursion, recursion_from_All}
+use Rattle.std.proofs.lemmas.List.Elements.{recursion_from_All}
 use Rattle.host_names.specs.declared.cells.Cell.{Cell}
 use Rattle.host_names.specs.Cells.{cell_cmp}
 use Rattle.host_names.specs.CellOrder.{cell_cmp_total, cell_cmp-IsAntisymmetric}
@@ -13,7 +13,7 @@ use Rattle.shared_blocks.specs.Edits.{listed, edited, edited_by}
 use Rattle.site_state.specs.Items.{AreItems, AreOfState}
 use Rattle.site_state.specs.Named.{AliasesNamed}
 use Rattle.shared_blocks.proofs.Edits.{equal, Rises-edited, find-edited, AllByRecursion-edited}
-use Rattle.shared_blocks.proofs.Entries.{is_sorted-from, find_at, find_in_gap}
+use Rattle.shared_blocks.proofs.Entries.{is_sorted-from}
 
 abbrev pub Items : Type 0
 Items = List (Cell × Value)

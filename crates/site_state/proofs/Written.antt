@@ -1,19 +1,17 @@
 -- What is in each cell after many writes.
-use Rattle.std.proofs.Common.{◌≡◌, ◌≢◌, ℕ, ◌<◌, true, false, cond, List, [], ◌∷◌, length, get_or, Option, Some, All, refl, sym, ap, ◌∙◌}
+use Rattle.std.proofs.Common.{◌≡◌, true, false, cond, List, [], ◌∷◌, Option, Some, refl, ap, ◌∙◌}
 use Rattle.std.specs.FinMap as finmap
 use Rattle.std.specs.List.Sorted.{IsStrictlySortedBy}
 use Rattle.std.specs.Map.{keys_of}
 use Rattle.std.specs.Option.{unwrap_or}
 use Rattle.std.specs.Ordering.{eq_by_cmp}
-use Rattle.std.proofs.lemmas.Cmp.{tied_itself}
 use Rattle.std.proofs.lemmas.Map.Keys.{sorted_head, sorted_tail}
 use Rattle.host_names.specs.declared.cells.Cell.{Cell}
 use Rattle.host_names.specs.Cells.{cell_cmp}
 use Rattle.host_names.specs.CellOrder.{cell_cmp_total, cell_cmp-IsAntisymmetric}
 use Rattle.site_state.specs.declared.values.Value.{Value}
 use Rattle.site_state.specs.States.{State, with_cell, with_cells}
-use Rattle.shared_blocks.proofs.Edits.{at_key, equal}
-use Rattle.shared_blocks.proofs.Entries.{find_at, find-absent}
+use Rattle.shared_blocks.proofs.Edits.{at_key}
 use Rattle.site_state.proofs.Items.{get-with_cell}
 
 -- the cells and what is written into each
@@ -31,24 +29,5 @@ get-with_cells state (c ∷ cells) q rise =
     ∙ ap (unwrap_or (finmap.find cell_cmp q cells)) (get-with_cell state c.0 c.1 q)
     ∙ elim (eq_by_cmp cell_cmp q c.0) as (λ b. eq_by_cmp cell_cmp q c.0 ≡ b → unwrap_or (finmap.find cell_cmp q cells) (cond b c.1 (finmap.get state q)) ≡ unwrap_or (cond b (Some c.1) (finmap.find cell_cmp q cells)) (finmap.get state q)) [
       | true ↦ λ e. ap (λ found. unwrap_or found c.1) (at_key cell_cmp_total cell_cmp-IsAntisymmetric q c.0 cells (sorted_head cell_cmp c.0 (keys_of cells) rise) e)
-      | false ↦ λ e. refl
-    ] refl
-
--- the write at place i is what is in its cell
-pub get-with_cells-at : (state : State) (cells : Writes) (i : ℕ) (d : Cell × Option Value) → Rise cells → i < length cells → finmap.get (with_cells state cells) (get_or cells i d).0 ≡ (get_or cells i d).1
-get-with_cells-at state cells i d rise lt =
-    let q = (get_or cells i d).0 in
-    get-with_cells state cells q rise
-    ∙ ap (λ found. unwrap_or found (finmap.get state q)) (find_at cell_cmp cell_cmp_total q cells i d rise lt (tied_itself cell_cmp_total q))
-
--- a cell that is not listed keeps what it has
-pub get-with_cells-other : (state : State) (cells : Writes) (q : Cell) → Rise cells → All (λ (e : Cell × Option Value). e.0 ≢ q) cells → finmap.get (with_cells state cells) q ≡ finmap.get state q
-get-with_cells-other state cells q rise others =
-    get-with_cells state cells q rise
-    ∙ ap (λ found. unwrap_or found (finmap.get state q)) (find-absent cell_cmp q cells (λ k d lt. apart q (get_or cells k d).0 (others k d lt)))
-  where
-    apart : (q x : Cell) → x ≢ q → eq_by_cmp cell_cmp q x ≡ false
-    apart q x differ = elim (eq_by_cmp cell_cmp q x) as (λ b. eq_by_cmp cell_cmp q x ≡ b → b ≡ false) [
-      | true ↦ λ e. absurd (differ (sym (cell_cmp-IsAntisymmetric q x (equal (cell_cmp q x) e))))
       | false ↦ λ e. refl
     ] refl

@@ -35,11 +35,6 @@ kind_falls (Draft own n) (Kept other q) same less earlier = cc (rest_less (texts
 kind_falls (Draft own n) (Alias other q) same less earlier = earlier
 kind_falls (Draft own n) (Draft other q) same less earlier = earlier
 
-site_falls : (r : Ordering) (earlier : Bool) → by_site r earlier ≡ true → r ≡ Equal → earlier ≡ true
-site_falls Less earlier h e = cc e
-site_falls Equal earlier h e = h
-site_falls Greater earlier h e = cc e
-
 -- a cell before one that comes before the aliases comes before them
 before_falls : (site : SiteName) (a b : Cell) → cell_cmp a b ≡ Less → is_before_aliases b site ≡ true → is_before_aliases a site ≡ true
 before_falls site a b less before = ⊎_elim
