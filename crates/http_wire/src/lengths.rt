@@ -5,8 +5,8 @@ ghost use Rattle.http_wire.specs.Fields.{WritesLength, IsBodyLength};
 use crate::faults::LengthFault;
 use crate::heads::Head;
 
-// The number that digits alone write, where it fits.
-fn read_length(text: &[u8]) -> Option<u64>
+/// The number that digits alone write, where it fits.
+pub fn read_length(text: &[u8]) -> Option<u64>
     ensures some { IfSome result (WritesLength text.now) }
     ensures none { IfNone result ((n : ℕ) → ¬ (WritesLength text.now n)) }
 {
