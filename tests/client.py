@@ -34,6 +34,8 @@ PHRASES = {
     413: "Payload Too Large",
     416: "Range Not Satisfiable",
     422: "Unprocessable Entity",
+    431: "Request Header Fields Too Large",
+    501: "Not Implemented",
     503: "Service Unavailable",
     507: "Insufficient Storage",
 }

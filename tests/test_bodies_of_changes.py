@@ -231,7 +231,7 @@ class Sizes(Interface):
             with self.subTest(f"{method} {target}"):
                 self.assert_rows([row(method, target, bytes(limit), wanted), get("/s/one/a", "NoSuchFile")])
                 longer = request(method, target, f"Content-Length: {limit + 1}") + request("GET", "/s/one/a")
-                self.assert_answers(longer, refused("BadHead", "Connection: close"))
+                self.assert_answers(longer, refused("BodyTooLarge", "Connection: close"))
 
     def test_are_read_whole_where_they_are_longest(self):
         front, end = '{"files":{},"x":"', '","draft":true}'
@@ -244,7 +244,7 @@ class Sizes(Interface):
             post(RENAME, '{"from":"a","to":"b"}'.ljust(LARGEST_TEXT), "NoSuchFile"),
             post(UNDO, '{"change":3}'.center(LARGEST_TEXT), {"entry": 4}),
         ])
-        refusal = refused("BadHead", "Connection: close")
+        refusal = refused("BodyTooLarge", "Connection: close")
         self.assert_answers(request("POST", DEPLOYS, body=f" {body}".encode()), refusal)
         self.assert_answers(request("POST", UNDO, body=b'{"change":3}'.rjust(LARGEST_TEXT + 1)), refusal)
 

@@ -22,7 +22,9 @@ LINE = b"GET /s/one/a.txt HTTP/1.1"
 END = b"\r\n\r\n"
 NEXT = LINE + END
 NO_FILE = refused("NoSuchFile")
-BAD_HEAD = refused("BadHead", "Connection: close")
+HEAD_TOO_LARGE, BAD_HEAD, CODING_REFUSED, LENGTH_BAD, BODY_TOO_LARGE = (
+    refused(name, "Connection: close") for name in ("HeadTooLarge", "BadHead", "CodingRefused", "LengthBad", "BodyTooLarge")
+)
 BAD_METHOD = refused("BadMethod", "Allow: GET, HEAD")
 
 def long_head(length):
@@ -47,7 +49,7 @@ class Heads(Program):
 
     # What is refused in the place of the version, the method, the target and the fields.
     versions = [
-        b"HTTP/1.0", b"HTTP/1.2", b"HTTP/2.0", b"HTTP/0.9", b"HTTP/1", b"HTTP/1.10", b"HTTP/11", b"http/1.1",
+        b"HTTP/1.2", b"HTTP/2.0", b"HTTP/0.9", b"HTTP/1", b"HTTP/1.10", b"HTTP/11", b"http/1.1",
         b"HTTPS/1.1", b"HTTP/1.1 ", b"HTTP/1.1 x", b" HTTP/1.1", b"\tHTTP/1.1", b"x HTTP/1.1", b"",
     ]
     methods = [
@@ -66,7 +68,7 @@ class Heads(Program):
     bad = [
         *(b"GET /s/one/a.txt " + version for version in versions), *(method + LINE[3:] for method in methods),
         *(b"GET " + target + b" HTTP/1.1" for target in targets), *(LINE + b"\r\nA: b\r\n" + line for line in fields),
-        b"GET", b"GET ", b"GET /s/one/a.txt", b"hello", b"\0", b" ", b"HEAD /s/one/a.txt HTTP/1.0",
+        b"GET", b"GET ", b"GET /s/one/a.txt", b"hello", b"\0", b" ", b"HEAD /s/one/a.txt HTTP/1.2",
         b"HEAD /s/one/a.txt HTTP/1.1\r\nno colon",
     ]
 
@@ -104,41 +106,64 @@ class Heads(Program):
     def test_have_at_most_16384_bytes(self):
         with_body = long_head(HEAD_LIMIT - 23) + b"\r\nContent-Length: 5" + END + b"hello"
         for stream, wanted in [
-            (long_head(HEAD_LIMIT - 4) + END, NO_FILE), (long_head(HEAD_LIMIT - 3) + END, BAD_HEAD),
-            (long_head(HEAD_LIMIT - 2) + b"\n\n", NO_FILE), (long_head(HEAD_LIMIT - 1) + b"\n\n", BAD_HEAD),
-            (b"\n" * (HEAD_LIMIT - len(NEXT)) + NEXT, NO_FILE), (b"\n" * (HEAD_LIMIT - len(NEXT) + 1) + NEXT, BAD_HEAD),
-            (b"\r\n" * 4_000 + long_head(8_380) + END, NO_FILE), (b"\r\n" * 4_000 + long_head(8_381) + END, BAD_HEAD),
+            (long_head(HEAD_LIMIT - 4) + END, NO_FILE), (long_head(HEAD_LIMIT - 3) + END, HEAD_TOO_LARGE),
+            (long_head(HEAD_LIMIT - 2) + b"\n\n", NO_FILE), (long_head(HEAD_LIMIT - 1) + b"\n\n", HEAD_TOO_LARGE),
+            (b"\n" * (HEAD_LIMIT - len(NEXT)) + NEXT, NO_FILE), (b"\n" * (HEAD_LIMIT - len(NEXT) + 1) + NEXT, HEAD_TOO_LARGE),
+            (b"\r\n" * 4_000 + long_head(8_380) + END, NO_FILE), (b"\r\n" * 4_000 + long_head(8_381) + END, HEAD_TOO_LARGE),
             ((long_head(HEAD_LIMIT - 4) + END) * 3, NO_FILE * 3), (with_body * 2, NO_FILE * 2),
-            (b"\n" + long_head(HEAD_LIMIT - 4) + END, BAD_HEAD), (long_head(100_000) + END, BAD_HEAD),
+            (b"\n" + long_head(HEAD_LIMIT - 4) + END, HEAD_TOO_LARGE), (long_head(100_000) + END, HEAD_TOO_LARGE),
         ]:
-            after = NO_FILE if wanted != BAD_HEAD else b""
+            after = NO_FILE if wanted != HEAD_TOO_LARGE else b""
             self.assert_answers(NEXT + stream + NEXT, NO_FILE + wanted + after, f"{len(stream)} bytes, {stream[-40:]}")
 
     def test_have_an_end_within_16384_bytes(self):
         stretches = [text * 2 * HEAD_LIMIT for text in (b"\n", b"\r", b"\r\n", b"a", b"\0")]
         stretches += [long_head(2 * HEAD_LIMIT), long_head(HEAD_LIMIT - 3) + END]
         for stretch in stretches:
-            self.assert_answers(stretch[:HEAD_LIMIT], BAD_HEAD, stretch[:40])
-            self.assert_answers(NEXT + stretch, NO_FILE + BAD_HEAD, stretch[:40])
+            self.assert_answers(stretch[:HEAD_LIMIT], HEAD_TOO_LARGE, stretch[:40])
+            self.assert_answers(NEXT + stretch, NO_FILE + HEAD_TOO_LARGE, stretch[:40])
 
     def test_have_at_most_64_fields(self):
         self.assert_answers(with_fields(64) + NEXT, NO_FILE * 2)
         self.assert_answers(with_fields(64, b"Content-Length: 5") + b"hello" + NEXT, NO_FILE * 2)
         self.assert_answers(with_fields(64, b"Connection: close") + NEXT, closing(NO_FILE))
-        self.assert_answers(NEXT + with_fields(65) + NEXT, NO_FILE + BAD_HEAD)
-        self.assert_answers(NEXT + with_fields(300) + NEXT, NO_FILE + BAD_HEAD)
+        for count in (65, 300):
+            self.assert_answers(NEXT + with_fields(count) + NEXT, NO_FILE + HEAD_TOO_LARGE)
+            self.assert_answers(b"HEAD" + with_fields(count)[3:] + NEXT, HEAD_TOO_LARGE)
+            self.assert_answers(with_fields(count).replace(b"/s", b"s", 1) + NEXT, HEAD_TOO_LARGE)
+        self.assert_answers(with_fields(64).replace(b"/s", b"s", 1) + NEXT, BAD_HEAD)
+        self.assert_answers(with_fields(64, b"no colon") + NEXT, BAD_HEAD)
+
+    def test_of_the_older_version_are_served_and_end_the_connection(self):
+        older = LINE.replace(b"1.1", b"1.0")
+        for head in (older, older + b"\r\nConnection: keep-alive", older + b"\nHost: x", older + b"\r\nConnection: close"):
+            self.assert_answers(NEXT + head + END + NEXT, NO_FILE + closing(NO_FILE), head)
+            self.assert_answers(b"HEAD" + head[3:] + END + NEXT, to_head(closing(NO_FILE)), head)
+        with_body = older + b"\r\nContent-Length: 5" + END
+        self.assert_answers(with_body + b"hello" + NEXT, closing(NO_FILE))
+        self.assert_answers(with_body + b"hell", b"")
+        self.assert_answers(older + b"\r\nTransfer-Encoding: chunked" + END + NEXT, CODING_REFUSED)
 
 
 class Bodies(Program):
-    bad_lengths = [["Content-Length: " + value] for value in (
-        "", "+5", "-5", "-0", "5,5", "5, 5", "5 5", "5x", "x", "0x5", "5.0", "5e0", "\uff15", '"5"', "4194305",
-        "18446744073709551615", "18446744073709551616", "99999999999999999999", "1" + "0" * 100,
-    )] + [
-        ["Content-Length: 5"] * 2, ["Content-Length: 0", "content-length: 0"], ["Content-Length: 0"] * 3,
-        ["Content-Length: 5", "Content-Length: 6"], ["Content-Length:", "Content-Length: 5"],
-        ["Transfer-Encoding: chunked"], ["Transfer-Encoding:"], ["Transfer-Encoding: gzip", "Transfer-Encoding: x"],
-        ["TRANSFER-ENCODING: chunked", "Content-Length: 5"], ["Content-Length: 5", "transfer-encoding:identity"],
-    ]
+    # The fields of heads that announce no body that is read, by the reply.
+    bad_lengths = {
+        BODY_TOO_LARGE: [["Content-Length: " + value] for value in ("4194305", "0004194305", "18446744073709551615")],
+        LENGTH_BAD: [["Content-Length: " + value] for value in (
+            "", "+5", "-5", "-0", "5,5", "5, 5", "5 5", "5x", "x", "0x5", "5.0", "5e0", "\uff15", '"5"',
+            "18446744073709551616", "99999999999999999999", "1" + "0" * 100,
+        )] + [
+            ["Content-Length: 5"] * 2, ["Content-Length: 0", "content-length: 0"], ["Content-Length: 0"] * 3,
+            ["Content-Length: 5", "Content-Length: 6"], ["Content-Length:", "Content-Length: 5"],
+            ["Content-Length: 4194305"] * 2,
+        ],
+        CODING_REFUSED: [
+            ["Transfer-Encoding: chunked"], ["Transfer-Encoding:"], ["Transfer-Encoding: gzip", "Transfer-Encoding: x"],
+            ["TRANSFER-ENCODING: chunked", "Content-Length: 5"], ["Content-Length: 5", "transfer-encoding:identity"],
+            ["Content-Length: 5", "Content-Length: 6", "Transfer-Encoding: x"],
+            ["Content-Length: 4194305", "Transfer-Encoding: x"], ["Transfer-Encoding: x", "Content-Length: x"],
+        ],
+    }
 
     # How long a body may be, by method and target.
     limits = {
@@ -153,9 +178,9 @@ class Bodies(Program):
         ],
     }
 
-    def assert_refuses(self, method, asked):
+    def assert_refuses(self, method, asked, refusal):
         """The reply to the refused body of a HEAD has no body itself, and nothing after it is answered."""
-        wanted = to_head(BAD_HEAD) if method == "HEAD" else BAD_HEAD
+        wanted = to_head(refusal) if method == "HEAD" else refusal
         self.assert_answers(NEXT + asked + b"hello" + NEXT, NO_FILE + wanted, asked)
 
     def test_have_the_length_that_the_head_tells(self):
@@ -170,19 +195,20 @@ class Bodies(Program):
     def test_are_refused_for_their_length(self):
         for words in (f"GET {FILE}", f"HEAD {FILE}", "POST /nowhere", f"POST {DEPLOYS}", "get /s/One/"):
             method, target = words.split()
-            for fields in self.bad_lengths:
-                self.assert_refuses(method, request(method, target, "Host: x", *fields))
+            for refusal, lines in self.bad_lengths.items():
+                for fields in lines:
+                    self.assert_refuses(method, request(method, target, "Host: x", *fields), refusal)
 
     def test_are_waited_for_up_to_the_greatest_length_and_no_further(self):
         for limit, lines in self.limits.items():
             for method, target in map(str.split, lines):
                 within = request(method, target, f"Content-Length: {limit}")
                 self.assert_answers(NEXT + within + NEXT, NO_FILE, within)
-                self.assert_refuses(method, request(method, target, f"Content-Length: {limit + 1}"))
+                self.assert_refuses(method, request(method, target, f"Content-Length: {limit + 1}"), BODY_TOO_LARGE)
 
     def test_are_taken_in_their_greatest_length(self):
         text = opening({"/a.txt": HELLO}).partition(END)[2].rjust(3_000_000)
-        for length, wanted in ((JSON_LIMIT, opened(1, HELLO) + NO_FILE), (JSON_LIMIT + 1, BAD_HEAD)):
+        for length, wanted in ((JSON_LIMIT, opened(1, HELLO) + NO_FILE), (JSON_LIMIT + 1, BODY_TOO_LARGE)):
             self.assert_answers(request("POST", DEPLOYS, body=text.ljust(length)) + NEXT, wanted, length)
         largest = bytes(LARGEST_FILE)
         self.assert_converses([
@@ -253,8 +279,9 @@ class Replies(Program):
         too_long = request("PUT", "/api/v1/deploys/1/files/a.txt", f"Content-Length: {LARGEST_FILE + 1}")
         for asked, wanted in [
             (closing(NEXT), closing(NO_FILE)), (NEXT * REQUESTS, NO_FILE * (REQUESTS - 1) + closing(NO_FILE)),
-            (NEXT + b"hello\n\n", NO_FILE + BAD_HEAD), (too_long, BAD_HEAD), (long_head(HEAD_LIMIT), BAD_HEAD),
-            (request("HEAD", FILE, "Transfer-Encoding: chunked"), to_head(BAD_HEAD)),
+            (NEXT + b"hello\n\n", NO_FILE + BAD_HEAD), (too_long, BODY_TOO_LARGE), (long_head(HEAD_LIMIT), HEAD_TOO_LARGE),
+            (request("HEAD", FILE, "Transfer-Encoding: chunked"), to_head(CODING_REFUSED)),
+            (LINE.replace(b"1.1", b"1.0") + END, closing(NO_FILE)),
         ]:
             client = Client(self)
             client.send(asked)

@@ -155,7 +155,7 @@ class Connections(Program):
 
     def test_refuses_an_upload_that_is_too_large(self):
         opened = told("200 OK", {"id": "1", "published": None, "required": [HELLO]})
-        refused = told("400 Bad Request", {"error": "BadHead"}, "Connection: close")
+        refused = told("413 Payload Too Large", {"error": "BodyTooLarge"}, "Connection: close")
         for length in (LARGEST_FILE + 1, 17_000_000):
             with self.subTest(length=length):
                 upload = request("PUT", "/api/v1/deploys/1/files/a.txt", body=bytes(length))

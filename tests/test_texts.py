@@ -163,9 +163,18 @@ class Refusals(Interface):
             ("NotAChange", undo(4, conflict('{"error":"NotAChange"}'))),
         ]
         self.assert_rows([exchange for _, exchange in met])
-        self.assert_answers(b"x\r\n\r\n", told("400 Bad Request", {"error": "BadHead"}, "Connection: close"))
+        of_heads = {
+            "HeadTooLarge": ("431 Request Header Fields Too Large", bytes(16_384)),
+            "BadHead": ("400 Bad Request", b"x\r\n\r\n"),
+            "CodingRefused": ("501 Not Implemented", request("GET", "/s/one/a", "Transfer-Encoding: chunked")),
+            "LengthBad": ("400 Bad Request", request("GET", "/s/one/a", "Content-Length: x")),
+            "BodyTooLarge": ("413 Payload Too Large", request("GET", "/s/one/a", "Content-Length: 4194305")),
+        }
+        for name, (status, given) in of_heads.items():
+            self.assert_answers(given, told(status, {"error": name}, "Connection: close"), name)
         # A connection is too short for HistoryFull; test_memory.py meets OutOfMemory.
-        self.assertEqual({name for name, _ in met if name} | {"BadHead", "HistoryFull", "OutOfMemory"}, set(STATUS_OF))
+        others = {*of_heads, "HistoryFull", "OutOfMemory"}
+        self.assertEqual({name for name, _ in met if name} | others, set(STATUS_OF))
 
     def test_name_the_least_alias(self):
         rows = [put(f"{ALIASES}/{name}", {"deploy": 1}, {"entry": entry})

@@ -6,8 +6,10 @@ use Rattle.host_names.specs.declared.refusals.ChangeError.{ChangeError}
 use Rattle.host_names.specs.declared.refusals.ChangeError.TheVariants as change
 use Rattle.host_names.specs.declared.refusals.ChangeRefusal.{ChangeRefusal}
 use Rattle.host_names.specs.declared.refusals.ChangeRefusal.TheVariants.{HistoryFull, TooManyFiles, NoSuchDraft, NotComplete, NoSuchDeploy, NoSuchFile, PathTaken, SamePath, NoSuchAlias, DeployInUse, NoSuchChange, NotAChange, AlreadyUndone, Clash}
+use Rattle.host_api.specs.declared.refusals.HeadRefusal.{HeadRefusal}
+use Rattle.host_api.specs.declared.refusals.HeadRefusal.TheVariants.{HeadTooLarge, BadHead, CodingRefused, LengthBad, BodyTooLarge}
 use Rattle.host_api.specs.declared.refusals.Refusal.{Refusal}
-use Rattle.host_api.specs.declared.refusals.Refusal.TheVariants.{Change, BadName, BadPath, BadDigest, BadBody, NotListed, WrongDigest, OutOfMemory, NoRoute, BadMethod, BadHead, NotSatisfiable}
+use Rattle.host_api.specs.declared.refusals.Refusal.TheVariants.{Change, BadName, BadPath, BadDigest, BadBody, NotListed, WrongDigest, OutOfMemory, NoRoute, BadMethod, Head, NotSatisfiable}
 
 -- what a reply says of a reason against a change or an undo: its name, and the status code (RFC 9110, section 15)
 abbrev pub shown_of_change : ChangeRefusal → List ℕ × ℕ
@@ -26,6 +28,14 @@ shown_of_change NotAChange = (codes "NotAChange", 409)
 shown_of_change AlreadyUndone = (codes "AlreadyUndone", 409)
 shown_of_change (Clash later cell) = (codes "Clash", 409)
 
+-- what it says of a reason against a head
+abbrev pub shown_of_head : HeadRefusal → List ℕ × ℕ
+shown_of_head HeadTooLarge = (codes "HeadTooLarge", 431)
+shown_of_head BadHead = (codes "BadHead", 400)
+shown_of_head CodingRefused = (codes "CodingRefused", 501)
+shown_of_head LengthBad = (codes "LengthBad", 400)
+shown_of_head BodyTooLarge = (codes "BodyTooLarge", 413)
+
 -- what it says of any reason
 abbrev pub shown_of : Refusal → List ℕ × ℕ
 shown_of (Change reason) = shown_of_change reason
@@ -38,7 +48,7 @@ shown_of WrongDigest = (codes "WrongDigest", 422)
 shown_of OutOfMemory = (codes "OutOfMemory", 503)
 shown_of NoRoute = (codes "NoRoute", 404)
 shown_of (BadMethod resource) = (codes "BadMethod", 405)
-shown_of BadHead = (codes "BadHead", 400)
+shown_of (Head reason) = shown_of_head reason
 shown_of (NotSatisfiable length) = (codes "NotSatisfiable", 416)
 
 -- the name of a reason

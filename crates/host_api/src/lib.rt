@@ -29,7 +29,7 @@ pub use items::Items;
 pub use laws::a_path_fits_what_it_is_made_of;
 pub use limits::body_limit;
 pub use refusal_texts::{SHORT_TEXT, short_text};
-pub use refusals::Refusal;
+pub use refusals::{HeadRefusal, Refusal};
 pub use resources::Resource;
 pub use routes::{Route, route_of};
 pub use texts::{DeployState, Told, text};

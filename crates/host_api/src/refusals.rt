@@ -1,11 +1,26 @@
 //! Why a request is refused.
 ghost use Rattle.std.specs.Prelude.{◌≡◌, ◌≤◌, length};
-ghost use Rattle.host_api.specs.Refusals.{name_of, shown_of_change, status_of};
+ghost use Rattle.host_api.specs.Refusals.{name_of, shown_of_change, shown_of_head, status_of};
 
 use crate::resources::Resource;
 use host_names::{ChangeError, ChangeRefusal, PathError};
 use http::StatusCode;
 use std::alloc::AllocError;
+
+/// Why a request is refused by its head alone.
+#[derive(Clone, Copy, Debug, PartialEq, Eq)]
+pub enum HeadRefusal {
+    /// The head is too long, or has too many fields.
+    HeadTooLarge,
+    /// The head is not one that is answered.
+    BadHead,
+    /// The body has a transfer coding.
+    CodingRefused,
+    /// The head does not say how long the body is.
+    LengthBad,
+    /// The body is too large.
+    BodyTooLarge,
+}
 
 /// Why a request is refused. A reply names the reason.
 #[derive(Debug, Drop, PartialEq, Eq)]
@@ -30,8 +45,8 @@ pub enum Refusal {
     NoRoute,
     /// The resource does not have the method.
     BadMethod(Resource),
-    /// The head is not one that is answered.
-    BadHead,
+    /// The head of the request is refused.
+    Head(HeadRefusal),
     /// The file, which has so many bytes, has none of the range.
     NotSatisfiable(u64),
 }
@@ -60,6 +75,23 @@ fn shown_of_change(reason: &ChangeRefusal) -> (&'static str, StatusCode)
     }
 }
 
+// The same of a refused head.
+fn shown_of_head(reason: HeadRefusal) -> (&'static str, StatusCode)
+    ensures name { result.0.now ≡ (shown_of_head reason).0 }
+    ensures short { length result.0.now ≤ 14 }
+    ensures status { result.1 ≡ (shown_of_head reason).1 }
+{
+    match reason {
+        HeadRefusal::HeadTooLarge => {
+            ("HeadTooLarge", StatusCode::REQUEST_HEADER_FIELDS_TOO_LARGE)
+        }
+        HeadRefusal::BadHead => ("BadHead", StatusCode::BAD_REQUEST),
+        HeadRefusal::CodingRefused => ("CodingRefused", StatusCode::NOT_IMPLEMENTED),
+        HeadRefusal::LengthBad => ("LengthBad", StatusCode::BAD_REQUEST),
+        HeadRefusal::BodyTooLarge => ("BodyTooLarge", StatusCode::PAYLOAD_TOO_LARGE),
+    }
+}
+
 impl Refusal {
     // What a reply says of it: its name, and the status code.
     fn shown(&self) -> (&'static str, StatusCode)
@@ -78,7 +110,7 @@ impl Refusal {
             Refusal::OutOfMemory => ("OutOfMemory", StatusCode::SERVICE_UNAVAILABLE),
             Refusal::NoRoute => ("NoRoute", StatusCode::NOT_FOUND),
             Refusal::BadMethod(_) => ("BadMethod", StatusCode::METHOD_NOT_ALLOWED),
-            Refusal::BadHead => ("BadHead", StatusCode::BAD_REQUEST),
+            Refusal::Head(reason) => shown_of_head(*reason),
             Refusal::NotSatisfiable(_) => ("NotSatisfiable", StatusCode::RANGE_NOT_SATISFIABLE),
         }
     }

@@ -9,14 +9,17 @@ use Rattle.http_wire.specs.declared.faults.BodyFault.TheVariants as body_fault
 use Rattle.http_wire.specs.declared.faults.HeadFault.{HeadFault}
 use Rattle.http_wire.specs.declared.faults.HeadFault.TheVariants as head_fault
 use Rattle.http_wire.specs.declared.faults.WriteFault.{WriteFault}
-use Rattle.http_wire.specs.Fields.{AnnouncesBody}
+use Rattle.http_wire.specs.declared.faults.LengthFault.{LengthFault}
+use Rattle.http_wire.specs.Fields.{AnnouncesBody, IsBodyLength}
+use Rattle.host_api.specs.declared.refusals.HeadRefusal.{HeadRefusal}
+use Rattle.host_api.specs.declared.refusals.HeadRefusal.TheVariants.{HeadTooLarge, BadHead}
 use Rattle.http_wire.specs.Requests.{RequestParts}
 use Rattle.http_wire.specs.Sending.{WritesText}
 use Rattle.http_wire.specs.Timing.{Event, Got, AtEnd, ReadFails, Put, WriteFails, all_got, all_put, IsLatest, GoesOn, Timely, Steps, Gives, Ran, NoRead}
 use Rattle.http_wire.specs.Wires.{AwaitsHead, AwaitsBody, ServesHead, ReadsHead, ReadsBody}
 use Rattle.http_wire.proofs.Trails.{got_joined, put_joined, goes_on_joined, latest_joined, steps_joined, timely_joined, timely_wide, nothing_got}
 use Rattle.host_server.specs.Hosts.{Host}
-use Rattle.host_server.specs.Serving.{Stream, limit_of, TakesRequest, HeadStops, BodyStops, Stops, Sends, Refuses, Exchanges, Turns}
+use Rattle.host_server.specs.Serving.{Stream, limit_of, refusal_of, TakesRequest, HeadStops, BodyStops, Stops, Sends, Refuses, Exchanges, Turns}
 use Rattle.host_server.specs.Timing.{AwaitsRequest, AwaitsAnnounced, ReadEnds, ReadsAs, SendsAs, RefusesAs, ExchangesAs, IsFollowed, TurnsAs}
 use Rattle.host_server.specs.Replies.{closes}
 use Rattle.host_server.specs.declared.answers.Request.{Request}
@@ -112,7 +115,8 @@ gives_read events past left new_left on none gives = record {
 abbrev pub stop_of_head : HeadFault → Stop
 stop_of_head head_fault.Ended = stop.Ended
 stop_of_head head_fault.ReadFault = stop.ReadFault
-stop_of_head head_fault.BadHead = stop.BadHead false
+stop_of_head head_fault.HeadTooLarge = stop.Refused HeadTooLarge false
+stop_of_head head_fault.BadHead = stop.Refused BadHead false
 stop_of_head head_fault.OutOfMemory = stop.OutOfMemory false
 
 pub head_read : (parts : RequestParts) (buffer rest : List ℕ) (events : List Event) → ReadsHead (Ok parts) buffer rest events
@@ -131,10 +135,15 @@ head_missed head_fault.ReadFault buffer rest events reads = record {
   ends = reads.ends;
   of_stream = λ left new_left gives. reads.ends;
 }
+head_missed head_fault.HeadTooLarge buffer rest events reads = record {
+  nothing_put = reads.nothing_put;
+  ends = reads.ends;
+  of_stream = λ left new_left gives. (HeadTooLarge, (prepend_known rest new_left, reads.of_stream left new_left gives), refl);
+}
 head_missed head_fault.BadHead buffer rest events reads = record {
   nothing_put = reads.nothing_put;
   ends = reads.ends;
-  of_stream = λ left new_left gives. (prepend_known rest new_left, reads.of_stream left new_left gives, refl);
+  of_stream = λ left new_left gives. (BadHead, (prepend_known rest new_left, reads.of_stream left new_left gives), refl);
 }
 head_missed head_fault.OutOfMemory buffer rest events reads = record {
   nothing_put = reads.nothing_put;
@@ -202,14 +211,14 @@ body_missed {A = A} saw old new why head_only parts size buffer rest named annou
   claimed = body_stops {A = A} why head_only parts size buffer rest ran.events named announced ran.claimed;
 }
 
-pub body_refused : {S A : Type 0} (saw : S → Event → S → Type 0) (old : S) (head_only : Bool) (parts : RequestParts) (buffer : List ℕ)
-    → head_only ≡ bytes_eq parts.method (codes "HEAD") → ((n : ℕ) → ¬ (AnnouncesBody parts.fields (limit_of parts) n))
-    → Ran saw (AwaitsAnnounced parts buffer) old old (ReadsAs {A = Vec ℕ A} (Err (stop.BadHead head_only)) (TakesBody parts) (StopsBody parts) buffer buffer)
-body_refused saw old head_only parts buffer named none = record {
+pub body_refused : {S A : Type 0} (saw : S → Event → S → Type 0) (old : S) (reason : HeadRefusal) (fault : LengthFault) (head_only : Bool) (parts : RequestParts) (buffer : List ℕ)
+    → reason ≡ refusal_of fault → head_only ≡ bytes_eq parts.method (codes "HEAD") → IsBodyLength (Err fault) parts.fields (limit_of parts)
+    → Ran saw (AwaitsAnnounced parts buffer) old old (ReadsAs {A = Vec ℕ A} (Err (stop.Refused reason head_only)) (TakesBody parts) (StopsBody parts) buffer buffer)
+body_refused saw old reason fault head_only parts buffer told named none = record {
   events = [];
   steps = refl;
   timely = tt;
-  claimed = record { nothing_put = refl; ends = tt; of_stream = λ left new_left gives. (named, none) };
+  claimed = record { nothing_put = refl; ends = tt; of_stream = λ left new_left gives. (named, (fault, told, none)) };
 }
 
 -- ---- a request
@@ -218,19 +227,19 @@ body_refused saw old head_only parts buffer named none = record {
 ends_as : (A B : Type 0) (why : Stop) (events : List Event) → ReadEnds {A = A} (Err why) events → ReadEnds {A = B} (Err why) events
 ends_as A B stop.Ended events ends = ends
 ends_as A B stop.ReadFault events ends = ends
-ends_as A B (stop.BadHead head_only) events ends = ends
+ends_as A B (stop.Refused reason head_only) events ends = ends
 ends_as A B (stop.OutOfMemory head_only) events ends = ends
 
 ends_joined : (A B : Type 0) (why : Stop) (events past : List Event) → ReadEnds {A = A} (Err why) events → GoesOn past → ReadEnds {A = B} (Err why) (events ++ past)
 ends_joined A B stop.Ended events past ends on = latest_joined AtEnd events past ends
 ends_joined A B stop.ReadFault events past ends on = latest_joined ReadFails events past ends
-ends_joined A B (stop.BadHead head_only) events past ends on = goes_on_joined events past ends on
+ends_joined A B (stop.Refused reason head_only) events past ends on = goes_on_joined events past ends on
 ends_joined A B (stop.OutOfMemory head_only) events past ends on = goes_on_joined events past ends on
 
 body_stops_as : (P Q : Type 0) (old : Stream) (parts : RequestParts) (why : Stop) → (P → Q) → BodyStops P old parts why → BodyStops Q old parts why
 body_stops_as P Q old parts stop.Ended f stops = stops
 body_stops_as P Q old parts stop.ReadFault f stops = f stops
-body_stops_as P Q old parts (stop.BadHead head_only) f stops = stops
+body_stops_as P Q old parts (stop.Refused reason head_only) f stops = stops
 body_stops_as P Q old parts (stop.OutOfMemory head_only) f stops = stops
 
 head_awaits : (buffer got put : List ℕ) → AwaitsHead buffer got put → AwaitsRequest buffer got put
@@ -433,13 +442,13 @@ turn_silent saw old mid new why result is_last host buffer rest first events ste
 stops_as : (P Q : Type 0) (old : Stream) (why : Stop) → (P → Q) → Stops P old why → Stops Q old why
 stops_as P Q old stop.Ended f stops = stops
 stops_as P Q old stop.ReadFault f stops = f stops
-stops_as P Q old (stop.BadHead head_only) f stops = stops
+stops_as P Q old (stop.Refused reason head_only) f stops = stops
 stops_as P Q old (stop.OutOfMemory head_only) f stops = stops
 
 refuses_as : (P Q : Type 0) (result : Result (Unit {0}) ConnectionFault) (why : Stop) (held new_held : Stream) → (P → Q) → Refuses P result why held new_held → Refuses Q result why held new_held
 refuses_as P Q result stop.Ended held new_held f r = r
 refuses_as P Q result stop.ReadFault held new_held f r = r
-refuses_as P Q result (stop.BadHead head_only) held new_held f r = sends_as P Q result _ held new_held f r
+refuses_as P Q result (stop.Refused reason head_only) held new_held f r = sends_as P Q result _ held new_held f r
 refuses_as P Q result (stop.OutOfMemory head_only) held new_held f r = sends_as P Q result _ held new_held f r
 
 turn_told : {S : Type 0} (saw : S → Event → S → Type 0) (old mid new : S) (why : Stop) (result : Result (Unit {0}) ConnectionFault) (is_last : Bool) (host : Host) (buffer rest : List ℕ) (takes : Request → Stream → Stream → Type 0)
@@ -485,7 +494,7 @@ turn_refused saw old mid new stop.Ended result is_last host buffer rest takes fi
 turn_refused saw old mid new stop.ReadFault result is_last host buffer rest takes first second =
     turn_kept saw old mid new stop.ReadFault result is_last host buffer rest takes first second second.claimed.silent
     (λ P held. (second.claimed.refuses.0, refl))
-turn_refused saw old mid new (stop.BadHead head_only) result is_last host buffer rest takes first second =
-    turn_told saw old mid new (stop.BadHead head_only) result is_last host buffer rest takes first first.claimed.ends second
+turn_refused saw old mid new (stop.Refused reason head_only) result is_last host buffer rest takes first second =
+    turn_told saw old mid new (stop.Refused reason head_only) result is_last host buffer rest takes first first.claimed.ends second
 turn_refused saw old mid new (stop.OutOfMemory head_only) result is_last host buffer rest takes first second =
     turn_told saw old mid new (stop.OutOfMemory head_only) result is_last host buffer rest takes first first.claimed.ends second

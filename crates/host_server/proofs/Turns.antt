@@ -1,5 +1,5 @@
 -- One exchange, put together from its parts.
-use Rattle.std.proofs.Common.{◌≡◌, ◌<◌, inl, inr, ℕ, List, [], ◌++◌, length, Bool, true, false, Some, None, Result, Ok, Err, codes, refl, sym, ap, subst, ◌∙◌}
+use Rattle.std.proofs.Common.{◌≡◌, ◌<◌, inl, inr, ℕ, List, [], ◌++◌, length, Bool, true, false, Some, None, Result, Ok, Err, codes, refl, sym, ap, ap₂, subst, ◌∙◌}
 use Rattle.std.specs.Io.KnownBytes.{Appends, Consumes}
 use Rattle.std.proofs.KnownBytes.{Consumes-trans}
 use Rattle.std.specs.Str.{bytes_eq}
@@ -7,7 +7,7 @@ use Rattle.std.proofs.lemmas.List.{append-nil}
 use Rattle.http_wire.specs.Fields.{AnnouncesBody}
 use Rattle.http_wire.specs.Requests.{RequestParts}
 use Rattle.http_wire.specs.Wires.{ServesHead}
-use Rattle.host_api.specs.declared.refusals.Refusal.TheVariants.{BadHead, OutOfMemory}
+use Rattle.host_api.specs.declared.refusals.Refusal.TheVariants.{Head, OutOfMemory}
 use Rattle.host_server.specs.Hosts.{Host}
 use Rattle.host_server.specs.Replies.{Answer, IsAnswer, closes, refused_answer, sent_for, sent_text}
 use Rattle.host_server.specs.Serving.{Stream, limit_of, TakesRequest, IsAnswered, IsNotRead, IsFrontSent, IsSent, HeadStops, BodyStops, Stops, Sends, Refuses, Exchanges, Turns}
@@ -97,7 +97,7 @@ pub refused : (read_fails write_fails : Type 0) (why : Stop) (is_last : Bool) (h
     → Refuses write_fails (Ok tt) why held new_held → Turns read_fails write_fails (Ok next_is.End) is_last host old new held new_held host
 refused read_fails write_fails stop.Ended is_last host old new held new_held is_cut same = ([], inl (refl, is_cut, refl), sent_nothing held new_held same.1)
 refused read_fails write_fails stop.ReadFault is_last host old new held new_held fails same = absurd (cc (same.0))
-refused read_fails write_fails (stop.BadHead head_only) is_last host old new held new_held why sends = not_read read_fails write_fails is_last host old new held new_held _ why sends
+refused read_fails write_fails (stop.Refused reason head_only) is_last host old new held new_held why sends = not_read read_fails write_fails is_last host old new held new_held _ why sends
 refused read_fails write_fails (stop.OutOfMemory head_only) is_last host old new held new_held why sends = not_read read_fails write_fails is_last host old new held new_held _ why sends
 
 not_read_cut : (read_fails write_fails : Type 0) (fails : ConnectionFault) (is_last : Bool) (host : Host) (old new held new_held : Stream) (text : List ℕ) → IsNotRead old text
@@ -118,7 +118,7 @@ refused_cut read_fails write_fails stop.Ended fails is_last host old new held ne
 refused_cut read_fails write_fails stop.ReadFault fails is_last host old new held new_held read same =
     let is : fault.InputFault ≡ fails = sym (ap fault_of same.0) in
     subst (λ f. Turns read_fails write_fails (Err f) is_last host old new held new_held host) is (read, refl, sent_nothing held new_held same.1)
-refused_cut read_fails write_fails (stop.BadHead head_only) fails is_last host old new held new_held why sends =
+refused_cut read_fails write_fails (stop.Refused reason head_only) fails is_last host old new held new_held why sends =
     not_read_cut read_fails write_fails fails is_last host old new held new_held _ why sends
 refused_cut read_fails write_fails (stop.OutOfMemory head_only) fails is_last host old new held new_held why sends =
     not_read_cut read_fails write_fails fails is_last host old new held new_held _ why sends
@@ -128,7 +128,7 @@ refused_cut read_fails write_fails (stop.OutOfMemory head_only) fails is_last ho
 pub head_stopped : (read_fails : Type 0) (old : Stream) (why : Stop) → HeadStops read_fails old why → Stops read_fails old why
 head_stopped read_fails old stop.Ended is_cut = inl is_cut
 head_stopped read_fails old stop.ReadFault fails = fails
-head_stopped read_fails old (stop.BadHead head_only) refuses = inl refuses
+head_stopped read_fails old (stop.Refused reason head_only) refuses = inl refuses
 head_stopped read_fails old (stop.OutOfMemory head_only) none = inr (inr (inl none))
 
 pub body_stopped : (read_fails : Type 0) (old mid : Stream) (parts : RequestParts) (why : Stop) → ServesHead old mid parts → BodyStops read_fails mid parts why
@@ -144,14 +144,15 @@ body_stopped read_fails old mid parts stop.Ended head is_cut = inr (record {
   short = is_cut.2;
 })
 body_stopped read_fails old mid parts stop.ReadFault head fails = fails
-body_stopped read_fails old mid parts (stop.BadHead head_only) head none = inr (inl (record {
+body_stopped read_fails old mid parts (stop.Refused reason head_only) head none = inr (inl (record {
   parts = parts;
   text = head.0;
   new = mid;
   head = head.1;
   says = head.2;
-  none = none.1;
-  sent_is = ap (λ h. sent_text true h (refused_answer BadHead)) none.0;
+  why = none.1.0;
+  none = none.1.2;
+  sent_is = ap₂ (λ h r. sent_text true h (refused_answer (Head r))) none.0 none.1.1;
 }))
 body_stopped read_fails old mid parts (stop.OutOfMemory head_only) head none = inr (inr (inr (record {
   parts = parts;

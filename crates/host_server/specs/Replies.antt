@@ -1,5 +1,5 @@
 -- What a request is answered, and what the host has then.
-use Rattle.std.specs.Prelude.{◌≡◌, ◌⊎◌, ℕ, ◌+◌, List, [], ◌∷◌, Bool, true, false, ◌||◌, Option, Some, None, Result, Ok, Err, IsTrue, is_some, length, slice_range, if◌then◌else◌, codes}
+use Rattle.std.specs.Prelude.{◌≡◌, ◌⊎◌, ℕ, ◌+◌, List, [], ◌∷◌, Bool, true, false, ◌||◌, ◌==◌, Option, Some, None, Result, Ok, Err, IsTrue, is_some, length, slice_range, if◌then◌else◌, codes}
 use Rattle.std.specs.Str.{bytes_eq}
 use Rattle.hex.specs.Hex.{encode_lower}
 use Rattle.host_names.specs.Blobs.{digest_of}
@@ -241,10 +241,10 @@ IsAnswer host parts body answer next = IsReply host parts body answer next ⊎ I
 
 -- ---- what is sent
 
--- whether the connection is closed after the reply: where the request asks for it, and at the last that is answered
--- (RFC 9112, section 9.6)
+-- whether the connection is closed after the reply: at the last that is answered, where the request is one of HTTP/1.0,
+-- and where it asks for it (RFC 9112, sections 9.3 and 9.6)
 abbrev pub closes : RequestParts → Bool → Bool
-closes parts is_last = is_last || asks_close parts.fields
+closes parts is_last = is_last || parts.minor == 0 || asks_close parts.fields
 
 -- the fields of the reply, which closes the connection or not
 abbrev pub fields_for : Bool → Answer → HeadFields

@@ -3,13 +3,17 @@ use Rattle.std.specs.Prelude.{◌≡◌, ◌⊎◌, ℕ, ◌+◌, ◌<◌, ◌�
 use Rattle.std.specs.Io.KnownBytes.{Consumes, Appends}
 use Rattle.std.specs.List.{concat}
 use Rattle.std.specs.Str.{bytes_eq}
-use Rattle.http_wire.specs.Fields.{AnnouncesBody}
+use Rattle.http_wire.specs.declared.faults.LengthFault.{LengthFault}
+use Rattle.http_wire.specs.declared.faults.LengthFault.TheVariants as fault_of
+use Rattle.http_wire.specs.Fields.{AnnouncesBody, IsBodyLength}
 use Rattle.http_wire.specs.HeadText.{IsHeadText, CutShort, head_limit}
 use Rattle.http_wire.specs.Requests.{RequestParts, Says}
 use Rattle.http_wire.specs.Sending.{AppendsFront}
-use Rattle.http_wire.specs.Wires.{HasWholeHead, TakesHead, RefusesHead}
+use Rattle.http_wire.specs.Wires.{HasWholeHead, TakesHead, RefusesHead, RefusesLargeHead}
 use Rattle.host_api.specs.Limits.{body_limit}
-use Rattle.host_api.specs.declared.refusals.Refusal.TheVariants.{BadHead, OutOfMemory}
+use Rattle.host_api.specs.declared.refusals.HeadRefusal.{HeadRefusal}
+use Rattle.host_api.specs.declared.refusals.HeadRefusal.TheVariants.{HeadTooLarge, BadHead, CodingRefused, LengthBad, BodyTooLarge}
+use Rattle.host_api.specs.declared.refusals.Refusal.TheVariants.{Head, OutOfMemory}
 use Rattle.host_server.specs.declared.connections.ConnectionFault.{ConnectionFault}
 use Rattle.host_server.specs.declared.connections.ConnectionFault.TheVariants as fault
 use Rattle.host_server.specs.declared.connections.Next.{Next}
@@ -48,9 +52,21 @@ pub record IsAnswered (host : Host) (is_last close : Bool) (old : Stream) (sent 
   pub is_answer : IsAnswer host parts body answer next
   pub sent_is : sent ≡ sent_for close parts.method answer
 
--- the head is not one that is served, and the reply has its body, since the method is not known
+-- no head that is served can be read, for this reason
+abbrev pub IsHeadBad : HeadRefusal → Stream → Type 0
+IsHeadBad HeadTooLarge old = (new : Stream) × RefusesLargeHead old new
+IsHeadBad BadHead old = (new : Stream) × RefusesHead old new
+IsHeadBad why old = ⊥
+
+-- that is told, and the reply has its body, since the method is not known
 abbrev pub IsHeadRefused : Stream → List ℕ → Type 0
-IsHeadRefused old sent = (new : Stream) × RefusesHead old new × (sent ≡ sent_text true false (refused_answer BadHead))
+IsHeadRefused old sent = (why : HeadRefusal) × IsHeadBad why old × (sent ≡ sent_text true false (refused_answer (Head why)))
+
+-- what is told of a fault of the body's length
+abbrev pub refusal_of : LengthFault → HeadRefusal
+refusal_of fault_of.CodingRefused = CodingRefused
+refusal_of fault_of.LengthBad = LengthBad
+refusal_of fault_of.BodyTooLarge = BodyTooLarge
 
 -- the head announces no body that is read
 pub record IsBodyRefused (old : Stream) (sent : List ℕ) : Type 0 where
@@ -59,8 +75,9 @@ pub record IsBodyRefused (old : Stream) (sent : List ℕ) : Type 0 where
   pub new : Stream
   pub head : TakesHead old new text
   pub says : Says text parts
-  pub none : (n : ℕ) → ¬ (AnnouncesBody parts.fields (limit_of parts) n)
-  pub sent_is : sent ≡ sent_for true parts.method (refused_answer BadHead)
+  pub why : LengthFault
+  pub none : IsBodyLength (Err why) parts.fields (limit_of parts)
+  pub sent_is : sent ≡ sent_for true parts.method (refused_answer (Head (refusal_of why)))
 
 -- there is no memory for the head that is there, and the reply has its body, since the method is not known
 abbrev pub IsHeadWithoutMemory : Stream → List ℕ → Type 0
@@ -156,15 +173,16 @@ pub record Serves (read_fails write_fails : Type 0) (result : Result (Unit {0}) 
 abbrev pub HeadStops : (read_fails : Type 0) → Stream → Stop → Type 0
 HeadStops read_fails old stop.Ended = IfSome old CutShort
 HeadStops read_fails old stop.ReadFault = read_fails
-HeadStops read_fails old (stop.BadHead head_only) = IsHeadRefused old (sent_text true head_only (refused_answer BadHead))
+HeadStops read_fails old (stop.Refused why head_only) = IsHeadRefused old (sent_text true head_only (refused_answer (Head why)))
 HeadStops read_fails old (stop.OutOfMemory head_only) = IsHeadWithoutMemory old (sent_text true head_only (refused_answer OutOfMemory))
 
 -- why it gives no body that the head announces
 abbrev pub BodyStops : (read_fails : Type 0) → Stream → RequestParts → Stop → Type 0
 BodyStops read_fails old parts stop.Ended = (size : ℕ) × AnnouncesBody parts.fields (limit_of parts) size × IfSome old (λ left. length left < size)
 BodyStops read_fails old parts stop.ReadFault = read_fails
-BodyStops read_fails old parts (stop.BadHead head_only) =
-    (head_only ≡ bytes_eq parts.method (codes "HEAD")) × ((n : ℕ) → ¬ (AnnouncesBody parts.fields (limit_of parts) n))
+BodyStops read_fails old parts (stop.Refused why head_only) =
+    (head_only ≡ bytes_eq parts.method (codes "HEAD"))
+    × ((fault : LengthFault) × (why ≡ refusal_of fault) × IsBodyLength (Err fault) parts.fields (limit_of parts))
 BodyStops read_fails old parts (stop.OutOfMemory head_only) =
     (head_only ≡ bytes_eq parts.method (codes "HEAD")) × ((size : ℕ) × (0 < size) × AnnouncesBody parts.fields (limit_of parts) size)
 
@@ -172,7 +190,7 @@ BodyStops read_fails old parts (stop.OutOfMemory head_only) =
 abbrev pub Stops : (read_fails : Type 0) → Stream → Stop → Type 0
 Stops read_fails old stop.Ended = IsCut old
 Stops read_fails old stop.ReadFault = read_fails
-Stops read_fails old (stop.BadHead head_only) = IsNotRead old (sent_text true head_only (refused_answer BadHead))
+Stops read_fails old (stop.Refused why head_only) = IsNotRead old (sent_text true head_only (refused_answer (Head why)))
 Stops read_fails old (stop.OutOfMemory head_only) = IsNotRead old (sent_text true head_only (refused_answer OutOfMemory))
 
 -- ---- what is sent of a text
@@ -188,8 +206,8 @@ Sends write_fails (Err fault.OutOfMemory) text held new_held = ⊥
 abbrev pub Refuses : (write_fails : Type 0) → Result (Unit {0}) ConnectionFault → Stop → Stream → Stream → Type 0
 Refuses write_fails result stop.Ended held new_held = (result ≡ Ok tt) × (new_held ≡ held)
 Refuses write_fails result stop.ReadFault held new_held = (result ≡ Err fault.InputFault) × (new_held ≡ held)
-Refuses write_fails result (stop.BadHead head_only) held new_held =
-    Sends write_fails result (sent_text true head_only (refused_answer BadHead)) held new_held
+Refuses write_fails result (stop.Refused why head_only) held new_held =
+    Sends write_fails result (sent_text true head_only (refused_answer (Head why))) held new_held
 Refuses write_fails result (stop.OutOfMemory head_only) held new_held =
     Sends write_fails result (sent_text true head_only (refused_answer OutOfMemory)) held new_held
 

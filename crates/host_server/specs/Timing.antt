@@ -45,7 +45,7 @@ abbrev pub ReadEnds : {A : Type 0} → Result A Stop → List Event → Type 0
 ReadEnds (Ok value) events = GoesOn events
 ReadEnds (Err stop.Ended) events = IsLatest AtEnd events
 ReadEnds (Err stop.ReadFault) events = IsLatest ReadFails events
-ReadEnds (Err (stop.BadHead head_only)) events = GoesOn events
+ReadEnds (Err (stop.Refused why head_only)) events = GoesOn events
 ReadEnds (Err (stop.OutOfMemory head_only)) events = GoesOn events
 
 -- nothing was written, and of each stream of which these reads are the next something was taken, or it says why not
@@ -66,7 +66,7 @@ pub record SendsAs (result : Result (Unit {0}) ConnectionFault) (text : List ℕ
 abbrev pub IsSilent : Stop → List Event → Type 0
 IsSilent stop.Ended events = events ≡ []
 IsSilent stop.ReadFault events = events ≡ []
-IsSilent (stop.BadHead head_only) events = Unit {0}
+IsSilent (stop.Refused why head_only) events = Unit {0}
 IsSilent (stop.OutOfMemory head_only) events = Unit {0}
 
 -- what is sent where no request is read, and that it is nothing where the stream ended or failed

@@ -19,6 +19,7 @@ use crate::host::{HostView, SoloHouse, file, list_changes, show_deploy};
 use crate::replies::Reply;
 use host_api::{Ask, Refusal, Told, Version, ask_of, route_of};
 use host_names::{FilePath, SiteName};
+use http::Version as HttpVersion;
 use http_wire::Head;
 use range_spec::{Asked, Choice, parse, select};
 use std::alloc::Global;
@@ -39,7 +40,7 @@ impl Request {
     pub(crate) fn closes(&self) -> bool
         ensures { result ≡ spec.closes self.now.head self.now.is_last }
     {
-        self.is_last || self.head.asks_close()
+        self.is_last || self.head.version() == HttpVersion::HTTP_10 || self.head.asks_close()
     }
 }
 

@@ -8,14 +8,14 @@ ghost use Rattle.http_wire.specs.Wires.{AwaitsHead, ServesHead};
 ghost use Rattle.host_server.specs.Answers.{Grows};
 ghost use Rattle.host_server.specs.Bodies.{answer_of};
 ghost use Rattle.host_server.specs.Replies.{closes, sent_text};
-ghost use Rattle.host_server.specs.Serving.{limit_of, TakesRequest, HeadStops, BodyStops, Stops, Serves};
+ghost use Rattle.host_server.specs.Serving.{limit_of, refusal_of, TakesRequest, HeadStops, BodyStops, Stops, Serves};
 ghost use Rattle.host_server.specs.Timing.{AwaitsAnnounced, AwaitsRequest, IsCaughtUp, ReadsAs, SendsAs, RefusesAs, ExchangesAs, TurnsAs, Connects};
 
 use crate::answers::{Request, answer};
 use crate::host::SoloHouse;
 use crate::replies::Reply;
-use host_api::body_limit;
-use http_wire::{BodyFault, Duplex, Head, HeadFault, Wire, check_body};
+use host_api::{HeadRefusal, body_limit};
+use http_wire::{BodyFault, Duplex, Head, HeadFault, LengthFault, Wire, check_body};
 use std::alloc::Global;
 use thiserror::Error;
 
@@ -42,8 +42,8 @@ enum Stop {
     Ended,
     /// A read failed.
     ReadFault,
-    /// The head is not answered, or announces no body that is read.
-    BadHead { head_only: bool },
+    /// The request is refused by its head.
+    Refused { why: HeadRefusal, head_only: bool },
     /// There was no memory for the request.
     OutOfMemory { head_only: bool },
 }
@@ -65,7 +65,14 @@ fn read_head<D: Duplex>(wire: &mut Wire, duplex: &mut D) -> Result<Head, Stop>
         Ok(head) => Ok(head),
         Err(HeadFault::Ended) => Err(Stop::Ended),
         Err(HeadFault::ReadFault) => Err(Stop::ReadFault),
-        Err(HeadFault::BadHead) => Err(Stop::BadHead { head_only: false }),
+        Err(HeadFault::HeadTooLarge) => Err(Stop::Refused {
+            why: HeadRefusal::HeadTooLarge,
+            head_only: false,
+        }),
+        Err(HeadFault::BadHead) => Err(Stop::Refused {
+            why: HeadRefusal::BadHead,
+            head_only: false,
+        }),
         Err(HeadFault::OutOfMemory) => Err(Stop::OutOfMemory { head_only: false }),
     }
 }
@@ -77,6 +84,17 @@ fn is_head_only(head: &Head) -> bool
     head.method().as_str() == "HEAD"
 }
 
+/// What a request is refused by whose head announces no body that is read.
+fn refusal_of(fault: LengthFault) -> HeadRefusal
+    ensures { result ≡ refusal_of fault }
+{
+    match fault {
+        LengthFault::CodingRefused => HeadRefusal::CodingRefused,
+        LengthFault::LengthBad => HeadRefusal::LengthBad,
+        LengthFault::BodyTooLarge => HeadRefusal::BodyTooLarge,
+    }
+}
+
 /// Reads the body that a head announces.
 fn read_body<D: Duplex>(wire: &mut Wire, duplex: &mut D, head: &Head) -> Result<Vec<u8>, Stop>
     ensures { Ran D.saw (AwaitsAnnounced head.now wire.old) duplex.old duplex.new
@@ -84,10 +102,14 @@ fn read_body<D: Duplex>(wire: &mut Wire, duplex: &mut D, head: &Head) -> Result<
         (λ read_fails old. BodyStops read_fails old head.now) wire.old wire.new) }
 {
     let limit = body_limit(head.method().as_str(), head.target());
-    let Ok(size) = check_body(head, limit) else {
-        return Err(Stop::BadHead {
-            head_only: is_head_only(head),
-        });
+    let size = match check_body(head, limit) {
+        Ok(size) => size,
+        Err(fault) => {
+            return Err(Stop::Refused {
+                why: refusal_of(fault),
+                head_only: is_head_only(head),
+            });
+        }
     };
     match wire.read_body(duplex, size) {
         Ok(body) => Ok(body),
@@ -136,7 +158,7 @@ fn refuse<D: Duplex>(duplex: &mut D, stop: Stop) -> Result<(), ConnectionFault>
     match stop {
         Stop::Ended => Ok(()),
         Stop::ReadFault => Err(ConnectionFault::InputFault),
-        Stop::BadHead { head_only } => send(duplex, Reply::bad_head(), true, head_only),
+        Stop::Refused { why, head_only } => send(duplex, Reply::refusing(why), true, head_only),
         Stop::OutOfMemory { head_only } => send(duplex, Reply::out_of_memory(), true, head_only),
     }
 }

@@ -5,7 +5,7 @@ ghost use Rattle.http_wire.specs.Sending.{WritesText};
 ghost use Rattle.http_wire.specs.Timing.{NoRead, Ran};
 ghost use Rattle.range_spec.specs.declared.selection.Choice.TheVariants.{One};
 ghost use Rattle.host_api.specs.Texts.{has_cell, told_text};
-ghost use Rattle.host_api.specs.declared.refusals.Refusal.TheVariants.{BadHead, OutOfMemory};
+ghost use Rattle.host_api.specs.declared.refusals.Refusal.TheVariants.{Head, OutOfMemory};
 ghost use Rattle.host_server.specs.Bodies.{answer_of, bytes_of};
 ghost use Rattle.host_server.specs.Replies as spec;
 ghost use Rattle.host_server.specs.Answers.{Tells};
@@ -14,7 +14,7 @@ ghost use Rattle.host_server.specs.Replies.{told_answer, refused_answer, file_an
 ghost use Rattle.range_spec.specs.Chosen.{LiesWithin, intervals_in};
 
 use crate::bodies::{Body, FilePart};
-use host_api::{Refusal, Told, content_type, short_text, text};
+use host_api::{HeadRefusal, Refusal, Told, content_type, short_text, text};
 use host_names::{Digest, FilePath};
 use http::StatusCode;
 use http_wire::{ContentRange, Duplex, FieldText, ReplyHead, WriteFault, write_reply};
@@ -121,12 +121,15 @@ impl Reply {
         Reply::with_json(&Told::Refused(Refusal::OutOfMemory), body)
     }
 
-    /// The reply to a head that is not answered. It takes no memory.
-    pub(crate) fn bad_head() -> Reply
-        ensures { answer_of result ≡ refused_answer BadHead }
+    /// The reply to a request that is refused by its head. It takes no memory.
+    pub(crate) fn refusing(why: HeadRefusal) -> Reply
+        ensures { answer_of result ≡ refused_answer (Head why) }
     {
-        let body = Body::Fixed("{\"error\":\"BadHead\"}");
-        Reply::with_json(&Told::Refused(Refusal::BadHead), body)
+        let told = Told::Refused(Refusal::Head(why));
+        match short_body(&told) {
+            Some(body) => Reply::with_json(&told, body),
+            None => unreachable!(),
+        }
     }
 
     /// The reply with a part of the file at a path, or with the whole of it. Its entity tag is the digest of the whole

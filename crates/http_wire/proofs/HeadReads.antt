@@ -1,14 +1,14 @@
 -- What the reads of a head and a body bring.
-use Rattle.std.proofs.Common.{◌≡◌, ℕ, ◌<◌, ◌≤◌, inl, inr, true, false, List, [], ◌∷◌, ◌++◌, length, take, drop, Option, Some, None, Ok, Err, refl, sym, ap, ◌∙◌, subst, append_assoc, append-nil, arith}
+use Rattle.std.proofs.Common.{◌≡◌, ℕ, ◌<◌, ◌≤◌, inl, inr, true, false, List, [], ◌∷◌, ◌++◌, length, take, drop, Option, Some, None, Result, Ok, Err, refl, sym, ap, ◌∙◌, subst, append_assoc, append-nil, arith}
 use Rattle.std.specs.Io.KnownBytes.{Keeps, prepend_known}
 use Rattle.http_wire.specs.declared.faults.HeadFault.{HeadFault}
 use Rattle.http_wire.specs.declared.faults.HeadFault.TheVariants as head_fault
 use Rattle.http_wire.specs.declared.scans.State.{State}
 use Rattle.http_wire.specs.HeadText.{CutShort, head_limit}
-use Rattle.http_wire.specs.Requests.{RequestParts, Says, SaysNothing}
+use Rattle.http_wire.specs.Requests.{RequestParts, Says, IsParsedAs}
 use Rattle.http_wire.specs.Scanning.{is_done}
 use Rattle.http_wire.specs.Timing.{Event, AtEnd, ReadFails, read_of, all_got, all_put, GoesOn, Timely, Steps, Gives, Ran}
-use Rattle.http_wire.specs.Wires.{AwaitsHead, ReadsHead, FindsHead}
+use Rattle.http_wire.specs.Wires.{AwaitsHead, ReadsHead, FindsHead, TakesHead}
 use Rattle.http_wire.proofs.Searches.{HasScanned, none_found, head_before, overlong_from, cut_short_from}
 use Rattle.http_wire.proofs.Taking.{head_taken}
 use Rattle.http_wire.proofs.Trails.{got_read, put_read, goes_on_read, timely_read}
@@ -74,7 +74,7 @@ found saw old new buffer bytes state scanned so scan done = record {
 -- the head is too long
 pub too_long : {S : Type 0} (saw : S → Event → S → Type 0) (old new : S) (buffer bytes : List ℕ) (state : State) (scanned : ℕ)
     → HeadSoFar saw old new buffer bytes → HasScanned bytes state scanned → is_done state ≡ false → length bytes ≡ head_limit
-    → Ran saw (AwaitsHead buffer) old new (FindsHead (Err head_fault.BadHead) buffer bytes)
+    → Ran saw (AwaitsHead buffer) old new (FindsHead (Err head_fault.HeadTooLarge) buffer bytes)
 too_long saw old new buffer bytes state scanned so scan nd full = record {
   events = so.events;
   steps = so.steps;
@@ -140,7 +140,8 @@ head_missed head_fault.ReadFault buffer bytes events finds = record {
   ends = finds.found;
   of_stream = λ left new_left gives. kept_behind events left new_left buffer bytes gives finds.grown;
 }
-head_missed head_fault.BadHead buffer bytes events finds = record {
+head_missed head_fault.BadHead buffer bytes events finds = absurd finds.found
+head_missed head_fault.HeadTooLarge buffer bytes events finds = record {
   nothing_put = finds.nothing_put;
   ends = finds.found.0;
   of_stream = λ left new_left gives. inr (
@@ -150,33 +151,33 @@ head_missed head_fault.BadHead buffer bytes events finds = record {
 }
 head_missed head_fault.OutOfMemory buffer bytes events finds = absurd finds.found
 
-pub head_served : (parts : RequestParts) (count : ℕ) (buffer bytes rest : List ℕ) (events : List Event) → FindsHead (Ok count) buffer bytes events
-    → length bytes ≤ head_limit → Says (take count bytes) parts → rest ≡ drop count bytes → ReadsHead (Ok parts) buffer rest events
-head_served parts count buffer bytes rest events finds room says is =
-    let all : ReadsHead (Ok parts) buffer (drop count bytes) events = record {
-      nothing_put = finds.nothing_put;
-      ends = finds.found.0;
-      of_stream = λ left new_left gives. (
-        take count bytes,
-        head_taken (prepend_known buffer left) new_left bytes count (kept_behind events left new_left buffer bytes gives finds.grown) finds.found.1 room finds.found.2,
-        says,
-      );
-    } in
-    subst (λ r. ReadsHead (Ok parts) buffer r events) (sym is) all
+-- the head is taken from the stream
+taken : (count : ℕ) (buffer bytes : List ℕ) (events : List Event) (finds : FindsHead (Ok count) buffer bytes events) → length bytes ≤ head_limit
+    → (left new_left : Option (List ℕ)) → Gives events left new_left → TakesHead (prepend_known buffer left) (prepend_known (drop count bytes) new_left) (take count bytes)
+taken count buffer bytes events finds room left new_left gives =
+    head_taken (prepend_known buffer left) new_left bytes count (kept_behind events left new_left buffer bytes gives finds.grown) finds.found.1 room finds.found.2
 
-pub head_refused : (count : ℕ) (buffer bytes rest : List ℕ) (events : List Event) → FindsHead (Ok count) buffer bytes events
-    → length bytes ≤ head_limit → SaysNothing (take count bytes) → rest ≡ drop count bytes → ReadsHead (Err head_fault.BadHead) buffer rest events
-head_refused count buffer bytes rest events finds room says is =
-    let all : ReadsHead (Err head_fault.BadHead) buffer (drop count bytes) events = record {
-      nothing_put = finds.nothing_put;
-      ends = finds.found.0;
-      of_stream = λ left new_left gives. inl (
-        take count bytes,
-        head_taken (prepend_known buffer left) new_left bytes count (kept_behind events left new_left buffer bytes gives finds.grown) finds.found.1 room finds.found.2,
-        says,
-      );
-    } in
-    subst (λ r. ReadsHead (Err head_fault.BadHead) buffer r events) (sym is) all
+-- what the reading of the head answers, where it is taken
+pub head_judged : (result : Result RequestParts HeadFault) (count : ℕ) (buffer bytes : List ℕ) (events : List Event) → FindsHead (Ok count) buffer bytes events
+    → length bytes ≤ head_limit → IsParsedAs result (take count bytes) → ReadsHead result buffer (drop count bytes) events
+head_judged (Ok parts) count buffer bytes events finds room says = record {
+  nothing_put = finds.nothing_put;
+  ends = finds.found.0;
+  of_stream = λ left new_left gives. (take count bytes, taken count buffer bytes events finds room left new_left gives, says);
+}
+head_judged (Err head_fault.HeadTooLarge) count buffer bytes events finds room says = record {
+  nothing_put = finds.nothing_put;
+  ends = finds.found.0;
+  of_stream = λ left new_left gives. inl (take count bytes, taken count buffer bytes events finds room left new_left gives, says);
+}
+head_judged (Err head_fault.BadHead) count buffer bytes events finds room says = record {
+  nothing_put = finds.nothing_put;
+  ends = finds.found.0;
+  of_stream = λ left new_left gives. (take count bytes, taken count buffer bytes events finds room left new_left gives, says);
+}
+head_judged (Err head_fault.Ended) count buffer bytes events finds room says = absurd says
+head_judged (Err head_fault.ReadFault) count buffer bytes events finds room says = absurd says
+head_judged (Err head_fault.OutOfMemory) count buffer bytes events finds room says = absurd says
 
 pub head_without_memory : (parts : RequestParts) (count : ℕ) (buffer bytes : List ℕ) (events : List Event) → FindsHead (Ok count) buffer bytes events
     → length bytes ≤ head_limit → Says (take count bytes) parts → ReadsHead (Err head_fault.OutOfMemory) buffer bytes events
@@ -189,7 +190,7 @@ head_without_memory parts count buffer bytes events finds room says = record {
       parts,
       (
         take count bytes,
-        head_taken (prepend_known buffer left) new_left bytes count (kept_behind events left new_left buffer bytes gives finds.grown) finds.found.1 room finds.found.2,
+        taken count buffer bytes events finds room left new_left gives,
         says,
       ),
     ),

@@ -1,5 +1,5 @@
 -- What the parser of `httparse` says of a head that is served, and the other way round.
-use Rattle.std.proofs.Common.{◌≡◌, ℕ, ◌≤◌, List, [], ◌++◌, length, drop, Some, Result, Ok, Err, OnErr, refl, sym, ap, ◌∙◌, append-nil, arith, take}
+use Rattle.std.proofs.Common.{◌≡◌, ◌≢◌, ℕ, ◌≤◌, List, [], ◌++◌, length, drop, Some, Result, Ok, Err, OnErr, refl, sym, ap, subst, ◌∙◌, append-nil, arith, take}
 use Rattle.std.specs.Prelude.{slice_get, IsTrue}
 use Rattle.std.proofs.lemmas.List.{length-take, length-map}
 use Rattle.std.proofs.lemmas.List.Elements.{All-weaker}
@@ -7,11 +7,12 @@ use Rattle.httparse.specs.declared.Status.TheVariants.{Complete}
 use Rattle.httparse.specs.declared.spans.HeaderSpan.{HeaderSpan}
 use Rattle.httparse.specs.declared.spans.RequestSpans.{RequestSpans}
 use Rattle.httparse.specs.Grammar as grammar
-use Rattle.httparse.specs.Grammar.{RequestHead, print_request, ReadsRequest}
+use Rattle.httparse.specs.Grammar.{RequestHead, print_request, ReadsRequest, HasNoRequest, NeverHasRequest}
 use Rattle.httparse.specs.Spans.{IsRequestAt, FindsRequest, span_bytes, header_bytes, name_and_value}
+use Rattle.httparse.proofs.GrammarLemmas.{request_unique}
 use Rattle.http_header.specs.Token as token
 use Rattle.http_wire.specs.HeadText.{IsHeadText}
-use Rattle.http_wire.specs.Requests.{IsServed, SaysSomething, parts_of}
+use Rattle.http_wire.specs.Requests.{IsServed, IsBadHead, SaysSomething, parts_of}
 use Rattle.http_wire.specs.Scanning.{rest_from}
 use Rattle.http_wire.specs.declared.scans.State.TheVariants.{Before}
 use Rattle.http_wire.proofs.HeadEnds.{head_runs}
@@ -44,26 +45,45 @@ text_is_head text headers spans head whole found =
     let none : rest ≡ [] = cc in
     found.reads.1 ∙ ap (λ u. print_request head ++ u) none ∙ append-nil (print_request head)
 
--- such an answer is a head that is served, where it is of HTTP/1.1 and has a path
-pub served_from : (text : List ℕ) (headers : List HeaderSpan) (spans : RequestSpans) (head : RequestHead)
-    → IsHeadText text → IsRequestAt text headers spans head → spans.version ≡ 1
-    → slice_get (span_bytes text spans.path) 0 ≡ Some 47 → length headers ≡ 64
-    → (x : RequestHead) × IsServed x × (text ≡ print_request x) × IsRequestAt text headers spans x
-served_from text headers spans head whole found version path room =
-    let count : length head.fields ≤ 64 =
+-- the fields of an answer fit
+fields_fit : (text : List ℕ) (headers : List HeaderSpan) (spans : RequestSpans) (head : RequestHead) → IsRequestAt text headers spans head → length headers ≡ 64
+    → length head.fields ≤ 64
+fields_fit text headers spans head found room =
     omega (
       arith,
       room,
       length-take spans.headers headers,
       sym (length-map (take spans.headers headers) (header_bytes text)) ∙ ap length found.fields ∙ length-map head.fields name_and_value,
-    ) in
+    )
+
+-- such an answer is a head that is served, where it has a path
+pub served_from : (text : List ℕ) (headers : List HeaderSpan) (spans : RequestSpans) (head : RequestHead)
+    → IsHeadText text → IsRequestAt text headers spans head
+    → slice_get (span_bytes text spans.path) 0 ≡ Some 47 → length headers ≡ 64
+    → (x : RequestHead) × IsServed x × (text ≡ print_request x) × IsRequestAt text headers spans x
+served_from text headers spans head whole found path room =
     let served : IsServed head = record {
       lawful = found.reads.0;
-      version = sym found.version ∙ version;
       path = ap (λ t. slice_get t 0) (sym found.path) ∙ path;
-      room = count;
+      room = fields_fit text headers spans head found room;
     } in
     (head, served, text_is_head text headers spans head whole found, found)
+
+-- where it has no path, the text is a bad head
+pub bad_from : (text : List ℕ) (headers : List HeaderSpan) (spans : RequestSpans) (found : RequestHead)
+    → IsRequestAt text headers spans found → slice_get (span_bytes text spans.path) 0 ≢ Some 47 → length headers ≡ 64 → IsBadHead text
+bad_from text headers spans found at no_path room head lawful e =
+    let same = request_unique text found head (drop spans.len text) [] at.reads (lawful, e ∙ sym (append-nil (print_request head))) in (
+      subst (λ h. length h.fields ≤ 64) same.0 (fields_fit text headers spans found at room),
+      λ path. no_path (ap (λ t. slice_get t 0) (at.path ∙ ap (λ (h : RequestHead). h.target) same.0) ∙ path),
+    )
+
+-- so is a text that no head of the grammar begins
+pub bad_without : (text : List ℕ) → HasNoRequest text → IsBadHead text
+bad_without text none head lawful e = absurd (none head [] (lawful, e ∙ sym (append-nil (print_request head))))
+
+pub bad_for_ever : (text : List ℕ) → NeverHasRequest text → IsBadHead text
+bad_for_ever text never = bad_without text (subst HasNoRequest (append-nil text) (never []))
 
 -- a text that such a head prints says something
 pub something_said : (text : List ℕ) (head : RequestHead) → IsServed head → text ≡ print_request head → SaysSomething text

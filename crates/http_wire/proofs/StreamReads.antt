@@ -10,7 +10,7 @@ use Rattle.http_wire.specs.declared.faults.HeadFault.TheVariants as head_fault
 use Rattle.http_wire.specs.HeadText.{CutShort}
 use Rattle.http_wire.specs.Requests.{RequestParts}
 use Rattle.http_wire.specs.Timing.{Event, ReadFails, IsLatest}
-use Rattle.http_wire.specs.Wires.{ServesHead, RefusesHead, HasWholeHead, HeadIsOf, HeadEnds, BodyIsOf, BodyEnds}
+use Rattle.http_wire.specs.Wires.{ServesHead, RefusesHead, RefusesLargeHead, HasWholeHead, HeadIsOf, HeadEnds, BodyIsOf, BodyEnds}
 
 pub head_ok : (result : Result RequestParts HeadFault) (old new : Option (List ℕ)) → HeadIsOf result old new → IfOk result (ServesHead old new)
 head_ok (Ok parts) old new is = is
@@ -19,18 +19,23 @@ head_ok (Err fault) old new is = tt
 pub head_bad : (result : Result RequestParts HeadFault) (old new : Option (List ℕ)) → HeadIsOf result old new → IsErrOf result head_fault.BadHead → RefusesHead old new
 head_bad result old new is err = subst (λ r. HeadIsOf r old new) err is
 
+pub head_large : (result : Result RequestParts HeadFault) (old new : Option (List ℕ)) → HeadIsOf result old new → IsErrOf result head_fault.HeadTooLarge
+    → RefusesLargeHead old new
+head_large result old new is err = subst (λ r. HeadIsOf r old new) err is
+
 pub head_ended : (result : Result RequestParts HeadFault) (old new : Option (List ℕ)) → HeadIsOf result old new → IsErrOf result head_fault.Ended → IfSome old CutShort
 head_ended result old new is err = let ended = subst (λ r. HeadIsOf r old new) err is in ended.0
 
 pub head_memory : (result : Result RequestParts HeadFault) (old new : Option (List ℕ)) → HeadIsOf result old new → IsErrOf result head_fault.OutOfMemory → HasWholeHead old
 head_memory result old new is err = let whole = subst (λ r. HeadIsOf r old new) err is in whole.0
 
-pub head_kept : (result : Result RequestParts HeadFault) (old new : Option (List ℕ)) → HeadIsOf result old new → IfErr result (λ e. e ≢ head_fault.BadHead → Keeps old new)
+pub head_kept : (result : Result RequestParts HeadFault) (old new : Option (List ℕ)) → HeadIsOf result old new → IfErr result (λ e. e ≢ head_fault.BadHead → e ≢ head_fault.HeadTooLarge → Keeps old new)
 head_kept (Ok parts) old new is = tt
-head_kept (Err head_fault.Ended) old new is = λ other. is.1
-head_kept (Err head_fault.ReadFault) old new is = λ other. is
-head_kept (Err head_fault.BadHead) old new is = λ other. absurd (other refl)
-head_kept (Err head_fault.OutOfMemory) old new is = λ other. is.1
+head_kept (Err head_fault.Ended) old new is = λ other short. is.1
+head_kept (Err head_fault.ReadFault) old new is = λ other short. is
+head_kept (Err head_fault.BadHead) old new is = λ other short. absurd (other refl)
+head_kept (Err head_fault.HeadTooLarge) old new is = λ other short. absurd (short refl)
+head_kept (Err head_fault.OutOfMemory) old new is = λ other short. is.1
 
 pub head_failed : (read_fails : Type 0) (result : Result RequestParts HeadFault) (events : List Event) → HeadEnds result events → (IsLatest ReadFails events → read_fails)
     → IsErrOf result head_fault.ReadFault → read_fails

@@ -8,3 +8,4 @@ pub mod Sending
 pub mod FieldTexts
 pub mod Replies
 pub mod Connections
+pub mod Expectations

@@ -1,9 +1,11 @@
 -- What a request's head says (RFC 9112, sections 2 to 5), by the grammar of `httparse`.
-use Rattle.std.specs.Prelude.{◌≡◌, ◌≢◌, ℕ, ◌≤◌, List, map, length, slice_get, Some, if◌then◌else◌, ◌==◌}
+use Rattle.std.specs.Prelude.{◌≡◌, ◌≢◌, ℕ, ◌≤◌, List, Result, Ok, Err, map, length, slice_get, Some, if◌then◌else◌, ◌==◌}
 use Rattle.http.specs.declared.version.Version.{Version}
 use Rattle.http.specs.declared.version.TheConstants.Version.{HTTP_10, HTTP_11}
 use Rattle.httparse.specs.Grammar.{RequestHead, IsRequestHead, print_request}
-use Rattle.httparse.specs.Spans.{name_and_value}
+use Rattle.httparse.specs.Spans.{RequestExceeds, name_and_value}
+use Rattle.http_wire.specs.declared.faults.HeadFault.{HeadFault}
+use Rattle.http_wire.specs.declared.faults.HeadFault.TheVariants as head_fault
 
 -- how many fields a head has at most
 abbrev pub field_limit : ℕ
@@ -23,10 +25,9 @@ parts_of h = record { method = h.method; target = h.target; minor = h.minor; fie
 abbrev pub version_of : ℕ → Version
 version_of minor = if minor == 0 then HTTP_10 else HTTP_11
 
--- a head that is served: of the grammar, of HTTP/1.1, with a target that begins with a slash, and with fields that fit
+-- a head that is served: of the grammar, with a target that begins with a slash, and with fields that fit
 pub record IsServed (h : RequestHead) : Type 0 where
   pub lawful : IsRequestHead h
-  pub version : h.minor ≡ 1
   pub path : slice_get h.target 0 ≡ Some 47
   pub room : length h.fields ≤ field_limit
 
@@ -41,6 +42,22 @@ pub record Says (text : List ℕ) (parts : RequestParts) : Type 0 where
 abbrev pub SaysSomething : List ℕ → Type 0
 SaysSomething text = (parts : RequestParts) × Says text parts
 
--- no such head prints the text
-abbrev pub SaysNothing : List ℕ → Type 0
-SaysNothing text = (head : RequestHead) → IsServed head → text ≢ print_request head
+-- no head of the grammar prints the text, or one whose fields fit and whose target begins with no slash
+abbrev pub IsBadHead : List ℕ → Type 0
+IsBadHead text = (head : RequestHead) → IsRequestHead head → text ≡ print_request head
+    → (length head.fields ≤ field_limit) × (slice_get head.target 0 ≢ Some 47)
+
+-- the text begins with the first line of a head and more fields than fit, whatever comes after these
+abbrev pub HasManyFields : List ℕ → Type 0
+HasManyFields text = RequestExceeds field_limit text
+
+-- ---- what private functions say
+
+-- what the reading of a whole head gives, where there is memory for it
+abbrev pub IsParsedAs : Result RequestParts HeadFault → List ℕ → Type 0
+IsParsedAs (Ok parts) text = Says text parts
+IsParsedAs (Err head_fault.Ended) text = ⊥
+IsParsedAs (Err head_fault.ReadFault) text = ⊥
+IsParsedAs (Err head_fault.HeadTooLarge) text = HasManyFields text
+IsParsedAs (Err head_fault.BadHead) text = IsBadHead text
+IsParsedAs (Err head_fault.OutOfMemory) text = ⊥

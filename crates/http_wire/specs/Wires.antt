@@ -7,7 +7,7 @@ use Rattle.http_wire.specs.declared.faults.BodyFault.TheVariants as body_fault
 use Rattle.http_wire.specs.declared.faults.HeadFault.{HeadFault}
 use Rattle.http_wire.specs.declared.faults.HeadFault.TheVariants as head_fault
 use Rattle.http_wire.specs.HeadText.{IsHeadText, CutShort, Overlong, head_limit}
-use Rattle.http_wire.specs.Requests.{RequestParts, Says, SaysNothing}
+use Rattle.http_wire.specs.Requests.{RequestParts, Says, IsBadHead, HasManyFields}
 use Rattle.http_wire.specs.Timing.{Event, AtEnd, ReadFails, all_got, all_put, IsLatest, GoesOn, Gives}
 
 -- the text is a head at the front of what was left, and is gone
@@ -24,10 +24,14 @@ ServesHead old new parts = (text : List ℕ) × TakesHead old new text × Says t
 abbrev pub HasWholeHead : Option (List ℕ) → Type 0
 HasWholeHead left = (new : Option (List ℕ)) × (parts : RequestParts) × ServesHead left new parts
 
--- the head at the front of what was left is not served, and is gone; or it is too long, and nothing is gone
+-- the head at the front of what was left is bad, and is gone
 abbrev pub RefusesHead : Option (List ℕ) → Option (List ℕ) → Type 0
-RefusesHead old new =
-    ((text : List ℕ) × TakesHead old new text × SaysNothing text) ⊎ (IfSome old Overlong × Keeps old new)
+RefusesHead old new = (text : List ℕ) × TakesHead old new text × IsBadHead text
+
+-- the head at the front of what was left has too many fields, and is gone; or it is too long, and nothing is gone
+abbrev pub RefusesLargeHead : Option (List ℕ) → Option (List ℕ) → Type 0
+RefusesLargeHead old new =
+    ((text : List ℕ) × TakesHead old new text × HasManyFields text) ⊎ (IfSome old Overlong × Keeps old new)
 
 -- ---- what is read, and when
 
@@ -44,6 +48,7 @@ abbrev pub HeadIsOf : Result RequestParts HeadFault → (old new : Option (List 
 HeadIsOf (Ok parts) old new = ServesHead old new parts
 HeadIsOf (Err head_fault.Ended) old new = IfSome old CutShort × Keeps old new
 HeadIsOf (Err head_fault.ReadFault) old new = Keeps old new
+HeadIsOf (Err head_fault.HeadTooLarge) old new = RefusesLargeHead old new
 HeadIsOf (Err head_fault.BadHead) old new = RefusesHead old new
 HeadIsOf (Err head_fault.OutOfMemory) old new = HasWholeHead old × Keeps old new
 
@@ -52,6 +57,7 @@ abbrev pub HeadEnds : Result RequestParts HeadFault → List Event → Type 0
 HeadEnds (Ok parts) events = GoesOn events
 HeadEnds (Err head_fault.Ended) events = IsLatest AtEnd events
 HeadEnds (Err head_fault.ReadFault) events = IsLatest ReadFails events
+HeadEnds (Err head_fault.HeadTooLarge) events = GoesOn events
 HeadEnds (Err head_fault.BadHead) events = GoesOn events
 HeadEnds (Err head_fault.OutOfMemory) events = GoesOn events
 
@@ -96,8 +102,9 @@ HeadFound (Ok count) bytes events = GoesOn events × (count ≤ length bytes) ×
 HeadFound (Err head_fault.Ended) bytes events = IsLatest AtEnd events
     × ((stream known : Option (List ℕ)) → Keeps stream (prepend_known bytes known) → IsAtEnd known → IfSome stream CutShort)
 HeadFound (Err head_fault.ReadFault) bytes events = IsLatest ReadFails events
-HeadFound (Err head_fault.BadHead) bytes events = GoesOn events
+HeadFound (Err head_fault.HeadTooLarge) bytes events = GoesOn events
     × ((stream known : Option (List ℕ)) → Keeps stream (prepend_known bytes known) → IfSome stream Overlong)
+HeadFound (Err head_fault.BadHead) bytes events = ⊥
 HeadFound (Err head_fault.OutOfMemory) bytes events = ⊥
 
 -- what came is after what was in the buffer, and nothing was written

@@ -13,7 +13,10 @@ pub enum HeadFault {
     /// A read failed.
     #[error("the head of a request could not be read")]
     ReadFault,
-    /// The head is not one of the grammar, or is too large, or asks for what is not served.
+    /// The head does not end within `HEAD_LIMIT` bytes, or has more than `FIELD_LIMIT` fields.
+    #[error("the head of a request is too large")]
+    HeadTooLarge,
+    /// The head is not one of the grammar, or its target begins with no slash.
     #[error("this is not the head of a request that is answered")]
     BadHead,
     /// No memory for the head.
@@ -34,9 +37,15 @@ impl From<AllocError> for HeadFault {
 /// Why a head announces no body that is read.
 #[derive(Clone, Copy, Debug, PartialEq, Eq, Error)]
 pub enum LengthFault {
-    /// A transfer coding, or a length that is no number or over the limit, or more than one length.
-    #[error("the head of a request announces no body that is read")]
-    BadHead,
+    /// There is a transfer coding.
+    #[error("the body of a request has a transfer coding")]
+    CodingRefused,
+    /// There is more than one length, or one that is no number of 64 bits.
+    #[error("the head of a request does not say how long its body is")]
+    LengthBad,
+    /// The length is over the limit.
+    #[error("the body of a request is too large")]
+    BodyTooLarge,
 }
 
 /// Why no body was read.

@@ -1,16 +1,17 @@
 //! Heads of requests.
-ghost use Rattle.std.specs.Prelude.{◌≡◌, ◌↔◌, IsTrue, length, slice_get, IfOk, OnErr, IfSome, IfNone};
+ghost use Rattle.std.specs.Prelude.{◌≡◌, ◌↔◌, IsTrue, length, slice_get, IfOk, IfErr, OnErr, Err};
 ghost use Rattle.httparse.specs.Grammar.{RequestHead, print_request};
 ghost use Rattle.httparse.specs.Spans.{IsRequestAt, IsRequestWithin};
 ghost use Rattle.http_wire.specs.Fields.{values_of};
 ghost use Rattle.http_wire.specs.HeadText.{IsHeadText};
-ghost use Rattle.http_wire.specs.Requests.{IsServed, version_of, Says, SaysSomething, SaysNothing};
+ghost use Rattle.http_wire.specs.Requests.{IsServed, version_of, SaysSomething, IsParsedAs};
 
+use crate::faults::HeadFault;
 use crate::fields::{Fields, Values};
 use http::method::MethodError;
 use http::{Method, Version};
-use httparse::Status;
 use httparse::spans::{EMPTY_HEADER_SPAN, HeaderSpan, RequestSpans, Span, parse_request};
+use httparse::{Error, Status};
 use std::alloc::{AllocError, Global};
 use std::marker::Model;
 use std::str;
@@ -54,47 +55,56 @@ fn is_path(target: &[u8]) -> bool
 }
 
 // Where the parts of the head lie, if it is one that is served.
-fn find_parts(text: &[u8], room: &mut [HeaderSpan]) -> Option<RequestSpans>
+fn find_parts(text: &[u8], room: &mut [HeaderSpan]) -> Result<RequestSpans, HeadFault>
     requires whole { IsHeadText text.now }
     requires size { length room.old ≡ FIELD_LIMIT }
-    ensures found { IfSome result (λ spans. (head : RequestHead) × IsServed head × (text.now ≡ print_request head)
+    ensures found { IfOk result (λ spans. (head : RequestHead) × IsServed head × (text.now ≡ print_request head)
         × IsRequestAt text.now room.new spans head) }
-    ensures within { IfSome result (IsRequestWithin text.now room.new) }
-    ensures none { IfNone result (SaysNothing text.now) }
+    ensures within { IfOk result (IsRequestWithin text.now room.new) }
+    ensures fault { IfErr result (λ fault. IsParsedAs (Err fault) text.now) }
 {
-    let Ok(Status::Complete(spans)) = parse_request(text, room) else {
-        return None;
+    let spans = match parse_request(text, room) {
+        Ok(Status::Complete(spans)) => spans,
+        Ok(Status::Partial) => return Err(HeadFault::BadHead),
+        Err(error) => {
+            return Err(if error == Error::TooManyHeaders {
+                HeadFault::HeadTooLarge
+            } else {
+                HeadFault::BadHead
+            });
+        }
     };
-    if spans.version == 1 && is_path(spans.path.of(text)) {
-        Some(spans)
+    if is_path(spans.path.of(text)) {
+        Ok(spans)
     } else {
-        None
+        Err(HeadFault::BadHead)
     }
 }
 
 impl Head {
-    /// Reads the text of a head by the grammar of requests: none where it is not one that is served.
-    pub(crate) fn parse(alloc: Global, text: &[u8]) -> Result<Option<Head>, AllocError>
+    /// Reads the text of a head by the grammar of requests. It gives the head or why it is refused, unless there is no
+    /// memory for it.
+    pub(crate) fn parse(alloc: Global, text: &[u8]) -> Result<Result<Head, HeadFault>, AllocError>
         requires { IsHeadText text.now }
-        ensures ok { IfOk result (λ head. IfSome head (Says text.now)) }
-        ensures bad { IfOk result (λ head. IfNone head (SaysNothing text.now)) }
+        ensures ok { IfOk result (λ parsed. IsParsedAs parsed text.now) }
         ensures memory { OnErr result (SaysSomething text.now) }
     {
         let mut room = [EMPTY_HEADER_SPAN; FIELD_LIMIT];
-        let Some(spans) = find_parts(text, &mut room) else {
-            return Ok(None);
+        let spans = match find_parts(text, &mut room) {
+            Ok(spans) => spans,
+            Err(fault) => return Ok(Err(fault)),
         };
         if str::from_utf8(spans.path.of(text)).is_err() {
-            return Ok(None);
+            return Ok(Err(HeadFault::BadHead));
         }
         let method = match Method::from_bytes(alloc, spans.method.of(text)) {
             Ok(method) => method,
-            Err(MethodError::Invalid) => return Ok(None),
+            Err(MethodError::Invalid) => return Ok(Err(HeadFault::BadHead)),
             Err(MethodError::OutOfMemory) => return Err(AllocError),
         };
         let fields = room[..spans.headers].to_vec(alloc)?;
         let text = text.to_vec(alloc)?;
-        Ok(Some(Head {
+        Ok(Ok(Head {
             text,
             method,
             target: spans.path,

@@ -1,12 +1,12 @@
 //! How long the body of a request is.
-ghost use Rattle.std.specs.Prelude.{ℕ, IfOk, OnErr, IfSome, IfNone};
-ghost use Rattle.http_wire.specs.Fields.{WritesLength, AnnouncesBody};
+ghost use Rattle.std.specs.Prelude.{ℕ, IfSome, IfNone};
+ghost use Rattle.http_wire.specs.Fields.{WritesLength, IsBodyLength};
 
 use crate::faults::LengthFault;
 use crate::heads::Head;
 
-// The number that digits alone write, where it fits.
-fn read_length(text: &[u8]) -> Option<u64>
+/// The number that digits alone write, where it fits.
+pub fn read_length(text: &[u8]) -> Option<u64>
     ensures some { IfSome result (WritesLength text.now) }
     ensures none { IfNone result ((n : ℕ) → ¬ (WritesLength text.now n)) }
 {
@@ -23,23 +23,23 @@ fn read_length(text: &[u8]) -> Option<u64>
     Some(value)
 }
 
-/// The length of the body that a head announces, 0 where it names no length. Takes no memory.
+/// The length of the body that a head announces, 0 where it names no length; or the first reason why none is read.
+/// Takes no memory.
 pub fn check_body(head: &Head, limit: u64) -> Result<u64, LengthFault>
-    ensures ok { IfOk result (AnnouncesBody head.now.fields limit) }
-    ensures bad { OnErr result ((n : ℕ) → ¬ (AnnouncesBody head.now.fields limit n)) }
+    ensures { IsBodyLength result head.now.fields limit }
 {
     if head.values("transfer-encoding").next().is_some() {
-        return Err(LengthFault::BadHead);
+        return Err(LengthFault::CodingRefused);
     }
     let mut lengths = head.values("content-length");
     let length = match (lengths.next(), lengths.next()) {
         (None, _) => 0,
-        (Some(value), None) => read_length(value).ok_or(LengthFault::BadHead)?,
-        (Some(_), Some(_)) => return Err(LengthFault::BadHead),
+        (Some(value), None) => read_length(value).ok_or(LengthFault::LengthBad)?,
+        (Some(_), Some(_)) => return Err(LengthFault::LengthBad),
     };
     if length <= limit {
         Ok(length)
     } else {
-        Err(LengthFault::BadHead)
+        Err(LengthFault::BodyTooLarge)
     }
 }

@@ -3,6 +3,7 @@ ghost use Rattle.std.specs.Prelude.{◌≡◌, ◌≤◌, ◌<◌, length, codes
 ghost use Rattle.std.specs.Option.{option_map};
 ghost use Rattle.std.specs.List.{flat_map};
 ghost use Rattle.arrayvec.specs.ArrayVec.{array_vec_len};
+ghost use Rattle.http_wire.specs.Expectations.{continue_text};
 ghost use Rattle.http_wire.specs.Replies.{crlf, range_text, line_of, fields_of, head_text, reply_text};
 ghost use Rattle.std.specs.Io.KnownBytes.{Appends};
 ghost use Rattle.http_wire.specs.Sending.{SentFront, WritesText};
@@ -180,4 +181,16 @@ pub fn write_reply<D: Duplex>(
     let length = length.as_ref().map(|text| text.as_str());
     let range = range.as_ref().map(|text| text.as_str());
     write_texts(duplex, head, length, range, body)
+}
+
+/// Writes the interim reply after which the client sends the body (RFC 9110, section 15.2.1). Reads nothing.
+///
+/// It takes no memory, and fails as `write_reply` does.
+pub fn write_interim<D: Duplex>(duplex: &mut D) -> Result<(), WriteFault>
+    ensures ok { OnOk result (Appends (D.held duplex.old) (D.held duplex.new) continue_text) }
+    ensures fault { IfErr result (λ fault. SentFront (D.held duplex.old) (D.held duplex.new) continue_text fault.0) }
+    ensures cause { OnErr result D.write_fails }
+    ensures ran { Ran D.saw NoRead duplex.old duplex.new (WritesText result continue_text) }
+{
+    write_pieces(duplex, &[b"HTTP/1.1 100 Continue\r\n\r\n"])
 }

@@ -3,7 +3,7 @@ ghost use Rattle.std.specs.Prelude.{◌≡◌, ◌≢◌, ◌≤◌, ◌<◌, Li
 ghost use Rattle.std.specs.Io.KnownBytes.{Consumes, Keeps, IsAtEnd, prepend_known};
 ghost use Rattle.http_wire.specs.HeadText.{CutShort};
 ghost use Rattle.http_wire.specs.Timing.{Ran};
-ghost use Rattle.http_wire.specs.Wires.{HasWholeHead, ServesHead, RefusesHead, AwaitsHead, AwaitsBody, ReadsHead, ReadsBody, FindsHead};
+ghost use Rattle.http_wire.specs.Wires.{HasWholeHead, ServesHead, RefusesHead, RefusesLargeHead, AwaitsHead, AwaitsBody, ReadsHead, ReadsBody, FindsHead};
 
 use crate::bodies::read_body;
 use crate::buffers::{Buffer, HEAD_LIMIT};
@@ -42,8 +42,8 @@ impl Wire {
 
     /// Reads the next head. Reads only where what came before is no whole head, and writes nothing.
     ///
-    /// A head, also one that is not answered, is taken from the stream with its last byte, and nothing after it is.
-    /// Any other error leaves what is left as it was.
+    /// A head, also one that is not answered, is taken from the stream with its last byte, and nothing after it is. One
+    /// that is too long is left there, and any other error leaves what is left as it was.
     pub fn read_head<D: Duplex>(&mut self, duplex: &mut D) -> Result<Head, HeadFault>
         ensures ok { let old = prepend_known self.old (D.left duplex.old) in
             let new = prepend_known self.new (D.left duplex.new) in
@@ -51,6 +51,9 @@ impl Wire {
         ensures bad { let old = prepend_known self.old (D.left duplex.old) in
             let new = prepend_known self.new (D.left duplex.new) in
             IsErrOf result HeadFault.BadHead → RefusesHead old new }
+        ensures large { let old = prepend_known self.old (D.left duplex.old) in
+            let new = prepend_known self.new (D.left duplex.new) in
+            IsErrOf result HeadFault.HeadTooLarge → RefusesLargeHead old new }
         ensures ended { let old = prepend_known self.old (D.left duplex.old) in
             IsErrOf result HeadFault.Ended → IfSome old CutShort }
         ensures failed { IsErrOf result HeadFault.ReadFault → D.read_fails }
@@ -58,7 +61,7 @@ impl Wire {
             IsErrOf result HeadFault.OutOfMemory → HasWholeHead old }
         ensures kept { let old = prepend_known self.old (D.left duplex.old) in
             let new = prepend_known self.new (D.left duplex.new) in
-            IfErr result (λ e. e ≢ HeadFault.BadHead → Keeps old new) }
+            IfErr result (λ e. e ≢ HeadFault.BadHead → e ≢ HeadFault.HeadTooLarge → Keeps old new) }
         ensures ran { Ran D.saw (AwaitsHead self.old) duplex.old duplex.new (ReadsHead result self.old self.new) }
     {
         take_head(&mut self.buffer, duplex)
@@ -93,10 +96,7 @@ fn take_head<D: Duplex>(buffer: &mut Buffer, duplex: &mut D) -> Result<Head, Hea
     let count = find_head(buffer, duplex)?;
     let parsed = Head::parse(buffer.allocator(), &buffer.as_slice()[..count])?;
     buffer.consume(count);
-    match parsed {
-        Some(head) => Ok(head),
-        None => Err(HeadFault::BadHead),
-    }
+    parsed
 }
 
 // Reads on until the head at the front of the buffer is whole, and answers its length.
@@ -106,7 +106,7 @@ fn find_head<D: Duplex>(buffer: &mut Buffer, duplex: &mut D) -> Result<usize, He
     let (mut state, mut scanned) = scan(State::Before, buffer.as_slice());
     'reads: while !state.is_done() {
         if buffer.as_slice().len() == HEAD_LIMIT {
-            return Err(HeadFault::BadHead);
+            return Err(HeadFault::HeadTooLarge);
         }
         let Ok(count) = buffer.fill(duplex) else {
             return Err(HeadFault::ReadFault);

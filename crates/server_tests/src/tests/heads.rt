@@ -35,7 +35,7 @@ fn reads_two_requests_one_byte_a_call(rt: HostRuntime) -> Result<(), Fail> {
     Ok(())
 }
 
-const REFUSED: &[u8] = b"GET / HTTP/1.0\r\n\r\nGET a HTTP/1.1\r\n\r\nGET / HTTP/1.1\nno colon\n\n\
+const REFUSED: &[u8] = b"GET / HTTP/1.2\r\n\r\nGET a HTTP/1.1\r\n\r\nGET / HTTP/1.1\nno colon\n\n\
     \rGET / HTTP/1.1\n\nGET /last HTTP/1.1\n\n";
 
 // A connection ends after the first of them.
@@ -65,8 +65,8 @@ fn assert_refuses<D: Duplex>(
     wire: &mut Reader<D>,
     left: &str,
 ) -> Result<(), Fail> {
-    assert_no_head(rt, wire, HeadFault::BadHead);
-    assert_no_head(rt, wire, HeadFault::BadHead);
+    assert_no_head(rt, wire, HeadFault::HeadTooLarge);
+    assert_no_head(rt, wire, HeadFault::HeadTooLarge);
     assert_body(rt, wire, left)
 }
 

@@ -28,6 +28,14 @@ returns-in-Err-ReadFault g c =
     ran_as g.D.Duplex.saw (AwaitsHead old) c.args.duplex.now c.read_head.new.duplex (ReadsHead (Err head_fault.ReadFault) old new) _ (head_missed head_fault.ReadFault old new)
     (subst P c.in-Err-ReadFault.field-0-is c.in-Err-ReadFault.ensures.ran)
 
+pub returns-in-Err-HeadTooLarge : goal.returns-in-Err-HeadTooLarge
+returns-in-Err-HeadTooLarge g c =
+    let old : List ℕ = c.args.wire.now in
+    let new : List ℕ = c.read_head.new.self in
+    let P : HeadFault → Type 0 = λ why. Ran g.D.Duplex.saw (AwaitsHead old) c.args.duplex.now c.read_head.new.duplex (ReadsHead (Err why) old new) in
+    ran_as g.D.Duplex.saw (AwaitsHead old) c.args.duplex.now c.read_head.new.duplex (ReadsHead (Err head_fault.HeadTooLarge) old new) _ (head_missed head_fault.HeadTooLarge old new)
+    (subst P c.in-Err-HeadTooLarge.field-0-is c.in-Err-HeadTooLarge.ensures.ran)
+
 pub returns-in-Err-BadHead : goal.returns-in-Err-BadHead
 returns-in-Err-BadHead g c =
     let old : List ℕ = c.args.wire.now in

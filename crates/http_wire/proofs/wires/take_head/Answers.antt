@@ -1,10 +1,10 @@
 use Rattle.std.proofs.Common.{◌≡◌, ◌≤◌, List, ℕ, Result, Err, rules, length, take, sym, subst, arith}
 use Rattle.http_wire.specs.declared.faults.HeadFault.{HeadFault}
 use Rattle.http_wire.specs.declared.faults.HeadFault.TheVariants as head_fault
-use Rattle.http_wire.specs.Requests.{RequestParts, Says, SaysNothing}
+use Rattle.http_wire.specs.Requests.{RequestParts, Says, IsParsedAs}
 use Rattle.http_wire.specs.Timing.{Ran}
 use Rattle.http_wire.specs.Wires.{AwaitsHead, ReadsHead, FindsHead}
-use Rattle.http_wire.proofs.HeadReads.{ran_as, head_missed, head_served, head_refused, head_without_memory}
+use Rattle.http_wire.proofs.HeadReads.{ran_as, head_missed, head_judged, head_without_memory}
 use Rattle.http_wire.proofs.wires.take_head.Goals as goal
 
 pub returns-in_err-count : goal.returns-in_err-count
@@ -30,24 +30,13 @@ returns-in_err-parsed g c =
     subst P (sym is) (ran_as g.D.Duplex.saw (AwaitsHead old) c.args.duplex.now c.find_head.new.duplex _ (ReadsHead (Err head_fault.OutOfMemory) old new)
     (λ events finds. head_without_memory says.0 count old new events finds fits said) c.in_ok-count.ensures)
 
-pub returns-in-Some : goal.returns-in-Some
-returns-in-Some g c =
+pub returns : goal.returns
+returns g c =
     let old : List ℕ = c.args.buffer.now in
     let new : List ℕ = c.find_head.new.buffer in
     let count = c.in_ok-count.count in
+    let parsed = c.in_ok-parsed.parsed in
     let fits : length new ≤ 16384 = omega (arith, c.as_slice.ensures.fits) in
-    let says : Says (take count c.as_slice.result.now) c.in-Some.head = rw c.in-Some.is at c.in_ok-parsed.ensures.ok in
-    let said : Says (take count new) c.in-Some.head = subst (λ (t : List ℕ). Says (take count t) c.in-Some.head) c.as_slice.ensures.value says in
+    let said : IsParsedAs parsed (take count new) = subst (λ (t : List ℕ). IsParsedAs parsed (take count t)) c.as_slice.ensures.value c.in_ok-parsed.ensures.ok in
     ran_as g.D.Duplex.saw (AwaitsHead old) c.args.duplex.now c.find_head.new.duplex _ _
-    (λ events finds. head_served c.in-Some.head count old new c.consume.new.self events finds fits said c.consume.ensures) c.in_ok-count.ensures
-
-pub returns-in-None : goal.returns-in-None
-returns-in-None g c =
-    let old : List ℕ = c.args.buffer.now in
-    let new : List ℕ = c.find_head.new.buffer in
-    let count = c.in_ok-count.count in
-    let fits : length new ≤ 16384 = omega (arith, c.as_slice.ensures.fits) in
-    let refused : SaysNothing (take count c.as_slice.result.now) = rw c.in-None.is at c.in_ok-parsed.ensures.bad in
-    let said : SaysNothing (take count new) = subst (λ (t : List ℕ). SaysNothing (take count t)) c.as_slice.ensures.value refused in
-    ran_as g.D.Duplex.saw (AwaitsHead old) c.args.duplex.now c.find_head.new.duplex _ _
-    (λ events finds. head_refused count old new c.consume.new.self events finds fits said c.consume.ensures) c.in_ok-count.ensures
+    (λ events finds. subst (λ r. ReadsHead parsed old r events) (sym c.consume.ensures) (head_judged parsed count old new events finds fits said)) c.in_ok-count.ensures

@@ -1,7 +1,7 @@
 use Rattle.std.proofs.Common.{List, ℕ, Option, subst}
 use Rattle.std.specs.Io.KnownBytes.{prepend_known}
 use Rattle.http_wire.specs.Wires.{HeadIsOf}
-use Rattle.http_wire.proofs.StreamReads.{head_ok, head_bad, head_ended, head_failed, head_memory, head_kept}
+use Rattle.http_wire.proofs.StreamReads.{head_ok, head_bad, head_large, head_ended, head_failed, head_memory, head_kept}
 use Rattle.http_wire.proofs.Trails.{all_told}
 use Rattle.http_wire.proofs.wires.Wire.read_head.Goals as goal
 
@@ -25,6 +25,17 @@ returns-clause-bad g c =
     let new : Option (List ℕ) = prepend_known c.take_head.new.buffer (d.left c.take_head.new.duplex) in
     let old : Option (List ℕ) = prepend_known c.args.self.now left in
     head_bad c.take_head.result old new (subst (λ (b : List ℕ). HeadIsOf c.take_head.result (prepend_known b left) new) c.self.view_is
+    (ran.claimed.of_stream left (d.left c.take_head.new.duplex) told.gives))
+
+pub returns-clause-large : goal.returns-clause-large
+returns-clause-large g c =
+    let d = g.D.Duplex in
+    let ran = c.take_head.ensures in
+    let told = all_told d.saw d.left d.held d.read_fails d.write_fails g.met.D.Duplex.told c.args.duplex.now c.take_head.new.duplex ran.events ran.steps in
+    let left = d.left c.args.duplex.now in
+    let new : Option (List ℕ) = prepend_known c.take_head.new.buffer (d.left c.take_head.new.duplex) in
+    let old : Option (List ℕ) = prepend_known c.args.self.now left in
+    head_large c.take_head.result old new (subst (λ (b : List ℕ). HeadIsOf c.take_head.result (prepend_known b left) new) c.self.view_is
     (ran.claimed.of_stream left (d.left c.take_head.new.duplex) told.gives))
 
 pub returns-clause-ended : goal.returns-clause-ended

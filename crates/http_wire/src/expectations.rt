@@ -1,0 +1,47 @@
+//! Whether a request waits for an interim reply.
+ghost use Rattle.std.specs.Prelude.{◌≡◌, ◌↔◌, IsTrue};
+ghost use Rattle.http_wire.specs.Expectations as spec;
+ghost use Rattle.http_wire.specs.Expectations.{SaysLength};
+
+use crate::fields::Values;
+use crate::heads::Head;
+use crate::lengths::read_length;
+use http::Version;
+
+// Whether there is one value, and it is `100-continue`.
+fn asks_continue(values: Values<'_>) -> bool
+    ensures { result ≡ spec.asks_continue values.entry }
+{
+    let mut values = values;
+    match (values.next(), values.next()) {
+        (Some(value), None) => value.eq_ignore_ascii_case(b"100-continue"),
+        _ => false,
+    }
+}
+
+// Whether there is one value, and it writes a length.
+fn says_length(values: Values<'_>) -> bool
+    ensures { IsTrue result ↔ SaysLength values.entry }
+{
+    let mut values = values;
+    match (values.next(), values.next()) {
+        (Some(value), None) => read_length(value).is_some(),
+        _ => false,
+    }
+}
+
+impl Head {
+    ghost use Rattle.std.specs.Prelude.{◌↔◌, IsTrue};
+    ghost use Rattle.http_wire.specs.Expectations.{ExpectsContinue};
+
+    /// Whether the client may wait for an interim reply before it sends the body (RFC 9110, section 10.1.1): the head is
+    /// one of HTTP/1.1, its only `Expect` is `100-continue`, ASCII case ignored, and it says how long the body is, be that
+    /// 0. Takes no memory.
+    pub fn expects_continue(&self) -> bool
+        ensures { IsTrue result ↔ ExpectsContinue self.now }
+    {
+        self.version() == Version::HTTP_11
+            && asks_continue(self.values("expect"))
+            && says_length(self.values("content-length"))
+    }
+}
