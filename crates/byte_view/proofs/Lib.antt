@@ -1,0 +1,4 @@
+mod Slices
+mod CutPieces
+mod Followed
+mod Stretches

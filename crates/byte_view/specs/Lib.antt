@@ -1,0 +1,5 @@
+-- what public clauses say
+pub mod Cuts
+pub mod Parts
+pub mod Holds
+pub mod Views

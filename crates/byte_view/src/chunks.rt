@@ -1,0 +1,62 @@
+//! Chunks: bytes under their own names.
+ghost use Rattle.std.specs.Prelude.{◌≡◌, ◌↔◌, IfErr, IfOk, IsOk};
+ghost use Rattle.host_names.specs.Blobs.{digest_of};
+ghost use Rattle.byte_view.specs.Views.{bytes_of};
+
+use crate::views::View;
+use host_names::Digest;
+use std::marker::Model;
+use thiserror::Error;
+
+/// Some bytes don't have the name that they were given for.
+#[derive(Debug, Drop, Error)]
+#[error("the bytes have another name")]
+pub struct WrongName {
+    pub bytes: Vec<u8>,
+}
+
+/// A piece of a file, and its name, which is the SHA-1 digest (FIPS 180-4) of its bytes. Contracts see the bytes.
+#[derive(Debug, Drop)]
+pub struct Chunk {
+    name: Digest,
+    bytes: Vec<u8>,
+}
+
+impl Model for Chunk {
+    ghost use Rattle.std.specs.Prelude.{◌≡◌, List, ℕ};
+    ghost use Rattle.host_names.specs.Blobs.{digest_of};
+
+    ghost Value = { List ℕ };
+
+    ghost view = { λ chunk. chunk.bytes.items };
+
+    ghost invariant = { λ chunk. chunk.name ≡ digest_of chunk.bytes.items };
+}
+
+impl Chunk {
+    /// The chunk of these bytes, if that is their name.
+    pub fn check(name: Digest, bytes: Vec<u8>) -> Result<Chunk, WrongName>
+        ensures named { IsOk result ↔ (digest_of bytes.items ≡ name) }
+        ensures kept { IfOk result (λ chunk. chunk ≡ bytes.items) }
+        ensures handed_back { IfErr result (λ wrong. wrong.bytes ≡ bytes) }
+    {
+        if Digest::of_bytes(bytes.as_slice()) != name {
+            return Err(WrongName { bytes });
+        }
+        Ok(Chunk { name, bytes })
+    }
+
+    /// Its name.
+    pub fn name(&self) -> Digest
+        ensures { result ≡ digest_of self.now }
+    {
+        self.name
+    }
+
+    /// Its bytes.
+    pub fn view(&self) -> View<'_>
+        ensures { bytes_of result ≡ self.now }
+    {
+        View::new(self.bytes.as_slice())
+    }
+}

@@ -1,0 +1,60 @@
+//! What a stretch of a file has of one chunk after another.
+ghost use Rattle.std.specs.Prelude.{◌≡◌, ◌<◌, ◌≤◌, All, length, map};
+ghost use Rattle.std.specs.Iterator.{YieldsFirstRef, at_most};
+ghost use Rattle.byte_view.specs.Parts.{parts};
+
+use crate::blob_infos::PIECE_SIZE;
+use crate::chunks::Chunk;
+use std::iter::Iterator;
+use std::marker::Model;
+use std::sync::Arc;
+
+/// Slices of chunks, one after another. Contracts see the list of those that are left.
+#[derive(Drop)]
+pub struct Pieces<'a> {
+    chunks: &'a [Arc<Chunk>],
+    /// Where the first of them begins in its chunk.
+    from: usize,
+    /// Where the last of them ends, counted from the start of the first chunk.
+    to: usize,
+}
+
+impl<'a> Model for Pieces<'a> {
+    ghost use Rattle.std.specs.Prelude.{◌<◌, All, List, ℕ, length, map};
+    ghost use Rattle.byte_view.specs.Parts.{parts};
+
+    ghost Value = { List (List ℕ) };
+
+    ghost view = { λ p. parts (map (λ chunk. chunk.value) p.chunks.now) p.from p.to };
+
+    ghost invariant = { λ p. (p.from < 65536) × All (λ piece. 0 < length piece) (parts (map (λ chunk. chunk.value) p.chunks.now) p.from p.to) };
+}
+
+impl<'a> Pieces<'a> {
+    /// What is in these chunks from a place in the first of them on, up to a place that is counted from there too.
+    pub(crate) fn new(chunks: &'a [Arc<Chunk>], from: usize, to: usize) -> Pieces<'a>
+        requires start { from < 65536 }
+        requires filled { All (λ piece. 0 < length piece) (parts (map (λ chunk. chunk.value) chunks.now) from to) }
+        ensures { result ≡ parts (map (λ chunk. chunk.value) chunks.now) from to }
+    {
+        Pieces { chunks, from, to }
+    }
+}
+
+impl<'a> Iterator for Pieces<'a> {
+    type Item = &'a [u8];
+
+    ghost next_gives = { YieldsFirstRef (λ pieces. pieces) };
+
+    ghost remaining = { λ pieces. at_most (length pieces) };
+
+    fn next(&mut self) -> Option<&'a [u8]> {
+        let (chunk, rest) = self.chunks.split_first()?;
+        let bytes = chunk.view().bytes();
+        let piece = &bytes[self.from..self.to.min(bytes.len())];
+        self.chunks = rest;
+        self.from = 0;
+        self.to = self.to.saturating_sub(PIECE_SIZE);
+        Some(piece)
+    }
+}
