@@ -13,9 +13,10 @@ import tempfile
 import unittest
 
 from client import (
-    CRATE, EXAMPLES, HELLO, HERE, LARGEST_FILE, PROGRAM, REQUESTS, SECONDS, Program, content_length, cut_after, messages,
+    CRATE, EXAMPLES, HELLO, LARGEST_FILE, PROGRAM, REQUESTS, SECONDS, Program, content_length, cut_after, messages,
     opening, reply, request, run, told,
 )
+from over_tcp import OverTcp, needs_curl
 
 OUTPUT_FAULT = b"filehost: output fault\n"
 
@@ -205,23 +206,9 @@ class Words(Program):
         self.assertNotEqual(err, b"")
 
 
-class WithCurl(Program):
+@needs_curl
+class WithCurl(OverTcp):
     """A client that is not this project's own, over TCP."""
-
-    def converse(self, *requests):
-        """Sends the requests by one call of curl, in one connection, and returns what curl prints."""
-        relay = subprocess.Popen([sys.executable, HERE / "relay.py", PROGRAM, "solo"], stdout=subprocess.PIPE)
-        self.addCleanup(relay.stdout.close)
-        self.addCleanup(relay.kill)
-        port = int(relay.stdout.readline())
-        words = []
-        for target, *options in requests:
-            words += ["--next"] * bool(words) + ["--silent", "--show-error", "--max-time", str(SECONDS)]
-            words += ["--write-out", " %{http_code}\n", *options, f"http://127.0.0.1:{port}{target}"]
-        ran = subprocess.run(["curl", "--disable", *words], capture_output=True, timeout=SECONDS)
-        self.assertEqual((ran.returncode, ran.stderr), (0, b""))
-        self.assertEqual(relay.wait(SECONDS), 0)
-        return ran.stdout.decode()
 
     def test_deploys_reads_a_range_and_undoes(self):
         listing = json.dumps({"files": {"/a.txt": HELLO}})

@@ -1,0 +1,92 @@
+"""Clients that reach a program of their own over TCP."""
+
+import fcntl
+import shutil
+import socket
+import struct
+import subprocess
+import sys
+import termios
+import threading
+import time
+import unittest
+
+from client import HERE, PATIENCE, PROGRAM, SECONDS, Program
+
+needs_curl = unittest.skipUnless(shutil.which("curl"), "curl is missing: ./test installs it")
+
+
+class OverTcp(Program):
+    """Tests with a client that is not this project's own."""
+
+    def serve(self):
+        """Lets a new program be reached by one connection, and returns its port."""
+        relay = subprocess.Popen([sys.executable, HERE / "relay.py", PROGRAM, "solo"], stdout=subprocess.PIPE)
+        self.addCleanup(relay.wait)
+        self.addCleanup(relay.kill)
+        self.addCleanup(relay.stdout.close)
+        self.relay = relay
+        return int(relay.stdout.readline())
+
+    def assert_ended_well(self):
+        """The program whose port was returned last has ended with status 0, since its connection has."""
+        self.assertEqual(self.relay.wait(SECONDS), 0)
+
+    def converse(self, *requests):
+        """Sends the requests by one call of curl, in one connection, and returns what curl prints."""
+        port = self.serve()
+        words = []
+        for target, *options in requests:
+            words += ["--next"] * bool(words) + ["--silent", "--show-error", "--max-time", str(SECONDS)]
+            words += ["--write-out", " %{http_code}\n", *options, f"http://127.0.0.1:{port}{target}"]
+        ran = subprocess.run(["curl", "--disable", *words], capture_output=True, timeout=SECONDS)
+        self.assertEqual((ran.returncode, ran.stderr), (0, b""))
+        self.assert_ended_well()
+        return ran.stdout.decode()
+
+
+class Connection:
+    """Both ends of a TCP connection, whose far one a program of its own has; what takes too long ends the program."""
+
+    def __init__(self, test):
+        with socket.create_server(("127.0.0.1", 0)) as listener:
+            self.near = socket.create_connection(listener.getsockname())
+            self.far, _ = listener.accept()
+        self.near.settimeout(PATIENCE)
+        # No byte waits for others that could go with it.
+        self.near.setsockopt(socket.IPPROTO_TCP, socket.TCP_NODELAY, True)
+        ends = {"stdin": self.far, "stdout": self.far, "stderr": subprocess.PIPE}
+        self.program = subprocess.Popen([PROGRAM, "solo"], **ends)
+        self.watch = threading.Timer(PATIENCE, self.program.kill)
+        self.watch.start()
+        test.addCleanup(self.leave)
+
+    def send(self, piece):
+        """Sends these bytes, and waits until the program has taken them all, or has ended."""
+        self.near.sendall(piece)
+        left = bytearray(4)
+        while fcntl.ioctl(self.far, termios.FIONREAD, left) == 0 and struct.unpack("i", left) != (0,):
+            if self.program.poll() is not None:
+                return
+            time.sleep(0)
+
+    def receive(self, count):
+        """That many bytes of replies, or fewer where there are no more."""
+        got = b""
+        while len(got) < count and (piece := self.near.recv(count - len(got))):
+            got += piece
+        return got
+
+    def end(self):
+        """What the program ends with, though its input may still be open: its status, its last replies and words."""
+        errors = self.program.stderr.read()
+        status = self.program.wait()
+        self.far.shutdown(socket.SHUT_WR)
+        return status, b"".join(iter(lambda: self.near.recv(65_536), b"")), errors
+
+    def leave(self):
+        self.watch.cancel()
+        self.program.kill()
+        self.program.wait()
+        for part in (self.program.stderr, self.near, self.far):
+            part.close()
