@@ -1,7 +1,7 @@
 -- Parts of lists that are joined, and parts of parts.
-use Rattle.std.proofs.Common.{◌≡◌, ℕ, ◌+◌, ◌-◌, ◌≤◌, List, [], ◌∷◌, ◌++◌, length, take, drop, zero, suc, sym, ap, ◌∙◌, arith, min}
+use Rattle.std.proofs.Common.{◌≡◌, ℕ, ◌+◌, ◌-◌, ◌≤◌, List, [], ◌∷◌, ◌++◌, length, take, drop, zero, suc, sym, ap, ◌∙◌, arith}
 use Rattle.std.proofs.Math.Seq.{take-nil, drop-nil}
-use Rattle.std.proofs.lemmas.List.{length-drop, drop-drop, drop-map, take-map, take-take, take_min}
+use Rattle.std.proofs.lemmas.List.{length-drop, drop-drop, drop-map, take-map, take-take}
 use Rattle.std.proofs.lemmas.Slice.{between_is}
 use Rattle.std.specs.Prelude.{map, slice_range}
 
@@ -41,8 +41,3 @@ module _ {X : Type 0} where
 
   pub slice_range-map : {Y : Type 0} (f : X → Y) (xs : List X) (a b : ℕ) → slice_range (map f xs) a b ≡ map f (slice_range xs a b)
   slice_range-map f xs a b = ap (take (b - a)) (drop-map f a xs) ∙ take-map f (b - a) (drop a xs)
-
-  -- a part ends with its list
-  pub slice_range-to_end : (xs : List X) (a b : ℕ) → slice_range xs a (min b (length xs)) ≡ slice_range xs a b
-  slice_range-to_end xs a b =
-      between_is xs a (min b (length xs)) ∙ ap (drop a) (take_min b xs) ∙ sym (between_is xs a b)

@@ -1,7 +1,7 @@
 //! What is kept of a file without its bytes.
-ghost use Rattle.std.specs.Prelude.{◌≡◌, ◌+◌, ◌<◌, ◌≤◌, IfOk, length};
+ghost use Rattle.std.specs.Prelude.{◌≡◌, ◌+◌, ◌<◌, ◌≤◌, IfOk, length, map, slice_range};
 ghost use Rattle.host_names.specs.Blobs.{digest_of};
-ghost use Rattle.byte_view.specs.Cuts.{cut, names_of, place_of};
+ghost use Rattle.byte_view.specs.Cuts.{names_of, pieces_met, place_of};
 
 use boxcar::tag::{Names, Tag};
 use host_names::Digest;
@@ -93,7 +93,8 @@ impl BlobInfo {
         requires within { last < length self.now }
         ensures start { result.start ≡ place_of first }
         ensures end { result.end ≡ place_of last + 1 }
-        ensures named { result.end ≤ length (names_of self.now) }
+        ensures within { result.end ≤ length (names_of self.now) }
+        ensures names { slice_range (names_of self.now) result.start result.end ≡ map digest_of (pieces_met self.now first last) }
     {
         first / PIECE_SIZE..last / PIECE_SIZE + 1
     }

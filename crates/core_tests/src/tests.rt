@@ -11,3 +11,4 @@ mod names;
 mod ranges;
 mod states;
 mod values;
+mod views;
