@@ -14,7 +14,7 @@ from client import (
 )
 from over_tcp import Connection, OverTcp, needs_curl
 from test_streams import TALK
-from wire import BODY_TOO_LARGE, CODING_REFUSED, END, FILE, NEXT, NO_FILE, expecting, in_old_version
+from wire import BODY_TOO_LARGE, CODING_REFUSED, END, FILE, INTERIM, NEXT, NO_FILE, expecting, in_old_version
 
 DEPLOYS = "/api/v1/sites/one/deploys"
 UPLOAD = "/api/v1/deploys/1/files/a.txt"
@@ -25,7 +25,7 @@ EXPECT = {"Expect": "100-continue"}
 
 @needs_curl
 class Curl(OverTcp):
-    """Where it asks whether to send the body, it waits for the answer longer than a test may take."""
+    """It sends the body after the interim reply alone, for which it waits longer than a test may take."""
 
     publishing = [
         (DEPLOYS, "--data-binary", LISTING.decode()), (UPLOAD, "--request", "PUT", "--data-binary", "hello"),
@@ -40,7 +40,7 @@ class Curl(OverTcp):
 
     def assert_sees(self, wanted, sent_bytes, target, *options, after=()):
         """The last of these requests is answered so, byte for byte, and curl sends so many bytes of its body."""
-        status = wanted[9:12].decode()
+        status = wanted.removeprefix(INTERIM)[9:12].decode()
         waiting = ("--include", "--expect100-timeout", str(SECONDS), "--max-time", str(PATIENCE))
         said = self.converse(*after, (target, *waiting, "--write-out", "|%{http_code} %{size_upload}", *options))
         shown = "".join(said.splitlines(keepends=True)[len(after):])
@@ -54,6 +54,20 @@ class Curl(OverTcp):
             (BAD_METHOD, 5, FILE, "--upload-file", self.file(b"hello")),
         ]:
             self.assert_sees(closing(wanted), count, target, "--http1.0", *options)
+
+    def test_is_told_to_send_a_large_upload(self):
+        content = bytes(2 ** 20 + 1)
+        listing = opening({"/a.txt": digest_of(content)}).partition(END)[2].decode()
+        self.assert_sees(INTERIM + uploaded(content, 2), len(content), UPLOAD, "--upload-file", self.file(content),
+                         after=[(DEPLOYS, "--data-binary", listing)])
+
+    def test_is_told_to_send_what_it_asks_for(self):
+        small = ("--upload-file", self.file(b"hello"), "--header")
+        self.assert_sees(INTERIM + uploaded(b"hello", 2), 5, UPLOAD, *small, "Expect: 100-Continue",
+                         after=self.publishing[:1])
+        self.assert_sees(INTERIM + BAD_METHOD, 5, FILE, *small, "expect: 100-CONTINUE")
+        self.assert_sees(INTERIM + opened(1, HELLO), len(LISTING), DEPLOYS, "--header", "Expect: 100-continue",
+                         "--data-binary", LISTING.decode())
 
     def test_is_told_nothing_where_it_asks_otherwise(self):
         small = ("--upload-file", self.file(b"hello"), "--header")
@@ -116,12 +130,21 @@ class StandardLibrary(OverTcp):
             self.assert_exchanges(self.connect(OldConnection), closing(wanted), *asked)
             self.assert_ended_well()
 
-    def test_is_served_whatever_it_expects(self):
+    def test_takes_no_notice_of_the_interim_reply(self):
         connection = self.connect()
         self.publish(connection, **EXPECT)
         self.assert_exchanges(connection, sent(b"hello"), "GET", FILE, None, EXPECT)
         connection.close()
         self.assert_ended_well()
+
+    def test_may_wait_for_the_interim_reply(self):
+        connection = self.connect()
+        self.assert_exchanges(connection, opened(1, HELLO), "POST", DEPLOYS, LISTING)
+        connection.request("PUT", UPLOAD, None, {"Content-Length": "5", **EXPECT})
+        self.assertEqual(connection.sock.recv(len(INTERIM), socket.MSG_WAITALL), INTERIM)
+        connection.send(b"hello")
+        self.assert_reads(connection, uploaded(b"hello", 2))
+        self.assert_exchanges(connection, sent(b"hello"), "GET", FILE)
 
     def test_reads_why_a_body_is_refused(self):
         connection = self.connect()
@@ -135,10 +158,10 @@ class StandardLibrary(OverTcp):
         self.assert_ended_well()
 
 
-# Requests with an Expect.
+# Requests with an Expect, of which some get an interim reply.
 EXPECTING = [
-    *((expecting(asked), wanted) for asked, wanted in PUBLISHED), (expecting(NEXT), sent(b"hello")),
-    (expecting(request("HEAD", FILE, "Content-Length: 0")), to_head(sent(b"hello"))),
+    *((expecting(asked), INTERIM + wanted) for asked, wanted in PUBLISHED), (expecting(NEXT), sent(b"hello")),
+    (expecting(request("HEAD", FILE, "Content-Length: 0")), INTERIM + to_head(sent(b"hello"))),
     (expecting(upload(1, "a.txt", b"hello"), "200-ok"), uploaded(b"hello")),
     (in_old_version(expecting(upload(1, "a.txt", b"hello"))), closing(uploaded(b"hello"))),
 ]
@@ -167,6 +190,18 @@ class Sockets(OverTcp):
         for asked, wanted in (joined(TALK), joined(EXPECTING)):
             for place in range(1, len(asked)):
                 self.assert_hears([asked[:place], asked[place:]], wanted, f"{asked[:100]}, after {place} bytes")
+
+    def test_bring_the_interim_reply_before_the_body_is_sent(self):
+        connection = Connection(self)
+        for asked, wanted in EXPECTING:
+            head, body = (asked + END).split(END)[:2]
+            connection.send(head + END)
+            if wanted.startswith(INTERIM):
+                self.assertEqual(connection.receive(len(INTERIM)), INTERIM, asked)
+            connection.send(body)
+            wanted = wanted.removeprefix(INTERIM)
+            self.assertEqual(connection.receive(len(wanted)), wanted, asked)
+        self.assertEqual(connection.end(), (0, b"", b""))
 
 
 if __name__ == "__main__":

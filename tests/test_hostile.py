@@ -13,7 +13,7 @@ import unittest
 
 from client import Program, closing, content_length, request, run
 from test_histories import Generator, Run
-from wire import END, expecting, in_old_version
+from wire import END, INTERIM, expecting, in_old_version
 
 BASES = 100
 STREAMS_OF_A_BASE = 100
@@ -27,16 +27,23 @@ HEAD = re.compile(rb"HTTP/1\.1 [1-5][0-9]{2} [A-Z][A-Za-z ]+\r\n(?:[A-Z][A-Za-z-
 
 
 def exchanges(seed):
-    """Those of odd seeds are in both versions, and some have an Expect, which changes nothing."""
+    """Those of odd seeds are in both versions, and some expect interim replies."""
     made, draw = Run(), random.Random(seed)
     made.ask(Generator(seed, made.model).requests(draw.randrange(4, 24)))
     parts = [request(asked.method, asked.target, *asked.fields, body=asked.body) for asked in made.requests]
     talk = list(zip(parts, made.wanted))
     if seed % 2:
         *others, (asked, wanted) = talk
-        talk = [(draw.choice((asked, expecting(asked))), wanted) for asked, wanted in others]
+        talk = [with_expectation(*exchange, draw) for exchange in others]
         talk.append((in_old_version(expecting(asked)), closing(wanted)))
     return [(in_some_form(asked, draw), wanted) for asked, wanted in talk]
+
+
+def with_expectation(asked, wanted, draw):
+    """Mostly the exchange with an interim reply, where a length is told."""
+    if draw.random() < 0.3:
+        return asked, wanted
+    return expecting(asked), INTERIM * bool(LENGTH.search(asked)) + wanted
 
 
 def in_some_form(asked, draw):
@@ -109,7 +116,7 @@ def changed(stream, other, draw):
 
 
 def are_replies(rest, may_lack_bodies):
-    """Whether these are whole replies, or heads alone to HEAD, and none after one that closes."""
+    """Whether these are whole replies, or heads alone to HEAD, with interim replies, and none after one that closes."""
     while rest:
         head = HEAD.match(rest)
         if head is None:
@@ -140,6 +147,7 @@ def hear(seed):
         tally.update(names)
         tally.update(name.decode() for name in re.findall(rb'\{"error":"(\w+)"\}', rest))
         tally["requests before the change"] += sum(end <= same for end in ends)
+        tally["interim replies before the change"] += front.count(INTERIM)
     return tally, None
 
 
@@ -164,10 +172,10 @@ class Hostile(Program):
             "requests before the change": 10_000,
         })
 
-    def test_streams_are_answered_up_to_their_change_in_both_versions(self):
+    def test_streams_are_answered_up_to_their_change_where_interim_replies_are_expected(self):
         self.assert_hears(range(1, BASES, 2), {
             **dict.fromkeys((change.__name__ for change in CHANGES), 500), **dict.fromkeys(self.faults, 50),
-            "requests before the change": 10_000,
+            "requests before the change": 10_000, "interim replies before the change": 5_000,
         })
 
 

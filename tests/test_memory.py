@@ -1,4 +1,4 @@
-"""The first run again and again, each time with one of its allocations refused: never a wrong answer.
+"""A run again and again, each time with one of its allocations refused: never a wrong answer.
 
 The program is the real one. A small library in C stands before its allocator (refuse_allocation.c). Other runs have
 little room for all their memory, and bodies that are announced as larger.
@@ -11,7 +11,12 @@ import subprocess
 import tempfile
 import unittest
 
-from client import EXAMPLES, HERE, LARGEST_FILE, PROGRAM, SECONDS, Program, content_length, cut_after, refused, run, upload
+from client import (
+    EXAMPLES, HEAD_LIMIT, HERE, LARGEST_FILE, PROGRAM, SECONDS, Program, content_length, cut_after, refused, request, run, upload,
+)
+from wire import (
+    BAD_HEAD, BODY_TOO_LARGE, CODING_REFUSED, FILE, HEAD_TOO_LARGE, INTERIM, LENGTH_BAD, expecting, long_head, with_fields,
+)
 
 MEBIBYTE = 1 << 20
 SOURCE = HERE / "refuse_allocation.c"
@@ -69,12 +74,12 @@ class RefusedAllocations(Program):
         self.library = self.folder / "refuse_allocation.so"
         subprocess.run(["gcc", "-O1", "-shared", "-fPIC", "-o", self.library, SOURCE, "-ldl"], check=True, timeout=SECONDS)
 
-    def run_refusing(self, place):
-        """Its status, output and words on standard error where this allocation is refused; how many there were."""
+    def run_refusing(self, place, given=GIVEN):
+        """The status, output and words on standard error where this allocation is refused; how many there were."""
         told_in = self.folder / "allocations"
         told_in.unlink(missing_ok=True)
         names = {"LD_PRELOAD": str(self.library), "REFUSED_PLACE": str(place), "ALLOCATIONS_FILE": str(told_in)}
-        ran = subprocess.run([PROGRAM, "solo"], input=GIVEN, capture_output=True, timeout=SECONDS, env=os.environ | names)
+        ran = subprocess.run([PROGRAM, "solo"], input=given, capture_output=True, timeout=SECONDS, env=os.environ | names)
         return (ran.returncode, ran.stdout, ran.stderr), int(told_in.read_text())
 
     def test_give_no_wrong_answer_at_any_place_of_the_first_run(self):
@@ -92,6 +97,30 @@ class RefusedAllocations(Program):
                     self.assertTrue(is_right(pieces(out)), out.decode())
                 refused += out != whole[1]
         self.assertGreater(refused, 20)
+
+    def assert_gives(self, given, wanted, *without_memory):
+        """The wanted output, or at some place one of these, or nothing where there is no memory to begin."""
+        whole, count = self.run_refusing(0, given)
+        self.assertEqual(whole, (0, wanted, b""))
+        seen = {self.run_refusing(place, given)[0] for place in range(1, count + 1)}
+        allowed = {(0, out, b"") for out in (wanted, *without_memory)} | {(2, b"", NO_MEMORY)}
+        self.assertLessEqual(seen, allowed)
+        self.assertLessEqual({(0, out, b"") for out in without_memory}, seen, "each of these comes")
+
+    def test_give_no_wrong_answer_to_a_client_that_waits(self):
+        without_memory = refused("OutOfMemory", "Connection: close")
+        self.assert_gives(expecting(request("GET", FILE, body=b"hello")), INTERIM + NO_FILE,
+                          without_memory, INTERIM + without_memory, INTERIM + refused("OutOfMemory"))
+
+    def test_give_no_wrong_answer_to_a_refused_head(self):
+        without_memory = refused("OutOfMemory", "Connection: close")
+        for fields, wanted in [
+            (["Transfer-Encoding: chunked"], CODING_REFUSED), (["Content-Length: +5"], LENGTH_BAD),
+            ([f"Content-Length: {LARGEST_FILE + 1}"], BODY_TOO_LARGE),
+        ]:
+            self.assert_gives(request("GET", FILE, "Expect: 100-continue", *fields), wanted, without_memory)
+        self.assert_gives(b"GET\r\n\r\n", BAD_HEAD)
+        self.assert_gives(long_head(HEAD_LIMIT), HEAD_TOO_LARGE)
 
 
 class AnnouncedBodies(Program):

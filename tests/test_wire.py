@@ -1,6 +1,6 @@
-"""What the wire itself answers: each fault of a head or of a length, and the old version, HTTP/1.0.
+"""What the wire itself answers: each fault of a head or of a length, the interim reply, and the old version, HTTP/1.0.
 
-What is expected follows from docs/HTTP.md.
+What is expected follows from docs/HTTP.md; the interim reply from RFC 9110, section 10.1.1.
 """
 
 import unittest
@@ -10,7 +10,7 @@ from client import (
     run, sent, to_head, upload, uploaded,
 )
 from wire import (
-    BAD_HEAD, BODY_TOO_LARGE, CODING_REFUSED, END, FILE, HEAD_TOO_LARGE, LENGTH_BAD, LINE, NEXT, NO_FILE,
+    BAD_HEAD, BODY_TOO_LARGE, CODING_REFUSED, END, FILE, HEAD_TOO_LARGE, INTERIM, LENGTH_BAD, LINE, NEXT, NO_FILE,
     expecting, in_old_version, long_head, with_fields,
 )
 
@@ -102,21 +102,66 @@ class Faults(Program):
             self.assertIn(out, (BAD_HEAD, HEAD_TOO_LARGE))
 
 
-class Expectations(Program):
-    """Fields `Expect`, of which no notice is taken so far."""
+class InterimReplies(Program):
+    """The interim reply to a request that expects one, before its body is read."""
 
-    def test_change_nothing_where_no_length_is_told(self):
+    def test_come_first_byte_for_byte(self):
+        asked = request("PUT", UPLOAD, EXPECTED, "Content-Length: 5")
+        self.assert_converses([PUBLISHED[0], (asked + b"hello", (
+            b"HTTP/1.1 100 Continue\r\n\r\n"
+            b"HTTP/1.1 200 OK\r\nContent-Type: application/json\r\nContent-Length: 64\r\n\r\n"
+            b'{"published":2,"sha":"aaf4c61ddcc5e8a2dabede0f3b482cd9aea9434d"}'))])
+
+    def test_come_before_the_body_is_sent(self):
+        asked = expecting(upload(1, "a.txt", b"hello"))
+        client = Client(self)
+        client.send(opening({"/a.txt": HELLO}))
+        self.assertEqual(client.receive(len(opened(1, HELLO))), opened(1, HELLO))
+        client.send(asked[:-5])
+        self.assertEqual(client.receive(len(INTERIM)), INTERIM)
+        for byte in b"hello":
+            client.send(bytes([byte]))
+        client.program.stdin.close()
+        self.assertEqual(client.end(), (0, uploaded(b"hello", 2), b""))
+
+    def test_come_alone_where_the_body_is_cut_short(self):
+        asked = expecting(upload(1, "a.txt", b"hello"))
+        for left in range(1, 6):
+            self.assert_answers(asked[:-left], INTERIM, left)
+        self.assert_answers(asked[:-6], b"")
+        self.assert_answers(request("PUT", UPLOAD, EXPECTED, f"Content-Length: {LARGEST_FILE}"), INTERIM)
+
+    def test_come_whatever_is_asked_for(self):
+        for asked, wanted in [
+            (UNDO, done(entry=3)), (upload(1, "a.txt", b"x"), refused("WrongDigest")),
+            (upload(7, "a", b""), refused("NoSuchDeploy")), (request("GET", "/nowhere", body=NEXT), refused("NoRoute")),
+            (request("GET", FILE, body=b""), HELLO_SENT), (request("GET", FILE, "Content-Length: 0000"), HELLO_SENT),
+            (request("HEAD", FILE, body=b"x"), to_head(HELLO_SENT)), (request("PUT", FILE, body=b"x"), BAD_METHOD),
+            (closing(request("GET", FILE, body=b"")), closing(HELLO_SENT)),
+        ]:
+            self.assert_converses([*PUBLISHED, (expecting(asked), INTERIM + wanted)])
+
+    def test_come_in_any_case_of_what_is_expected(self):
+        for field in ("expect:100-continue", "EXPECT: \t100-CONTINUE \t", "Expect: 100-Continue"):
+            self.assert_answers(request("GET", FILE, field, body=NEXT) + NEXT, INTERIM + NO_FILE * 2, field)
+
+    def test_come_also_to_the_hundredth_request(self):
+        asked = expecting(request("GET", FILE, body=b"hello"))
+        wanted = (INTERIM + NO_FILE) * (REQUESTS - 1) + INTERIM + closing(NO_FILE)
+        self.assert_answers(asked * (REQUESTS + 1), wanted)
+
+    def test_come_to_no_request_without_a_length(self):
         self.assert_answers(expecting(NEXT) + NEXT, NO_FILE * 2)
 
-    def test_change_nothing_whatever_they_expect(self):
+    def test_come_to_no_other_expectation_whose_body_is_read(self):
         for fields in (
-            [EXPECTED], ["Expect:"], ["Expect: 100 continue"], ["Expect: 100-continues"], ["Expect: 100-continue,"], ["Expect: ok"],
+            ["Expect:"], ["Expect: 100 continue"], ["Expect: 100-continues"], ["Expect: 100-continue,"], ["Expect: ok"],
             ["Expect: x,100-continue"], ["Expect: 100-continue;a=b"], ['Expect: "100-continue"'], ["Expect: 100"],
             ["Expects: 100-continue"], [EXPECTED] * 2, [EXPECTED, "Expect:"], ["Expect: x", EXPECTED],
         ):
             self.assert_answers(request("GET", FILE, *fields, body=NEXT) + NEXT, NO_FILE * 2, fields)
 
-    def test_change_nothing_in_the_old_version(self):
+    def test_come_to_no_request_in_the_old_version(self):
         asked = expecting(request("GET", FILE, body=NEXT))
         self.assert_answers(in_old_version(asked) + NEXT, closing(NO_FILE))
 

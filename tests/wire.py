@@ -1,4 +1,7 @@
-"""What the wire itself answers, before any route: the refusals of heads and lengths, which follow from docs/HTTP.md."""
+"""What the wire itself answers, before any route: the interim reply, and the refusals of heads and lengths.
+
+They follow from docs/HTTP.md; the interim reply from RFC 9110, section 10.1.1.
+"""
 
 from client import closing, refused, request, told
 
@@ -7,6 +10,7 @@ LINE = f"GET {FILE} HTTP/1.1".encode()
 END = b"\r\n\r\n"
 NEXT = LINE + END
 NO_FILE = refused("NoSuchFile")
+INTERIM = b"HTTP/1.1 100 Continue\r\n\r\n"
 
 
 def fault(status, name):

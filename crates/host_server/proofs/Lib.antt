@@ -10,5 +10,7 @@ pub mod Growing
 pub mod Turns
 pub mod Served
 pub mod Lines
+pub mod TimedTrails
+pub mod TimedReads
 pub mod TimedTurns
 pub mod TimedConnections

@@ -109,7 +109,7 @@ pub stops : (read_fails write_fails : Type 0) (e : ConnectionFault) (first : Hos
     → SoFar first stream n host old held mid_held → Turns read_fails write_fails (Err e) (is_last_at n) host old new mid_held new_held next
     → Serves read_fails write_fails (Err e) first next stream held new_held
 stops read_fails write_fails fault.InputFault first stream n host next old new held mid_held new_held so turn =
-    finish read_fails write_fails (Err fault.InputFault) first stream n host next old held mid_held new_held so [] turn.2 (turn.0, refl, turn.1)
+    finish read_fails write_fails (Err fault.InputFault) first stream n host next old held mid_held new_held so turn.1.0 turn.1.3 (turn.0, turn.1.1, turn.1.2)
 stops read_fails write_fails fault.OutputFault first stream n host next old new held mid_held new_held so turn =
     finish read_fails write_fails (Err fault.OutputFault) first stream n host next old held mid_held new_held so turn.1.0 turn.1.2 (turn.0, turn.1.1)
 stops read_fails write_fails fault.OutOfMemory first stream n host next old new held mid_held new_held so turn = absurd turn

@@ -12,7 +12,7 @@ use Rattle.host_server.specs.declared.connections.ConnectionFault.TheVariants as
 use Rattle.host_server.specs.declared.connections.Next.{Next}
 use Rattle.host_server.specs.declared.connections.Next.TheVariants as next_is
 use Rattle.host_server.proofs.Served.{SoFar, at_first, goes_on, ends_well, stops, after_all, never_began}
-use Rattle.host_server.proofs.TimedTurns.{Together, gives_more, gives_split, together_of}
+use Rattle.host_server.proofs.TimedTrails.{Together, gives_more, gives_split, together_of}
 
 -- what was done before the request of number n
 pub record ConnectionSoFar {S : Type 0} (saw : S → Event → S → Type 0) (old new : S) (first : Host) (n : ℕ) (host : Host) (buffer : List ℕ) : Type 0 where
@@ -49,8 +49,9 @@ caught_up saw old new first n host buffer so got put awaited =
       next = host;
       rest = buffer ++ got;
       served = at.served;
-      cut = awaited.0;
-      put_is = ap (λ u. all_put so.events ++ u) awaited.1 ∙ append-nil (all_put so.events) ∙ at.written;
+      sent = put;
+      cut = awaited;
+      put_is = ap (λ u. u ++ put) at.written;
     }
 
 -- a turn after what was written before it
@@ -58,7 +59,7 @@ turns_after : (P Q R T : Type 0) (result : Result Next ConnectionFault) (is_last
     → Turns P Q result is_last host old new (Some []) (Some put) next → Turns R T result is_last host old new (Some before) (Some (before ++ put)) next
 turns_after P Q R T (Ok next_is.Exchange) is_last host next old new before put f g turn = (turn.0, turn.1, ap (λ u. before ++ u) turn.2)
 turns_after P Q R T (Ok next_is.End) is_last host next old new before put f g turn = (turn.0, turn.1, ap (λ u. before ++ u) turn.2)
-turns_after P Q R T (Err fault.InputFault) is_last host next old new before put f g turn = (f turn.0, turn.1, ap (λ u. before ++ u) turn.2)
+turns_after P Q R T (Err fault.InputFault) is_last host next old new before put f g turn = (f turn.0, (turn.1.0, turn.1.1, turn.1.2, ap (λ u. before ++ u) turn.1.3))
 turns_after P Q R T (Err fault.OutputFault) is_last host next old new before put f g turn = (g turn.0, (turn.1.0, turn.1.1, ap (λ u. before ++ u) turn.1.2))
 turns_after P Q R T (Err fault.OutOfMemory) is_last host next old new before put f g turn = absurd turn
 

@@ -5,6 +5,7 @@ use Rattle.std.specs.List.{concat}
 use Rattle.std.specs.Str.{bytes_eq}
 use Rattle.http_wire.specs.declared.faults.LengthFault.{LengthFault}
 use Rattle.http_wire.specs.declared.faults.LengthFault.TheVariants as fault_of
+use Rattle.http_wire.specs.Expectations.{ExpectsContinue, continue_text}
 use Rattle.http_wire.specs.Fields.{AnnouncesBody, IsBodyLength}
 use Rattle.http_wire.specs.HeadText.{IsHeadText, CutShort, head_limit}
 use Rattle.http_wire.specs.Requests.{RequestParts, Says}
@@ -14,6 +15,7 @@ use Rattle.host_api.specs.Limits.{body_limit}
 use Rattle.host_api.specs.declared.refusals.HeadRefusal.{HeadRefusal}
 use Rattle.host_api.specs.declared.refusals.HeadRefusal.TheVariants.{HeadTooLarge, BadHead, CodingRefused, LengthBad, BodyTooLarge}
 use Rattle.host_api.specs.declared.refusals.Refusal.TheVariants.{Head, OutOfMemory}
+use Rattle.host_server.specs.declared.answers.Request.{Request}
 use Rattle.host_server.specs.declared.connections.ConnectionFault.{ConnectionFault}
 use Rattle.host_server.specs.declared.connections.ConnectionFault.TheVariants as fault
 use Rattle.host_server.specs.declared.connections.Next.{Next}
@@ -42,15 +44,30 @@ pub record TakesRequest (old new : Stream) (parts : RequestParts) (body : List �
   pub announced : AnnouncesBody parts.fields (limit_of parts) (length body)
   pub taken : Consumes old new (text ++ body)
 
--- a request is taken, and its reply sent; the connection ends after it or not
+-- what is sent between a head of these parts and its body: the interim reply, where the client waits for it
+abbrev pub IsInterim : RequestParts → List ℕ → Type 0
+IsInterim parts text = (ExpectsContinue parts × (text ≡ continue_text)) ⊎ ((¬ (ExpectsContinue parts)) × (text ≡ []))
+
+-- a request is taken, and sent are what its client waits for, if anything, and its reply; the connection ends after it or not
 pub record IsAnswered (host : Host) (is_last close : Bool) (old : Stream) (sent : List ℕ) (next : Host) (new : Stream) : Type 0 where
   pub parts : RequestParts
   pub body : List ℕ
   pub request : TakesRequest old new parts body
+  pub interim : List ℕ
+  pub invited : IsInterim parts interim
   pub closing : closes parts is_last ≡ close
   pub answer : Answer
   pub is_answer : IsAnswer host parts body answer next
-  pub sent_is : sent ≡ sent_for close parts.method answer
+  pub sent_is : sent ≡ interim ++ sent_for close parts.method answer
+
+-- a head is there that announces a body of this size, which is read once this was sent; the rest of the stream is behind the head
+pub record IsInvited (old rest : Stream) (size : ℕ) (sent : List ℕ) : Type 0 where
+  pub parts : RequestParts
+  pub text : List ℕ
+  pub head : TakesHead old rest text
+  pub says : Says text parts
+  pub announced : AnnouncesBody parts.fields (limit_of parts) size
+  pub interim : IsInterim parts sent
 
 -- no head that is served can be read, for this reason
 abbrev pub IsHeadBad : HeadRefusal → Stream → Type 0
@@ -85,15 +102,12 @@ IsHeadWithoutMemory old sent = HasWholeHead old × (sent ≡ sent_text true fals
 
 -- there is no memory for the body that the head announces
 pub record IsBodyWithoutMemory (old : Stream) (sent : List ℕ) : Type 0 where
-  pub parts : RequestParts
-  pub text : List ℕ
-  pub new : Stream
-  pub head : TakesHead old new text
-  pub says : Says text parts
+  pub rest : Stream
   pub size : ℕ
   pub some : 0 < size
-  pub announced : AnnouncesBody parts.fields (limit_of parts) size
-  pub sent_is : sent ≡ sent_for true parts.method (refused_answer OutOfMemory)
+  pub interim : List ℕ
+  pub invited : IsInvited old rest size interim
+  pub sent_is : sent ≡ interim ++ sent_for true invited.parts.method (refused_answer OutOfMemory)
 
 -- the request is not read whole, and this is sent
 abbrev pub IsNotRead : Stream → List ℕ → Type 0
@@ -110,28 +124,29 @@ IsExchange host is_last old sent next new = IsAnswered host is_last false old se
 
 -- ---- where the stream ends before the next whole request
 
--- the stream ends before the body that its head announces is whole
-pub record IsBodyCut (old : Stream) : Type 0 where
-  pub parts : RequestParts
-  pub text : List ℕ
-  pub new : Stream
-  pub head : TakesHead old new text
-  pub says : Says text parts
+-- the stream ends before the body that its head announces is whole, and this was sent for it
+pub record IsBodyCut (old : Stream) (sent : List ℕ) : Type 0 where
+  pub rest : Stream
   pub size : ℕ
-  pub announced : AnnouncesBody parts.fields (limit_of parts) size
-  pub short : IfSome new (λ left. length left < size)
+  pub invited : IsInvited old rest size sent
+  pub short : IfSome rest (λ left. length left < size)
 
--- the stream ends before the next whole request: in its head, or in its body
-abbrev pub IsCut : Stream → Type 0
-IsCut old = IfSome old CutShort ⊎ IsBodyCut old
+-- the stream ends before the next whole request, and this was sent since: in its head, and nothing, or in its body
+abbrev pub IsCut : Stream → List ℕ → Type 0
+IsCut old sent = (IfSome old CutShort × (sent ≡ [])) ⊎ IsBodyCut old sent
 
--- ---- where a write failed
+-- ---- where a read or a write failed
 
--- a front of the reply was sent, and some of it was not; what its request did remains
+-- this was sent for a request that isn't read yet: nothing, or what comes before its body
+abbrev pub IsBegun : Stream → List ℕ → Type 0
+IsBegun old sent = (sent ≡ []) ⊎ ((rest : Stream) × (size : ℕ) × IsInvited old rest size sent)
+
+-- a front of what is sent for a request was sent, and some of it was not; what the request did remains
 pub record IsFrontSent (host : Host) (is_last : Bool) (old : Stream) (sent : List ℕ) (next : Host) : Type 0 where
   pub rest : List ℕ
   pub some : 0 < length rest
   pub whole : ((new : Stream) × IsExchange host is_last old (sent ++ rest) next new) ⊎ IsLast host is_last old (sent ++ rest) next
+      ⊎ (IsBegun old (sent ++ rest) × (next ≡ host))
 
 -- ---- a whole connection
 
@@ -148,13 +163,13 @@ AreServed n host old (sent ∷ more) next new =
 -- how a connection ended that had come to the request of number n: what was sent since, and what the host has
 abbrev pub Ends : (read_fails write_fails : Type 0) → Result (Unit {0}) ConnectionFault → ℕ → Host → Stream → List ℕ → Host → Type 0
 Ends read_fails write_fails (Ok done) n host old sent next =
-    ((sent ≡ []) × IsCut old × (next ≡ host)) ⊎ IsLast host (is_last_at n) old sent next
-Ends read_fails write_fails (Err fault.InputFault) n host old sent next = read_fails × (sent ≡ []) × (next ≡ host)
+    (IsCut old sent × (next ≡ host)) ⊎ IsLast host (is_last_at n) old sent next
+Ends read_fails write_fails (Err fault.InputFault) n host old sent next = read_fails × IsBegun old sent × (next ≡ host)
 Ends read_fails write_fails (Err fault.OutputFault) n host old sent next =
     write_fails × IsFrontSent host (is_last_at n) old sent next
 Ends read_fails write_fails (Err fault.OutOfMemory) n host old sent next = (n ≡ 1) × (sent ≡ []) × (next ≡ host)
 
--- What a connection does: it sends the replies to the requests of its stream, each over what the host has by then,
+-- What a connection does: it sends what the requests of its stream are answered, each over what the host has by then,
 -- up to the first after which it ends. It ends earlier only where the stream does, where a read or a write fails, or
 -- where there is no memory to begin.
 pub record Serves (read_fails write_fails : Type 0) (result : Result (Unit {0}) ConnectionFault)
@@ -173,25 +188,66 @@ pub record Serves (read_fails write_fails : Type 0) (result : Result (Unit {0}) 
 abbrev pub HeadStops : (read_fails : Type 0) → Stream → Stop → Type 0
 HeadStops read_fails old stop.Ended = IfSome old CutShort
 HeadStops read_fails old stop.ReadFault = read_fails
+HeadStops read_fails old stop.WriteFault = ⊥
 HeadStops read_fails old (stop.Refused why head_only) = IsHeadRefused old (sent_text true head_only (refused_answer (Head why)))
 HeadStops read_fails old (stop.OutOfMemory head_only) = IsHeadWithoutMemory old (sent_text true head_only (refused_answer OutOfMemory))
 
--- why it gives no body that the head announces
-abbrev pub BodyStops : (read_fails : Type 0) → Stream → RequestParts → Stop → Type 0
-BodyStops read_fails old parts stop.Ended = (size : ℕ) × AnnouncesBody parts.fields (limit_of parts) size × IfSome old (λ left. length left < size)
-BodyStops read_fails old parts stop.ReadFault = read_fails
-BodyStops read_fails old parts (stop.Refused why head_only) =
+-- the head announces a body of this size, which is read once this was sent
+abbrev pub Invites : RequestParts → ℕ → List ℕ → Type 0
+Invites parts size sent = AnnouncesBody parts.fields (limit_of parts) size × IsInterim parts sent
+
+-- some of this, which isn't all that is to be sent before the body of a head, was sent
+abbrev pub InvitesInPart : RequestParts → List ℕ → Type 0
+InvitesInPart parts sent = (size : ℕ) × (rest : List ℕ) × (0 < length rest) × Invites parts size (sent ++ rest)
+
+-- no body of a head of these parts is read, for this reason, which is told without a body where the method asks for that
+abbrev pub RefusesBody : RequestParts → HeadRefusal → Bool → Type 0
+RefusesBody parts why head_only =
     (head_only ≡ bytes_eq parts.method (codes "HEAD"))
     × ((fault : LengthFault) × (why ≡ refusal_of fault) × IsBodyLength (Err fault) parts.fields (limit_of parts))
-BodyStops read_fails old parts (stop.OutOfMemory head_only) =
-    (head_only ≡ bytes_eq parts.method (codes "HEAD")) × ((size : ℕ) × (0 < size) × AnnouncesBody parts.fields (limit_of parts) size)
 
--- why it gives no request
-abbrev pub Stops : (read_fails : Type 0) → Stream → Stop → Type 0
-Stops read_fails old stop.Ended = IsCut old
-Stops read_fails old stop.ReadFault = read_fails
-Stops read_fails old (stop.Refused why head_only) = IsNotRead old (sent_text true head_only (refused_answer (Head why)))
-Stops read_fails old (stop.OutOfMemory head_only) = IsNotRead old (sent_text true head_only (refused_answer OutOfMemory))
+-- how long the body is that is read, or why none is
+abbrev pub Announced : RequestParts → Result ℕ Stop → Type 0
+Announced parts (Ok size) = AnnouncesBody parts.fields (limit_of parts) size
+Announced parts (Err stop.Ended) = ⊥
+Announced parts (Err stop.ReadFault) = ⊥
+Announced parts (Err stop.WriteFault) = ⊥
+Announced parts (Err (stop.Refused why head_only)) = RefusesBody parts why head_only
+Announced parts (Err (stop.OutOfMemory head_only)) = ⊥
+
+-- why a stream gives no body of this size
+abbrev pub SizeStops : RequestParts → ℕ → (read_fails : Type 0) → Stream → Stop → Type 0
+SizeStops parts size read_fails old stop.Ended = IfSome old (λ left. length left < size)
+SizeStops parts size read_fails old stop.ReadFault = read_fails
+SizeStops parts size read_fails old stop.WriteFault = ⊥
+SizeStops parts size read_fails old (stop.Refused why head_only) = ⊥
+SizeStops parts size read_fails old (stop.OutOfMemory head_only) = (head_only ≡ bytes_eq parts.method (codes "HEAD")) × (0 < size)
+
+-- the body that a head announces is taken, and this was sent before
+abbrev pub TakesBody : RequestParts → List ℕ → Stream → Stream → List ℕ → Type 0
+TakesBody parts body old new sent = Invites parts (length body) sent × Consumes old new body
+
+-- why it gives no body that the head announces, and what was sent
+abbrev pub BodyStops : RequestParts → (read_fails write_fails : Type 0) → Stream → List ℕ → Stop → Type 0
+BodyStops parts read_fails write_fails old sent stop.Ended = (size : ℕ) × Invites parts size sent × IfSome old (λ left. length left < size)
+BodyStops parts read_fails write_fails old sent stop.ReadFault = read_fails × ((size : ℕ) × Invites parts size sent)
+BodyStops parts read_fails write_fails old sent stop.WriteFault = write_fails × InvitesInPart parts sent
+BodyStops parts read_fails write_fails old sent (stop.Refused why head_only) = (sent ≡ []) × RefusesBody parts why head_only
+BodyStops parts read_fails write_fails old sent (stop.OutOfMemory head_only) =
+    (head_only ≡ bytes_eq parts.method (codes "HEAD")) × ((size : ℕ) × (0 < size) × Invites parts size sent)
+
+-- a request is taken, which is the last or not, and this was sent before its body
+abbrev pub TakesNext : Bool → Request → Stream → Stream → List ℕ → Type 0
+TakesNext is_last request old new sent =
+    TakesRequest old new request.head request.body.items × IsInterim request.head sent × (request.is_last ≡ is_last)
+
+-- why it gives no request, and what was sent
+abbrev pub Stops : (read_fails write_fails : Type 0) → Stream → List ℕ → Stop → Type 0
+Stops read_fails write_fails old sent stop.Ended = IsCut old sent
+Stops read_fails write_fails old sent stop.ReadFault = read_fails × IsBegun old sent
+Stops read_fails write_fails old sent stop.WriteFault = write_fails × ((rest : List ℕ) × (0 < length rest) × IsBegun old (sent ++ rest))
+Stops read_fails write_fails old sent (stop.Refused why head_only) = IsNotRead old (sent ++ sent_text true head_only (refused_answer (Head why)))
+Stops read_fails write_fails old sent (stop.OutOfMemory head_only) = IsNotRead old (sent ++ sent_text true head_only (refused_answer OutOfMemory))
 
 -- ---- what is sent of a text
 
@@ -206,6 +262,7 @@ Sends write_fails (Err fault.OutOfMemory) text held new_held = ⊥
 abbrev pub Refuses : (write_fails : Type 0) → Result (Unit {0}) ConnectionFault → Stop → Stream → Stream → Type 0
 Refuses write_fails result stop.Ended held new_held = (result ≡ Ok tt) × (new_held ≡ held)
 Refuses write_fails result stop.ReadFault held new_held = (result ≡ Err fault.InputFault) × (new_held ≡ held)
+Refuses write_fails result stop.WriteFault held new_held = (result ≡ Err fault.OutputFault) × (new_held ≡ held)
 Refuses write_fails result (stop.Refused why head_only) held new_held =
     Sends write_fails result (sent_text true head_only (refused_answer (Head why))) held new_held
 Refuses write_fails result (stop.OutOfMemory head_only) held new_held =
@@ -236,9 +293,9 @@ abbrev pub Turns : (read_fails write_fails : Type 0) → Result Next ConnectionF
 Turns read_fails write_fails (Ok next_is.Exchange) is_last host old new held new_held next =
     (sent : List ℕ) × IsExchange host is_last old sent next new × Appends held new_held sent
 Turns read_fails write_fails (Ok next_is.End) is_last host old new held new_held next =
-    (sent : List ℕ) × (((sent ≡ []) × IsCut old × (next ≡ host)) ⊎ IsLast host is_last old sent next) × Appends held new_held sent
+    (sent : List ℕ) × ((IsCut old sent × (next ≡ host)) ⊎ IsLast host is_last old sent next) × Appends held new_held sent
 Turns read_fails write_fails (Err fault.InputFault) is_last host old new held new_held next =
-    read_fails × (next ≡ host) × Appends held new_held []
+    read_fails × ((sent : List ℕ) × IsBegun old sent × (next ≡ host) × Appends held new_held sent)
 Turns read_fails write_fails (Err fault.OutputFault) is_last host old new held new_held next =
     write_fails × ((sent : List ℕ) × IsFrontSent host is_last old sent next × Appends held new_held sent)
 Turns read_fails write_fails (Err fault.OutOfMemory) is_last host old new held new_held next = ⊥

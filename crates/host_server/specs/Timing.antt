@@ -1,28 +1,30 @@
 -- When a connection reads and writes.
-use Rattle.std.specs.Prelude.{◌≡◌, ℕ, List, [], ◌++◌, Some, Bool, Result, Ok, Err, OnOk, MatchResult}
-use Rattle.std.specs.Io.KnownBytes.{prepend_known}
+use Rattle.std.specs.Prelude.{◌≡◌, ℕ, ◌<◌, List, [], ◌++◌, length, Some, Bool, Result, Ok, Err, OnOk, MatchResult}
+use Rattle.std.specs.Io.KnownBytes.{Consumes, prepend_known}
+use Rattle.std.specs.declared.vec.Vec.{Vec}
 use Rattle.std.specs.List.{concat}
-use Rattle.http_wire.specs.Fields.{AnnouncesBody}
 use Rattle.http_wire.specs.Requests.{RequestParts}
 use Rattle.http_wire.specs.Timing.{Event, AtEnd, ReadFails, WriteFails, all_put, IsLatest, GoesOn, Gives}
-use Rattle.http_wire.specs.Wires.{AwaitsBody}
+use Rattle.http_wire.specs.Wires.{ServesHead}
 use Rattle.host_server.specs.declared.connections.ConnectionFault.{ConnectionFault}
 use Rattle.host_server.specs.declared.connections.Next.{Next}
 use Rattle.host_server.specs.declared.connections.Next.TheVariants as next_is
 use Rattle.host_server.specs.declared.connections.Stop.{Stop}
 use Rattle.host_server.specs.declared.connections.Stop.TheVariants as stop
 use Rattle.host_server.specs.Hosts.{Host}
-use Rattle.host_server.specs.Serving.{Stream, limit_of, AreServed, IsCut, Serves, Sends, Refuses, Exchanges, Turns}
+use Rattle.host_server.specs.Serving.{Stream, AreServed, IsCut, Serves, IsInterim, Invites, HeadStops, SizeStops, Sends, Refuses, Exchanges, Turns}
 
--- A connection may read: the bytes that came are whole requests, whose replies are all that was written, and after
--- them no whole request. A connection whose stream ended here would have written just that.
+-- A connection may read: the bytes that came are whole requests, and after them no whole one; all that was written are
+-- their replies, and what is sent before the body of one that is cut in it. A connection whose stream ended here would
+-- have written just that.
 pub record IsCaughtUp (host : Host) (got put : List ℕ) : Type 0 where
   pub replies : List (List ℕ)
   pub next : Host
   pub rest : List ℕ
   pub served : AreServed 1 host (Some got) replies next (Some rest)
-  pub cut : IsCut (Some rest)
-  pub put_is : put ≡ concat replies
+  pub sent : List ℕ
+  pub cut : IsCut (Some rest) sent
+  pub put_is : put ≡ concat replies ++ sent
 
 -- What a connection did by these events, over each stream of which its reads are the next: where it says that a read or
 -- a write failed, that was the last event.
@@ -32,44 +34,72 @@ pub record Connects (result : Result (Unit {0}) ConnectionFault) (host next : Ho
 
 -- ---- what private functions say
 
--- the bytes that came hold no whole request, and nothing was written since
+-- the bytes that came hold no whole request, and all that was written since is what comes before its body
 abbrev pub AwaitsRequest : (buffer got put : List ℕ) → Type 0
-AwaitsRequest buffer got put = IsCut (Some (buffer ++ got)) × (put ≡ [])
+AwaitsRequest buffer got put = IsCut (Some (buffer ++ got)) put
 
--- they hold only a part of the body that is announced, and nothing was written since
+-- they hold only a part of the body that is announced, and all that was written since is what comes before it
 abbrev pub AwaitsAnnounced : RequestParts → (buffer got put : List ℕ) → Type 0
-AwaitsAnnounced parts buffer got put = (size : ℕ) × AnnouncesBody parts.fields (limit_of parts) size × AwaitsBody buffer size got put
+AwaitsAnnounced parts buffer got put = (size : ℕ) × Invites parts size put × (length (buffer ++ got) < size)
 
--- how the reads end, where something was read or why it was not
+-- what is to be sent before the body of a head of these parts was written, or a front of it, since a write failed
+abbrev pub InvitesAs : Result (Unit {0}) Stop → RequestParts → List Event → Type 0
+InvitesAs (Ok done) parts events = GoesOn events × IsInterim parts (all_put events)
+InvitesAs (Err stop.Ended) parts events = ⊥
+InvitesAs (Err stop.ReadFault) parts events = ⊥
+InvitesAs (Err stop.WriteFault) parts events = IsLatest WriteFails events
+    × ((rest : List ℕ) × (0 < length rest) × IsInterim parts (all_put events ++ rest))
+InvitesAs (Err (stop.Refused why head_only)) parts events = ⊥
+InvitesAs (Err (stop.OutOfMemory head_only)) parts events = ⊥
+
+-- how the events end, where something was read or why it was not
 abbrev pub ReadEnds : {A : Type 0} → Result A Stop → List Event → Type 0
 ReadEnds (Ok value) events = GoesOn events
 ReadEnds (Err stop.Ended) events = IsLatest AtEnd events
 ReadEnds (Err stop.ReadFault) events = IsLatest ReadFails events
+ReadEnds (Err stop.WriteFault) events = IsLatest WriteFails events
 ReadEnds (Err (stop.Refused why head_only)) events = GoesOn events
 ReadEnds (Err (stop.OutOfMemory head_only)) events = GoesOn events
 
--- nothing was written, and of each stream of which these reads are the next something was taken, or it says why not
-pub record ReadsAs {A : Type 0} (result : Result A Stop) (takes : A → Stream → Stream → Type 0) (stops : Type 0 → Stream → Stop → Type 0)
-    (buffer new_buffer : List ℕ) (events : List Event) : Type 0 where
+-- nothing was written, and of each stream of which these reads are the next a head was taken, or it says why not
+pub record ReadsHeadAs (result : Result RequestParts Stop) (buffer new_buffer : List ℕ) (events : List Event) : Type 0 where
   pub nothing_put : all_put events ≡ []
   pub ends : ReadEnds result events
   pub of_stream : (left new_left : Stream) → Gives events left new_left
-      → MatchResult result (λ value. takes value (prepend_known buffer left) (prepend_known new_buffer new_left))
-      (stops (IsLatest ReadFails events) (prepend_known buffer left))
+      → MatchResult result (ServesHead (prepend_known buffer left) (prepend_known new_buffer new_left))
+      (HeadStops (IsLatest ReadFails events) (prepend_known buffer left))
+
+-- the same of a body of this size
+pub record TakesBodyAs {A : Type 0} (result : Result (Vec ℕ A) Stop) (parts : RequestParts) (size : ℕ) (buffer new_buffer : List ℕ) (events : List Event)
+    : Type 0 where
+  pub nothing_put : all_put events ≡ []
+  pub ends : ReadEnds result events
+  pub of_stream : (left new_left : Stream) → Gives events left new_left
+      → MatchResult result (λ body. (length body.items ≡ size) × Consumes (prepend_known buffer left) (prepend_known new_buffer new_left) body.items)
+      (SizeStops parts size (IsLatest ReadFails events) (prepend_known buffer left))
+
+-- of each stream of which these reads are the next something was taken, or it says why not, and what was written
+pub record ReadsAs {A : Type 0} (result : Result A Stop) (takes : A → Stream → Stream → List ℕ → Type 0)
+    (stops : (read_fails write_fails : Type 0) → Stream → List ℕ → Stop → Type 0) (buffer new_buffer : List ℕ) (events : List Event) : Type 0 where
+  pub ends : ReadEnds result events
+  pub of_stream : (left new_left : Stream) → Gives events left new_left
+      → MatchResult result (λ value. takes value (prepend_known buffer left) (prepend_known new_buffer new_left) (all_put events))
+      (stops (IsLatest ReadFails events) (IsLatest WriteFails events) (prepend_known buffer left) (all_put events))
 
 -- the text was written, or a write failed
 pub record SendsAs (result : Result (Unit {0}) ConnectionFault) (text : List ℕ) (events : List Event) : Type 0 where
   pub sends : Sends (IsLatest WriteFails events) result text (Some []) (Some (all_put events))
   pub goes_on : OnOk result (GoesOn events)
 
--- where the stream ended or failed, nothing is written
+-- where the stream ended, or a read or a write failed, nothing is written
 abbrev pub IsSilent : Stop → List Event → Type 0
 IsSilent stop.Ended events = events ≡ []
 IsSilent stop.ReadFault events = events ≡ []
+IsSilent stop.WriteFault events = events ≡ []
 IsSilent (stop.Refused why head_only) events = Unit {0}
 IsSilent (stop.OutOfMemory head_only) events = Unit {0}
 
--- what is sent where no request is read, and that it is nothing where the stream ended or failed
+-- what is sent where no request is read, and that it is nothing where the stream ended, or a read or a write failed
 pub record RefusesAs (result : Result (Unit {0}) ConnectionFault) (why : Stop) (events : List Event) : Type 0 where
   pub refuses : Refuses (IsLatest WriteFails events) result why (Some []) (Some (all_put events))
   pub silent : IsSilent why events

@@ -1,21 +1,19 @@
 //! One connection: requests in, and a reply to each.
-ghost use Rattle.std.specs.Prelude.{◌≡◌, [], vec_len, codes};
-ghost use Rattle.std.specs.Io.KnownBytes.{Consumes};
+ghost use Rattle.std.specs.Prelude.{◌≡◌, [], codes};
 ghost use Rattle.std.specs.Str.{bytes_eq};
-ghost use Rattle.http_wire.specs.Fields.{AnnouncesBody};
 ghost use Rattle.http_wire.specs.Timing.{NoRead, Ran};
-ghost use Rattle.http_wire.specs.Wires.{AwaitsHead, ServesHead};
+ghost use Rattle.http_wire.specs.Wires.{AwaitsHead, AwaitsBody};
 ghost use Rattle.host_server.specs.Answers.{Grows};
 ghost use Rattle.host_server.specs.Bodies.{answer_of};
 ghost use Rattle.host_server.specs.Replies.{closes, sent_text};
-ghost use Rattle.host_server.specs.Serving.{limit_of, refusal_of, TakesRequest, HeadStops, BodyStops, Stops, Serves};
-ghost use Rattle.host_server.specs.Timing.{AwaitsAnnounced, AwaitsRequest, IsCaughtUp, ReadsAs, SendsAs, RefusesAs, ExchangesAs, TurnsAs, Connects};
+ghost use Rattle.host_server.specs.Serving.{refusal_of, Announced, TakesBody, TakesNext, BodyStops, Stops, Serves};
+ghost use Rattle.host_server.specs.Timing.{AwaitsAnnounced, AwaitsRequest, InvitesAs, IsCaughtUp, ReadsHeadAs, TakesBodyAs, ReadsAs, SendsAs, RefusesAs, ExchangesAs, TurnsAs, Connects};
 
 use crate::answers::{Request, answer};
 use crate::host::SoloHouse;
 use crate::replies::Reply;
 use host_api::{HeadRefusal, body_limit};
-use http_wire::{BodyFault, Duplex, Head, HeadFault, LengthFault, Wire, check_body};
+use http_wire::{BodyFault, Duplex, Head, HeadFault, LengthFault, Wire, check_body, write_interim};
 use std::alloc::Global;
 use thiserror::Error;
 
@@ -42,6 +40,8 @@ enum Stop {
     Ended,
     /// A read failed.
     ReadFault,
+    /// A write failed.
+    WriteFault,
     /// The request is refused by its head.
     Refused { why: HeadRefusal, head_only: bool },
     /// There was no memory for the request.
@@ -59,7 +59,7 @@ enum Next {
 /// Reads a head.
 fn read_head<D: Duplex>(wire: &mut Wire, duplex: &mut D) -> Result<Head, Stop>
     ensures { Ran D.saw (AwaitsHead wire.old) duplex.old duplex.new
-        (ReadsAs result (λ parts old new. ServesHead old new parts) HeadStops wire.old wire.new) }
+        (ReadsHeadAs result wire.old wire.new) }
 {
     match wire.read_head(duplex) {
         Ok(head) => Ok(head),
@@ -95,22 +95,42 @@ fn refusal_of(fault: LengthFault) -> HeadRefusal
     }
 }
 
-/// Reads the body that a head announces.
-fn read_body<D: Duplex>(wire: &mut Wire, duplex: &mut D, head: &Head) -> Result<Vec<u8>, Stop>
-    ensures { Ran D.saw (AwaitsAnnounced head.now wire.old) duplex.old duplex.new
-        (ReadsAs result (λ body old new. AnnouncesBody head.now.fields (limit_of head.now) (vec_len body) × Consumes old new body.items)
-        (λ read_fails old. BodyStops read_fails old head.now) wire.old wire.new) }
+/// How long the body is that a head announces, where it is read.
+fn announced(head: &Head) -> Result<u64, Stop>
+    ensures { Announced head.now result }
 {
     let limit = body_limit(head.method().as_str(), head.target());
-    let size = match check_body(head, limit) {
-        Ok(size) => size,
-        Err(fault) => {
-            return Err(Stop::Refused {
-                why: refusal_of(fault),
-                head_only: is_head_only(head),
-            });
-        }
-    };
+    match check_body(head, limit) {
+        Ok(size) => Ok(size),
+        Err(fault) => Err(Stop::Refused {
+            why: refusal_of(fault),
+            head_only: is_head_only(head),
+        }),
+    }
+}
+
+/// Sends what the client waits for before it sends the body, if it does.
+fn invite<D: Duplex>(duplex: &mut D, head: &Head) -> Result<(), Stop>
+    ensures { Ran D.saw NoRead duplex.old duplex.new (InvitesAs result head.now) }
+{
+    if !head.expects_continue() {
+        return Ok(());
+    }
+    match write_interim(duplex) {
+        Ok(()) => Ok(()),
+        Err(_) => Err(Stop::WriteFault),
+    }
+}
+
+/// Takes a body of this size.
+fn take_body<D: Duplex>(
+    wire: &mut Wire,
+    duplex: &mut D,
+    head: &Head,
+    size: u64,
+) -> Result<Vec<u8>, Stop>
+    ensures { Ran D.saw (AwaitsBody wire.old size) duplex.old duplex.new (TakesBodyAs result head.now size wire.old wire.new) }
+{
     match wire.read_body(duplex, size) {
         Ok(body) => Ok(body),
         Err(BodyFault::Ended) => Err(Stop::Ended),
@@ -121,11 +141,20 @@ fn read_body<D: Duplex>(wire: &mut Wire, duplex: &mut D, head: &Head) -> Result<
     }
 }
 
+/// Reads the body that a head announces, once its client was invited to send it.
+fn read_body<D: Duplex>(wire: &mut Wire, duplex: &mut D, head: &Head) -> Result<Vec<u8>, Stop>
+    ensures { Ran D.saw (AwaitsAnnounced head.now wire.old) duplex.old duplex.new
+        (ReadsAs result (λ body. TakesBody head.now body.items) (BodyStops head.now) wire.old wire.new) }
+{
+    let size = announced(head)?;
+    invite(duplex, head)?;
+    take_body(wire, duplex, head, size)
+}
+
 /// Reads a request.
 fn read_request<D: Duplex>(wire: &mut Wire, duplex: &mut D, is_last: bool) -> Result<Request, Stop>
     ensures { Ran D.saw (AwaitsRequest wire.old) duplex.old duplex.new
-        (ReadsAs result (λ request old new. TakesRequest old new request.head request.body.items × (request.is_last ≡ is_last))
-        Stops wire.old wire.new) }
+        (ReadsAs result (TakesNext is_last) Stops wire.old wire.new) }
 {
     let head = read_head(wire, duplex)?;
     let body = read_body(wire, duplex, &head)?;
@@ -158,6 +187,7 @@ fn refuse<D: Duplex>(duplex: &mut D, stop: Stop) -> Result<(), ConnectionFault>
     match stop {
         Stop::Ended => Ok(()),
         Stop::ReadFault => Err(ConnectionFault::InputFault),
+        Stop::WriteFault => Err(ConnectionFault::OutputFault),
         Stop::Refused { why, head_only } => send(duplex, Reply::refusing(why), true, head_only),
         Stop::OutOfMemory { head_only } => send(duplex, Reply::out_of_memory(), true, head_only),
     }
@@ -228,6 +258,9 @@ fn serve_requests<D: Duplex>(
 
 /// Serves one connection: answers the requests of its stream, one after another, until the stream ends or a reply ends
 /// the connection, at the latest that to the 100th request.
+///
+/// Where the client of a request waits for an interim reply before it sends the body (RFC 9110, section 10.1.1), that is
+/// written before anything of the body is read. A request that is refused by its head has none.
 ///
 /// It reads only where all whole requests that came are answered, and their replies are written by then; nothing is
 /// read or written after the end of the stream, a fault or a reply that ends the connection.

@@ -7,7 +7,7 @@ use Rattle.host_server.specs.Timing.{ExchangesAs}
 use Rattle.host_server.specs.declared.connections.ConnectionFault.{ConnectionFault}
 use Rattle.host_server.specs.declared.connections.Next.{Next}
 use Rattle.host_server.specs.declared.connections.Next.TheVariants as next_is
-use Rattle.host_server.proofs.TimedTurns.{ran_as}
+use Rattle.host_server.proofs.TimedTrails.{ran_as}
 use Rattle.host_server.proofs.Turns.{is_sent, exchange_sent, exchange_cut}
 use Rattle.host_server.proofs.connections.exchange.Goals as goal
 

@@ -3,7 +3,8 @@ use Rattle.http_wire.specs.declared.faults.HeadFault.{HeadFault}
 use Rattle.http_wire.specs.declared.faults.HeadFault.TheVariants as head_fault
 use Rattle.http_wire.specs.Timing.{Ran}
 use Rattle.http_wire.specs.Wires.{AwaitsHead, ReadsHead}
-use Rattle.host_server.proofs.TimedTurns.{ran_as, head_read, head_missed}
+use Rattle.host_server.proofs.TimedTrails.{ran_as}
+use Rattle.host_server.proofs.TimedReads.{head_read, head_missed}
 use Rattle.host_server.proofs.connections.read_head.Goals as goal
 
 pub returns-in-Ok : goal.returns-in-Ok

@@ -4,7 +4,7 @@ use Rattle.host_server.specs.Replies.{Answer, sent_text}
 use Rattle.host_server.specs.Serving.{Sends}
 use Rattle.host_server.specs.Timing.{RefusesAs}
 use Rattle.host_server.specs.declared.connections.Stop.{Stop}
-use Rattle.host_server.proofs.TimedTurns.{ran_as}
+use Rattle.host_server.proofs.TimedTrails.{ran_as}
 use Rattle.host_server.proofs.connections.refuse.Goals as goal
 
 pub returns-in-Refused : goal.returns-in-Refused
