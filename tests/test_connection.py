@@ -11,30 +11,16 @@ from client import (
     request, run, sent, to_head, upload, uploaded,
 )
 from test_streams import ASKED, TALK
+from wire import (
+    BAD_HEAD, BODY_TOO_LARGE, CODING_REFUSED, END, FILE, HEAD_LIMIT, HEAD_TOO_LARGE, LENGTH_BAD, LINE, NEXT, NO_FILE,
+    long_head, with_fields,
+)
 
-HEAD_LIMIT = 16_384
 JSON_LIMIT = 4_194_304
 
-FILE = "/s/one/a.txt"
 DEPLOYS = "/api/v1/sites/one/deploys"
 UNDO = "/api/v1/sites/one/undo"
-LINE = b"GET /s/one/a.txt HTTP/1.1"
-END = b"\r\n\r\n"
-NEXT = LINE + END
-NO_FILE = refused("NoSuchFile")
-HEAD_TOO_LARGE, BAD_HEAD, CODING_REFUSED, LENGTH_BAD, BODY_TOO_LARGE = (
-    refused(name, "Connection: close") for name in ("HeadTooLarge", "BadHead", "CodingRefused", "LengthBad", "BodyTooLarge")
-)
 BAD_METHOD = refused("BadMethod", "Allow: GET, HEAD")
-
-def long_head(length):
-    """The first bytes of a head that has no end yet."""
-    return (LINE + b"\r\nLong: ").ljust(length, b"a")
-
-
-def with_fields(count, last=b"a: b"):
-    """A head of so many fields."""
-    return LINE + b"\r\n" + b"a: b\r\n" * (count - 1) + last + END
 
 
 class Heads(Program):
@@ -125,14 +111,14 @@ class Heads(Program):
 
     def test_have_at_most_64_fields(self):
         self.assert_answers(with_fields(64) + NEXT, NO_FILE * 2)
-        self.assert_answers(with_fields(64, b"Content-Length: 5") + b"hello" + NEXT, NO_FILE * 2)
-        self.assert_answers(with_fields(64, b"Connection: close") + NEXT, closing(NO_FILE))
+        self.assert_answers(with_fields(64, "Content-Length: 5") + b"hello" + NEXT, NO_FILE * 2)
+        self.assert_answers(with_fields(64, "Connection: close") + NEXT, closing(NO_FILE))
         for count in (65, 300):
             self.assert_answers(NEXT + with_fields(count) + NEXT, NO_FILE + HEAD_TOO_LARGE)
             self.assert_answers(b"HEAD" + with_fields(count)[3:] + NEXT, HEAD_TOO_LARGE)
             self.assert_answers(with_fields(count).replace(b"/s", b"s", 1) + NEXT, HEAD_TOO_LARGE)
         self.assert_answers(with_fields(64).replace(b"/s", b"s", 1) + NEXT, BAD_HEAD)
-        self.assert_answers(with_fields(64, b"no colon") + NEXT, BAD_HEAD)
+        self.assert_answers(with_fields(64, "no colon") + NEXT, BAD_HEAD)
 
     def test_of_the_older_version_are_served_and_end_the_connection(self):
         older = LINE.replace(b"1.1", b"1.0")

@@ -12,10 +12,10 @@ import tempfile
 import unittest
 
 from client import (
-    EXAMPLES, HEAD_LIMIT, HERE, LARGEST_FILE, PROGRAM, SECONDS, Program, content_length, cut_after, refused, request, run, upload,
+    EXAMPLES, HERE, LARGEST_FILE, PROGRAM, SECONDS, Program, content_length, cut_after, refused, request, run, upload,
 )
 from wire import (
-    BAD_HEAD, BODY_TOO_LARGE, CODING_REFUSED, FILE, HEAD_TOO_LARGE, INTERIM, LENGTH_BAD, expecting, long_head, with_fields,
+    BAD_HEAD, BODY_TOO_LARGE, CODING_REFUSED, FILE, HEAD_LIMIT, HEAD_TOO_LARGE, INTERIM, LENGTH_BAD, NO_FILE, expecting, long_head,
 )
 
 MEBIBYTE = 1 << 20
@@ -31,7 +31,6 @@ def pieces(stream):
 
 GIVEN = (EXAMPLES / "first-run.http").read_bytes()
 OPENED, UPLOADED, PART, UNDONE, GONE = pieces((EXAMPLES / "first-run.replies").read_bytes())
-NO_FILE = refused("NoSuchFile")
 NO_DEPLOY = refused("NoSuchDeploy")
 NO_CHANGE = refused("NoSuchChange")
 WHOLE = (

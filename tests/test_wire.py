@@ -10,11 +10,10 @@ from client import (
     run, sent, to_head, upload, uploaded,
 )
 from wire import (
-    BAD_HEAD, BODY_TOO_LARGE, CODING_REFUSED, END, FILE, HEAD_TOO_LARGE, INTERIM, LENGTH_BAD, LINE, NEXT, NO_FILE,
+    BAD_HEAD, BODY_TOO_LARGE, CODING_REFUSED, END, FILE, HEAD_LIMIT, HEAD_TOO_LARGE, INTERIM, LENGTH_BAD, LINE, NEXT, NO_FILE,
     expecting, in_old_version, long_head, with_fields,
 )
 
-HEAD_LIMIT = 16_384
 JSON_LIMIT = 4_194_304
 DEPLOYS = "/api/v1/sites/one/deploys"
 UPLOAD = "/api/v1/deploys/1/files/a.txt"

@@ -8,6 +8,7 @@ from client import closing, refused, request, told
 FILE = "/s/one/a.txt"
 LINE = f"GET {FILE} HTTP/1.1".encode()
 END = b"\r\n\r\n"
+HEAD_LIMIT = 16_384
 NEXT = LINE + END
 NO_FILE = refused("NoSuchFile")
 INTERIM = b"HTTP/1.1 100 Continue\r\n\r\n"
