@@ -1,12 +1,12 @@
 -- A whole connection: what it reads and writes, turn by turn.
-use Rattle.std.proofs.Common.{◌≡◌, ℕ, ◌+◌, ◌≤◌, List, [], ◌++◌, Bool, Some, None, Result, Ok, Err, refl, sym, ap, subst, ◌∙◌, append-nil}
+use Rattle.std.proofs.Common.{◌≡◌, ℕ, ◌+◌, ◌≤◌, List, [], ◌++◌, Bool, Some, None, Result, Ok, Err, refl, sym, ap, subst, ◌∙◌}
 use Rattle.std.specs.Io.KnownBytes.{Appends, prepend_known}
 use Rattle.http_wire.specs.Timing.{Event, ReadFails, WriteFails, all_got, all_put, IsLatest, GoesOn, Timely, Steps, Gives, Ran}
 use Rattle.http_wire.proofs.Trails.{put_joined, goes_on_joined, latest_joined, steps_joined, timely_joined}
 use Rattle.host_server.specs.Answers.{Grows}
 use Rattle.host_server.specs.Hosts.{Host}
 use Rattle.host_server.specs.Serving.{Stream, Ends, Serves, Turns, is_last_at}
-use Rattle.host_server.specs.Timing.{IsCaughtUp, Connects, AwaitsRequest, TurnsAs}
+use Rattle.host_server.specs.Timing.{IsCaughtUp, IdleWithoutMemory, Connects, AwaitsRequest, TurnsAs}
 use Rattle.host_server.specs.declared.connections.ConnectionFault.{ConnectionFault}
 use Rattle.host_server.specs.declared.connections.ConnectionFault.TheVariants as fault
 use Rattle.host_server.specs.declared.connections.Next.{Next}
@@ -121,6 +121,7 @@ turn_last saw old mid new first n host next buffer rest so ran =
       steps = steps_joined saw old mid new ran.events so.events so.steps ran.steps;
       timely = turn_timely saw old mid new first n host next buffer rest (Ok next_is.End) so ran;
       claimed = record {
+        idle = tt;
         serves = λ left new_left gives. (
             let turned = turn_of saw old mid new first n host next buffer rest (Ok next_is.End) so ran left new_left gives in
             ends_well (IsLatest ReadFails events) (IsLatest WriteFails events) first left n host next turned.old (prepend_known rest new_left) (Some []) (Some (all_put so.events)) (Some (all_put events))
@@ -128,6 +129,13 @@ turn_last saw old mid new first n host next buffer rest so ran =
             );
       };
     }
+
+-- a turn doesn't end for want of memory to begin
+idle_without_memory : {S : Type 0} (saw : S → Event → S → Type 0) (mid new : S) (n : ℕ) (host next : Host) (buffer rest : List ℕ) (why : ConnectionFault) (events : List Event)
+    → Ran saw (AwaitsRequest buffer) mid new (TurnsAs (Err why) (is_last_at n) host next buffer rest) → IdleWithoutMemory (Err why) events
+idle_without_memory saw mid new n host next buffer rest fault.InputFault events ran = tt
+idle_without_memory saw mid new n host next buffer rest fault.OutputFault events ran = tt
+idle_without_memory saw mid new n host next buffer rest fault.OutOfMemory events ran = absurd (ran.claimed.of_stream None None (record { taken = tt; end = λ latest. tt }))
 
 pub turn_failed : {S : Type 0} (saw : S → Event → S → Type 0) (old mid new : S) (why : ConnectionFault) (first : Host) (n : ℕ) (host next : Host) (buffer rest : List ℕ)
     → ConnectionSoFar saw old mid first n host buffer → Ran saw (AwaitsRequest buffer) mid new (TurnsAs (Err why) (is_last_at n) host next buffer rest)
@@ -139,6 +147,7 @@ turn_failed saw old mid new why first n host next buffer rest so ran =
       steps = steps_joined saw old mid new ran.events so.events so.steps ran.steps;
       timely = turn_timely saw old mid new first n host next buffer rest (Err why) so ran;
       claimed = record {
+        idle = idle_without_memory saw mid new n host next buffer rest why events ran;
         serves = λ left new_left gives. (
             let turned = turn_of saw old mid new first n host next buffer rest (Err why) so ran left new_left gives in
             stops (IsLatest ReadFails events) (IsLatest WriteFails events) why first left n host next turned.old (prepend_known rest new_left) (Some []) (Some (all_put so.events)) (Some (all_put events))
@@ -154,6 +163,7 @@ no_more saw old new first n host buffer so over = record {
   steps = so.steps;
   timely = so.timely;
   claimed = record {
+    idle = tt;
     serves = λ left new_left gives. (
         let known = together_of so.events left new_left gives in
         after_all (IsLatest ReadFails so.events) (IsLatest WriteFails so.events) first left n host (prepend_known buffer known.0) (Some []) (Some (all_put so.events)) (so.so left known.0 known.1 known.2) over
@@ -188,5 +198,5 @@ never_ran saw old host = record {
   events = [];
   steps = refl;
   timely = tt;
-  claimed = record { serves = λ left new_left gives. never_began (IsLatest ReadFails []) (IsLatest WriteFails []) host left (Some []) };
+  claimed = record { idle = refl; serves = λ left new_left gives. never_began (IsLatest ReadFails []) (IsLatest WriteFails []) host left (Some []) };
 }

@@ -46,30 +46,27 @@ exchange_cut write_fails fault.OutOfMemory close host next parts body text held 
 
 -- ---- with the request that was read
 
-answered : (close is_last request_last : Bool) (host next : Host) (old new : Stream) (parts : RequestParts) (body put sent : List ℕ)
-    → TakesRequest old new parts body → IsInterim parts put → request_last ≡ is_last → closes parts request_last ≡ close
-    → IsSent (closes parts request_last) host parts body sent next → IsAnswered host is_last close old (put ++ sent) next new
-answered close is_last request_last host next old new parts body put sent request interim same closing s = record {
+abbrev answered : (close is_last request_last : Bool) (host next : Host) (old new : Stream) (parts : RequestParts) (body put sent whole : List ℕ)
+    → whole ≡ put ++ sent → TakesRequest old new parts body → IsInterim parts put → request_last ≡ is_last → closes parts request_last ≡ close
+    → IsSent (closes parts request_last) host parts body sent next → IsAnswered host is_last close old whole next new
+answered close is_last request_last host next old new parts body put sent whole is request interim same closing s = record {
   parts = parts;
   body = body;
   request = request;
   interim = put;
-  invited = interim;
+  is_interim = interim;
   closing = ap (closes parts) (sym same) ∙ closing;
   answer = s.answer;
   is_answer = s.is_answer;
-  sent_is = ap (λ u. put ++ u) (s.sent_is ∙ ap (λ c. sent_for c parts.method s.answer) closing);
+  sent_is = is ∙ ap (λ u. put ++ u) (s.sent_is ∙ ap (λ c. sent_for c parts.method s.answer) closing);
 }
 
 cut : (close is_last request_last : Bool) (host next : Host) (old new : Stream) (parts : RequestParts) (body put sent rest : List ℕ)
     → TakesRequest old new parts body → IsInterim parts put → request_last ≡ is_last → closes parts request_last ≡ close
     → 0 < length rest → IsSent (closes parts request_last) host parts body (sent ++ rest) next → IsFrontSent host is_last old (put ++ sent) next
-cut false is_last request_last host next old new parts body put sent rest request interim same closing some s =
-    let whole = answered false is_last request_last host next old new parts body put (sent ++ rest) request interim same closing s in
-    record { rest = rest; some = some; whole = inl (new, subst (λ t. IsAnswered host is_last false old t next new) (sym (append_assoc put sent rest)) whole) }
-cut true is_last request_last host next old new parts body put sent rest request interim same closing some s =
-    let whole = answered true is_last request_last host next old new parts body put (sent ++ rest) request interim same closing s in
-    record { rest = rest; some = some; whole = inr (inl (inl (new, subst (λ t. IsAnswered host is_last true old t next new) (sym (append_assoc put sent rest)) whole))) }
+cut close is_last request_last host next old new parts body put sent rest request interim same closing some s =
+    let whole = answered close is_last request_last host next old new parts body put (sent ++ rest) ((put ++ sent) ++ rest) (append_assoc put sent rest) request interim same closing s in
+    record { rest = rest; some = some; whole = inl (new, close, whole, (sent, refl)) }
 
 -- what was written is what comes before the body, and then the reply
 pub turned : (read_fails write_fails : Type 0) (result : Result Next ConnectionFault) (is_last request_last : Bool) (host next : Host) (old new : Stream) (put written : List ℕ)
@@ -77,9 +74,9 @@ pub turned : (read_fails write_fails : Type 0) (result : Result Next ConnectionF
     → Exchanges write_fails result (closes parts request_last) host parts body (Some []) (Some written) next
     → Turns read_fails write_fails result is_last host old new (Some []) (Some (put ++ written)) next
 turned read_fails write_fails (Ok next_is.Exchange) is_last request_last host next old new put written parts body request interim same e =
-    (put ++ e.1.0, answered false is_last request_last host next old new parts body put e.1.0 request interim same e.0 e.1.1, ap (λ u. put ++ u) e.1.2)
+    (put ++ e.1.0, answered false is_last request_last host next old new parts body put e.1.0 (put ++ e.1.0) refl request interim same e.0 e.1.1, ap (λ u. put ++ u) e.1.2)
 turned read_fails write_fails (Ok next_is.End) is_last request_last host next old new put written parts body request interim same e =
-    (put ++ e.1.0, inr (inl (new, answered true is_last request_last host next old new parts body put e.1.0 request interim same e.0 e.1.1)), ap (λ u. put ++ u) e.1.2)
+    (put ++ e.1.0, inr (inl (new, answered true is_last request_last host next old new parts body put e.1.0 (put ++ e.1.0) refl request interim same e.0 e.1.1)), ap (λ u. put ++ u) e.1.2)
 turned read_fails write_fails (Err fault.InputFault) is_last request_last host next old new put written parts body request interim same e = absurd e
 turned read_fails write_fails (Err fault.OutputFault) is_last request_last host next old new put written parts body request interim same e =
     (e.0, (put ++ e.1.0, cut (closes parts request_last) is_last request_last host next old new parts body put e.1.0 e.1.1 request interim same refl e.1.2 e.1.3, ap (λ u. put ++ u) e.1.4))
@@ -113,7 +110,7 @@ not_read_cut read_fails write_fails fault.InputFault is_last host old new put wr
 not_read_cut read_fails write_fails fault.OutputFault is_last host old new put written text why cut =
     let front = cut.1 in
     let whole : put ++ text ≡ (put ++ front.0) ++ front.1 = ap (λ u. put ++ u) front.3 ∙ sym (append_assoc put front.0 front.1) in
-    (cut.0, (put ++ front.0, record { rest = front.1; some = front.2; whole = inr (inl (inr (subst (IsNotRead old) whole why, refl))) }, ap (λ u. put ++ u) front.4))
+    (cut.0, (put ++ front.0, record { rest = front.1; some = front.2; whole = inr (inl (subst (IsNotRead old) whole why), refl) }, ap (λ u. put ++ u) front.4))
 not_read_cut read_fails write_fails fault.OutOfMemory is_last host old new put written text why cut = absurd cut
 
 abbrev fault_of : Result (Unit {0}) ConnectionFault → ConnectionFault
@@ -131,7 +128,7 @@ refused_cut read_fails write_fails stop.ReadFault fails is_last host old new put
 refused_cut read_fails write_fails stop.WriteFault fails is_last host old new put written wrote same =
     let is : fault.OutputFault ≡ fails = sym (ap fault_of same.0) in
     subst (λ f. Turns read_fails write_fails (Err f) is_last host old new (Some []) (Some (put ++ written)) host) is
-    (wrote.0, (put, record { rest = wrote.1.0; some = wrote.1.1; whole = inr (inr (wrote.1.2, refl)) }, nothing_more put written same.1))
+    (wrote.0, (put, record { rest = wrote.1.0; some = wrote.1.1; whole = inr (inr wrote.1.2, refl) }, nothing_more put written same.1))
 refused_cut read_fails write_fails (stop.Refused reason head_only) fails is_last host old new put written why sends =
     not_read_cut read_fails write_fails fails is_last host old new put written _ why sends
 refused_cut read_fails write_fails (stop.OutOfMemory head_only) fails is_last host old new put written why sends =
@@ -153,7 +150,7 @@ invited old mid parts size sent head invites = record {
   head = head.1;
   says = head.2;
   announced = invites.0;
-  interim = invites.1;
+  is_interim = invites.1;
 }
 
 pub body_stopped : (read_fails write_fails : Type 0) (old mid : Stream) (parts : RequestParts) (sent : List ℕ) (why : Stop) → ServesHead old mid parts

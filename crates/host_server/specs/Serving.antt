@@ -44,17 +44,17 @@ pub record TakesRequest (old new : Stream) (parts : RequestParts) (body : List �
   pub announced : AnnouncesBody parts.fields (limit_of parts) (length body)
   pub taken : Consumes old new (text ++ body)
 
--- what is sent between a head of these parts and its body: the interim reply, where the client waits for it
+-- what is sent between a head of these parts and its body: the interim reply, where the client may wait for it
 abbrev pub IsInterim : RequestParts → List ℕ → Type 0
 IsInterim parts text = (ExpectsContinue parts × (text ≡ continue_text)) ⊎ ((¬ (ExpectsContinue parts)) × (text ≡ []))
 
--- a request is taken, and sent are what its client waits for, if anything, and its reply; the connection ends after it or not
+-- a request is taken, and sent are its interim reply, if its client may wait for one, and its reply; the connection ends after it or not
 pub record IsAnswered (host : Host) (is_last close : Bool) (old : Stream) (sent : List ℕ) (next : Host) (new : Stream) : Type 0 where
   pub parts : RequestParts
   pub body : List ℕ
   pub request : TakesRequest old new parts body
   pub interim : List ℕ
-  pub invited : IsInterim parts interim
+  pub is_interim : IsInterim parts interim
   pub closing : closes parts is_last ≡ close
   pub answer : Answer
   pub is_answer : IsAnswer host parts body answer next
@@ -67,7 +67,7 @@ pub record IsInvited (old rest : Stream) (size : ℕ) (sent : List ℕ) : Type 0
   pub head : TakesHead old rest text
   pub says : Says text parts
   pub announced : AnnouncesBody parts.fields (limit_of parts) size
-  pub interim : IsInterim parts sent
+  pub is_interim : IsInterim parts sent
 
 -- no head that is served can be read, for this reason
 abbrev pub IsHeadBad : HeadRefusal → Stream → Type 0
@@ -137,16 +137,25 @@ IsCut old sent = (IfSome old CutShort × (sent ≡ [])) ⊎ IsBodyCut old sent
 
 -- ---- where a read or a write failed
 
--- this was sent for a request that isn't read yet: nothing, or what comes before its body
+-- this may be sent for a request before its body is read: nothing, or all that comes before its body
 abbrev pub IsBegun : Stream → List ℕ → Type 0
 IsBegun old sent = (sent ≡ []) ⊎ ((rest : Stream) × (size : ℕ) × IsInvited old rest size sent)
 
--- a front of what is sent for a request was sent, and some of it was not; what the request did remains
+-- a text begins with this
+abbrev pub Begins : (front text : List ℕ) → Type 0
+Begins front text = (more : List ℕ) × (text ≡ front ++ more)
+
+-- a request is answered, and of what is sent for it the first part is sent, and all that comes before its body
+abbrev pub IsReplyCut : Host → Bool → Stream → (sent rest : List ℕ) → Host → Type 0
+IsReplyCut host is_last old sent rest next =
+    (new : Stream) × (close : Bool) × (answered : IsAnswered host is_last close old (sent ++ rest) next new) × Begins answered.interim sent
+
+-- A front of what is sent for a request was sent, and some of it was not. What the request did remains where its reply was cut;
+-- where it isn't read, or its body wasn't yet, it does nothing.
 pub record IsFrontSent (host : Host) (is_last : Bool) (old : Stream) (sent : List ℕ) (next : Host) : Type 0 where
   pub rest : List ℕ
   pub some : 0 < length rest
-  pub whole : ((new : Stream) × IsExchange host is_last old (sent ++ rest) next new) ⊎ IsLast host is_last old (sent ++ rest) next
-      ⊎ (IsBegun old (sent ++ rest) × (next ≡ host))
+  pub whole : IsReplyCut host is_last old sent rest next ⊎ ((IsNotRead old (sent ++ rest) ⊎ IsBegun old (sent ++ rest)) × (next ≡ host))
 
 -- ---- a whole connection
 
@@ -154,7 +163,7 @@ pub record IsFrontSent (host : Host) (is_last : Bool) (old : Stream) (sent : Lis
 abbrev pub is_last_at : ℕ → Bool
 is_last_at n = n == 100
 
--- these replies were sent, the first of them to the request of number n
+-- these were sent, each for a request, the first of them for that of number n
 abbrev pub AreServed : ℕ → Host → Stream → List (List ℕ) → Host → Stream → Type 0
 AreServed n host old [] next new = (next ≡ host) × (new ≡ old)
 AreServed n host old (sent ∷ more) next new =

@@ -7,6 +7,7 @@ use Rattle.http_wire.specs.Requests.{RequestParts}
 use Rattle.http_wire.specs.Timing.{Event, AtEnd, ReadFails, WriteFails, all_put, IsLatest, GoesOn, Gives}
 use Rattle.http_wire.specs.Wires.{ServesHead}
 use Rattle.host_server.specs.declared.connections.ConnectionFault.{ConnectionFault}
+use Rattle.host_server.specs.declared.connections.ConnectionFault.TheVariants as fault
 use Rattle.host_server.specs.declared.connections.Next.{Next}
 use Rattle.host_server.specs.declared.connections.Next.TheVariants as next_is
 use Rattle.host_server.specs.declared.connections.Stop.{Stop}
@@ -14,9 +15,9 @@ use Rattle.host_server.specs.declared.connections.Stop.TheVariants as stop
 use Rattle.host_server.specs.Hosts.{Host}
 use Rattle.host_server.specs.Serving.{Stream, AreServed, IsCut, Serves, IsInterim, Invites, HeadStops, SizeStops, Sends, Refuses, Exchanges, Turns}
 
--- A connection may read: the bytes that came are whole requests, and after them no whole one; all that was written are
--- their replies, and what is sent before the body of one that is cut in it. A connection whose stream ended here would
--- have written just that.
+-- A connection may read: the bytes that came are whole requests after each of which it goes on, and then no whole one and no
+-- head that is refused; all that was written is what is sent for these, and what comes before the body of one that is cut in
+-- it. A connection whose stream ended here would have written just that.
 pub record IsCaughtUp (host : Host) (got put : List ℕ) : Type 0 where
   pub replies : List (List ℕ)
   pub next : Host
@@ -26,9 +27,17 @@ pub record IsCaughtUp (host : Host) (got put : List ℕ) : Type 0 where
   pub cut : IsCut (Some rest) sent
   pub put_is : put ≡ concat replies ++ sent
 
+-- where there was no memory to begin, nothing was read or written
+abbrev pub IdleWithoutMemory : Result (Unit {0}) ConnectionFault → List Event → Type 0
+IdleWithoutMemory (Ok done) events = Unit {0}
+IdleWithoutMemory (Err fault.InputFault) events = Unit {0}
+IdleWithoutMemory (Err fault.OutputFault) events = Unit {0}
+IdleWithoutMemory (Err fault.OutOfMemory) events = events ≡ []
+
 -- What a connection did by these events, over each stream of which its reads are the next: where it says that a read or
--- a write failed, that was the last event.
+-- a write failed, that was the last event, and where it says that there was no memory, there was none.
 pub record Connects (result : Result (Unit {0}) ConnectionFault) (host next : Host) (events : List Event) : Type 0 where
+  pub idle : IdleWithoutMemory result events
   pub serves : (left new_left : Stream) → Gives events left new_left
       → Serves (IsLatest ReadFails events) (IsLatest WriteFails events) result host next left (Some []) (Some (all_put events))
 
@@ -114,7 +123,7 @@ pub record ExchangesAs (result : Result Next ConnectionFault) (close : Bool) (ho
 abbrev pub IsFollowed : Result Next ConnectionFault → List Event → Type 0
 IsFollowed (Ok next_is.Exchange) events = GoesOn events
 IsFollowed (Ok next_is.End) events = Unit {0}
-IsFollowed (Err fault) events = Unit {0}
+IsFollowed (Err why) events = Unit {0}
 
 -- what a turn of the connection does over each stream of which its reads are the next, and how its events end
 pub record TurnsAs (result : Result Next ConnectionFault) (is_last : Bool) (host next : Host) (buffer new_buffer : List ℕ) (events : List Event)

@@ -109,7 +109,7 @@ fn announced(head: &Head) -> Result<u64, Stop>
     }
 }
 
-/// Sends what the client waits for before it sends the body, if it does.
+/// Sends the interim reply, where the client may wait for it before it sends the body.
 fn invite<D: Duplex>(duplex: &mut D, head: &Head) -> Result<(), Stop>
     ensures { Ran D.saw NoRead duplex.old duplex.new (InvitesAs result head.now) }
 {
@@ -259,11 +259,11 @@ fn serve_requests<D: Duplex>(
 /// Serves one connection: answers the requests of its stream, one after another, until the stream ends or a reply ends
 /// the connection, at the latest that to the 100th request.
 ///
-/// Where the client of a request waits for an interim reply before it sends the body (RFC 9110, section 10.1.1), that is
-/// written before anything of the body is read. A request that is refused by its head has none.
+/// Where the client of a request may wait for an interim reply before it sends the body (RFC 9110, section 10.1.1), that is
+/// written before any read for the body. A request that is refused by its head has none.
 ///
-/// It reads only where all whole requests that came are answered, and their replies are written by then; nothing is
-/// read or written after the end of the stream, a fault or a reply that ends the connection.
+/// It reads only where all whole requests that came are answered, no head is refused, and all that is sent for them is
+/// written by then; nothing is read or written after the end of the stream, a fault or a reply that ends the connection.
 pub fn serve_connection<D: Duplex>(
     alloc: Global,
     duplex: &mut D,
