@@ -1,8 +1,8 @@
 -- The search for the end of a head in bytes that come in pieces.
 use Rattle.std.proofs.Common.{◌≡◌, ◌≢◌, ℕ, ◌+◌, ◌<◌, ◌≤◌, ◌⊎◌, inl, inr, true, false, List, [], ◌∷◌, ◌++◌, length, length-append, length-drop, take, drop, slice_range, Option, Some, None, IfSome, refl, sym, ap, ◌∙◌, subst, append_assoc, append-nil, arith}
-use Rattle.std.specs.Io.KnownBytes.{Keeps, IsAtEnd, Consumes, prepend_known}
+use Rattle.std.specs.Io.KnownBytes.{Keeps, IsAtEnd, prepend_known}
 use Rattle.std.proofs.lemmas.Bool.{both_ways, cases_lt}
-use Rattle.std.proofs.lemmas.List.{take-append-drop, drop-append-le, drop_all, drop-drop, append_cancel_right, take_at, take-append-le, nil_from_length}
+use Rattle.std.proofs.lemmas.List.{take-append-drop, drop-append-le, drop_all, drop-drop, append_cancel_right, take_at, take-append-le}
 use Rattle.std.proofs.lemmas.Slice.{between_to_end}
 use Rattle.http_wire.specs.declared.scans.State.{State}
 use Rattle.http_wire.specs.declared.scans.State.TheVariants.{Before}
@@ -112,9 +112,3 @@ cut_short_from (Some stream) (Some more) bytes kept end short none =
       short = rw all short;
       no_head = λ text rest h. (let found : rest_from Before bytes ≡ Some rest = head_runs bytes text rest (subst (λ s. HasHead s text rest) all h) in absurd (cc));
     }
-
--- a reader that gave nothing and is at its end was there before
-pub at_end_before : (old new : Option (List ℕ)) (bytes : List ℕ) → Consumes old new bytes → length bytes ≡ 0 → IsAtEnd new → IsAtEnd old
-at_end_before None new bytes taken zero end = tt
-at_end_before (Some xs) None bytes taken zero end = absurd taken
-at_end_before (Some xs) (Some ys) bytes taken zero end = taken ∙ ap (λ u. u ++ ys) (nil_from_length bytes zero) ∙ end

@@ -1,10 +1,10 @@
 -- Lemmas on how much of a text went out.
-use Rattle.std.proofs.Common.{◌≡◌, ℕ, ◌+◌, ◌-◌, ◌^◌, ◌<◌, ◌≤◌, min, List, [], ◌++◌, length, length-append, take, drop, get_or, Option, Bor, slice_range, refl, sym, ap, ◌∙◌, subst, append_assoc, append-nil, arith}
+use Rattle.std.proofs.Common.{◌≡◌, ℕ, ◌+◌, ◌-◌, ◌^◌, ◌<◌, ◌≤◌, min, List, [], ◌++◌, length, length-append, take, drop, get_or, Option, Bor, slice_range, sym, ap, ◌∙◌, subst, append_assoc, append-nil, arith}
 use Rattle.std.specs.Io.KnownBytes.{Appends}
 use Rattle.std.specs.List.{flat_map}
 use Rattle.std.proofs.lemmas.List.Concat.{flat_map-append}
 use Rattle.std.proofs.Math.Seq.{take-append-add}
-use Rattle.std.proofs.KnownBytes.{Appends-nil, Appends-trans}
+use Rattle.std.proofs.KnownBytes.{Appends-trans}
 use Rattle.std.proofs.lemmas.List.{take-append-drop, length-take-le, drop_more}
 use Rattle.std.proofs.lemmas.Slice.{between_to_end}
 use Rattle.http_wire.specs.Sending.{Sent, SentFront}
@@ -24,10 +24,6 @@ pub writes_further : (start held new : Option (List ℕ)) (bytes : List ℕ) (at
     → Appends start new (take (at + count) bytes)
 writes_further start held new bytes at count h before more =
     subst (Appends start new) (sym (take_further bytes at count h)) (Appends-trans start held new _ _ before more)
-
--- nothing is put
-pub sent_none : (held : Option (List ℕ)) → Sent held held [] 0 []
-sent_none held = record { gone = []; text_is = refl; count_is = refl; appended = Appends-nil held }
 
 -- with more behind it, still some is left
 pub some_left : (rest more : List ℕ) → 0 < length rest → 0 < length (rest ++ more)

@@ -1,5 +1,5 @@
 -- What leaves the stream where bytes leave the buffer before it.
-use Rattle.std.proofs.Common.{◌≡◌, ℕ, ◌≤◌, List, [], ◌++◌, length, take, drop, Option, Some, None, sym, ap, ◌∙◌, append_assoc, append-nil, arith}
+use Rattle.std.proofs.Common.{◌≡◌, ℕ, ◌≤◌, List, ◌++◌, length, take, drop, Option, Some, None, sym, ap, ◌∙◌, append_assoc, arith}
 use Rattle.std.specs.Io.KnownBytes.{Keeps, Consumes, prepend_known}
 use Rattle.std.proofs.lemmas.List.{take-append-drop, length-take-le}
 use Rattle.http_wire.specs.HeadText.{IsHeadText, head_limit}
@@ -21,11 +21,3 @@ head_taken old known buffer count kept fits room head = record {
   head = head;
   short = omega (arith, length-take-le count buffer fits);
 }
-
--- the whole buffer is gone, and bytes of the source behind it
-pub all_taken : (old new : Option (List ℕ)) (buffer front rest bytes : List ℕ) → front ++ rest ≡ buffer → rest ≡ []
-    → Consumes old new bytes → Consumes (prepend_known buffer old) (prepend_known rest new) (front ++ bytes)
-all_taken None new buffer front rest bytes e none taken = tt
-all_taken (Some xs) None buffer front rest bytes e none taken = absurd taken
-all_taken (Some xs) (Some ys) buffer front rest bytes e none taken =
-    rw none (ap (λ u. u ++ xs) (sym e ∙ ap (λ u. front ++ u) none ∙ append-nil front) ∙ ap (λ u. front ++ u) taken ∙ sym (append_assoc front bytes ys))

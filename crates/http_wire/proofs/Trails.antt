@@ -104,10 +104,6 @@ pub timely_read : (may : List ℕ → List ℕ → Type 0) (piece : List ℕ) (p
 timely_read may [] past on allowed timely = (on, allowed, timely)
 timely_read may (b ∷ piece) past on allowed timely = (on, (omega arith, allowed), timely)
 
-pub latest_read : (piece : List ℕ) (past : List Event) → length piece ≡ 0 → IsLatest AtEnd (read_of piece ∷ past)
-latest_read [] past none = refl
-latest_read (b ∷ piece) past none = absurd (omega (arith, none))
-
 -- ---- what a trail does to known bytes
 
 -- what the steps of a state tell

@@ -1,5 +1,5 @@
 //! The fields of a head.
-ghost use Rattle.std.specs.Prelude.{◌≡◌, All, map, length, IsTrue, ◌↔◌};
+ghost use Rattle.std.specs.Prelude.{◌≡◌, All, map, length};
 ghost use Rattle.std.specs.Iterator.{YieldsFirstBy, YieldsFirstRef, item_count};
 ghost use Rattle.httparse.specs.Spans.{header_bytes, IsHeaderWithin};
 ghost use Rattle.http_wire.specs.Fields.{values_of};

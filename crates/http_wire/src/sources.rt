@@ -1,5 +1,5 @@
 //! Where the bytes of a connection come from.
-ghost use Rattle.std.specs.Prelude.{ℕ, List, Option, Some, ⊤, ◌≡◌, ◌≤◌, length, IfOk, OnErr};
+ghost use Rattle.std.specs.Prelude.{ℕ, List, Option, Some, ⊤, ◌≤◌, length, IfOk, OnErr};
 ghost use Rattle.std.specs.Io.KnownBytes.{ReadConsumes};
 
 use std::io::Read;

@@ -1,6 +1,5 @@
 //! The changes of the files that a site serves, from those that are there to those of a tree.
-ghost use Rattle.std.specs.Prelude.{◌≡◌, IfOk, IsTrue, MatchOption, [], option_to_list, true};
-ghost use Rattle.std.specs.List.{AllByRecursion};
+ghost use Rattle.std.specs.Prelude.{◌≡◌, IfOk, MatchOption, [], true};
 ghost use Rattle.host_names.specs.Cells.{cell_cmp};
 ghost use Rattle.host_names.specs.declared.cells.Cell.TheVariants as cell;
 ghost use Rattle.site_state.specs.States.{is_live_of};
