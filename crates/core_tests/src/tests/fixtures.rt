@@ -26,7 +26,7 @@ pub(crate) fn assert_holds(rt: &impl Abort, asked: &str, holds: bool, wanted: bo
     assert_eq!(rt; holds, wanted, "{asked}");
 }
 
-pub(crate) fn file(alloc: Global, bytes: &str) -> Result<File, AllocError> {
+fn file(alloc: Global, bytes: &str) -> Result<File, AllocError> {
     let info = BlobInfo::of(alloc, bytes.as_bytes())?;
     Ok(File::new(Arc::new(alloc, info)?))
 }
@@ -103,7 +103,7 @@ fn tree_of(alloc: Global, path: FilePath, file: File) -> Result<Tree, AllocError
 }
 
 /// A tree of one file, as `/a=hello`.
-pub(crate) fn tree(alloc: Global, word: &str) -> Result<Tree, Fail> {
+fn tree(alloc: Global, word: &str) -> Result<Tree, Fail> {
     let (path, bytes) = halves(word, "=")?;
     let path = FilePath::read(alloc, path)?;
     Ok(tree_of(alloc, path, file(alloc, bytes)?)?)

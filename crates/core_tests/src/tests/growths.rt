@@ -149,95 +149,86 @@ fn opening_without_memory(rt: HostRuntime) -> Result<(), Fail> {
     assert_openings(&rt, &mut host)
 }
 
-#[test]
-fn publishing_without_memory(rt: HostRuntime) -> Result<(), Fail> {
-    let rows = "\
+/// What is put to a host, and a command with what it and its undo leave, as `assert_rows` reads it.
+const CHANGES: &[(&str, &str)] = &[
+    (
+        OPENED,
+        "\
 publish 1
 2 by one, live /a.txt: hello, kept 1 of 1; 2 needs 1 at draft 1
-3 by one, draft 1";
-    assert_change(&rt, host_of(&rt, rt.alloc(), OPENED)?, rows)
-}
-
-#[test]
-fn publishing_a_patch_without_memory(rt: HostRuntime) -> Result<(), Fail> {
-    let before = "\
+3 by one, draft 1",
+    ),
+    (
+        "\
 one open /a.txt=hello -> 1
 one publish 1 -> 2
-one patch /a.txt /b.txt=hello -> 3";
-    let rows = "\
+one patch /a.txt /b.txt=hello -> 3",
+        "\
 publish 3
 4 by one, live /b.txt: hello, kept 1 of 1; 2 needs 1 at draft 1; 4 needs 2 at live /a.txt; 4 needs 3 at draft 3
-5 by one, live /a.txt: hello, kept 1 of 1, draft 3; 2 needs 1 at draft 1";
-    assert_change(&rt, host_of(&rt, rt.alloc(), before)?, rows)
-}
-
-#[test]
-fn cancelling_without_memory(rt: HostRuntime) -> Result<(), Fail> {
-    let rows = "\
+5 by one, live /a.txt: hello, kept 1 of 1, draft 3; 2 needs 1 at draft 1",
+    ),
+    (
+        OPENED,
+        "\
 cancel 1
 2 by one; 2 needs 1 at draft 1
-3 by one, draft 1";
-    assert_change(&rt, host_of(&rt, rt.alloc(), OPENED)?, rows)
-}
-
-#[test]
-fn moving_an_alias_without_memory(rt: HostRuntime) -> Result<(), Fail> {
-    let rows = "\
+3 by one, draft 1",
+    ),
+    (
+        DEPLOYED,
+        "\
 move-alias next 1
 3 by one, live /a.txt: hello, kept 1 of 1, next 1; 2 needs 1 at draft 1; 3 needs 2 at kept 1
-4 by one, live /a.txt: hello, kept 1 of 1; 2 needs 1 at draft 1";
-    assert_change(&rt, host_of(&rt, rt.alloc(), DEPLOYED)?, rows)
-}
-
-#[test]
-fn removing_an_alias_without_memory(rt: HostRuntime) -> Result<(), Fail> {
-    let before = "\
+4 by one, live /a.txt: hello, kept 1 of 1; 2 needs 1 at draft 1",
+    ),
+    (
+        "\
 one open /a.txt=hello -> 1
 one publish 1 -> 2
-one move-alias next 1 -> 3";
-    let rows = "\
+one move-alias next 1 -> 3",
+        "\
 remove-alias next
 4 by one, live /a.txt: hello, kept 1 of 1; 2 needs 1 at draft 1; 3 needs 2 at kept 1; 4 needs 3 at alias next
-5 by one, live /a.txt: hello, kept 1 of 1, next 1; 2 needs 1 at draft 1; 3 needs 2 at kept 1";
-    assert_change(&rt, host_of(&rt, rt.alloc(), before)?, rows)
-}
-
-#[test]
-fn renaming_without_memory(rt: HostRuntime) -> Result<(), Fail> {
-    let rows = "\
+5 by one, live /a.txt: hello, kept 1 of 1, next 1; 2 needs 1 at draft 1; 3 needs 2 at kept 1",
+    ),
+    (
+        DEPLOYED,
+        "\
 rename /a.txt /b.txt
 3 by one, live /b.txt: hello, kept 1 of 1; 2 needs 1 at draft 1; 3 needs 2 at live /a.txt
-4 by one, live /a.txt: hello, kept 1 of 1; 2 needs 1 at draft 1";
-    assert_change(&rt, host_of(&rt, rt.alloc(), DEPLOYED)?, rows)
-}
-
-#[test]
-fn removing_a_file_without_memory(rt: HostRuntime) -> Result<(), Fail> {
-    let rows = "\
+4 by one, live /a.txt: hello, kept 1 of 1; 2 needs 1 at draft 1",
+    ),
+    (
+        DEPLOYED,
+        "\
 remove /a.txt
 3 by one, kept 1 of 1; 2 needs 1 at draft 1; 3 needs 2 at live /a.txt
-4 by one, live /a.txt: hello, kept 1 of 1; 2 needs 1 at draft 1";
-    assert_change(&rt, host_of(&rt, rt.alloc(), DEPLOYED)?, rows)
-}
-
-#[test]
-fn restoring_without_memory(rt: HostRuntime) -> Result<(), Fail> {
-    let before = "\
+4 by one, live /a.txt: hello, kept 1 of 1; 2 needs 1 at draft 1",
+    ),
+    (
+        "\
 one open /a.txt=hello -> 1
 one publish 1 -> 2
-one remove /a.txt -> 3";
-    let rows = "\
+one remove /a.txt -> 3",
+        "\
 restore 1
 4 by one, live /a.txt: hello, kept 1 of 1; 2 needs 1 at draft 1; 3 needs 2 at live /a.txt; 4 needs 3 at live /a.txt
-5 by one, kept 1 of 1; 2 needs 1 at draft 1; 3 needs 2 at live /a.txt";
-    assert_change(&rt, host_of(&rt, rt.alloc(), before)?, rows)
-}
-
-#[test]
-fn removing_a_deploy_without_memory(rt: HostRuntime) -> Result<(), Fail> {
-    let rows = "\
+5 by one, kept 1 of 1; 2 needs 1 at draft 1; 3 needs 2 at live /a.txt",
+    ),
+    (
+        DEPLOYED,
+        "\
 remove-deploy 1
 3 by one, live /a.txt: hello; 2 needs 1 at draft 1; 3 needs 2 at kept 1
-4 by one, live /a.txt: hello, kept 1 of 1; 2 needs 1 at draft 1";
-    assert_change(&rt, host_of(&rt, rt.alloc(), DEPLOYED)?, rows)
+4 by one, live /a.txt: hello, kept 1 of 1; 2 needs 1 at draft 1",
+    ),
+];
+
+#[test]
+fn changing_without_memory(rt: HostRuntime) -> Result<(), Fail> {
+    for (before, rows) in CHANGES {
+        assert_change(&rt, host_of(&rt, rt.alloc(), before)?, rows)?;
+    }
+    Ok(())
 }

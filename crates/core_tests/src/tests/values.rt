@@ -1,31 +1,10 @@
-//! Files, trees, listings and drafts: what they show, which are equal, and what is missing of a draft.
-use super::fixtures::{
-    assert_holds, assert_text, draft, file, halves, path_map, tree, uploaded, value,
-};
+//! Values, listings and drafts: which are equal, what is listed, and what is missing of a draft.
+use super::fixtures::{assert_holds, assert_text, draft, halves, path_map, uploaded, value};
 use host_names::{Digest, FilePath};
-use site_state::{Draft, File, Listing, NotAPatch, Tree, Value, least_missing, missing};
+use site_state::{Draft, Listing, NotAPatch, Value, least_missing, missing};
 use std::alloc::{AllocError, Global};
 use std::process::Abort;
 use std::test::Fail;
-
-fn assert_file(rt: &impl Abort, file: &File, bytes: &[u8], digest: &str) {
-    assert_eq!(rt; file.bytes(), bytes);
-    assert_text(rt, "a digest", file.digest().to_hex().as_str(), digest);
-}
-
-#[test]
-fn a_file_shows_its_bytes_and_digest(rt: HostRuntime) -> Result<(), Fail> {
-    let hello = file(rt.alloc(), "hello")?;
-    assert_file(
-        &rt,
-        &hello,
-        b"hello",
-        "aaf4c61ddcc5e8a2dabede0f3b482cd9aea9434d",
-    );
-    let empty = file(rt.alloc(), "")?;
-    assert_file(&rt, &empty, b"", "da39a3ee5e6b4b0d3255bfef95601890afd80709");
-    Ok(())
-}
 
 /// Whether a copy of the first value is equal to the second.
 fn is_copy_equal(first: &Option<Value>, second: &Option<Value>) -> Result<bool, AllocError> {
@@ -74,26 +53,6 @@ false: nothing and file";
         assert_holds(&rt, both, are_equal(rt.alloc(), both)?, wanted == "true");
     }
     Ok(())
-}
-
-fn assert_at(
-    rt: &impl Abort,
-    alloc: Global,
-    tree: &Tree,
-    path: &str,
-    is_there: bool,
-) -> Result<(), Fail> {
-    let path = FilePath::read(alloc, path)?;
-    assert_holds(rt, path.as_str(), tree.get(&path).is_some(), is_there);
-    Ok(())
-}
-
-#[test]
-fn a_tree_has_its_files_by_path(rt: HostRuntime) -> Result<(), Fail> {
-    let tree = tree(rt.alloc(), "/b=hello")?;
-    assert_at(&rt, rt.alloc(), &tree, "/a", false)?;
-    assert_at(&rt, rt.alloc(), &tree, "/b", true)?;
-    assert_at(&rt, rt.alloc(), &tree, "/c", false)
 }
 
 #[test]
