@@ -1,4 +1,4 @@
-//! What a read of a file is answered where it asks for ranges of bytes (RFC 9110, section 14).
+//! What a read of a file is answered where it asks for ranges of bytes (RFC 9110, section 14). No call allocates.
 #![tactic(auto)]
 
 mod boundaries;

@@ -1,8 +1,9 @@
 //! The texts of which a body of several ranges is made.
-ghost use Rattle.std.specs.Prelude.{◌≡◌, ◌≤◌, ◌++◌, length, codes, decimal};
+ghost use Rattle.std.specs.Prelude.{◌≡◌, ◌≤◌, length, decimal};
 ghost use Rattle.std.specs.List.{flat_map};
 ghost use Rattle.http_wire.specs.Replies.{range_text};
 ghost use Rattle.http_wire.specs.declared.replies.ContentRange.TheVariants.{Of};
+ghost use Rattle.range_reply.specs.Multipart.{head_with};
 
 use arrayvec::ArrayString;
 
@@ -35,7 +36,7 @@ pub(crate) fn head_texts<'a>(
     content_type: &'a str,
     range: &'a str,
 ) -> [&'a str; 7]
-    ensures { flat_map (λ text. text.now) result ≡ codes "--" ++ (boundary.now ++ (codes "\r\nContent-Type: " ++ (content_type.now ++ (codes "\r\nContent-Range: " ++ (range.now ++ codes "\r\n\r\n"))))) }
+    ensures { flat_map (λ text. text.now) result ≡ head_with boundary.now content_type.now range.now }
 {
     [
         "--",
