@@ -53,7 +53,7 @@ fn have_sizes(chunks: &[Arc<Chunk>], mut left: usize) -> bool
 }
 
 impl Hold {
-    ghost use Rattle.byte_view.specs.Holds.{Held, LiesIn, chunks_met, held_part, lent};
+    ghost use Rattle.byte_view.specs.Holds.{Held, IsHeld, LiesIn, chunks_met, held_part, lent};
 
     /// These chunks for that stretch of the file, if each is as long as the piece whose name it has.
     pub fn new(
@@ -79,6 +79,14 @@ impl Hold {
             last,
             chunks,
         })
+    }
+
+    /// The first and the last byte of the stretch that is held.
+    pub fn stretch(&self) -> (usize, usize)
+        ensures value { result ≡ (self.now.first, self.now.last) }
+        ensures held { IsHeld self.now }
+    {
+        (self.first, self.last)
     }
 
     /// What a stretch of the hold has of each chunk that it meets.

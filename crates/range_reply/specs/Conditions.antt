@@ -1,0 +1,18 @@
+-- What an If-Range field says of a file (RFC 9110, section 13.1.5).
+use Rattle.std.specs.Prelude.{ℕ, List, [], ◌∷◌, ◌++◌, codes, if◌then◌else◌}
+use Rattle.std.specs.Str.{bytes_eq}
+use Rattle.hex.specs.Hex.{encode_lower}
+use Rattle.host_names.specs.declared.digests.Digest.{Digest}
+use Rattle.range_reply.specs.declared.conditions.IfRange.{IfRange}
+use Rattle.range_reply.specs.declared.conditions.IfRange.TheVariants.{Absent, True, False}
+
+-- the strong entity tag of the file with this digest: its digits in quotes (section 8.8.3)
+abbrev pub strong_tag : Digest → List ℕ
+strong_tag digest = codes "\"" ++ (encode_lower digest.0 ++ codes "\"")
+
+-- what the values of all If-Range fields of a request say: one that is exactly the strong tag holds; a weak tag, a date, any
+-- other text and several fields don't
+abbrev pub condition_of : Digest → List (List ℕ) → IfRange
+condition_of digest [] = Absent
+condition_of digest (value ∷ []) = if bytes_eq value (strong_tag digest) then True else False
+condition_of digest (value ∷ other ∷ more) = False

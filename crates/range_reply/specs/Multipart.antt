@@ -1,0 +1,42 @@
+-- Several ranges of a file in one body: `multipart/byteranges` (RFC 9110, section 14.6; RFC 2046, section 5.1.1).
+use Rattle.std.specs.Prelude.{ℕ, List, ◌++◌, length, codes, decimal}
+use Rattle.std.specs.List.{flat_map}
+use Rattle.hex.specs.Hex.{encode_lower}
+use Rattle.byte_view.specs.Cuts.{slice}
+use Rattle.host_names.specs.declared.digests.Digest.{Digest}
+use Rattle.http_wire.specs.Replies.{range_text}
+use Rattle.http_wire.specs.declared.replies.ContentRange.TheVariants.{Of}
+use Rattle.range_reply.specs.declared.boundaries.Boundary.{Boundary}
+
+-- the text of a boundary
+abbrev pub text_of : Boundary → List ℕ
+text_of boundary = boundary.text.bytes
+
+-- a boundary for ranges of the file with this digest; there are eight, numbered from 0
+abbrev pub candidate : Digest → ℕ → List ℕ
+candidate digest i = codes "fh" ++ (decimal i ++ (codes "-" ++ encode_lower digest.0))
+
+-- what comes before the bytes of a part, where this is the value of its `Content-Range` field: the boundary's line, two fields
+-- and an empty line
+abbrev pub head_with : List ℕ → List ℕ → List ℕ → List ℕ
+head_with boundary content_type range =
+    codes "--" ++ (boundary ++ (codes "\r\nContent-Type: " ++ (content_type ++ (codes "\r\nContent-Range: "
+    ++ (range ++ codes "\r\n\r\n")))))
+
+-- the same of an interval of a file of this many bytes
+abbrev pub part_head : List ℕ → List ℕ → ℕ → ℕ × ℕ → List ℕ
+part_head boundary content_type size interval = head_with boundary content_type (range_text (Of interval.0 interval.1 size))
+
+-- a part: its head, the bytes of its interval, and the end of a line, which belongs to the next boundary
+abbrev pub part_text : List ℕ → List ℕ → List ℕ → ℕ × ℕ → List ℕ
+part_text boundary content_type file interval =
+    part_head boundary content_type (length file) interval ++ (slice file interval.0 interval.1 ++ codes "\r\n")
+
+-- the last boundary's line
+abbrev pub last_line : List ℕ → List ℕ
+last_line boundary = codes "--" ++ (boundary ++ codes "--\r\n")
+
+-- the whole body: the parts in the order asked, neither sorted nor joined (RFC 9110, section 15.3.7.2), and the last boundary
+abbrev pub multipart_text : List ℕ → List ℕ → List ℕ → List (ℕ × ℕ) → List ℕ
+multipart_text boundary content_type file intervals =
+    flat_map (part_text boundary content_type file) intervals ++ last_line boundary

@@ -1,0 +1,34 @@
+//! The text that separates the parts of a body.
+ghost use Rattle.std.specs.Prelude.{◌≡◌};
+ghost use Rattle.range_reply.specs.Multipart.{candidate, text_of};
+
+use crate::texts::decimal_text;
+use arrayvec::ArrayString;
+use host_names::Digest;
+
+/// A boundary of a `multipart/byteranges` body (RFC 2046, section 5.1.1).
+#[derive(Clone, Copy, Debug)]
+pub struct Boundary {
+    text: ArrayString<64>,
+}
+
+impl Boundary {
+    /// The candidate with this number, for ranges of the file with this digest.
+    pub fn candidate(digest: Digest, number: u8) -> Boundary
+        ensures { text_of result ≡ candidate digest number }
+    {
+        let mut text = ArrayString::new();
+        text.push_str("fh");
+        text.push_str(decimal_text(u64::from(number)).as_str());
+        text.push_str("-");
+        text.push_str(digest.to_hex().as_str());
+        Boundary { text }
+    }
+
+    /// Its text.
+    pub fn as_str(&self) -> &str
+        ensures { result.now ≡ text_of self.now }
+    {
+        self.text.as_str()
+    }
+}

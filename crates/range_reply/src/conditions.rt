@@ -1,0 +1,54 @@
+//! The condition under which ranges are served.
+ghost use Rattle.std.specs.Prelude.{◌≡◌, ◌↔◌, IsTrue, map};
+ghost use Rattle.range_reply.specs.Conditions as spec;
+ghost use Rattle.range_reply.specs.Conditions.{condition_of};
+ghost use Rattle.range_reply.specs.Plans.{lets_ranges};
+
+use arrayvec::ArrayString;
+use host_names::Digest;
+
+/// What the If-Range fields of a request say of a file (RFC 9110, section 13.1.5).
+#[derive(Clone, Copy, Debug, PartialEq, Eq)]
+pub enum IfRange {
+    /// There is none.
+    Absent,
+    /// The file is the one that the client has a part of.
+    True,
+    /// It isn't, or nobody can tell.
+    False,
+}
+
+/// The strong entity tag of the file with this digest, with its quotes (RFC 9110, section 8.8.3).
+fn strong_tag(digest: Digest) -> ArrayString<42>
+    ensures { result.bytes ≡ spec.strong_tag digest }
+{
+    let mut tag = ArrayString::new();
+    tag.push_str("\"");
+    tag.push_str(digest.to_hex().as_str());
+    tag.push_str("\"");
+    tag
+}
+
+impl IfRange {
+    /// What the values of all If-Range fields say of the file with this digest: one that is exactly the strong entity tag
+    /// holds, and anything else doesn't. A weak tag never counts as the strong one.
+    pub fn of(values: &[&[u8]], digest: Digest) -> IfRange
+        ensures { result ≡ condition_of digest (map (λ value. value.now) values.now) }
+    {
+        match values {
+            [] => IfRange::Absent,
+            [value] if **value == *strong_tag(digest).as_bytes() => IfRange::True,
+            _ => IfRange::False,
+        }
+    }
+
+    /// Whether a range is served under it: where there is none, or where it holds.
+    pub(crate) fn lets_ranges(self) -> bool
+        ensures { result ≡ lets_ranges self }
+    {
+        match self {
+            IfRange::Absent | IfRange::True => true,
+            IfRange::False => false,
+        }
+    }
+}

@@ -1,0 +1,70 @@
+//! How long a body of several ranges is.
+ghost use Rattle.std.specs.Prelude.{◌≡◌, ◌≤◌, ◌+◌, ◌^◌, All, MatchOption, length};
+ghost use Rattle.std.specs.List.{flat_map};
+ghost use Rattle.range_spec.specs.Chosen.{LiesWithin};
+ghost use Rattle.range_reply.specs.Multipart.{multipart_text, part_text, text_of};
+
+use crate::boundaries::Boundary;
+use crate::texts::{head_texts, range_value};
+use byte_view::BlobInfo;
+use range_spec::Intervals;
+
+/// The total with the lengths of these texts added, if that is a `u64`.
+fn with_texts(mut total: u64, texts: &[&str]) -> Option<u64>
+    ensures { MatchOption result (2 ^ 64 ≤ total + length (flat_map (λ text. text.now) texts.now)) (λ sum. sum ≡ total + length (flat_map (λ text. text.now) texts.now)) }
+{
+    for text in texts {
+        total = total.checked_add(text.len() as u64)?;
+    }
+    Some(total)
+}
+
+/// The total with the length of a part added, if that is a `u64`.
+fn with_part(
+    total: u64,
+    info: &BlobInfo,
+    boundary: &Boundary,
+    content_type: &str,
+    interval: (u64, u64),
+) -> Option<u64>
+    requires { LiesWithin (length info.now) interval }
+    ensures { MatchOption result (2 ^ 64 ≤ total + length (part_text (text_of boundary.now) content_type.now info.now interval)) (λ sum. sum ≡ total + length (part_text (text_of boundary.now) content_type.now info.now interval)) }
+{
+    let (first, last) = interval;
+    let range = range_value(first, last, info.len() as u64);
+    let head = head_texts(boundary.as_str(), content_type, range.as_str());
+    let total = with_texts(total, &head)?;
+    with_texts(total.checked_add(last - first + 1)?, &["\r\n"])
+}
+
+/// The total with the lengths of the parts for these intervals added, if that is a `u64`.
+fn with_parts(
+    mut total: u64,
+    info: &BlobInfo,
+    boundary: &Boundary,
+    content_type: &str,
+    intervals: &[(u64, u64)],
+) -> Option<u64>
+    requires { All (LiesWithin (length info.now)) intervals.now }
+    ensures { MatchOption result (2 ^ 64 ≤ total + length (flat_map (part_text (text_of boundary.now) content_type.now info.now) intervals.now)) (λ sum. sum ≡ total + length (flat_map (part_text (text_of boundary.now) content_type.now info.now) intervals.now)) }
+{
+    for interval in intervals {
+        total = with_part(total, info, boundary, content_type, *interval)?;
+    }
+    Some(total)
+}
+
+/// How many bytes the body has that sends these intervals of a file, or `None` where a `u64` doesn't hold that. It takes no
+/// memory.
+pub fn multipart_length(
+    info: &BlobInfo,
+    boundary: &Boundary,
+    content_type: &str,
+    intervals: &Intervals,
+) -> Option<u64>
+    requires { All (LiesWithin (length info.now)) intervals.now }
+    ensures { MatchOption result (2 ^ 64 ≤ length (multipart_text (text_of boundary.now) content_type.now info.now intervals.now)) (λ sum. sum ≡ length (multipart_text (text_of boundary.now) content_type.now info.now intervals.now)) }
+{
+    let parts = with_parts(0, info, boundary, content_type, intervals.as_slice())?;
+    with_texts(parts, &["--", boundary.as_str(), "--\r\n"])
+}
