@@ -1,5 +1,5 @@
 -- What a shelf in memory has after something was put there.
-use Rattle.std.proofs.Common.{◌≡◌, ◌≢◌, Bool, true, false, Option, Some, option_map, refl, sym, ap}
+use Rattle.std.proofs.Common.{◌≡◌, ◌≢◌, true, false, Some, option_map, refl, sym, ap}
 use Rattle.std.specs.BTreeMap.{UpdatesBy, get, is_at}
 use Rattle.std.specs.Ordering.{is_eq}
 use Rattle.std.specs.declared.cmp.Ordering.{Ordering}

@@ -1,6 +1,6 @@
 -- The text of a table, and what it is read as.
-use Rattle.std.proofs.Common.{◌≡◌, ℕ, ◌+◌, ◌*◌, ◌<◌, ◌≤◌, ◌^◌, List, [], ◌∷◌, ◌++◌, length, map, take, drop, zero, suc, refl, sym, ap, ◌∙◌, arith, All, get_or, min}
-use Rattle.std.proofs.lemmas.List.{take-append-drop, length-drop, length-take, length-append, nil_from_length}
+use Rattle.std.proofs.Common.{◌≡◌, ℕ, ◌+◌, ◌*◌, ◌≤◌, List, [], ◌∷◌, ◌++◌, length, map, take, drop, zero, suc, refl, sym, ap, ◌∙◌, arith, All}
+use Rattle.std.proofs.lemmas.List.{take-append-drop, length-drop, length-append, nil_from_length}
 use Rattle.std.proofs.lemmas.List.{take_at}
 use Rattle.std.proofs.lemmas.List.Elements.{recursion_from_All}
 use Rattle.std.specs.List.{AllByRecursion}

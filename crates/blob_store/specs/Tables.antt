@@ -1,5 +1,5 @@
 -- Tables: the size of a file and the names of its pieces, as a shelf keeps them.
-use Rattle.std.specs.Prelude.{◌≡◌, ℕ, ◌+◌, ◌*◌, ◌/◌, ◌≤◌, List, ◌++◌, length, map, take, drop}
+use Rattle.std.specs.Prelude.{◌≡◌, ℕ, ◌+◌, ◌*◌, ◌/◌, ◌≤◌, List, ◌++◌, length, map, take}
 use Rattle.std.specs.List.{concat}
 use Rattle.std.specs.Int.{w64, to_be_bytes, from_be_bytes}
 use Rattle.host_names.specs.declared.digests.Digest.{Digest}
