@@ -1,0 +1,3 @@
+mod TableTexts
+mod Shelved
+mod Additions

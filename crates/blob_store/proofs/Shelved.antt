@@ -1,0 +1,53 @@
+-- What a shelf in memory has after something was put there.
+use Rattle.std.proofs.Common.{◌≡◌, ◌≢◌, true, false, Some, option_map, refl, sym, ap}
+use Rattle.std.specs.BTreeMap.{UpdatesBy, get, is_at}
+use Rattle.std.specs.Ordering.{is_eq}
+use Rattle.std.specs.declared.cmp.Ordering.{Ordering}
+use Rattle.std.specs.declared.cmp.Ordering.TheVariants.{Less, Equal, Greater}
+use Rattle.host_names.specs.declared.digests.Digest.{Digest}
+use Rattle.host_names.specs.Digests.{digest_cmp, digest_cmp-IsAntisymmetric}
+use Rattle.blob_store.specs.declared.shelves.ShelfName.{ShelfName}
+use Rattle.blob_store.specs.declared.shelves.ShelfName.TheVariants.{Part, Table}
+use Rattle.blob_store.specs.declared.mem_shelf.MemShelf.{MemShelf}
+use Rattle.blob_store.specs.Shelves.{IsPutAt, found_in}
+
+is_eq-true : (o : Ordering) → is_eq o ≡ true → o ≡ Equal
+is_eq-true Less e = cc e
+is_eq-true Equal e = refl
+is_eq-true Greater e = cc e
+
+-- another digest isn't at this one
+elsewhere : (digest other : Digest) → (other ≢ digest) → is_at (digest_cmp digest) other ≡ false
+elsewhere digest other differ =
+    elim (is_at (digest_cmp digest) other) as (λ b. is_at (digest_cmp digest) other ≡ b → b ≡ false) [
+      | true ↦ λ e. absurd (differ (sym (digest_cmp-IsAntisymmetric digest other (is_eq-true _ e))))
+      | false ↦ λ e. refl
+    ] refl
+
+other_than_part : (old new : MemShelf) (digest : Digest) (bytes : _) → new.tables ≡ old.tables
+    → UpdatesBy digest_cmp (digest_cmp digest) old.parts new.parts (Some bytes)
+    → (other : ShelfName) → other ≢ Part digest → found_in new other ≡ found_in old other
+other_than_part old new digest bytes same put (Part name) differ =
+    ap (option_map (λ b. b.items)) (put.2 name (elsewhere digest name (λ e. differ (ap Part e))))
+other_than_part old new digest bytes same put (Table name) differ = ap (λ tables. option_map (λ b. b.items) (get digest_cmp tables name)) same
+
+other_than_table : (old new : MemShelf) (digest : Digest) (bytes : _) → new.parts ≡ old.parts
+    → UpdatesBy digest_cmp (digest_cmp digest) old.tables new.tables (Some bytes)
+    → (other : ShelfName) → other ≢ Table digest → found_in new other ≡ found_in old other
+other_than_table old new digest bytes same put (Table name) differ =
+    ap (option_map (λ b. b.items)) (put.2 name (elsewhere digest name (λ e. differ (ap Table e))))
+other_than_table old new digest bytes same put (Part name) differ = ap (λ parts. option_map (λ b. b.items) (get digest_cmp parts name)) same
+
+pub part_put : (old new : MemShelf) (digest : Digest) (bytes : _) → new.tables ≡ old.tables
+    → UpdatesBy digest_cmp (digest_cmp digest) old.parts new.parts (Some bytes) → IsPutAt old new (Part digest) bytes.items
+part_put old new digest bytes same put = record {
+  here = ap (option_map (λ b. b.items)) put.1;
+  others = other_than_part old new digest bytes same put;
+}
+
+pub table_put : (old new : MemShelf) (digest : Digest) (bytes : _) → new.parts ≡ old.parts
+    → UpdatesBy digest_cmp (digest_cmp digest) old.tables new.tables (Some bytes) → IsPutAt old new (Table digest) bytes.items
+table_put old new digest bytes same put = record {
+  here = ap (option_map (λ b. b.items)) put.1;
+  others = other_than_table old new digest bytes same put;
+}

@@ -1,0 +1,15 @@
+//! Files kept in pieces of 64 KiB on a shelf that is not trusted.
+#![tactic(auto)]
+
+mod blobs;
+mod known;
+mod laws;
+mod mem_shelf;
+mod shelves;
+mod tables;
+
+pub use blobs::{Blobs, UploadFault};
+pub use laws::files_have_tables;
+pub use mem_shelf::MemShelf;
+pub use shelves::{Shelf, ShelfFault, ShelfName};
+pub use tables::{MAX_SIZE, Table, TableFault, table_text};

@@ -1,0 +1,44 @@
+//! What a store puts its pieces and tables on.
+ghost use Rattle.std.specs.Prelude.{◌≡◌, ℕ, ◌<◌, ◌≤◌, List, Option, IfErr, IfOk, option_map};
+ghost use Rattle.blob_store.specs.declared.shelves.ShelfName.{ShelfName};
+ghost use Rattle.blob_store.specs.declared.shelves.ShelfFault.TheVariants.{Device};
+
+use host_names::Digest;
+use thiserror::Error;
+
+/// What a shelf has something under: a piece of a file by its own digest, and the table of a file by the file's.
+#[derive(Clone, Copy, Debug, PartialEq, Eq)]
+pub enum ShelfName {
+    Part(Digest),
+    Table(Digest),
+}
+
+/// Why a shelf can't answer.
+#[derive(Clone, Copy, Debug, PartialEq, Eq, Error)]
+pub enum ShelfFault {
+    #[error("the device failed")]
+    Device,
+    #[error("out of memory")]
+    OutOfMemory,
+}
+
+/// Keeps bytes under names. It is not trusted: what it gives need not be what was put there.
+pub trait Shelf {
+    /// How often its device has failed.
+    ghost failures: { Self → ℕ };
+
+    /// That it has given this answer under this name.
+    ghost gave: { Self → ShelfName → Option (List ℕ) → Type 0 };
+
+    /// Puts bytes under a name.
+    fn put(&mut self, name: ShelfName, bytes: &[u8]) -> Result<(), ShelfFault>
+        ensures device { IfErr result (λ fault. fault ≡ Device → failures self.old < failures self.new) }
+        ensures count { failures self.old ≤ failures self.new };
+
+    /// What it has under a name.
+    fn get(&mut self, name: ShelfName) -> Result<Option<Vec<u8>>, ShelfFault>
+        ensures given { IfOk result (λ bytes. gave self.new name (option_map (λ b. b.items) bytes)) }
+        ensures before { (other : ShelfName) (answer : Option (List ℕ)) → gave self.old other answer → gave self.new other answer }
+        ensures device { IfErr result (λ fault. fault ≡ Device → failures self.old < failures self.new) }
+        ensures count { failures self.old ≤ failures self.new };
+}
