@@ -9,12 +9,10 @@ use Rattle.change_undo.specs.declared.entries.Entry.{Entry}
 use Rattle.change_undo.specs.declared.entries.Entry.TheVariants.{Change, Undo}
 use Rattle.change_undo.specs.Histories.{Past, run, IsLegal, IsLegalAfter, is_allowed}
 use Rattle.change_undo.proofs.Runs.{history-grows, is_accepted, run-undone_at_once}
-use Rattle.change_undo.proofs.Found.{IsWithin-itself, IsWithin-trans, kept-with_file}
+use Rattle.change_undo.proofs.Found.{IsWithin-itself, kept-with_file}
 use Rattle.host_server.specs.Answers.{Grows}
+use Rattle.host_server.specs.Growth.{itself}
 use Rattle.host_server.specs.Hosts.{Host, host_of, state_of, with_entries, with_entry, with_upload}
-
-pub itself : (host : Host) → Grows host host
-itself host = record { same_limit = refl; more = []; longer = sym (append-nil host.entries); uploads = IsWithin-itself host.uploads }
 
 pub grows_same : (old new : Host) → new ≡ old → Grows old new
 grows_same old new is = subst (Grows old) (sym is) (itself old)
@@ -26,14 +24,6 @@ grows_entry old new entry is =
 pub grows_upload : (old new : Host) (bytes : List ℕ) → new ≡ with_upload old bytes → Grows old new
 grows_upload old new bytes is =
     subst (Grows old) (sym is) (record { same_limit = refl; more = []; longer = sym (append-nil old.entries); uploads = kept-with_file old.uploads bytes })
-
-pub grows_then : (a b c : Host) → Grows a b → Grows b c → Grows a c
-grows_then a b c ab bc = record {
-  same_limit = bc.same_limit ∙ ab.same_limit;
-  more = ab.more ++ bc.more;
-  longer = bc.longer ∙ ap (λ es. es ++ bc.more) ab.longer ∙ append_assoc a.entries ab.more bc.more;
-  uploads = IsWithin-trans a.uploads b.uploads c.uploads ab.uploads bc.uploads;
-}
 
 -- a history with one entry more, or with none
 pub grows_past : {A E : Type 0} (r : Result A E) (old new : Past) (uploads : Contents) (entry : Entry) → new.limit ≡ old.limit

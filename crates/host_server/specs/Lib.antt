@@ -15,3 +15,5 @@ pub mod Solo
 -- what the values and the calls of the code mean: `answer_of` and `Grows` for callers, the others for private functions
 pub mod Bodies
 pub mod Answers
+-- what stays of a host, step by step
+pub mod Growth

@@ -22,8 +22,7 @@ use Rattle.host_server.specs.declared.connections.Next.{Next}
 use Rattle.host_server.specs.declared.connections.Next.TheVariants as next_is
 use Rattle.host_server.specs.declared.connections.Stop.{Stop}
 use Rattle.host_server.specs.declared.connections.Stop.TheVariants as stop
-use Rattle.host_server.specs.Hosts.{Host}
-use Rattle.host_server.specs.Replies.{Answer, IsAnswer, closes, refused_answer, sent_for, sent_text}
+use Rattle.host_server.specs.Replies.{Answer, closes, refused_answer, sent_for, sent_text}
 
 -- the bytes of a stream that are left, where they are known
 abbrev pub Stream : Type 0
@@ -32,6 +31,10 @@ Stream = Option (List ℕ)
 -- how many bytes the body of a request has at most, by its method and its target
 abbrev pub limit_of : RequestParts → ℕ
 limit_of parts = body_limit parts.method parts.target
+
+-- what a service, which may be a host, answers a request of these parts and this body, and what it is then
+abbrev pub Answering : Type 0 → Type 1
+Answering H = H → RequestParts → List ℕ → Answer → H → Type 0
 
 -- ---- one exchange
 
@@ -49,7 +52,7 @@ abbrev pub IsInterim : RequestParts → List ℕ → Type 0
 IsInterim parts text = (ExpectsContinue parts × (text ≡ continue_text)) ⊎ ((¬ (ExpectsContinue parts)) × (text ≡ []))
 
 -- a request is taken, and sent are its interim reply, if its client may wait for one, and its reply; the connection ends after it or not
-pub record IsAnswered (host : Host) (is_last close : Bool) (old : Stream) (sent : List ℕ) (next : Host) (new : Stream) : Type 0 where
+pub record IsAnswered {H : Type 0} (answers : Answering H) (host : H) (is_last close : Bool) (old : Stream) (sent : List ℕ) (next : H) (new : Stream) : Type 0 where
   pub parts : RequestParts
   pub body : List ℕ
   pub request : TakesRequest old new parts body
@@ -57,7 +60,7 @@ pub record IsAnswered (host : Host) (is_last close : Bool) (old : Stream) (sent 
   pub is_interim : IsInterim parts interim
   pub closing : closes parts is_last ≡ close
   pub answer : Answer
-  pub is_answer : IsAnswer host parts body answer next
+  pub is_answer : answers host parts body answer next
   pub sent_is : sent ≡ interim ++ sent_for close parts.method answer
 
 -- a head is there that announces a body of this size, which is read once this was sent; the rest of the stream is behind the head
@@ -114,13 +117,13 @@ abbrev pub IsNotRead : Stream → List ℕ → Type 0
 IsNotRead old sent = IsHeadRefused old sent ⊎ IsBodyRefused old sent ⊎ IsHeadWithoutMemory old sent ⊎ IsBodyWithoutMemory old sent
 
 -- the exchange after which the connection ends
-abbrev pub IsLast : Host → Bool → Stream → List ℕ → Host → Type 0
-IsLast host is_last old sent next =
-    ((new : Stream) × IsAnswered host is_last true old sent next new) ⊎ (IsNotRead old sent × (next ≡ host))
+abbrev pub IsLast : {H : Type 0} → Answering H → H → Bool → Stream → List ℕ → H → Type 0
+IsLast answers host is_last old sent next =
+    ((new : Stream) × IsAnswered answers host is_last true old sent next new) ⊎ (IsNotRead old sent × (next ≡ host))
 
 -- any other exchange
-abbrev pub IsExchange : Host → Bool → Stream → List ℕ → Host → Stream → Type 0
-IsExchange host is_last old sent next new = IsAnswered host is_last false old sent next new
+abbrev pub IsExchange : {H : Type 0} → Answering H → H → Bool → Stream → List ℕ → H → Stream → Type 0
+IsExchange answers host is_last old sent next new = IsAnswered answers host is_last false old sent next new
 
 -- ---- where the stream ends before the next whole request
 
@@ -146,16 +149,16 @@ abbrev pub Begins : (front text : List ℕ) → Type 0
 Begins front text = (more : List ℕ) × (text ≡ front ++ more)
 
 -- a request is answered, and of what is sent for it the first part is sent, and all that comes before its body
-abbrev pub IsReplyCut : Host → Bool → Stream → (sent rest : List ℕ) → Host → Type 0
-IsReplyCut host is_last old sent rest next =
-    (new : Stream) × (close : Bool) × (answered : IsAnswered host is_last close old (sent ++ rest) next new) × Begins answered.interim sent
+abbrev pub IsReplyCut : {H : Type 0} → Answering H → H → Bool → Stream → (sent rest : List ℕ) → H → Type 0
+IsReplyCut answers host is_last old sent rest next =
+    (new : Stream) × (close : Bool) × (answered : IsAnswered answers host is_last close old (sent ++ rest) next new) × Begins answered.interim sent
 
 -- A front of what is sent for a request was sent, and some of it was not. What the request did remains where its reply was cut;
 -- where it isn't read, or its body wasn't yet, it does nothing.
-pub record IsFrontSent (host : Host) (is_last : Bool) (old : Stream) (sent : List ℕ) (next : Host) : Type 0 where
+pub record IsFrontSent {H : Type 0} (answers : Answering H) (host : H) (is_last : Bool) (old : Stream) (sent : List ℕ) (next : H) : Type 0 where
   pub rest : List ℕ
   pub some : 0 < length rest
-  pub whole : IsReplyCut host is_last old sent rest next ⊎ ((IsNotRead old (sent ++ rest) ⊎ IsBegun old (sent ++ rest)) × (next ≡ host))
+  pub whole : IsReplyCut answers host is_last old sent rest next ⊎ ((IsNotRead old (sent ++ rest) ⊎ IsBegun old (sent ++ rest)) × (next ≡ host))
 
 -- ---- a whole connection
 
@@ -164,31 +167,31 @@ abbrev pub is_last_at : ℕ → Bool
 is_last_at n = n == 100
 
 -- these were sent, each for a request, the first of them for that of number n
-abbrev pub AreServed : ℕ → Host → Stream → List (List ℕ) → Host → Stream → Type 0
-AreServed n host old [] next new = (next ≡ host) × (new ≡ old)
-AreServed n host old (sent ∷ more) next new =
-    (mid : Host) × (left : Stream) × IsExchange host (is_last_at n) old sent mid left × AreServed (n + 1) mid left more next new
+abbrev pub AreServed : {H : Type 0} → Answering H → ℕ → H → Stream → List (List ℕ) → H → Stream → Type 0
+AreServed answers n host old [] next new = (next ≡ host) × (new ≡ old)
+AreServed {H = H} answers n host old (sent ∷ more) next new =
+    (mid : H) × (left : Stream) × IsExchange answers host (is_last_at n) old sent mid left × AreServed answers (n + 1) mid left more next new
 
 -- how a connection ended that had come to the request of number n: what was sent since, and what the host has
-abbrev pub Ends : (read_fails write_fails : Type 0) → Result (Unit {0}) ConnectionFault → ℕ → Host → Stream → List ℕ → Host → Type 0
-Ends read_fails write_fails (Ok done) n host old sent next =
-    (IsCut old sent × (next ≡ host)) ⊎ IsLast host (is_last_at n) old sent next
-Ends read_fails write_fails (Err fault.InputFault) n host old sent next = read_fails × IsBegun old sent × (next ≡ host)
-Ends read_fails write_fails (Err fault.OutputFault) n host old sent next =
-    write_fails × IsFrontSent host (is_last_at n) old sent next
-Ends read_fails write_fails (Err fault.OutOfMemory) n host old sent next = (n ≡ 1) × (sent ≡ []) × (next ≡ host)
+abbrev pub Ends : {H : Type 0} → Answering H → (read_fails write_fails : Type 0) → Result (Unit {0}) ConnectionFault → ℕ → H → Stream → List ℕ → H → Type 0
+Ends answers read_fails write_fails (Ok done) n host old sent next =
+    (IsCut old sent × (next ≡ host)) ⊎ IsLast answers host (is_last_at n) old sent next
+Ends answers read_fails write_fails (Err fault.InputFault) n host old sent next = read_fails × IsBegun old sent × (next ≡ host)
+Ends answers read_fails write_fails (Err fault.OutputFault) n host old sent next =
+    write_fails × IsFrontSent answers host (is_last_at n) old sent next
+Ends answers read_fails write_fails (Err fault.OutOfMemory) n host old sent next = (n ≡ 1) × (sent ≡ []) × (next ≡ host)
 
 -- What a connection does: it sends what the requests of its stream are answered, each over what the host has by then,
 -- up to the first after which it ends. It ends earlier only where the stream does, where a read or a write fails, or
 -- where there is no memory to begin.
-pub record Serves (read_fails write_fails : Type 0) (result : Result (Unit {0}) ConnectionFault)
-    (host next : Host) (stream held new_held : Stream) : Type 0 where
+pub record Serves {H : Type 0} (answers : Answering H) (read_fails write_fails : Type 0) (result : Result (Unit {0}) ConnectionFault)
+    (host next : H) (stream held new_held : Stream) : Type 0 where
   pub replies : List (List ℕ)
-  pub mid : Host
+  pub mid : H
   pub left : Stream
-  pub served : AreServed 1 host stream replies mid left
+  pub served : AreServed answers 1 host stream replies mid left
   pub sent : List ℕ
-  pub ends : Ends read_fails write_fails result (length replies + 1) mid left sent next
+  pub ends : Ends answers read_fails write_fails result (length replies + 1) mid left sent next
   pub written : Appends held new_held (concat replies ++ sent)
 
 -- ---- why no request is read
@@ -280,31 +283,31 @@ Refuses write_fails result (stop.OutOfMemory head_only) held new_held =
 -- ---- the parts of an exchange
 
 -- the reply to a request is this
-pub record IsSent (close : Bool) (host : Host) (parts : RequestParts) (body sent : List ℕ) (next : Host) : Type 0 where
+pub record IsSent {H : Type 0} (answers : Answering H) (close : Bool) (host : H) (parts : RequestParts) (body sent : List ℕ) (next : H) : Type 0 where
   pub answer : Answer
-  pub is_answer : IsAnswer host parts body answer next
+  pub is_answer : answers host parts body answer next
   pub sent_is : sent ≡ sent_for close parts.method answer
 
 -- what the answering of a request does
-abbrev pub Exchanges : (write_fails : Type 0) → Result Next ConnectionFault → Bool → Host → RequestParts → List ℕ → Stream → Stream → Host → Type 0
-Exchanges write_fails (Ok next_is.Exchange) close host parts body held new_held next =
-    (close ≡ false) × ((sent : List ℕ) × IsSent close host parts body sent next × Appends held new_held sent)
-Exchanges write_fails (Ok next_is.End) close host parts body held new_held next =
-    (close ≡ true) × ((sent : List ℕ) × IsSent close host parts body sent next × Appends held new_held sent)
-Exchanges write_fails (Err fault.InputFault) close host parts body held new_held next = ⊥
-Exchanges write_fails (Err fault.OutputFault) close host parts body held new_held next =
+abbrev pub Exchanges : {H : Type 0} → Answering H → (write_fails : Type 0) → Result Next ConnectionFault → Bool → H → RequestParts → List ℕ → Stream → Stream → H → Type 0
+Exchanges answers write_fails (Ok next_is.Exchange) close host parts body held new_held next =
+    (close ≡ false) × ((sent : List ℕ) × IsSent answers close host parts body sent next × Appends held new_held sent)
+Exchanges answers write_fails (Ok next_is.End) close host parts body held new_held next =
+    (close ≡ true) × ((sent : List ℕ) × IsSent answers close host parts body sent next × Appends held new_held sent)
+Exchanges answers write_fails (Err fault.InputFault) close host parts body held new_held next = ⊥
+Exchanges answers write_fails (Err fault.OutputFault) close host parts body held new_held next =
     write_fails × ((sent : List ℕ) × (rest : List ℕ) × (0 < length rest)
-    × IsSent close host parts body (sent ++ rest) next × Appends held new_held sent)
-Exchanges write_fails (Err fault.OutOfMemory) close host parts body held new_held next = ⊥
+    × IsSent answers close host parts body (sent ++ rest) next × Appends held new_held sent)
+Exchanges answers write_fails (Err fault.OutOfMemory) close host parts body held new_held next = ⊥
 
 -- what the turn of a connection does
-abbrev pub Turns : (read_fails write_fails : Type 0) → Result Next ConnectionFault → Bool → Host → Stream → Stream → Stream → Stream → Host → Type 0
-Turns read_fails write_fails (Ok next_is.Exchange) is_last host old new held new_held next =
-    (sent : List ℕ) × IsExchange host is_last old sent next new × Appends held new_held sent
-Turns read_fails write_fails (Ok next_is.End) is_last host old new held new_held next =
-    (sent : List ℕ) × ((IsCut old sent × (next ≡ host)) ⊎ IsLast host is_last old sent next) × Appends held new_held sent
-Turns read_fails write_fails (Err fault.InputFault) is_last host old new held new_held next =
+abbrev pub Turns : {H : Type 0} → Answering H → (read_fails write_fails : Type 0) → Result Next ConnectionFault → Bool → H → Stream → Stream → Stream → Stream → H → Type 0
+Turns answers read_fails write_fails (Ok next_is.Exchange) is_last host old new held new_held next =
+    (sent : List ℕ) × IsExchange answers host is_last old sent next new × Appends held new_held sent
+Turns answers read_fails write_fails (Ok next_is.End) is_last host old new held new_held next =
+    (sent : List ℕ) × ((IsCut old sent × (next ≡ host)) ⊎ IsLast answers host is_last old sent next) × Appends held new_held sent
+Turns answers read_fails write_fails (Err fault.InputFault) is_last host old new held new_held next =
     read_fails × ((sent : List ℕ) × IsBegun old sent × (next ≡ host) × Appends held new_held sent)
-Turns read_fails write_fails (Err fault.OutputFault) is_last host old new held new_held next =
-    write_fails × ((sent : List ℕ) × IsFrontSent host is_last old sent next × Appends held new_held sent)
-Turns read_fails write_fails (Err fault.OutOfMemory) is_last host old new held new_held next = ⊥
+Turns answers read_fails write_fails (Err fault.OutputFault) is_last host old new held new_held next =
+    write_fails × ((sent : List ℕ) × IsFrontSent answers host is_last old sent next × Appends held new_held sent)
+Turns answers read_fails write_fails (Err fault.OutOfMemory) is_last host old new held new_held next = ⊥

@@ -8,6 +8,7 @@ use Rattle.http_wire.specs.Sending.{AppendsFront}
 use Rattle.host_server.specs.declared.connections.ConnectionFault.{ConnectionFault}
 use Rattle.host_server.specs.declared.connections.ConnectionFault.TheVariants as fault
 use Rattle.host_server.specs.Hosts.{Host}
+use Rattle.host_server.specs.Replies.{IsAnswer}
 use Rattle.host_server.specs.Serving.{Stream, Serves}
 
 -- a host without entries and uploads, which may have as many entries as any
@@ -62,7 +63,7 @@ pub record IsServed (read_fails write_fails says_fail : Type 0) (words : List (L
   pub ended : Result (Unit {0}) ConnectionFault
   pub says : status ≡ status_of ended
   pub next : Host
-  pub serves : Serves read_fails write_fails ended empty_host next stream held new_held
+  pub serves : Serves IsAnswer read_fails write_fails ended empty_host next stream held new_held
   pub end_said : SaysEnd says_fail ended said new_said
 
 -- A run: no connection is served, and nothing is answered; or one is. So the status is 1 exactly where the words ask for nothing

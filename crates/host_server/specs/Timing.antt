@@ -12,17 +12,16 @@ use Rattle.host_server.specs.declared.connections.Next.{Next}
 use Rattle.host_server.specs.declared.connections.Next.TheVariants as next_is
 use Rattle.host_server.specs.declared.connections.Stop.{Stop}
 use Rattle.host_server.specs.declared.connections.Stop.TheVariants as stop
-use Rattle.host_server.specs.Hosts.{Host}
-use Rattle.host_server.specs.Serving.{Stream, AreServed, IsCut, Serves, IsInterim, Invites, HeadStops, SizeStops, Sends, Refuses, Exchanges, Turns}
+use Rattle.host_server.specs.Serving.{Answering, Stream, AreServed, IsCut, Serves, IsInterim, Invites, HeadStops, SizeStops, Sends, Refuses, Exchanges, Turns}
 
 -- A connection may read: the bytes that came are whole requests after each of which it goes on, and then no whole one and no
 -- head that is refused; all that was written is what is sent for these, and what comes before the body of one that is cut in
 -- it. A connection whose stream ended here would have written just that.
-pub record IsCaughtUp (host : Host) (got put : List ℕ) : Type 0 where
+pub record IsCaughtUp {H : Type 0} (answers : Answering H) (host : H) (got put : List ℕ) : Type 0 where
   pub replies : List (List ℕ)
-  pub next : Host
+  pub next : H
   pub rest : List ℕ
-  pub served : AreServed 1 host (Some got) replies next (Some rest)
+  pub served : AreServed answers 1 host (Some got) replies next (Some rest)
   pub sent : List ℕ
   pub cut : IsCut (Some rest) sent
   pub put_is : put ≡ concat replies ++ sent
@@ -36,10 +35,10 @@ IdleWithoutMemory (Err fault.OutOfMemory) events = events ≡ []
 
 -- What a connection did by these events, over each stream of which its reads are the next: where it says that a read or
 -- a write failed, that was the last event, and where it says that there was no memory, there was none.
-pub record Connects (result : Result (Unit {0}) ConnectionFault) (host next : Host) (events : List Event) : Type 0 where
+pub record Connects {H : Type 0} (answers : Answering H) (result : Result (Unit {0}) ConnectionFault) (host next : H) (events : List Event) : Type 0 where
   pub idle : IdleWithoutMemory result events
   pub serves : (left new_left : Stream) → Gives events left new_left
-      → Serves (IsLatest ReadFails events) (IsLatest WriteFails events) result host next left (Some []) (Some (all_put events))
+      → Serves answers (IsLatest ReadFails events) (IsLatest WriteFails events) result host next left (Some []) (Some (all_put events))
 
 -- ---- what private functions say
 
@@ -114,9 +113,9 @@ pub record RefusesAs (result : Result (Unit {0}) ConnectionFault) (why : Stop) (
   pub silent : IsSilent why events
 
 -- what the answering of a request writes, and that another event may follow where it goes well
-pub record ExchangesAs (result : Result Next ConnectionFault) (close : Bool) (host : Host) (parts : RequestParts) (body : List ℕ) (next : Host)
+pub record ExchangesAs {H : Type 0} (answers : Answering H) (result : Result Next ConnectionFault) (close : Bool) (host : H) (parts : RequestParts) (body : List ℕ) (next : H)
     (events : List Event) : Type 0 where
-  pub exchanges : Exchanges (IsLatest WriteFails events) result close host parts body (Some []) (Some (all_put events)) next
+  pub exchanges : Exchanges answers (IsLatest WriteFails events) result close host parts body (Some []) (Some (all_put events)) next
   pub goes_on : OnOk result (GoesOn events)
 
 -- another exchange may follow
@@ -126,9 +125,9 @@ IsFollowed (Ok next_is.End) events = Unit {0}
 IsFollowed (Err why) events = Unit {0}
 
 -- what a turn of the connection does over each stream of which its reads are the next, and how its events end
-pub record TurnsAs (result : Result Next ConnectionFault) (is_last : Bool) (host next : Host) (buffer new_buffer : List ℕ) (events : List Event)
+pub record TurnsAs {H : Type 0} (answers : Answering H) (result : Result Next ConnectionFault) (is_last : Bool) (host next : H) (buffer new_buffer : List ℕ) (events : List Event)
     : Type 0 where
   pub followed : IsFollowed result events
   pub of_stream : (left new_left : Stream) → Gives events left new_left
-      → Turns (IsLatest ReadFails events) (IsLatest WriteFails events) result is_last host (prepend_known buffer left) (prepend_known new_buffer new_left)
+      → Turns answers (IsLatest ReadFails events) (IsLatest WriteFails events) result is_last host (prepend_known buffer left) (prepend_known new_buffer new_left)
       (Some []) (Some (all_put events)) next

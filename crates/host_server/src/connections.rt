@@ -3,15 +3,14 @@ ghost use Rattle.std.specs.Prelude.{◌≡◌, [], codes};
 ghost use Rattle.std.specs.Str.{bytes_eq};
 ghost use Rattle.http_wire.specs.Timing.{NoRead, Ran};
 ghost use Rattle.http_wire.specs.Wires.{AwaitsHead, AwaitsBody};
-ghost use Rattle.host_server.specs.Answers.{Grows};
 ghost use Rattle.host_server.specs.Bodies.{answer_of};
 ghost use Rattle.host_server.specs.Replies.{closes, sent_text};
 ghost use Rattle.host_server.specs.Serving.{refusal_of, Announced, TakesBody, TakesNext, BodyStops, Stops, Serves};
 ghost use Rattle.host_server.specs.Timing.{AwaitsAnnounced, AwaitsRequest, InvitesAs, IsCaughtUp, ReadsHeadAs, TakesBodyAs, ReadsAs, SendsAs, RefusesAs, ExchangesAs, TurnsAs, Connects};
 
-use crate::answers::{Request, answer};
-use crate::host::SoloHouse;
+use crate::answers::Request;
 use crate::replies::Reply;
+use crate::services::Service;
 use host_api::{HeadRefusal, body_limit};
 use http_wire::{BodyFault, Duplex, Head, HeadFault, LengthFault, Wire, check_body, write_interim};
 use std::alloc::Global;
@@ -194,19 +193,19 @@ fn refuse<D: Duplex>(duplex: &mut D, stop: Stop) -> Result<(), ConnectionFault>
 }
 
 /// Answers a request.
-fn exchange<D: Duplex>(
+fn exchange<D: Duplex, S: Service>(
     alloc: Global,
     duplex: &mut D,
-    house: &mut SoloHouse,
+    service: &mut S,
     request: Request,
 ) -> Result<Next, ConnectionFault>
     ensures exchanged { Ran D.saw NoRead duplex.old duplex.new
-        (ExchangesAs result (closes request.head request.is_last) house.old request.head request.body.items house.new) }
-    ensures grows { Grows house.old house.new }
+        (ExchangesAs S.answers result (closes request.head request.is_last) service.old request.head request.body.items service.new) }
+    ensures grows { S.grows service.old service.new }
 {
     let head_only = is_head_only(&request.head);
     let close = request.closes();
-    let reply = answer(alloc, request, house);
+    let reply = service.answer(alloc, request);
     send(duplex, reply, close, head_only)?;
     if close {
         Ok(Next::End)
@@ -216,19 +215,19 @@ fn exchange<D: Duplex>(
 }
 
 /// Reads a request and answers it.
-fn serve_next<D: Duplex>(
+fn serve_next<D: Duplex, S: Service>(
     alloc: Global,
     wire: &mut Wire,
     duplex: &mut D,
-    house: &mut SoloHouse,
+    service: &mut S,
     is_last: bool,
 ) -> Result<Next, ConnectionFault>
     ensures turned { Ran D.saw (AwaitsRequest wire.old) duplex.old duplex.new
-        (TurnsAs result is_last house.old house.new wire.old wire.new) }
-    ensures grows { Grows house.old house.new }
+        (TurnsAs S.answers result is_last service.old service.new wire.old wire.new) }
+    ensures grows { S.grows service.old service.new }
 {
     match read_request(wire, duplex, is_last) {
-        Ok(request) => exchange(alloc, duplex, house, request),
+        Ok(request) => exchange(alloc, duplex, service, request),
         Err(stop) => {
             refuse(duplex, stop)?;
             Ok(Next::End)
@@ -237,18 +236,18 @@ fn serve_next<D: Duplex>(
 }
 
 /// Answers requests, one after another.
-fn serve_requests<D: Duplex>(
+fn serve_requests<D: Duplex, S: Service>(
     alloc: Global,
     wire: &mut Wire,
     duplex: &mut D,
-    house: &mut SoloHouse,
+    service: &mut S,
 ) -> Result<(), ConnectionFault>
     requires { wire.old ≡ [] }
-    ensures connected { Ran D.saw (IsCaughtUp house.old) duplex.old duplex.new (Connects result house.old house.new) }
-    ensures grows { Grows house.old house.new }
+    ensures connected { Ran D.saw (IsCaughtUp S.answers service.old) duplex.old duplex.new (Connects S.answers result service.old service.new) }
+    ensures grows { S.grows service.old service.new }
 {
     'requests: for number in 1..=MOST_REQUESTS {
-        match serve_next(alloc, wire, duplex, house, number == MOST_REQUESTS)? {
+        match serve_next(alloc, wire, duplex, service, number == MOST_REQUESTS)? {
             Next::Exchange => {}
             Next::End => return Ok(()),
         }
@@ -264,17 +263,17 @@ fn serve_requests<D: Duplex>(
 ///
 /// It reads only where all whole requests that came are answered, no head is refused, and all that is sent for them is
 /// written by then; nothing is read or written after the end of the stream, a fault or a reply that ends the connection.
-pub fn serve_connection<D: Duplex>(
+pub fn serve_connection<D: Duplex, S: Service>(
     alloc: Global,
     duplex: &mut D,
-    house: &mut SoloHouse,
+    service: &mut S,
 ) -> Result<(), ConnectionFault>
-    ensures served { Serves D.read_fails D.write_fails result house.old house.new (D.left duplex.old) (D.held duplex.old) (D.held duplex.new) }
-    ensures timely { Ran D.saw (IsCaughtUp house.old) duplex.old duplex.new (Connects result house.old house.new) }
-    ensures grows { Grows house.old house.new }
+    ensures served { Serves S.answers D.read_fails D.write_fails result service.old service.new (D.left duplex.old) (D.held duplex.old) (D.held duplex.new) }
+    ensures timely { Ran D.saw (IsCaughtUp S.answers service.old) duplex.old duplex.new (Connects S.answers result service.old service.new) }
+    ensures grows { S.grows service.old service.new }
 {
     let Ok(mut wire) = Wire::new(alloc) else {
         return Err(ConnectionFault::OutOfMemory);
     };
-    serve_requests(alloc, &mut wire, duplex, house)
+    serve_requests(alloc, &mut wire, duplex, service)
 }

@@ -6,10 +6,12 @@ mod bodies;
 mod connections;
 mod host;
 mod replies;
+mod services;
 mod solo;
 
 pub use answers::{Request, answer};
 pub use connections::{ConnectionFault, serve_connection};
 pub use host::{HostView, SoloHouse, list_changes, show_deploy};
 pub use replies::Reply;
+pub use services::Service;
 pub use solo::run_solo;

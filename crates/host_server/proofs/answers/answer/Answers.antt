@@ -1,6 +1,7 @@
 use Rattle.std.proofs.Common.{Ok}
 use Rattle.host_server.specs.Bodies.{answer_of}
-use Rattle.host_server.proofs.Growing.{itself, undone_at_once}
+use Rattle.host_server.specs.Growth.{itself}
+use Rattle.host_server.proofs.Growing.{undone_at_once}
 use Rattle.host_server.proofs.Telling.{answered, unasked}
 use Rattle.host_server.proofs.answers.answer.Goals as goal
 

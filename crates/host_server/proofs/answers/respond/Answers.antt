@@ -6,7 +6,7 @@ use Rattle.host_server.specs.Memory.{UndoRunsOut, DeployRunsOut, UploadRunsOut}
 use Rattle.host_server.specs.Outcomes.{deploy_outcome, undone, upload_outcome}
 use Rattle.host_server.specs.Reasons.{undo_refusal}
 use Rattle.site_change.specs.declared.commands.Command.TheVariants as command
-use Rattle.host_server.proofs.Growing.{itself}
+use Rattle.host_server.specs.Growth.{itself}
 use Rattle.host_server.proofs.Telling.{left_by, told_outcome, told_command, told_deploy, told_changes}
 use Rattle.host_server.proofs.answers.respond.Goals as goal
 

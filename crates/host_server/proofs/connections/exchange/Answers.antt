@@ -16,16 +16,16 @@ returns-in_err-send-clause-exchanged g c =
     let request = c.args.request in
     let close = closes request.head request.is_last in
     let text = sent_text c.closes-close.result c.is_head_only-head_only.result (answer_of c.answer-reply.result) in
-    let S : Bool → Type 0 = λ b. IsSent close c.args.house.now request.head request.body.items
-    (sent_text b c.is_head_only-head_only.result (answer_of c.answer-reply.result)) c.answer-reply.new.house in
-    let sent = subst S (sym c.closes-close.ensures) (is_sent close c.is_head_only-head_only.result c.args.house.now c.answer-reply.new.house request.head request.body.items
+    let S : Bool → Type 0 = λ b. IsSent g.S.Service.answers close c.args.service.now request.head request.body.items
+    (sent_text b c.is_head_only-head_only.result (answer_of c.answer-reply.result)) c.answer-reply.new.self in
+    let sent = subst S (sym c.closes-close.ensures) (is_sent g.S.Service.answers close c.is_head_only-head_only.result c.args.service.now c.answer-reply.new.self request.head request.body.items
     (answer_of c.answer-reply.result) c.is_head_only-head_only.ensures c.answer-reply.ensures.replied) in
     let why = c.in_err-send.field-0.0 in
     let P : Result Next ConnectionFault → Type 0 = λ r. Ran g.D.Duplex.saw NoRead c.args.duplex.now c.send.new.duplex
-    (ExchangesAs r close c.args.house.now request.head request.body.items c.answer-reply.new.house) in
+    (ExchangesAs g.S.Service.answers r close c.args.service.now request.head request.body.items c.answer-reply.new.self) in
     let is : c.from_residual.result ≡ Err why = search rules in
     subst P (sym is) (ran_as g.D.Duplex.saw NoRead c.args.duplex.now c.send.new.duplex _ _ (λ events s. record {
-      exchanges = exchange_cut (IsLatest WriteFails events) why close c.args.house.now c.answer-reply.new.house request.head request.body.items
+      exchanges = exchange_cut g.S.Service.answers (IsLatest WriteFails events) why close c.args.service.now c.answer-reply.new.self request.head request.body.items
           text (Some []) (Some (all_put events)) sent s.sends;
       goes_on = tt;
     }) c.in_err-send.ensures)
@@ -35,12 +35,12 @@ returns-then-close-clause-exchanged g c =
     let request = c.args.request in
     let close = closes request.head request.is_last in
     let text = sent_text c.closes-close.result c.is_head_only-head_only.result (answer_of c.answer-reply.result) in
-    let S : Bool → Type 0 = λ b. IsSent close c.args.house.now request.head request.body.items
-    (sent_text b c.is_head_only-head_only.result (answer_of c.answer-reply.result)) c.answer-reply.new.house in
-    let sent = subst S (sym c.closes-close.ensures) (is_sent close c.is_head_only-head_only.result c.args.house.now c.answer-reply.new.house request.head request.body.items
+    let S : Bool → Type 0 = λ b. IsSent g.S.Service.answers close c.args.service.now request.head request.body.items
+    (sent_text b c.is_head_only-head_only.result (answer_of c.answer-reply.result)) c.answer-reply.new.self in
+    let sent = subst S (sym c.closes-close.ensures) (is_sent g.S.Service.answers close c.is_head_only-head_only.result c.args.service.now c.answer-reply.new.self request.head request.body.items
     (answer_of c.answer-reply.result) c.is_head_only-head_only.ensures c.answer-reply.ensures.replied) in
     ran_as g.D.Duplex.saw NoRead c.args.duplex.now c.send.new.duplex _ _ (λ events s. record {
-      exchanges = exchange_sent (IsLatest WriteFails events) next_is.End close c.args.house.now c.answer-reply.new.house request.head request.body.items text
+      exchanges = exchange_sent g.S.Service.answers (IsLatest WriteFails events) next_is.End close c.args.service.now c.answer-reply.new.self request.head request.body.items text
           (Some []) (Some (all_put events)) (sym c.closes-close.ensures ∙ c.if-close.true) sent s.sends;
       goes_on = s.goes_on;
     }) c.in_ok-send.ensures
@@ -50,12 +50,12 @@ returns-else-close-clause-exchanged g c =
     let request = c.args.request in
     let close = closes request.head request.is_last in
     let text = sent_text c.closes-close.result c.is_head_only-head_only.result (answer_of c.answer-reply.result) in
-    let S : Bool → Type 0 = λ b. IsSent close c.args.house.now request.head request.body.items
-    (sent_text b c.is_head_only-head_only.result (answer_of c.answer-reply.result)) c.answer-reply.new.house in
-    let sent = subst S (sym c.closes-close.ensures) (is_sent close c.is_head_only-head_only.result c.args.house.now c.answer-reply.new.house request.head request.body.items
+    let S : Bool → Type 0 = λ b. IsSent g.S.Service.answers close c.args.service.now request.head request.body.items
+    (sent_text b c.is_head_only-head_only.result (answer_of c.answer-reply.result)) c.answer-reply.new.self in
+    let sent = subst S (sym c.closes-close.ensures) (is_sent g.S.Service.answers close c.is_head_only-head_only.result c.args.service.now c.answer-reply.new.self request.head request.body.items
     (answer_of c.answer-reply.result) c.is_head_only-head_only.ensures c.answer-reply.ensures.replied) in
     ran_as g.D.Duplex.saw NoRead c.args.duplex.now c.send.new.duplex _ _ (λ events s. record {
-      exchanges = exchange_sent (IsLatest WriteFails events) next_is.Exchange close c.args.house.now c.answer-reply.new.house request.head request.body.items text
+      exchanges = exchange_sent g.S.Service.answers (IsLatest WriteFails events) next_is.Exchange close c.args.service.now c.answer-reply.new.self request.head request.body.items text
           (Some []) (Some (all_put events)) (sym c.closes-close.ensures ∙ c.if-close.false) sent s.sends;
       goes_on = s.goes_on;
     }) c.in_ok-send.ensures

@@ -6,7 +6,7 @@ use Rattle.host_api.specs.declared.texts.Told.{Told}
 use Rattle.host_api.specs.declared.texts.Told.TheVariants.{Opened}
 use Rattle.site_change.specs.declared.commands.Command.TheVariants.{Open}
 use Rattle.host_server.specs.Outcomes.{DoesCommit, entered}
-use Rattle.host_server.proofs.Growing.{grows_then}
+use Rattle.host_server.specs.Growth.{grows_then}
 use Rattle.host_server.proofs.Opening.{answer, on_err, open_done, open_refused, none_required, ready_as_opened}
 use Rattle.host_server.proofs.host.houses.SoloHouse.open.Goals.{then-auto, else-auto}
 use Rattle.host_server.proofs.host.houses.SoloHouse.open.Goals as goal

@@ -1,4 +1,4 @@
-use Rattle.host_server.proofs.Growing.{grows_then}
+use Rattle.host_server.specs.Growth.{grows_then}
 use Rattle.host_server.proofs.host.houses.SoloHouse.upload.Goals as goal
 
 pub returns-clause-grows : goal.returns-clause-grows

@@ -1,0 +1,45 @@
+//! What answers the requests of a connection.
+ghost use Rattle.std.specs.Prelude.{ℕ, List};
+ghost use Rattle.http_wire.specs.Requests.{RequestParts};
+ghost use Rattle.host_server.specs.Answers.{Grows};
+ghost use Rattle.host_server.specs.Bodies.{answer_of};
+ghost use Rattle.host_server.specs.Growth.{itself, grows_then};
+ghost use Rattle.host_server.specs.Replies.{Answer, IsAnswer};
+
+use crate::answers::{Request, answer};
+use crate::host::SoloHouse;
+use crate::replies::Reply;
+use std::alloc::Global;
+
+/// Answers requests, one after another.
+pub trait Service {
+    // What a request of these parts and this body is answered, and what the service has then.
+    ghost answers: { Self → RequestParts → List ℕ → Answer → Self → Type 0 };
+
+    // What stays of a service, whatever it answers.
+    ghost grows: { Self → Self → Type 0 };
+
+    /// The reply to a request.
+    fn answer(&mut self, alloc: Global, request: Request) -> Reply
+        ensures replied { answers self.old request.head request.body.items (answer_of result) self.new }
+        ensures grows { grows self.old self.new };
+
+    // It stays where nothing is answered, and from one answer to the next.
+    ghost stays: { (service : Self) → grows service service };
+
+    ghost goes_on: { (first mid last : Self) → grows first mid → grows mid last → grows first last };
+}
+
+impl Service for SoloHouse {
+    ghost answers = { IsAnswer };
+
+    ghost grows = { Grows };
+
+    fn answer(&mut self, alloc: Global, request: Request) -> Reply {
+        answer(alloc, request, self)
+    }
+
+    ghost stays = { itself };
+
+    ghost goes_on = { grows_then };
+}
