@@ -8,6 +8,7 @@ ghost use Rattle.site_state.specs.Files.{Paths};
 ghost use Rattle.site_state.specs.States.{draft_at, kept_at};
 ghost use Rattle.site_state.specs.declared.values.Draft.{Draft as Opened};
 ghost use Rattle.site_change.specs.Changes.{applied};
+ghost use Rattle.site_change.specs.Uploaded.{AreUploaded};
 ghost use Rattle.change_undo.specs.declared.entries.Entry.TheVariants as entry;
 ghost use Rattle.change_undo.specs.Clashes;
 ghost use Rattle.change_undo.specs.Effects.{UndoesChange};
@@ -20,7 +21,7 @@ use crate::logs::Log;
 use crate::records::Records;
 use crate::writes::decided;
 use host_names::{Cell, ChangeError, ChangeRefusal, SiteName, Uploads};
-use site_change::Command;
+use site_change::{Command, uploads_are_digested};
 use site_state::State;
 use std::alloc::{AllocError, Global};
 use std::marker::Model;
@@ -131,6 +132,14 @@ impl History {
             → option_map (λ found. (found.0, found.1.now)) result ≡ Clashes.clash uploads self.now.entries change }
     {
         self.records.clash(change)
+    }
+
+    /// Each file that is served or kept is among these uploads, over which the history is what it is.
+    pub fn files_were_uploaded<U: Uploads>(&self, uploads: &U)
+        requires { IsHistoryOver (U.contents uploads.now) self.now }
+        ensures { AreUploaded (U.contents uploads.now) self.now.state }
+    {
+        uploads_are_digested(uploads);
     }
 
     /// Commits a command as the next entry, with these uploads, over which the history is what it is. Answers its number.

@@ -1,10 +1,11 @@
 //! Laws of histories, each the contract of a function that does nothing.
 ghost use Rattle.std.specs.Prelude.{◌≡◌, ◌++◌, ◌∷◌, [], ℕ, List, Some, None, true};
 ghost use Rattle.std.specs.FinMap as map;
-ghost use Rattle.host_names.specs.Blobs.{Contents};
+ghost use Rattle.host_names.specs.Blobs.{AreDigested, Contents};
 ghost use Rattle.host_names.specs.declared.cells.Cell.{Cell};
 ghost use Rattle.host_names.specs.declared.names.SiteName.{SiteName as Site};
 ghost use Rattle.site_change.specs.Changes.{IsWithin, run_from};
+ghost use Rattle.site_change.specs.Uploaded.{AreUploaded};
 ghost use Rattle.site_state.specs.States.{State as Cells};
 ghost use Rattle.change_undo.specs.declared.entries.Entry.{Entry as Line};
 ghost use Rattle.change_undo.specs.declared.entries.Entry.TheVariants as line;
@@ -29,6 +30,12 @@ pub fn histories_outlast_uploads()
 /// In a legal history the changes that live are accepted from nothing, each in its place.
 pub fn a_legal_history_has_a_run()
     ensures { (uploads : Contents) (entries : List Line) → IsLegal uploads entries → (state : Cells) × (run uploads entries ≡ Some state) }
+{}
+
+/// Each file that is served or kept in the state that a history gives was uploaded.
+pub fn the_files_of_a_run_were_uploaded()
+    ensures { (uploads : Contents) (entries : List Line) (state : Cells) → AreDigested uploads → run uploads entries ≡ Some state
+        → AreUploaded uploads state }
 {}
 
 /// Where the undo of a change is not refused, the other changes are accepted without it, each in its place, and the

@@ -17,6 +17,6 @@ pub use histories::{GREATEST_LIMIT, History};
 pub use laws::{
     a_change_has_one_clash_at_most, a_change_without_a_clash_can_be_left_out,
     a_legal_history_has_a_run, an_allowed_undo_leaves_a_legal_history, histories_outlast_uploads,
-    the_clash_is_found, the_newest_change_has_no_clash,
+    the_clash_is_found, the_files_of_a_run_were_uploaded, the_newest_change_has_no_clash,
 };
 pub use logs::Log;

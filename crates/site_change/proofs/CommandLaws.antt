@@ -2,7 +2,7 @@
 use Rattle.std.proofs.Common.{◌≡◌, ℕ, false, Some, None, option_map, refl, ap, ◌∙◌, ◌||◌, sym, cond}
 use Rattle.std.specs.FinMap as map
 use Rattle.std.specs.Str.{bytes_eq}
-use Rattle.host_names.specs.Blobs.{Contents}
+use Rattle.host_names.specs.Blobs.{Contents, AreDigested}
 use Rattle.host_names.specs.declared.cells.Cell.{Cell}
 use Rattle.host_names.specs.declared.cells.Cell.TheVariants as cell
 use Rattle.site_state.specs.Aliases.{alias_for, first_alias}
@@ -15,12 +15,14 @@ use Rattle.site_change.specs.declared.commands.Command.TheVariants.{Open, Publis
 use Rattle.host_names.specs.declared.refusals.ChangeRefusal.TheVariants.{NoSuchDraft, NoSuchDeploy, NoSuchFile, NoSuchAlias}
 use Rattle.site_change.specs.Changes.{same_cell, needed, rename_refusal, publish_refusal, restore_refusal, removal_refusal, published, restored, refusal, applied, publish_touches, restore_touches, touches, IsWithin}
 use Rattle.site_change.specs.Laws.{AgreeOn, SameEffect}
+use Rattle.site_change.specs.Uploaded.{AreUploaded}
 use Rattle.site_change.proofs.Deploys.{DeploysFrom, without_new, none_by_removal, none_by_live, none_by_alias, none_by_publishing, none_by_restoring, from_opening}
 use Rattle.site_change.proofs.Effects.{same_cell-itself, get-with_two}
 use Rattle.site_change.proofs.Fitting.{IsLeftOrFits, live_fits, write_fits, both_fit, publish_fits, restore_fits}
 use Rattle.site_change.proofs.NamedAliases.{named_publish, named_restore, is_there, no_alias}
 use Rattle.site_change.proofs.ReadsAndWrites.{or_false, publish_reads, publish_writes, restore_reads, restore_writes, same_draft, write_reads, write_leaves, or_here, or_there, or_after, same_alias_entries, or_second}
 use Rattle.site_change.proofs.SameFiles.{publish_grows, restore_grows}
+use Rattle.site_change.proofs.Uploading.{served_uploaded, kept_uploaded, write_uploaded, publish_uploaded, restore_uploaded}
 
 -- What is proved of a command under the number n, to a state, with these uploads.
 pub record KeepsLaws (command : Command) (n : ℕ) (state : State) (uploads : Contents) : Type 0 where
@@ -35,6 +37,8 @@ pub record KeepsLaws (command : Command) (n : ℕ) (state : State) (uploads : Co
   -- once it is accepted, it stays so as more is uploaded, and does the same
   pub grows : (more : Contents) → IsWithin uploads more → refusal command n state uploads ≡ None
       → (refusal command n state more ≡ None) × (applied command n state more ≡ applied command n state uploads)
+  -- once it is accepted, it leaves only files that were uploaded, where there are no others before
+  pub uploaded : AreDigested uploads → AreUploaded uploads state → refusal command n state uploads ≡ None → AreUploaded uploads (applied command n state uploads)
   -- the deploys after it were there before, or it opens them
   pub deploys : DeploysFrom command n state (applied command n state uploads)
 
@@ -51,6 +55,7 @@ command_laws (Open site files auto) n state uploads =
       fits = write_fits state at (Some draft) refl;
       named = λ named accepted. named_draft state named site n (Some draft);
       grows = λ more within accepted. (accepted, refl);
+      uploaded = λ digested all accepted. write_uploaded uploads state at (Some draft) tt all;
       deploys = from_opening state site n files auto draft;
     }
 command_laws (Publish site m) n state uploads =
@@ -66,6 +71,7 @@ command_laws (Publish site m) n state uploads =
       fits = publish_fits site m uploads state draft;
       named = λ named accepted. named_publish site m uploads state draft named;
       grows = λ more. publish_grows site m uploads more state draft;
+      uploaded = λ digested all accepted. publish_uploaded uploads digested site m state draft accepted all;
       deploys = without_new (Publish site m) n state _ (none_by_publishing site m uploads state);
     }
 command_laws (Cancel site m) n state uploads =
@@ -79,6 +85,7 @@ command_laws (Cancel site m) n state uploads =
       fits = write_fits state at None refl;
       named = λ named accepted. named_draft state named site m None;
       grows = λ more within accepted. (accepted, refl);
+      uploaded = λ digested all accepted. write_uploaded uploads state at None tt all;
       deploys = without_new (Cancel site m) n state _ (none_by_removal state at);
     }
 command_laws (Remove site path) n state uploads =
@@ -92,6 +99,7 @@ command_laws (Remove site path) n state uploads =
       fits = write_fits state at None refl;
       named = λ named accepted. named_live state named site path None;
       grows = λ more within accepted. (accepted, refl);
+      uploaded = λ digested all accepted. write_uploaded uploads state at None tt all;
       deploys = without_new (Remove site path) n state _ (none_by_removal state at);
     }
 command_laws (Rename site source target) n state uploads =
@@ -113,6 +121,7 @@ command_laws (Rename site source target) n state uploads =
       fits = λ c. both_fit state gone (with_cell gone b file) c (write_fits state a None refl c) (write_fits gone b file (live_fits site target (live_at state site source)) c);
       named = λ named accepted. named_live gone (named_live state named site source None) site target file;
       grows = λ more within accepted. (accepted, refl);
+      uploaded = λ digested all accepted. write_uploaded uploads gone b file (served_uploaded uploads (map.get state a) (all a)) (write_uploaded uploads state a None tt all);
       deploys = without_new (Rename site source target) n state _ (λ own m there. none_by_removal state a own m (none_by_live gone site target file own m there));
     }
 command_laws (MoveAlias site name m) n state uploads =
@@ -127,6 +136,7 @@ command_laws (MoveAlias site name m) n state uploads =
       fits = write_fits state at (Some (value.Alias m)) refl;
       named = λ named accepted. named_with_alias state named site name m (is_there NoSuchDeploy (kept_at state site m) accepted);
       grows = λ more within accepted. (accepted, refl);
+      uploaded = λ digested all accepted. write_uploaded uploads state at (Some (value.Alias m)) tt all;
       deploys = without_new (MoveAlias site name m) n state _ (none_by_alias state site name (Some (value.Alias m)));
     }
 command_laws (RemoveAlias site name) n state uploads =
@@ -140,6 +150,7 @@ command_laws (RemoveAlias site name) n state uploads =
       fits = write_fits state at None refl;
       named = λ named accepted. named_without_alias state named site name;
       grows = λ more within accepted. (accepted, refl);
+      uploaded = λ digested all accepted. write_uploaded uploads state at None tt all;
       deploys = without_new (RemoveAlias site name) n state _ (none_by_removal state at);
     }
 command_laws (Restore site m) n state uploads =
@@ -162,6 +173,7 @@ command_laws (Restore site m) n state uploads =
       fits = restore_fits site m uploads state kept draft;
       named = λ named accepted. named_restore site m uploads state kept draft named;
       grows = λ more. restore_grows site m uploads more state kept draft;
+      uploaded = λ digested all accepted. restore_uploaded uploads digested site m state kept draft (kept_uploaded uploads (map.get state k) (all k)) accepted all;
       deploys = without_new (Restore site m) n state _ (none_by_restoring site m uploads state kept);
     }
 command_laws (RemoveDeploy site m) n state uploads =
@@ -177,5 +189,6 @@ command_laws (RemoveDeploy site m) n state uploads =
       fits = write_fits state k None refl;
       named = λ named accepted. named_without_kept state named site m (no_alias (kept_at state site m) (alias_for state site m) accepted);
       grows = λ more within accepted. (accepted, refl);
+      uploaded = λ digested all accepted. write_uploaded uploads state k None tt all;
       deploys = without_new (RemoveDeploy site m) n state _ (none_by_removal state k);
     }

@@ -11,6 +11,7 @@ pub mod ReadsAndWrites
 pub mod Fitting
 pub mod NamedAliases
 pub mod SameFiles
+pub mod Uploading
 pub mod Deploys
 -- all laws of each command, and what follows of them
 pub mod CommandLaws
@@ -19,5 +20,6 @@ pub mod OfKind
 pub mod Named
 pub mod LeftOut
 pub mod Growing
+pub mod UploadedRuns
 pub mod Touching
 pub mod Leaving

@@ -1,7 +1,7 @@
 //! Laws of changes, each the contract of a function that does nothing.
 ghost use Rattle.std.specs.Prelude.{◌≡◌, ◌≢◌, ◌↔◌, ◌⊎◌, ℕ, Bool, true, false, List, None, Some};
 ghost use Rattle.std.specs.FinMap as map;
-ghost use Rattle.host_names.specs.Blobs.{Contents};
+ghost use Rattle.host_names.specs.Blobs.{AreDigested, Contents, digest_of};
 ghost use Rattle.host_names.specs.declared.cells.Cell.{Cell};
 ghost use Rattle.host_names.specs.declared.cells.Cell.TheVariants as cell;
 ghost use Rattle.host_names.specs.declared.names.AliasName.{AliasName};
@@ -12,8 +12,9 @@ ghost use Rattle.site_state.specs.States.{State, draft_at, kept_at};
 ghost use Rattle.site_state.specs.declared.values.Draft.{Draft};
 ghost use Rattle.site_change.specs.declared.commands.Command.{Command};
 ghost use Rattle.site_change.specs.declared.commands.Command.TheVariants.{Open, Publish, Cancel, Remove, Rename, MoveAlias, RemoveAlias, Restore, RemoveDeploy};
-ghost use Rattle.site_change.specs.Changes.{applied, changes, refusal, touches};
+ghost use Rattle.site_change.specs.Changes.{applied, changes, refusal, run_from, touches};
 ghost use Rattle.site_change.specs.Laws.{IsLocal, IsPartOfDeploy, IsPartOfPatch, LeavesDeploy, LeavesOut, LeavesPatch, KeepsRunning};
+ghost use Rattle.site_change.specs.Uploaded.{AreUploaded, IsUploaded};
 
 /// All that a command reads or writes is what it touches. In two states that have the same there, it gets the
 /// same answer, touches the same cells, and leaves the same in them; every other cell stays as it was, and what
@@ -35,6 +36,19 @@ pub fn a_change_can_be_left_out()
 pub fn accepted_stays_accepted()
     ensures { (uploads more : Contents) (state : State) (commands : List (ℕ × Command)) →
         KeepsRunning uploads more state commands }
+{}
+
+/// Two files that were uploaded to one place are the same exactly where their digests are. Of other files nothing is said.
+pub fn uploaded_files_are_told_by_their_digests()
+    ensures { (uploads : Contents) (a b : List ℕ) → IsUploaded uploads a → IsUploaded uploads b → (digest_of a ≡ digest_of b) ↔ (a ≡ b) }
+{}
+
+/// Where each file that is served or kept was uploaded, so it is after a command that is accepted, and after a row of them.
+pub fn accepted_commands_leave_uploaded_files()
+    ensures command { (command : Command) (number : ℕ) (state : State) (uploads : Contents) → AreDigested uploads → AreUploaded uploads state
+        → refusal command number state uploads ≡ None → AreUploaded uploads (applied command number state uploads) }
+    ensures run { (uploads : Contents) (state after : State) (commands : List (ℕ × Command)) → AreDigested uploads → AreUploaded uploads state
+        → run_from uploads state commands ≡ Some after → AreUploaded uploads after }
 {}
 
 /// A command changes a cell exactly where the state after it has something else there than the state before it.
