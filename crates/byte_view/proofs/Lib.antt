@@ -2,3 +2,4 @@ mod Slices
 mod CutPieces
 mod Followed
 mod Stretches
+pub mod Wholes

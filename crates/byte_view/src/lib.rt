@@ -11,6 +11,6 @@ mod views;
 pub use blob_infos::{BlobInfo, PIECE_SIZE};
 pub use chunks::{Chunk, WrongName};
 pub use holds::{Hold, WrongLength};
-pub use laws::files_are_cut_into_pieces;
+pub use laws::{files_are_cut_into_pieces, holds_show_their_stretches};
 pub use pieces::Pieces;
 pub use views::View;

@@ -2,3 +2,7 @@
 pub mod Conditions
 pub mod Plans
 pub mod Multipart
+pub mod Slices
+pub mod Boundaries
+-- what the functions that look for bytes say of each other
+pub mod Searches

@@ -2,12 +2,17 @@
 #![tactic(auto)]
 
 mod boundaries;
+mod choices;
 mod conditions;
+mod laws;
 mod lengths;
 mod plans;
+mod searches;
 mod texts;
 
 pub use boundaries::Boundary;
+pub use choices::boundary;
 pub use conditions::IfRange;
+pub use laws::texts_are_found_where_they_stand;
 pub use lengths::multipart_length;
 pub use plans::{ReplyPlan, plan};

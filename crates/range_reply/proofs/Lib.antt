@@ -1,0 +1,3 @@
+mod Occurrences
+mod OneOfMany
+mod Purity

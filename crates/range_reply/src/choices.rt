@@ -1,0 +1,26 @@
+//! The boundary for a body of several ranges.
+ghost use Rattle.std.specs.Prelude.{IfNone, IfSome, MatchOption};
+ghost use Rattle.range_reply.specs.Boundaries.{HasNoBoundary, IsBoundaryFor};
+ghost use Rattle.range_reply.specs.Multipart.{text_of};
+ghost use Rattle.range_reply.specs.Slices.{ArePure, all_meant, all_shown};
+
+use crate::boundaries::Boundary;
+use crate::searches::occurs_in_one;
+use byte_view::Hold;
+use host_names::Digest;
+
+/// The boundary for a body of what these holds show, which are of the file with this digest: the first of the eight candidates
+/// that occurs in none of their stretches, or `None` where each occurs in one. It takes no memory.
+pub fn boundary(holds: &[Hold], digest: Digest) -> Option<Boundary>
+    ensures first { IfSome result (λ found. IsBoundaryFor (all_shown holds.now) digest (text_of found)) }
+    ensures none { IfNone result (HasNoBoundary (all_shown holds.now) digest) }
+    ensures pure { ArePure holds.now → MatchOption result (HasNoBoundary (all_meant holds.now) digest) (λ found. IsBoundaryFor (all_meant holds.now) digest (text_of found)) }
+{
+    for number in 0..8 {
+        let candidate = Boundary::candidate(digest, number);
+        if !occurs_in_one(candidate.as_str().as_bytes(), holds) {
+            return Some(candidate);
+        }
+    }
+    None
+}

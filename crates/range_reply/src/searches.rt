@@ -1,0 +1,87 @@
+//! Whether bytes occur in what is held of a file, in the chunks and across their edges. No call allocates.
+ghost use Rattle.std.specs.Prelude.{◌≡◌, ◌↔◌, ◌<◌, ◌≤◌, ◌++◌, List, ℕ, IsTrue, length, take};
+ghost use Rattle.std.specs.List.{concat};
+ghost use Rattle.range_reply.specs.Searches.{ending};
+ghost use Rattle.range_reply.specs.Slices.{OccursIn, OccursInOne, all_shown, shown};
+
+use arrayvec::ArrayVec;
+use byte_view::{Hold, Pieces};
+use memchr::memmem;
+
+/// How many bytes on either side of an edge are looked through: as many as the longest text that is looked for.
+const SIDE: usize = 64;
+
+/// Whether bytes occur in a text.
+fn occurs(bytes: &[u8], text: &[u8]) -> bool
+    ensures { IsTrue result ↔ OccursIn bytes.now text.now }
+{
+    memmem::find(text, bytes).is_some()
+}
+
+/// The last bytes of a text.
+fn last_bytes(text: &[u8]) -> ArrayVec<u8, 64>
+    ensures { result.items ≡ ending text.now }
+{
+    ArrayVec::try_from(&text[text.len().saturating_sub(SIDE)..]).unwrap()
+}
+
+/// The bytes before an edge, and as many after it.
+fn around_edge(before: &[u8], after: &[u8]) -> ArrayVec<u8, 128>
+    requires { length before.now ≤ 64 }
+    ensures { result.items ≡ before.now ++ take 64 after.now }
+{
+    let mut bytes = ArrayVec::new();
+    bytes.try_extend_from_slice(before).unwrap();
+    bytes
+        .try_extend_from_slice(&after[..SIDE.min(after.len())])
+        .unwrap();
+    bytes
+}
+
+/// The last bytes before the next edge, where these are the bytes around the edge before the piece.
+fn last_bytes_after(edge: &[u8], piece: &[u8]) -> ArrayVec<u8, 64>
+    ensures { (seen : List ℕ) → edge.now ≡ ending seen ++ take 64 piece.now → result.items ≡ ending (seen ++ piece.now) }
+{
+    last_bytes(if piece.len() < SIDE { edge } else { piece })
+}
+
+/// Whether bytes occur in pieces that follow one another.
+fn occurs_in_pieces(bytes: &[u8], pieces: Pieces<'_>) -> bool
+    requires some { 0 < length bytes.now }
+    requires few { length bytes.now ≤ 64 }
+    ensures { IsTrue result ↔ OccursIn bytes.now (concat pieces.entry) }
+{
+    let mut last = ArrayVec::new();
+    for piece in pieces {
+        let edge = around_edge(last.as_slice(), piece);
+        if occurs(bytes, edge.as_slice()) || occurs(bytes, piece) {
+            return true;
+        }
+        last = last_bytes_after(edge.as_slice(), piece);
+    }
+    false
+}
+
+/// Whether bytes occur in what a hold shows of its stretch.
+fn occurs_in_hold(bytes: &[u8], hold: &Hold) -> bool
+    requires some { 0 < length bytes.now }
+    requires few { length bytes.now ≤ 64 }
+    ensures { IsTrue result ↔ OccursIn bytes.now (shown hold.now) }
+{
+    let (first, last) = hold.stretch();
+    occurs_in_pieces(bytes, hold.pieces(first, last))
+}
+
+/// Whether bytes occur in what one of the holds shows.
+pub(crate) fn occurs_in_one(bytes: &[u8], holds: &[Hold]) -> bool
+    requires some { 0 < length bytes.now }
+    requires few { length bytes.now ≤ 64 }
+    ensures { IsTrue result ↔ OccursInOne bytes.now (all_shown holds.now) }
+{
+    for hold in holds {
+        if occurs_in_hold(bytes, hold) {
+            return true;
+        }
+    }
+    false
+}
