@@ -1,3 +1,4 @@
 mod TableTexts
 mod Shelved
 mod Additions
+mod Turns

@@ -1,3 +1,5 @@
 -- what public clauses say
 pub mod Tables
+pub mod Calls
+pub mod Faults
 pub mod Shelves

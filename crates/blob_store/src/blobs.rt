@@ -1,15 +1,21 @@
 //! The store: files whose pieces and tables are on a shelf.
-ghost use Rattle.std.specs.Prelude.{◌≡◌, ◌≢◌, ◌↔◌, ◌<◌, ◌≤◌, Err, IfErr, IfOk, None, OnErr, OnOk, Some, IsSome, IsOk, length, option_map};
+ghost use Rattle.std.specs.Prelude.{◌≡◌, ◌≢◌, ◌↔◌, ◌<◌, ◌≤◌, Err, IfErr, IfOk, MatchResult, None, OnErr, OnOk, Some, IsSome, length, option_map};
 ghost use Rattle.std.specs.FinMap as map;
 ghost use Rattle.host_names.specs.Blobs.{AreDigested, digest_of, with_file};
+ghost use Rattle.byte_view.specs.Cuts.{names_of};
 ghost use Rattle.blob_store.specs.declared.shelves.ShelfName.TheVariants.{Part};
+ghost use Rattle.blob_store.specs.declared.reading.ReadFault.TheVariants as read_fault;
+ghost use Rattle.blob_store.specs.Calls.{Got, PutsInTurn, things_of};
+ghost use Rattle.blob_store.specs.Faults.{HasPutSome, IsChunkFault};
+ghost use Rattle.blob_store.specs.Tables.{text_of};
 ghost use Rattle.blob_store.specs.declared.shelves.ShelfFault.TheVariants as shelf_fault;
 ghost use Rattle.blob_store.specs.declared.blobs.UploadFault.TheVariants as upload_fault;
 
 use crate::known::Known;
+use crate::reading::{ReadFault, read_chunk};
 use crate::shelves::{Shelf, ShelfFault, ShelfName};
 use crate::tables::{MAX_SIZE, table_text};
-use byte_view::{BlobInfo, PIECE_SIZE};
+use byte_view::{BlobInfo, Chunk, PIECE_SIZE};
 use host_names::Digest;
 use std::alloc::Global;
 use std::sync::Arc;
@@ -37,6 +43,7 @@ pub struct Blobs<S> {
 /// What an upload answers for a fault of the shelf.
 fn of_shelf(fault: ShelfFault) -> UploadFault
     ensures device { (result ≡ upload_fault.Device) ↔ (fault ≡ shelf_fault.Device) }
+    ensures memory { (result ≡ upload_fault.OutOfMemory) ↔ (fault ≡ shelf_fault.OutOfMemory) }
     ensures judged { result ≢ upload_fault.TooLarge }
 {
     match fault {
@@ -45,21 +52,27 @@ fn of_shelf(fault: ShelfFault) -> UploadFault
     }
 }
 
-/// Puts each piece of a file on a shelf, and the table after them.
+/// Puts each piece of a file on a shelf, and its table after them.
 fn put_file<S: Shelf>(
-    alloc: Global,
     shelf: &mut S,
     info: &BlobInfo,
     bytes: &[u8],
+    table: &[u8],
 ) -> Result<(), ShelfFault>
+    requires info { info.now ≡ bytes.now }
+    requires table { table.now ≡ text_of (length bytes.now) (names_of bytes.now) }
+    ensures put { MatchResult result (λ _. PutsInTurn S.did shelf.old (things_of bytes.now) None shelf.new) (λ fault. PutsInTurn S.did shelf.old (things_of bytes.now) (Some fault) shelf.new) }
     ensures device { IfErr result (λ fault. fault ≡ shelf_fault.Device → S.failures shelf.old < S.failures shelf.new) }
     ensures count { S.failures shelf.old ≤ S.failures shelf.new }
 {
-    let text = table_text(alloc, info.len(), info.names()).map_err(|_| ShelfFault::OutOfMemory)?;
-    for (name, piece) in info.names().iter().zip(bytes.chunks(PIECE_SIZE)) {
+    let names = info.names();
+    let mut rest = bytes;
+    for name in names {
+        let (piece, after) = rest.split_at(rest.len().min(PIECE_SIZE));
         shelf.put(ShelfName::Part(*name), piece)?;
+        rest = after;
     }
-    shelf.put(ShelfName::Table(info.digest()), text.as_slice())
+    shelf.put(ShelfName::Table(info.digest()), table)
 }
 
 impl<S: Shelf> Blobs<S> {
@@ -93,6 +106,8 @@ impl<S: Shelf> Blobs<S> {
         ensures device { IfErr result (λ fault. fault ≡ upload_fault.Device → S.failures self.old.shelf < S.failures self.new.shelf) }
         ensures count { S.failures self.old.shelf ≤ S.failures self.new.shelf }
         ensures known { IsSome (map.get self.old.known (digest_of bytes.now)) → self.new.shelf ≡ self.old.shelf }
+        ensures put { OnOk result (map.get self.old.known (digest_of bytes.now) ≡ None → PutsInTurn S.did self.old.shelf (things_of bytes.now) None self.new.shelf) }
+        ensures not_put { IfErr result (λ fault. HasPutSome S.did self.old.shelf (things_of bytes.now) fault self.new.shelf) }
     {
         if bytes.len() > MAX_SIZE {
             return Err(UploadFault::TooLarge);
@@ -101,10 +116,25 @@ impl<S: Shelf> Blobs<S> {
         if let Some(known) = self.known.find(&info.digest()) {
             return known.clone().map_err(|_| UploadFault::OutOfMemory);
         }
+        let table = table_text(self.alloc, info.len(), info.names()).map_err(
+            |_| UploadFault::OutOfMemory,
+        )?;
         let info = Arc::new(self.alloc, info).map_err(|_| UploadFault::OutOfMemory)?;
-        put_file(self.alloc, &mut self.shelf, &info, bytes).map_err(of_shelf)?;
+        put_file(&mut self.shelf, &info, bytes, table.as_slice()).map_err(of_shelf)?;
         let kept = info.clone().map_err(|_| UploadFault::OutOfMemory)?;
         self.known.keep(kept).map_err(|_| UploadFault::OutOfMemory)?;
         Ok(info)
+    }
+
+    /// The chunk of a name, as the shelf gives it now, and checked: it has that name. What is known stays.
+    pub fn chunk(&mut self, name: &Digest) -> Result<Chunk, ReadFault>
+        ensures given { IfOk result (λ chunk. S.did self.old.shelf (Got (Part name.now) (Some chunk)) self.new.shelf) }
+        ensures named { IfOk result (λ chunk. digest_of chunk ≡ name.now) }
+        ensures fault { IfErr result (λ fault. IsChunkFault S.did self.old.shelf name.now fault self.new.shelf) }
+        ensures device { IfErr result (λ fault. fault ≡ read_fault.Device → S.failures self.old.shelf < S.failures self.new.shelf) }
+        ensures count { S.failures self.old.shelf ≤ S.failures self.new.shelf }
+        ensures known { self.new.known ≡ self.old.known }
+    {
+        read_chunk(&mut self.shelf, *name)
     }
 }

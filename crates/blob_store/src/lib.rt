@@ -5,11 +5,13 @@ mod blobs;
 mod known;
 mod laws;
 mod mem_shelf;
+mod reading;
 mod shelves;
 mod tables;
 
 pub use blobs::{Blobs, UploadFault};
 pub use laws::files_have_tables;
 pub use mem_shelf::MemShelf;
+pub use reading::ReadFault;
 pub use shelves::{Shelf, ShelfFault, ShelfName};
 pub use tables::{MAX_SIZE, Table, TableFault, table_text};

@@ -2,7 +2,7 @@
 ghost use Rattle.std.specs.Prelude.{◌≡◌, None, OnErr, OnOk, Some, option_map};
 ghost use Rattle.blob_store.specs.declared.shelves.ShelfName.{ShelfName};
 ghost use Rattle.blob_store.specs.declared.shelves.ShelfName.TheVariants.{Part, Table};
-ghost use Rattle.blob_store.specs.Shelves.{IsPutAt, found_in};
+ghost use Rattle.blob_store.specs.Shelves.{HasTheSame, IsPutAt, found_in};
 
 use crate::shelves::{Shelf, ShelfFault, ShelfName};
 use host_names::Digest;
@@ -32,7 +32,7 @@ impl MemShelf {
     /// Keeps a copy of some bytes under a name. Without memory nothing changes.
     pub fn keep(&mut self, name: ShelfName, bytes: &[u8]) -> Result<(), AllocError>
         ensures ok { OnOk result (IsPutAt self.old self.new name bytes.now) }
-        ensures err { OnErr result ((other : ShelfName) → found_in self.new other ≡ found_in self.old other) }
+        ensures err { OnErr result (HasTheSame self.old self.new) }
     {
         let copy = Vec::from_slice(self.alloc, bytes)?;
         match name {
@@ -43,7 +43,7 @@ impl MemShelf {
 
     fn keep_part(&mut self, digest: Digest, bytes: Vec<u8>) -> Result<(), AllocError>
         ensures ok { OnOk result (IsPutAt self.old self.new (Part digest) bytes.items) }
-        ensures err { OnErr result ((other : ShelfName) → found_in self.new other ≡ found_in self.old other) }
+        ensures err { OnErr result (HasTheSame self.old self.new) }
     {
         self.parts.insert(digest, bytes)?;
         Ok(())
@@ -51,7 +51,7 @@ impl MemShelf {
 
     fn keep_table(&mut self, digest: Digest, bytes: Vec<u8>) -> Result<(), AllocError>
         ensures ok { OnOk result (IsPutAt self.old self.new (Table digest) bytes.items) }
-        ensures err { OnErr result ((other : ShelfName) → found_in self.new other ≡ found_in self.old other) }
+        ensures err { OnErr result (HasTheSame self.old self.new) }
     {
         self.tables.insert(digest, bytes)?;
         Ok(())
@@ -69,12 +69,11 @@ impl MemShelf {
 }
 
 impl Shelf for MemShelf {
-    ghost use Rattle.std.specs.Prelude.{◌≡◌};
-    ghost use Rattle.blob_store.specs.Shelves.{found_in};
+    ghost use Rattle.blob_store.specs.Shelves.{Does};
 
     ghost failures = { λ shelf. 0 };
 
-    ghost gave = { λ shelf name answer. found_in shelf name ≡ answer };
+    ghost did = { Does };
 
     fn put(&mut self, name: ShelfName, bytes: &[u8]) -> Result<(), ShelfFault> {
         self.keep(name, bytes).map_err(|_| ShelfFault::OutOfMemory)

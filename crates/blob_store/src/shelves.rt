@@ -1,7 +1,7 @@
 //! What a store puts its pieces and tables on.
-ghost use Rattle.std.specs.Prelude.{◌≡◌, ℕ, ◌<◌, ◌≤◌, List, Option, IfErr, IfOk, option_map};
-ghost use Rattle.blob_store.specs.declared.shelves.ShelfName.{ShelfName};
+ghost use Rattle.std.specs.Prelude.{◌≡◌, ℕ, ◌<◌, ◌≤◌, IfErr, MatchResult, option_map};
 ghost use Rattle.blob_store.specs.declared.shelves.ShelfFault.TheVariants.{Device};
+ghost use Rattle.blob_store.specs.Calls.{Call, Put, PutFails, Got, GetFails};
 
 use host_names::Digest;
 use thiserror::Error;
@@ -27,18 +27,18 @@ pub trait Shelf {
     /// How often its device has failed.
     ghost failures: { Self → ℕ };
 
-    /// That it has given this answer under this name.
-    ghost gave: { Self → ShelfName → Option (List ℕ) → Type 0 };
+    /// What a call, with its answer, leads from and to.
+    ghost did: { Self → Call → Self → Type 0 };
 
     /// Puts bytes under a name.
     fn put(&mut self, name: ShelfName, bytes: &[u8]) -> Result<(), ShelfFault>
+        ensures put { MatchResult result (λ _. did self.old (Put name bytes.now) self.new) (λ fault. did self.old (PutFails name bytes.now fault) self.new) }
         ensures device { IfErr result (λ fault. fault ≡ Device → failures self.old < failures self.new) }
         ensures count { failures self.old ≤ failures self.new };
 
     /// What it has under a name.
     fn get(&mut self, name: ShelfName) -> Result<Option<Vec<u8>>, ShelfFault>
-        ensures given { IfOk result (λ bytes. gave self.new name (option_map (λ b. b.items) bytes)) }
-        ensures before { (other : ShelfName) (answer : Option (List ℕ)) → gave self.old other answer → gave self.new other answer }
+        ensures got { MatchResult result (λ bytes. did self.old (Got name (option_map (λ b. b.items) bytes)) self.new) (λ fault. did self.old (GetFails name fault) self.new) }
         ensures device { IfErr result (λ fault. fault ≡ Device → failures self.old < failures self.new) }
         ensures count { failures self.old ≤ failures self.new };
 }

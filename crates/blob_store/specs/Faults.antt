@@ -1,0 +1,26 @@
+-- What a fault tells of the shelf.
+use Rattle.std.specs.Prelude.{◌≡◌, ◌≢◌, ◌⊎◌, List, ℕ, Some, None}
+use Rattle.host_names.specs.declared.digests.Digest.{Digest}
+use Rattle.host_names.specs.Blobs.{digest_of}
+use Rattle.blob_store.specs.declared.shelves.ShelfName.{ShelfName}
+use Rattle.blob_store.specs.declared.shelves.ShelfName.TheVariants.{Part}
+use Rattle.blob_store.specs.declared.shelves.ShelfFault.TheVariants as shelf_fault
+use Rattle.blob_store.specs.declared.blobs.UploadFault.{UploadFault}
+use Rattle.blob_store.specs.declared.blobs.UploadFault.TheVariants as upload_fault
+use Rattle.blob_store.specs.declared.reading.ReadFault.{ReadFault}
+use Rattle.blob_store.specs.declared.reading.ReadFault.TheVariants as read_fault
+use Rattle.blob_store.specs.Calls.{Call, Got, GetFails, PutsInTurn}
+
+-- what was put up to a fault of the device; without memory none of it, or up to where the shelf had none, or all of it
+abbrev pub HasPutSome : {S : Type 0} → (did : S → Call → S → Type 0) → S → List (ShelfName × List ℕ) → UploadFault → S → Type 0
+HasPutSome did old things upload_fault.TooLarge new = new ≡ old
+HasPutSome did old things upload_fault.Device new = PutsInTurn did old things (Some shelf_fault.Device) new
+HasPutSome did old things upload_fault.OutOfMemory new =
+    (new ≡ old) ⊎ PutsInTurn did old things (Some shelf_fault.OutOfMemory) new ⊎ PutsInTurn did old things None new
+
+-- a fault at a chunk, and the answer of the one call that it comes from
+abbrev pub IsChunkFault : {S : Type 0} → (did : S → Call → S → Type 0) → S → Digest → ReadFault → S → Type 0
+IsChunkFault did old name read_fault.Missing new = did old (Got (Part name) None) new
+IsChunkFault did old name read_fault.Damaged new = (bytes : List ℕ) × (digest_of bytes ≢ name) × did old (Got (Part name) (Some bytes)) new
+IsChunkFault did old name read_fault.Device new = did old (GetFails (Part name) shelf_fault.Device) new
+IsChunkFault did old name read_fault.OutOfMemory new = did old (GetFails (Part name) shelf_fault.OutOfMemory) new

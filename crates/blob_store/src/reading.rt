@@ -1,0 +1,52 @@
+//! What is read from a shelf.
+ghost use Rattle.std.specs.Prelude.{◌≡◌, ◌<◌, ◌≤◌, IfErr, IfOk, Some};
+ghost use Rattle.host_names.specs.Blobs.{digest_of};
+ghost use Rattle.blob_store.specs.declared.shelves.ShelfFault.TheVariants as shelf_fault;
+ghost use Rattle.blob_store.specs.declared.shelves.ShelfName.TheVariants.{Part};
+ghost use Rattle.blob_store.specs.declared.reading.ReadFault.TheVariants as read_fault;
+ghost use Rattle.blob_store.specs.Calls.{Got};
+ghost use Rattle.blob_store.specs.Faults.{IsChunkFault};
+
+use crate::shelves::{Shelf, ShelfFault, ShelfName};
+use byte_view::Chunk;
+use host_names::Digest;
+use thiserror::Error;
+
+/// Why something can't be read from a shelf.
+#[derive(Clone, Copy, Debug, PartialEq, Eq, Error)]
+pub enum ReadFault {
+    #[error("the shelf doesn't have it")]
+    Missing,
+    #[error("the shelf has other bytes")]
+    Damaged,
+    #[error("the device failed")]
+    Device,
+    #[error("out of memory")]
+    OutOfMemory,
+}
+
+/// What a read answers for a fault of the shelf.
+pub(crate) fn of_shelf(fault: ShelfFault) -> ReadFault
+    ensures device { fault ≡ shelf_fault.Device → result ≡ read_fault.Device }
+    ensures memory { fault ≡ shelf_fault.OutOfMemory → result ≡ read_fault.OutOfMemory }
+{
+    match fault {
+        ShelfFault::Device => ReadFault::Device,
+        ShelfFault::OutOfMemory => ReadFault::OutOfMemory,
+    }
+}
+
+/// The chunk of a name, checked.
+pub(crate) fn read_chunk<S: Shelf>(shelf: &mut S, name: Digest) -> Result<Chunk, ReadFault>
+    ensures given { IfOk result (λ chunk. S.did shelf.old (Got (Part name) (Some chunk)) shelf.new) }
+    ensures named { IfOk result (λ chunk. digest_of chunk ≡ name) }
+    ensures fault { IfErr result (λ fault. IsChunkFault S.did shelf.old name fault shelf.new) }
+    ensures device { IfErr result (λ fault. fault ≡ read_fault.Device → S.failures shelf.old < S.failures shelf.new) }
+    ensures count { S.failures shelf.old ≤ S.failures shelf.new }
+{
+    match shelf.get(ShelfName::Part(name)) {
+        Err(fault) => Err(of_shelf(fault)),
+        Ok(None) => Err(ReadFault::Missing),
+        Ok(Some(bytes)) => Chunk::check(name, bytes).map_err(|_| ReadFault::Damaged),
+    }
+}
