@@ -1,0 +1,4 @@
+-- what public clauses say
+pub mod Hashes
+pub mod Points
+pub mod Owners

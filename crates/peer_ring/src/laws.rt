@@ -1,0 +1,9 @@
+//! Laws of rings, each the contract of a function that does nothing.
+ghost use Rattle.std.specs.Prelude.{◌≡◌, ℕ, List};
+ghost use Rattle.peer_ring.specs.declared.points.Point.{Point};
+ghost use Rattle.peer_ring.specs.Owners.{IsOwner};
+
+/// A key has one owner.
+pub fn a_key_has_one_owner()
+    ensures { (points : List Point) (hash p q : ℕ) → IsOwner points hash p → IsOwner points hash q → p ≡ q }
+{}

@@ -1,0 +1,11 @@
+//! A ring of peers, by which each key has one owner: consistent hashing.
+#![tactic(auto)]
+
+mod laws;
+mod points;
+mod ring_hashes;
+mod rings;
+
+pub use laws::a_key_has_one_owner;
+pub use ring_hashes::{DigestHash, RingHash};
+pub use rings::{MAX_PEERS, Ring, RingFault};
