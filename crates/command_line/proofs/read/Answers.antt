@@ -1,4 +1,4 @@
-use Rattle.std.proofs.Common.{◌≡◌, ◌∙◌, List, Err, ap, map, refl, sym}
+use Rattle.std.proofs.Common.{◌≡◌, ◌∙◌, List, Err, ap, map, sym}
 use Rattle.clap.specs.Words.{Text, fault_of, is_simple_and_free, takes}
 use Rattle.command_line.specs.CommandLine.{AskForSolo, HasText, Reads}
 use Rattle.command_line.specs.declared.Refusal.{Refusal}
