@@ -42,7 +42,7 @@ pub record Connects {H : Type 0} (answers : Answering H) (result : Result (Unit 
 
 -- ---- what private functions say
 
--- the bytes that came hold no whole request, and all that was written since is what comes before its body
+-- the bytes that came hold no whole request and no head that is refused, and all that was written since is what comes before the body
 abbrev pub AwaitsRequest : (buffer got put : List ℕ) → Type 0
 AwaitsRequest buffer got put = IsCut (Some (buffer ++ got)) put
 

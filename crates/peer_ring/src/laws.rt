@@ -3,7 +3,7 @@ ghost use Rattle.std.specs.Prelude.{◌≡◌, ℕ, List};
 ghost use Rattle.peer_ring.specs.declared.points.Point.{Point};
 ghost use Rattle.peer_ring.specs.Owners.{IsOwner};
 
-/// A key has one owner.
+/// A key has at most one owner.
 pub fn a_key_has_one_owner()
     ensures { (points : List Point) (hash p q : ℕ) → IsOwner points hash p → IsOwner points hash q → p ≡ q }
 {}
