@@ -2,3 +2,4 @@ mod TableTexts
 mod Shelved
 mod Additions
 mod Turns
+mod FileReads

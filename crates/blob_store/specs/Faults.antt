@@ -11,7 +11,8 @@ use Rattle.blob_store.specs.declared.reading.ReadFault.{ReadFault}
 use Rattle.blob_store.specs.declared.reading.ReadFault.TheVariants as read_fault
 use Rattle.blob_store.specs.Calls.{Call, Got, GetFails, PutsInTurn}
 
--- what was put up to a fault of the device; without memory none of it, or up to where the shelf had none, or all of it
+-- what was put: of a file that is too large nothing; up to a fault of the device; without memory none of it, or up to where the shelf had
+-- none, or all of it
 abbrev pub HasPutSome : {S : Type 0} → (did : S → Call → S → Type 0) → S → List (ShelfName × List ℕ) → UploadFault → S → Type 0
 HasPutSome did old things upload_fault.TooLarge new = new ≡ old
 HasPutSome did old things upload_fault.Device new = PutsInTurn did old things (Some shelf_fault.Device) new

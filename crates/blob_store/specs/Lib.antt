@@ -2,4 +2,5 @@
 pub mod Tables
 pub mod Calls
 pub mod Faults
+pub mod Reads
 pub mod Shelves

@@ -14,8 +14,8 @@ ghost use Rattle.blob_store.specs.declared.blobs.UploadFault.TheVariants as uplo
 use crate::known::Known;
 use crate::reading::{ReadFault, read_chunk};
 use crate::shelves::{Shelf, ShelfFault, ShelfName};
-use crate::tables::{MAX_SIZE, table_text};
-use byte_view::{BlobInfo, Chunk, PIECE_SIZE};
+use crate::tables::table_text;
+use byte_view::{BlobInfo, Chunk, MAX_SIZE, PIECE_SIZE, Uploads};
 use host_names::Digest;
 use std::alloc::Global;
 use std::sync::Arc;
@@ -136,5 +136,13 @@ impl<S: Shelf> Blobs<S> {
         ensures known { self.new.known ≡ self.old.known }
     {
         read_chunk(&mut self.shelf, *name)
+    }
+}
+
+impl<S: Shelf> Uploads for Blobs<S> {
+    ghost contents = { λ blobs. blobs.known };
+
+    fn find(&self, digest: &Digest) -> Option<&Arc<BlobInfo>> {
+        self.find(digest)
     }
 }

@@ -2,6 +2,7 @@
 #![tactic(auto)]
 
 mod blobs;
+mod files;
 mod known;
 mod laws;
 mod mem_shelf;
@@ -10,8 +11,9 @@ mod shelves;
 mod tables;
 
 pub use blobs::{Blobs, UploadFault};
+pub use files::read_file;
 pub use laws::files_have_tables;
 pub use mem_shelf::MemShelf;
 pub use reading::ReadFault;
 pub use shelves::{Shelf, ShelfFault, ShelfName};
-pub use tables::{MAX_SIZE, Table, TableFault, table_text};
+pub use tables::{Table, TableFault, table_text};

@@ -5,13 +5,10 @@ ghost use Rattle.std.specs.List.{concat};
 ghost use Rattle.blob_store.specs.declared.tables.TableFault.TheVariants.{OutOfMemory};
 ghost use Rattle.blob_store.specs.Tables.{IsTable, Spells, size_of, text_of};
 
-use byte_view::PIECE_SIZE;
+use byte_view::{MAX_SIZE, PIECE_SIZE};
 use host_names::Digest;
 use std::alloc::{AllocError, Global};
 use thiserror::Error;
-
-/// How many bytes a file has at most.
-pub const MAX_SIZE: usize = 16_777_216;
 
 /// The size of a file and the names of its pieces.
 #[derive(Debug, Drop)]

@@ -13,7 +13,7 @@ length-cut_into (suc n) file = ap suc (length-cut_into n (drop 65536 file))
 pub length-cut : (file : List ℕ) → length (cut file) ≡ (length file + 65535) / 65536
 length-cut file = length-cut_into ((length file + 65535) / 65536) file
 
-take-cut_into : (m n : ℕ) (file : List ℕ) → m ≤ n → take m (cut_into n file) ≡ cut_into m file
+pub take-cut_into : (m n : ℕ) (file : List ℕ) → m ≤ n → take m (cut_into n file) ≡ cut_into m file
 take-cut_into zero n file le = refl
 take-cut_into (suc m) zero file le = absurd (omega arith)
 take-cut_into (suc m) (suc n) file le = ap (λ l. take 65536 file ∷ l) (take-cut_into m n (drop 65536 file) (omega arith))

@@ -1,5 +1,6 @@
 mod Slices
-mod CutPieces
+pub mod CutPieces
 mod Followed
 mod Stretches
 pub mod Wholes
+pub mod NextPieces

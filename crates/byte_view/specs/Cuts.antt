@@ -1,5 +1,5 @@
 -- Files cut into pieces of 65,536 bytes and a rest.
-use Rattle.std.specs.Prelude.{◌≡◌, ℕ, zero, suc, ◌+◌, ◌/◌, List, [], ◌∷◌, length, take, drop, map, slice_range, Contains}
+use Rattle.std.specs.Prelude.{◌≡◌, ℕ, zero, suc, ◌+◌, ◌/◌, List, [], ◌∷◌, ◌++◌, ◌≤◌, length, take, drop, map, slice_range, Contains}
 use Rattle.host_names.specs.declared.digests.Digest.{Digest}
 use Rattle.host_names.specs.Blobs.{digest_of}
 
@@ -31,3 +31,7 @@ slice bytes first last = slice_range bytes first (last + 1)
 -- these bytes differ from no piece of the file that has the same SHA-1 digest
 abbrev pub IsPure : List ℕ → List ℕ → Type 0
 IsPure file bytes = (piece : List ℕ) → Contains (cut file) piece → digest_of bytes ≡ digest_of piece → bytes ≡ piece
+
+-- a file of at most 16,777,216 bytes is cut into the pieces of what comes before, and then these bytes
+abbrev pub Follows : List ℕ → List ℕ → Type 0
+Follows before piece = (cut (before ++ piece) ≡ cut before ++ piece ∷ []) × (length (before ++ piece) ≤ 16777216)

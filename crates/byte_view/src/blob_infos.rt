@@ -23,10 +23,10 @@ impl<'a> Names<&'a [u8]> for AllBytes {
 /// `contents` is there for clauses alone, and takes no room.
 #[derive(Drop)]
 pub struct BlobInfo {
-    digest: Digest,
-    size: usize,
-    names: Vec<Digest>,
-    contents: Tag,
+    pub(crate) digest: Digest,
+    pub(crate) size: usize,
+    pub(crate) names: Vec<Digest>,
+    pub(crate) contents: Tag,
 }
 
 impl Model for BlobInfo {

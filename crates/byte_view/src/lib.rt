@@ -4,13 +4,17 @@
 mod blob_infos;
 mod chunks;
 mod holds;
+mod joins;
 mod laws;
 mod pieces;
+mod uploads;
 mod views;
 
 pub use blob_infos::{BlobInfo, PIECE_SIZE};
 pub use chunks::{Chunk, WrongName};
 pub use holds::{Hold, WrongLength};
+pub use joins::{JoinFault, Joined, MAX_SIZE};
 pub use laws::{files_are_cut_into_pieces, holds_show_their_stretches};
 pub use pieces::Pieces;
+pub use uploads::Uploads;
 pub use views::View;

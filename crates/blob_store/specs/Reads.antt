@@ -1,0 +1,90 @@
+-- What a shelf answers where a file is read from it.
+use Rattle.std.specs.Prelude.{◌≡◌, ◌⊎◌, ℕ, ◌≤◌, List, [], ◌∷◌, ◌++◌, Option, Some, None, length, map}
+use Rattle.host_names.specs.declared.digests.Digest.{Digest}
+use Rattle.host_names.specs.Blobs.{digest_of}
+use Rattle.byte_view.specs.Cuts.{Follows, cut, names_of}
+use Rattle.blob_store.specs.declared.shelves.ShelfName.{ShelfName}
+use Rattle.blob_store.specs.declared.shelves.ShelfName.TheVariants.{Part, Table}
+use Rattle.blob_store.specs.declared.shelves.ShelfFault.TheVariants as shelf_fault
+use Rattle.blob_store.specs.declared.reading.ReadFault.{ReadFault}
+use Rattle.blob_store.specs.declared.reading.ReadFault.TheVariants as read_fault
+use Rattle.blob_store.specs.Calls.{Call, Got, GetFails}
+use Rattle.blob_store.specs.Tables.{text_of}
+
+-- names that a shelf is asked for, and what it answers to each
+abbrev pub Answers : Type 0
+Answers = List (ShelfName × Option (List ℕ))
+
+-- the pieces of a file, each under its name
+abbrev pub pieces_given : List ℕ → Answers
+pieces_given file = map (λ piece. (Part (digest_of piece), Some piece)) (cut file)
+
+-- what a shelf answers that has the whole file: its table, and then each of its pieces in order
+abbrev pub answers_of : List ℕ → Answers
+answers_of file = (Table (digest_of file), Some (text_of (length file) (names_of file))) ∷ pieces_given file
+
+-- a shelf is asked for these names one after another, gives these answers, and nothing else is done with it
+abbrev pub GivesInTurn : {S : Type 0} → (did : S → Call → S → Type 0) → S → Answers → S → Type 0
+GivesInTurn did old [] new = new ≡ old
+GivesInTurn {S} did old (answer ∷ answers) new = (mid : S) × did old (Got answer.0 answer.1) mid × GivesInTurn did mid answers new
+
+-- these answers are the first that are given for no file of this digest that is whole
+abbrev pub AreOfNone : Digest → Answers → Type 0
+AreOfNone digest answers = (file : List ℕ) (rest : Answers) → length file ≤ 16777216 → digest_of file ≡ digest → answers_of file ≡ answers ++ rest → ⊥
+
+-- after these answers the device failed, or there was no memory there
+abbrev pub FailsAfter : {S : Type 0} → (did : S → Call → S → Type 0) → S → Answers → ReadFault → S → Type 0
+FailsAfter {S} did old answers read_fault.Device new =
+    (mid : S) × (name : ShelfName) × GivesInTurn did old answers mid × did mid (GetFails name shelf_fault.Device) new
+FailsAfter {S} did old answers read_fault.OutOfMemory new =
+    GivesInTurn did old answers new
+    ⊎ ((mid : S) × (name : ShelfName) × GivesInTurn did old answers mid × did mid (GetFails name shelf_fault.OutOfMemory) new)
+FailsAfter did old answers read_fault.Missing new = ⊥
+FailsAfter did old answers read_fault.Damaged new = ⊥
+
+-- why a file of this digest can't be read: the shelf has no table of it, or what it answered is of no such file, or it failed
+abbrev pub IsFileFault : {S : Type 0} → (did : S → Call → S → Type 0) → S → Digest → ReadFault → S → Type 0
+IsFileFault did old digest read_fault.Missing new = did old (Got (Table digest) None) new
+IsFileFault did old digest read_fault.Damaged new = (answers : Answers) × GivesInTurn did old answers new × AreOfNone digest answers
+IsFileFault did old digest read_fault.Device new = (answers : Answers) × FailsAfter did old answers read_fault.Device new
+IsFileFault did old digest read_fault.OutOfMemory new = (answers : Answers) × FailsAfter did old answers read_fault.OutOfMemory new
+
+-- ---- what private functions say
+
+-- these are no table of a file
+abbrev pub IsTableFault : {S : Type 0} → (did : S → Call → S → Type 0) → S → Digest → ReadFault → S → Type 0
+IsTableFault did old digest read_fault.Missing new = did old (Got (Table digest) None) new
+IsTableFault did old digest read_fault.Damaged new =
+    (text : List ℕ) × did old (Got (Table digest) (Some text)) new × ((file : List ℕ) → length file ≤ 16777216 → text_of (length file) (names_of file) ≡ text → ⊥)
+IsTableFault did old digest read_fault.Device new = did old (GetFails (Table digest) shelf_fault.Device) new
+IsTableFault did old digest read_fault.OutOfMemory new =
+    did old (GetFails (Table digest) shelf_fault.OutOfMemory) new ⊎ ((text : List ℕ) × did old (Got (Table digest) (Some text)) new)
+
+-- a shelf gives the next piece of a file, which has this name
+abbrev pub IsNextRead : {S : Type 0} → (did : S → Call → S → Type 0) → S → Digest → (before after : List ℕ) → S → Type 0
+IsNextRead did old name before after new =
+    (piece : List ℕ) × (name ≡ digest_of piece) × (after ≡ before ++ piece) × Follows before piece × did old (Got (Part name) (Some piece)) new
+
+-- it is no next piece of that name
+abbrev pub IsNoPiece : Digest → List ℕ → Option (List ℕ) → Type 0
+IsNoPiece name before None = Unit {0}
+IsNoPiece name before (Some bytes) = name ≡ digest_of bytes → ¬ (Follows before bytes)
+
+-- why it gives none
+abbrev pub IsNextFault : {S : Type 0} → (did : S → Call → S → Type 0) → S → Digest → List ℕ → ReadFault → S → Type 0
+IsNextFault did old name before read_fault.Missing new = ⊥
+IsNextFault did old name before read_fault.Damaged new = (answer : Option (List ℕ)) × IsNoPiece name before answer × did old (Got (Part name) answer) new
+IsNextFault did old name before read_fault.Device new = did old (GetFails (Part name) shelf_fault.Device) new
+IsNextFault did old name before read_fault.OutOfMemory new =
+    did old (GetFails (Part name) shelf_fault.OutOfMemory) new ⊎ ((answer : Option (List ℕ)) × did old (Got (Part name) answer) new)
+
+-- these answers are the first of the pieces of no file
+abbrev pub AreNoPieces : Answers → Type 0
+AreNoPieces answers = (file : List ℕ) (rest : Answers) → length file ≤ 16777216 → pieces_given file ≡ answers ++ rest → ⊥
+
+-- why the pieces of these names aren't those of a file
+abbrev pub ArePiecesFault : {S : Type 0} → (did : S → Call → S → Type 0) → S → ReadFault → S → Type 0
+ArePiecesFault did old read_fault.Missing new = ⊥
+ArePiecesFault did old read_fault.Damaged new = (answers : Answers) × GivesInTurn did old answers new × AreNoPieces answers
+ArePiecesFault did old read_fault.Device new = (answers : Answers) × FailsAfter did old answers read_fault.Device new
+ArePiecesFault did old read_fault.OutOfMemory new = (answers : Answers) × FailsAfter did old answers read_fault.OutOfMemory new

@@ -1,0 +1,20 @@
+//! Files that were uploaded.
+ghost use Rattle.std.specs.Prelude.{◌≡◌, option_map};
+ghost use Rattle.std.specs.FinMap as map;
+ghost use Rattle.host_names.specs.Blobs.{AreDigested, Contents};
+
+use crate::blob_infos::BlobInfo;
+use host_names::Digest;
+use std::sync::Arc;
+
+/// Uploaded files, by their digests. What was uploaded is never changed nor lost: calls that add a file say
+/// so by their contracts.
+pub trait Uploads {
+    /// The bytes of each file.
+    ghost contents: { Self → Contents };
+
+    /// What is kept of the file of a digest, if it was uploaded.
+    fn find(&self, digest: &Digest) -> Option<&Arc<BlobInfo>>
+        ensures found { option_map (λ info. info.now.value) result ≡ map.get (contents self.now) digest.now }
+        ensures digested { AreDigested (contents self.now) };
+}
