@@ -1,0 +1,10 @@
+//! Loads that are shared: of one key at most one is in flight, and who asks for it meanwhile joins that.
+#![tactic(auto)]
+
+mod laws;
+mod runs;
+mod tables;
+
+pub use laws::flights_are_open_from_their_leads_on;
+pub use runs::{Flights, Loads};
+pub use tables::{Begun, FlightTable, Lead, Place};

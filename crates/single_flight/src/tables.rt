@@ -1,0 +1,99 @@
+//! The flights that are open.
+ghost use Rattle.std.specs.Prelude.{◌≡◌, IfOk, OnErr};
+ghost use Rattle.std.specs.FinMap as map;
+ghost use Rattle.single_flight.specs.Flights.{Begins};
+
+use host_names::Digest;
+use std::alloc::{AllocError, Global};
+use std::collections::BTreeMap;
+use std::marker::Model;
+use std::sync::{Arc, OnceLock};
+
+/// Where the outcome of a flight is set, once.
+pub type Place<T> = Arc<OnceLock<T>>;
+
+/// The lead of a flight. It can't be dropped: whoever has it sets the outcome, and spends it by `FlightTable::finish`.
+pub struct Lead<T> {
+    key: Digest,
+    place: Place<T>,
+}
+
+/// How a caller takes part in a flight.
+pub enum Begun<T> {
+    /// It has begun one, and leads it.
+    Lead(Lead<T>),
+    /// One was open. Its outcome comes to this place.
+    Join(Place<T>),
+}
+
+/// The flights that are open: of each key at most one. Contracts see the number of each one's place, under its key.
+#[derive(Drop)]
+pub struct FlightTable<T> {
+    alloc: Global,
+    places: BTreeMap<Digest, Place<T>>,
+}
+
+impl<T> Model for FlightTable<T> {
+    ghost use Rattle.std.specs.Coded.{coded_ℕ};
+    ghost use Rattle.std.specs.FinMap as map;
+    ghost use Rattle.host_names.specs.Digests.{coded_digest};
+    ghost use Rattle.single_flight.specs.Open.{OpenFlights, opened};
+
+    ghost Value = { OpenFlights };
+
+    ghost coded = { map.code coded_digest coded_ℕ };
+
+    ghost view = { λ t. opened (λ place. place.value.id) t.places.entries };
+}
+
+impl<T> Lead<T> {
+    /// Where the outcome is to be set.
+    pub fn place(&self) -> &Place<T>
+        ensures { result.now ≡ self.now.place }
+    {
+        &self.place
+    }
+}
+
+impl<T: Drop> FlightTable<T> {
+    /// No flight is open yet.
+    pub fn new(alloc: Global) -> FlightTable<T>
+        ensures { result ≡ map.empty }
+    {
+        FlightTable {
+            alloc,
+            places: BTreeMap::new(alloc),
+        }
+    }
+
+    /// Opens a flight of a key, which had none.
+    fn open(&mut self, key: Digest) -> Result<Lead<T>, AllocError>
+        ensures ok { IfOk result (λ lead. (lead.key ≡ key) × (self.new ≡ map.insert self.old key lead.place.value.id)) }
+        ensures err { OnErr result (self.new ≡ self.old) }
+    {
+        let place = Arc::new(self.alloc, OnceLock::new())?;
+        let kept = Arc::try_clone(&place)?;
+        self.places.insert(key, kept)?;
+        Ok(Lead { key, place })
+    }
+
+    /// Joins the flight of a key, or begins it where none is open. The place of its outcome is there from then on.
+    /// Without memory nothing changes.
+    pub fn begin(&mut self, key: &Digest) -> Result<Begun<T>, AllocError>
+        ensures ok { IfOk result (λ begun. Begins self.old key.now begun self.new) }
+        ensures err { OnErr result (self.new ≡ self.old) }
+    {
+        match self.places.get(key) {
+            Some(place) => Ok(Begun::Join(Arc::try_clone(place)?)),
+            None => Ok(Begun::Lead(self.open(*key)?)),
+        }
+    }
+
+    /// Ends the flight of a lead.
+    pub fn finish(&mut self, lead: Lead<T>)
+        ensures { self.new ≡ map.remove self.old lead.key }
+    {
+        let Lead { key, place: _ } = lead;
+        self.places.remove(&key);
+    }
+}
