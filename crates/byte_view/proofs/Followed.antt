@@ -15,7 +15,7 @@ pub Followed : List (List ℕ) → Type 0
 Followed [] = Unit {0}
 Followed (c ∷ cs) = (length c ≤ 65536) × (0 < length (concat cs) → length c ≡ 65536) × Followed cs
 
-length-concat : (xs ys : List (List ℕ)) → map length xs ≡ map length ys → length (concat xs) ≡ length (concat ys)
+pub length-concat : (xs ys : List (List ℕ)) → map length xs ≡ map length ys → length (concat xs) ≡ length (concat ys)
 length-concat [] [] e = refl
 length-concat [] (y ∷ ys) e = absurd (cc)
 length-concat (x ∷ xs) [] e = absurd (cc)

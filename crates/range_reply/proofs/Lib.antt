@@ -1,3 +1,4 @@
 mod Occurrences
 mod OneOfMany
 mod Purity
+mod Sent

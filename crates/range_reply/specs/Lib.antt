@@ -4,5 +4,6 @@ pub mod Plans
 pub mod Multipart
 pub mod Slices
 pub mod Boundaries
+pub mod Bodies
 -- what the functions that look for bytes say of each other
 pub mod Searches

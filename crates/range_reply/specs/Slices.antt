@@ -15,7 +15,7 @@ all_shown holds = map shown holds
 abbrev pub all_meant : List Held → List (List ℕ)
 all_meant holds = map (λ h. slice h.file h.first h.last) holds
 
--- no held chunk differs from a piece of its file that has the same digest
+-- each hold is as stated, and no held chunk differs from a piece of its file that has the same digest
 abbrev pub ArePure : List Held → Type 0
 ArePure holds = All (λ h. IsHeld h × All (IsPure h.file) h.chunks) holds
 
