@@ -3,4 +3,5 @@ pub mod Tables
 pub mod Calls
 pub mod Faults
 pub mod Reads
+pub mod Stretches
 pub mod Shelves

@@ -7,6 +7,8 @@ ghost use Rattle.blob_store.specs.declared.shelves.ShelfName.TheVariants.{Part};
 ghost use Rattle.blob_store.specs.declared.reading.ReadFault.TheVariants as read_fault;
 ghost use Rattle.blob_store.specs.Calls.{Got, PutsInTurn, things_of};
 ghost use Rattle.blob_store.specs.Faults.{HasPutSome, IsChunkFault};
+ghost use Rattle.blob_store.specs.Reads.{GivesInTurn};
+ghost use Rattle.blob_store.specs.Stretches.{IsStretchFault, chunks_given};
 ghost use Rattle.blob_store.specs.Tables.{text_of};
 ghost use Rattle.blob_store.specs.declared.shelves.ShelfFault.TheVariants as shelf_fault;
 ghost use Rattle.blob_store.specs.declared.blobs.UploadFault.TheVariants as upload_fault;
@@ -14,8 +16,9 @@ ghost use Rattle.blob_store.specs.declared.blobs.UploadFault.TheVariants as uplo
 use crate::known::Known;
 use crate::reading::{ReadFault, read_chunk};
 use crate::shelves::{Shelf, ShelfFault, ShelfName};
+use crate::stretches::read_stretch;
 use crate::tables::table_text;
-use byte_view::{BlobInfo, Chunk, MAX_SIZE, PIECE_SIZE, Uploads};
+use byte_view::{BlobInfo, Chunk, Hold, MAX_SIZE, PIECE_SIZE, Uploads};
 use host_names::Digest;
 use std::alloc::Global;
 use std::sync::Arc;
@@ -136,6 +139,26 @@ impl<S: Shelf> Blobs<S> {
         ensures known { self.new.known ≡ self.old.known }
     {
         read_chunk(&mut self.shelf, *name)
+    }
+
+    /// A stretch of a file, from its first to its last byte, with the chunks that it meets, as the shelf gives them now. Each chunk
+    /// is asked for once, and has the name and the length of its piece. What is known stays.
+    pub fn hold(
+        &mut self,
+        info: Arc<BlobInfo>,
+        first: usize,
+        last: usize,
+    ) -> Result<Hold, ReadFault>
+        requires ordered { first ≤ last }
+        requires within { last < length info.value }
+        ensures stretch { IfOk result (λ hold. (hold.file ≡ info.value) × (hold.first ≡ first) × (hold.last ≡ last)) }
+        ensures given { IfOk result (λ hold. GivesInTurn S.did self.old.shelf (chunks_given hold.chunks) self.new.shelf) }
+        ensures fault { IfErr result (λ fault. IsStretchFault S.did self.old.shelf info.value first last fault self.new.shelf) }
+        ensures device { IfErr result (λ fault. fault ≡ read_fault.Device → S.failures self.old.shelf < S.failures self.new.shelf) }
+        ensures count { S.failures self.old.shelf ≤ S.failures self.new.shelf }
+        ensures known { self.new.known ≡ self.old.known }
+    {
+        read_stretch(self.alloc, &mut self.shelf, info, first, last)
     }
 }
 

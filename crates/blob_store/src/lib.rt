@@ -8,6 +8,7 @@ mod laws;
 mod mem_shelf;
 mod reading;
 mod shelves;
+mod stretches;
 mod tables;
 
 pub use blobs::{Blobs, UploadFault};
