@@ -1,0 +1,2 @@
+mod HeldInTurn
+mod Joined

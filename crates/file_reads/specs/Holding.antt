@@ -1,0 +1,40 @@
+-- Stretches of a file that are held one after another.
+use Rattle.std.specs.Prelude.{◌≡◌, ◌⊎◌, ℕ, List, [], ◌∷◌, ◌++◌, All, map}
+use Rattle.byte_view.specs.Holds.{Held, IsHeld}
+use Rattle.blob_store.specs.declared.reading.ReadFault.{ReadFault}
+use Rattle.blob_store.specs.declared.reading.ReadFault.TheVariants.{OutOfMemory}
+use Rattle.range_reply.specs.Bodies.{stretch_of}
+
+-- a holder gives these holds one after another, and nothing else is done with it
+abbrev pub GivesHolds : {H : Type 0} → (gave : H → Held → H → Type 0) → H → List Held → H → Type 0
+GivesHolds gave old [] new = new ≡ old
+GivesHolds {H} gave old (hold ∷ holds) new = (mid : H) × gave old hold mid × GivesHolds gave mid holds new
+
+-- it gives those of these stretches of a file, in order
+pub record AreHeld {H : Type 0} (gave : H → Held → H → Type 0) (old : H) (file : List ℕ) (stretches : List (ℕ × ℕ)) (holds : List Held) (new : H) : Type 0 where
+  pub same_file : All (λ h. h.file ≡ file) holds
+  pub in_order : map stretch_of holds ≡ stretches
+  pub lawful : All IsHeld holds
+  pub given : GivesHolds gave old holds new
+
+-- why these stretches of a file can't be held: the next one can't, after those before it; or there was no memory to keep some of them
+abbrev pub AreNotHeld : {H : Type 0} → (gave : H → Held → H → Type 0) → (failed : H → List ℕ → ℕ → ℕ → ReadFault → H → Type 0) → H → List ℕ → List (ℕ × ℕ) → ReadFault → H
+    → Type 0
+AreNotHeld {H} gave failed old file stretches why new =
+    (before : List (ℕ × ℕ)) × (left : List (ℕ × ℕ)) × (holds : List Held) × (mid : H) × (stretches ≡ before ++ left) × AreHeld gave old file before holds mid
+    × (((stretch : ℕ × ℕ) × (more : List (ℕ × ℕ)) × (left ≡ stretch ∷ more) × failed mid file stretch.0 stretch.1 why new)
+    ⊎ ((why ≡ OutOfMemory) × (new ≡ mid)))
+
+-- ---- what private functions say
+
+-- one more is held, of this stretch
+abbrev pub IsNextHold : {H : Type 0} → (gave : H → Held → H → Type 0) → H → List ℕ → ℕ × ℕ → (before after : List Held) → H → Type 0
+IsNextHold gave old file stretch before after new =
+    (hold : Held) × (after ≡ before ++ hold ∷ []) × (hold.file ≡ file) × (stretch_of hold ≡ stretch) × IsHeld hold × gave old hold new
+
+-- why it isn't: it can't be, or there was no memory before or after it
+abbrev pub IsNextFault : {H : Type 0} → (gave : H → Held → H → Type 0) → (failed : H → List ℕ → ℕ → ℕ → ReadFault → H → Type 0) → H → List ℕ → ℕ × ℕ → ReadFault → H → Type 0
+IsNextFault gave failed old file stretch why new =
+    failed old file stretch.0 stretch.1 why new
+    ⊎ ((why ≡ OutOfMemory) × (new ≡ old))
+    ⊎ ((why ≡ OutOfMemory) × ((hold : Held) × (hold.file ≡ file) × (stretch_of hold ≡ stretch) × IsHeld hold × gave old hold new))

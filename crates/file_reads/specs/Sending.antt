@@ -1,0 +1,62 @@
+-- What is sent of a file where a plan asks for some of its bytes.
+use Rattle.std.specs.Prelude.{◌≡◌, ◌⊎◌, ℕ, nat_lt, Bool, true, false, List, ◌++◌, All, length, map, Option, Some, None}
+use Rattle.host_names.specs.declared.digests.Digest.{Digest}
+use Rattle.host_names.specs.Blobs.{digest_of}
+use Rattle.byte_view.specs.Cuts.{IsPure, slice}
+use Rattle.byte_view.specs.Holds.{Held}
+use Rattle.range_spec.specs.declared.selection.Choice.{Choice}
+use Rattle.range_spec.specs.declared.selection.Choice.TheVariants.{Whole, Many, None416}
+use Rattle.range_spec.specs.Chosen.{intervals_in}
+use Rattle.range_reply.specs.declared.boundaries.Boundary.{Boundary}
+use Rattle.range_reply.specs.Bodies.{body_text, stretches, text_in, whole_of}
+use Rattle.range_reply.specs.Boundaries.{HasNoBoundary, IsBoundaryFor}
+use Rattle.range_reply.specs.Multipart.{text_of}
+use Rattle.file_reads.specs.declared.bodies.FileBody.{FileBody}
+use Rattle.blob_store.specs.declared.reading.ReadFault.{ReadFault}
+use Rattle.file_reads.specs.Holding.{AreHeld, AreNotHeld}
+
+-- what is sent where a plan asks for that: several parts have a boundary that occurs in none of these texts, and where there is none, all
+-- of the file is sent
+abbrev pub IsSent : List (List ℕ) → Digest → Choice → Option Boundary → Choice → Type 0
+IsSent texts digest (Many intervals) (Some boundary) sent = IsBoundaryFor texts digest (text_of boundary) × (sent ≡ Many intervals)
+IsSent texts digest (Many intervals) None sent = HasNoBoundary texts digest × (sent ≡ Whole)
+IsSent texts digest plan boundary sent = (boundary ≡ None) × (sent ≡ plan)
+
+-- the bytes of these stretches of a file, each from its first to its last byte
+abbrev pub slices_of : List ℕ → List (ℕ × ℕ) → List (List ℕ)
+slices_of file intervals = map (λ interval. slice file interval.0 interval.1) intervals
+
+-- the body is that of the file itself
+pub record IsExact (file : List ℕ) (plan : Choice) (content_type : List ℕ) (body : FileBody) : Type 0 where
+  pub sent : IsSent (slices_of file (intervals_in plan)) (digest_of file) plan body.boundary body.plan
+  pub bytes : body.bytes.items ≡ body_text (text_in body.boundary) content_type file body.plan
+
+-- the stretches that a plan asks for are held, and then, where several parts have no boundary, all of the file
+abbrev pub AreWanted : List ℕ → Choice → List (ℕ × ℕ) → Type 0
+AreWanted file plan held = (held ≡ stretches (length file) plan) ⊎ (held ≡ stretches (length file) plan ++ whole_of (length file))
+
+-- what a plan asks for is read of a file: its stretches were held, and where no held chunk differs from a piece of the file that has its
+-- digest, the body is that of the file itself
+pub record IsRead {H : Type 0} (gave : H → Held → H → Type 0) (old : H) (file : List ℕ) (plan : Choice) (content_type : List ℕ) (body : FileBody) (new : H) : Type 0 where
+  pub stretches_held : List (ℕ × ℕ)
+  pub wanted : AreWanted file plan stretches_held
+  pub holds : List Held
+  pub held : AreHeld gave old file stretches_held holds new
+  pub exact : All (λ h. All (IsPure file) h.chunks) holds → IsExact file plan content_type body
+
+-- why it isn't read: its stretches can't be held
+abbrev pub IsNotRead : {H : Type 0} → (gave : H → Held → H → Type 0) → (failed : H → List ℕ → ℕ → ℕ → ReadFault → H → Type 0) → H → List ℕ → Choice → ReadFault → H → Type 0
+IsNotRead gave failed old file plan why new = (held : List (ℕ × ℕ)) × AreWanted file plan held × AreNotHeld gave failed old file held why new
+
+-- whether a plan sends a byte of a file of this many bytes
+abbrev pub sends_bytes : ℕ → Choice → Bool
+sends_bytes size Whole = nat_lt 0 size
+sends_bytes size None416 = false
+sends_bytes size plan = true
+
+-- ---- what private functions say
+
+-- all of a file is held, and where no held chunk differs from a piece of the file that has its digest, these are its bytes
+abbrev pub IsWholeRead : {H : Type 0} → (gave : H → Held → H → Type 0) → H → List ℕ → List ℕ → H → Type 0
+IsWholeRead gave old file bytes new =
+    (holds : List Held) × AreHeld gave old file (whole_of (length file)) holds new × (All (λ h. All (IsPure file) h.chunks) holds → bytes ≡ file)

@@ -1,0 +1,17 @@
+-- What holding a stretch of a file does to the shelf of a store.
+use Rattle.std.specs.Prelude.{◌≡◌, ℕ, ◌<◌, List}
+use Rattle.byte_view.specs.Holds.{Held}
+use Rattle.blob_store.specs.declared.reading.ReadFault.{ReadFault}
+use Rattle.blob_store.specs.declared.reading.ReadFault.TheVariants.{Device}
+use Rattle.blob_store.specs.Calls.{Call}
+use Rattle.blob_store.specs.Reads.{GivesInTurn}
+use Rattle.blob_store.specs.Stretches.{IsStretchFault, chunks_given}
+
+-- the shelf gave each of the chunks, and nothing else was done with it
+abbrev pub HoldsOfStore : {S : Type 0} → (did : S → Call → S → Type 0) → S → Held → S → Type 0
+HoldsOfStore did old hold new = GivesInTurn did old (chunks_given hold.chunks) new
+
+-- the fault is what the shelf answered, and a device is blamed only where it failed
+abbrev pub FailsOnStore : {S : Type 0} → (did : S → Call → S → Type 0) → (failures : S → ℕ) → S → List ℕ → (first last : ℕ) → ReadFault → S → Type 0
+FailsOnStore did failures old file first last fault new =
+    IsStretchFault did old file first last fault new × (fault ≡ Device → failures old < failures new)
