@@ -1,5 +1,5 @@
 -- What a shelf answers where a file is read from it.
-use Rattle.std.proofs.Common.{◌≡◌, inl, inr, ℕ, ◌+◌, ◌≤◌, List, [], ◌∷◌, ◌++◌, All, Option, Some, None, length, map, zero, suc, refl, sym, ap, subst, ◌∙◌, arith}
+use Rattle.std.proofs.Common.{◌≡◌, inl, inr, ℕ, ◌+◌, ◌≤◌, List, [], ◌∷◌, ◌++◌, Option, Some, None, length, map, refl, sym, ap, subst, ◌∙◌, arith}
 use Rattle.std.specs.List.{AllByRecursion, concat}
 use Rattle.std.proofs.lemmas.List.{append-nil, append_assoc, length-append, length-map, map-append}
 use Rattle.std.proofs.lemmas.List.Elements.{All-from_recursion}
@@ -10,11 +10,10 @@ use Rattle.byte_view.proofs.CutPieces.{concat-cut, length-cut}
 use Rattle.byte_view.proofs.NextPieces.{follows_in, length-digest, names-next}
 use Rattle.blob_store.specs.declared.shelves.ShelfName.{ShelfName}
 use Rattle.blob_store.specs.declared.shelves.ShelfName.TheVariants.{Part, Table}
-use Rattle.blob_store.specs.declared.shelves.ShelfFault.TheVariants as shelf_fault
 use Rattle.blob_store.specs.declared.reading.ReadFault.{ReadFault}
 use Rattle.blob_store.specs.declared.reading.ReadFault.TheVariants as read_fault
-use Rattle.blob_store.specs.Calls.{Call, Got, GetFails}
-use Rattle.blob_store.specs.Reads.{Answers, AreNoPieces, AreOfNone, ArePiecesFault, FailsAfter, GivesInTurn, IsFileFault, IsNextFault, IsNextRead, IsNoPiece, IsTableFault, answers_of, pieces_given}
+use Rattle.blob_store.specs.Calls.{Call, Got}
+use Rattle.blob_store.specs.Reads.{Answers, AreNoPieces, ArePiecesFault, FailsAfter, GivesInTurn, IsFileFault, IsNextFault, IsNextRead, IsNoPiece, IsTableFault, answers_of, pieces_given}
 use Rattle.blob_store.specs.Tables.{IsTable, Spells, pieces_of, size_of, text_of}
 use Rattle.blob_store.proofs.TableTexts.{is_table, size_told}
 

@@ -3,3 +3,4 @@ mod Shelved
 mod Additions
 mod Turns
 mod FileReads
+mod WantedOrder

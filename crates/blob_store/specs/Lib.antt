@@ -4,3 +4,4 @@ pub mod Calls
 pub mod Faults
 pub mod Reads
 pub mod Shelves
+pub mod Openings

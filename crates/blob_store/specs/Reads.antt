@@ -49,6 +49,10 @@ IsFileFault did old digest read_fault.Damaged new = (answers : Answers) × Gives
 IsFileFault did old digest read_fault.Device new = (answers : Answers) × FailsAfter did old answers read_fault.Device new
 IsFileFault did old digest read_fault.OutOfMemory new = (answers : Answers) × FailsAfter did old answers read_fault.OutOfMemory new
 
+-- a file of this digest is read whole, and isn't too large
+abbrev pub IsFileRead : {S : Type 0} → (did : S → Call → S → Type 0) → S → Digest → List ℕ → S → Type 0
+IsFileRead did old digest file new = (digest_of file ≡ digest) × (length file ≤ 16777216) × GivesInTurn did old (answers_of file) new
+
 -- ---- what private functions say
 
 -- these are no table of a file
