@@ -4,3 +4,4 @@ mod Additions
 mod Turns
 mod FileReads
 mod WantedOrder
+mod Kept

@@ -5,3 +5,4 @@ pub mod Faults
 pub mod Reads
 pub mod Shelves
 pub mod Openings
+pub mod Keeping

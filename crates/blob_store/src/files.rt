@@ -57,7 +57,7 @@ fn read_pieces<S: Shelf>(
     names: &[Digest],
 ) -> Result<Joined, ReadFault>
     ensures read { IfOk result (λ file. (names_of file ≡ names.now) × GivesInTurn S.did shelf.old (pieces_given file) shelf.new) }
-    ensures fault { IfErr result (λ fault. ArePiecesFault S.did shelf.old fault shelf.new) }
+    ensures fault { IfErr result (λ fault. ArePiecesFault S.did shelf.old names.now fault shelf.new) }
     ensures device { IfErr result (λ fault. fault ≡ read_fault.Device → S.failures shelf.old < S.failures shelf.new) }
     ensures count { S.failures shelf.old ≤ S.failures shelf.new }
 {
