@@ -1,5 +1,5 @@
 -- What a shelf answers where a file is read from it.
-use Rattle.std.proofs.Common.{◌≡◌, inl, inr, ℕ, ◌+◌, ◌≤◌, List, [], ◌∷◌, ◌++◌, All, Option, Some, None, length, map, zero, suc, refl, sym, ap, subst, ◌∙◌, arith}
+use Rattle.std.proofs.Common.{◌≡◌, ◌≢◌, inl, inr, ℕ, ◌+◌, ◌≤◌, List, [], ◌∷◌, ◌++◌, Option, Some, None, length, map, refl, sym, ap, subst, ◌∙◌, arith}
 use Rattle.std.specs.List.{AllByRecursion, concat}
 use Rattle.std.proofs.lemmas.List.{append-nil, append_assoc, length-append, length-map, map-append}
 use Rattle.std.proofs.lemmas.List.Elements.{All-from_recursion}
@@ -10,13 +10,14 @@ use Rattle.byte_view.proofs.CutPieces.{concat-cut, length-cut}
 use Rattle.byte_view.proofs.NextPieces.{follows_in, length-digest, names-next}
 use Rattle.blob_store.specs.declared.shelves.ShelfName.{ShelfName}
 use Rattle.blob_store.specs.declared.shelves.ShelfName.TheVariants.{Part, Table}
+use Rattle.blob_store.specs.declared.shelves.ShelfFault.{ShelfFault}
 use Rattle.blob_store.specs.declared.shelves.ShelfFault.TheVariants as shelf_fault
 use Rattle.blob_store.specs.declared.reading.ReadFault.{ReadFault}
 use Rattle.blob_store.specs.declared.reading.ReadFault.TheVariants as read_fault
-use Rattle.blob_store.specs.Calls.{Call, Got, GetFails}
-use Rattle.blob_store.specs.Reads.{Answers, AreNoPieces, AreOfNone, ArePiecesFault, FailsAfter, GivesInTurn, IsFileFault, IsNextFault, IsNextRead, IsNoPiece, IsTableFault, answers_of, pieces_given}
+use Rattle.blob_store.specs.Calls.{Call, Got}
+use Rattle.blob_store.specs.Reads.{Answers, AreAsked, AreNoPieces, ArePiecesFault, FailsAfter, GivesInTurn, IsFileFault, IsNextFault, IsNextRead, IsNoPiece, IsTableFault, answers_of, pieces_given}
 use Rattle.blob_store.specs.Tables.{IsTable, Spells, pieces_of, size_of, text_of}
-use Rattle.blob_store.proofs.TableTexts.{is_table, size_told}
+use Rattle.blob_store.proofs.TableTexts.{is_table, not_empty, size_told, spelled_table}
 
 -- ---- answers in turn
 
@@ -26,13 +27,9 @@ module _ {S : Type 0} (did : S → Call → S → Type 0) where
   gives_then old mid new [] name answer gives got = (new, subst (λ s. did s (Got name answer) new) gives got, refl)
   gives_then old mid new (a ∷ answers) name answer gives got = (gives.0, gives.1, gives_then gives.0 mid new answers name answer gives.2 got)
 
-  pub fails_later : (old mid new : S) (name : ShelfName) (answer : Option (List ℕ)) (answers : Answers) (why : ReadFault) → did old (Got name answer) mid
+  pub fails_later : (old mid new : S) (name : ShelfName) (answer : Option (List ℕ)) (answers : Answers) (why : ShelfFault) → did old (Got name answer) mid
       → FailsAfter did mid answers why new → FailsAfter did old ((name, answer) ∷ answers) why new
-  fails_later old mid new name answer answers read_fault.Missing got fails = fails
-  fails_later old mid new name answer answers read_fault.Damaged got fails = fails
-  fails_later old mid new name answer answers read_fault.Device got fails = (fails.0, fails.1, (mid, got, fails.2), fails.3)
-  fails_later old mid new name answer answers read_fault.OutOfMemory got (inl gives) = inl (mid, got, gives)
-  fails_later old mid new name answer answers read_fault.OutOfMemory got (inr fails) = inr (fails.0, fails.1, (mid, got, fails.2), fails.3)
+  fails_later old mid new name answer answers why got fails = (fails.0, fails.1, (mid, got, fails.2), fails.3)
 
 -- ---- pieces
 
@@ -53,7 +50,7 @@ abbrev first_answer : Answers → Option (List ℕ)
 first_answer [] = None
 first_answer (answer ∷ answers) = answer.1
 
-abbrev digest_in : ShelfName → Digest
+abbrev pub digest_in : ShelfName → Digest
 digest_in (Part digest) = digest
 digest_in (Table digest) = digest
 
@@ -101,6 +98,32 @@ no_piece before name answer misfits file rest small e =
     let s = split (cut file) (cut before) ((Part name, answer) ∷ rest) (e ∙ append_assoc (pieces_given before) ((Part name, answer) ∷ []) rest) in
     not_there file before name answer rest s.more small s.pieces s.answers misfits
 
+-- ---- the names that are asked for
+
+parts_asked : (pieces : List (List ℕ)) → map Part (map digest_of pieces) ≡ map (λ answer. answer.0) (map given pieces)
+parts_asked [] = refl
+parts_asked (piece ∷ pieces) = ap (λ l. Part (digest_of piece) ∷ l) (parts_asked pieces)
+
+-- all pieces of a file
+pub all_asked : (names : List Digest) (file : List ℕ) → names_of file ≡ names → AreAsked names (pieces_given file)
+all_asked names file named =
+    ([], ap (map Part) (sym named) ∙ parts_asked (cut file) ∙ sym (append-nil (map (λ (answer : ShelfName × Option (List ℕ)). answer.0) (pieces_given file))))
+
+-- those of a file, and one more
+pub one_asked : (names rest : List Digest) (file : List ℕ) (name : Digest) (answer : Option (List ℕ)) → names_of file ++ name ∷ rest ≡ names
+    → AreAsked names (pieces_given file ++ (Part name, answer) ∷ [])
+one_asked names rest file name answer named =
+    let asked : Answers → List ShelfName = map (λ a. a.0) in (
+      rest,
+      ap (map Part) (sym named) ∙ map-append Part (names_of file) (name ∷ rest) ∙ ap (λ l. l ++ Part name ∷ map Part rest) (parts_asked (cut file))
+          ∙ sym (append_assoc (asked (pieces_given file)) (Part name ∷ []) (map Part rest))
+          ∙ ap (λ l. l ++ map Part rest) (sym (map-append (λ (a : ShelfName × Option (List ℕ)). a.0) (pieces_given file) ((Part name, answer) ∷ []))),
+    )
+
+some_names : (before rest names : List Digest) (name : Digest) → before ++ name ∷ rest ≡ names → names ≢ []
+some_names [] rest names name named none = absurd (cc (named ∙ none))
+some_names (b ∷ before) rest names name named none = absurd (cc (named ∙ none))
+
 -- ---- a piece is read
 
 pub record PiecesSoFar {S : Type 0} (did : S → Call → S → Type 0) (old now : S) (joined : List ℕ) (left names : List Digest) : Type 0 where
@@ -125,19 +148,30 @@ module _ {S : Type 0} (did : S → Call → S → Type 0) (old now new : S) (joi
             ∙ ap (λ d. names_of joined ++ d ∷ rest) (sym next.1) ∙ ap (λ l. names_of joined ++ l) (sym more) ∙ so.named;
       })
 
-  pub no_more : (why : ReadFault) → PiecesSoFar did old now joined left names → IsNextFault did now name joined why new → ArePiecesFault did old why new
-  no_more read_fault.Missing so fault = fault
-  no_more read_fault.Damaged so fault =
-      (pieces_given joined ++ (Part name, fault.0) ∷ [], gives_then did old now new (pieces_given joined) (Part name) fault.0 so.gives fault.2, no_piece joined name fault.0 fault.1)
-  no_more read_fault.Device so fault = (pieces_given joined, (now, Part name, so.gives, fault))
-  no_more read_fault.OutOfMemory so (inl fault) = (pieces_given joined, inr (now, Part name, so.gives, fault))
-  no_more read_fault.OutOfMemory so (inr fault) =
-      (pieces_given joined ++ (Part name, fault.0) ∷ [], inl (gives_then did old now new (pieces_given joined) (Part name) fault.0 so.gives fault.1))
+  pub no_more : (why : ReadFault) (rest : List Digest) → left ≡ name ∷ rest → PiecesSoFar did old now joined left names → IsNextFault did now name joined why new
+      → ArePiecesFault did old names why new
+  no_more read_fault.Missing rest more so fault = fault
+  no_more read_fault.Damaged rest more so fault = (
+    pieces_given joined ++ (Part name, fault.0) ∷ [],
+    one_asked names rest joined name fault.0 (ap (λ l. names_of joined ++ l) (sym more) ∙ so.named),
+    gives_then did old now new (pieces_given joined) (Part name) fault.0 so.gives fault.2,
+    no_piece joined name fault.0 fault.1,
+  )
+  no_more read_fault.Device rest more so fault = (pieces_given joined, (now, Part name, so.gives, fault))
+  no_more read_fault.OutOfMemory rest more so (inl fault) = inl (pieces_given joined, (now, Part name, so.gives, fault))
+  no_more read_fault.OutOfMemory rest more so (inr fault) =
+      let named = ap (λ l. names_of joined ++ l) (sym more) ∙ so.named in
+      inr (
+        pieces_given joined ++ (Part name, fault.0) ∷ [],
+        one_asked names rest joined name fault.0 named,
+        gives_then did old now new (pieces_given joined) (Part name) fault.0 so.gives fault.1,
+        some_names (names_of joined) rest names name named,
+      )
 
 -- ---- a table is read
 
 -- each name has 20 bytes
-all_named : (pieces : List (List ℕ)) → AllByRecursion (λ (name : Digest). length name.0 ≡ 20) (map digest_of pieces)
+pub all_named : (pieces : List (List ℕ)) → AllByRecursion (λ (name : Digest). length name.0 ≡ 20) (map digest_of pieces)
 all_named [] = tt
 all_named (piece ∷ pieces) = (length-digest piece, all_named pieces)
 
@@ -152,7 +186,9 @@ no_table text none file small e =
 pub table_fails : {S : Type 0} (did : S → Call → S → Type 0) (old new : S) (digest : Digest) (why : ReadFault) → IsTableFault did old digest why new → IsFileFault did old digest why new
 table_fails did old new digest read_fault.Missing fault = fault
 table_fails did old new digest read_fault.Damaged fault = (
-  (Table digest, Some fault.0) ∷ [],
+  fault.0,
+  [],
+  inl refl,
   (new, fault.1, refl),
   λ file rest small named e. (
       let text : text_of (length file) (names_of file) ≡ fault.0 = ap first_bytes e in
@@ -160,24 +196,34 @@ table_fails did old new digest read_fault.Damaged fault = (
       ),
 )
 table_fails did old new digest read_fault.Device fault = ([], (old, Table digest, refl, fault))
-table_fails did old new digest read_fault.OutOfMemory (inl fault) = ([], inr (old, Table digest, refl, fault))
-table_fails did old new digest read_fault.OutOfMemory (inr fault) = ((Table digest, Some fault.0) ∷ [], inl (new, fault.1, refl))
+table_fails did old new digest read_fault.OutOfMemory (inl fault) = inl ([], (old, Table digest, refl, fault))
+table_fails did old new digest read_fault.OutOfMemory (inr fault) = inr (fault.0, [], fault.2, fault.3, inl refl, (new, fault.1, refl))
 
-pub pieces_fail : {S : Type 0} (did : S → Call → S → Type 0) (old mid new : S) (digest : Digest) (text : List ℕ) (why : ReadFault) → did old (Got (Table digest) (Some text)) mid
-    → ArePiecesFault did mid why new → IsFileFault did old digest why new
-pieces_fail did old mid new digest text read_fault.Missing got fault = absurd fault
-pieces_fail did old mid new digest text read_fault.Damaged got fault = (
-  (Table digest, Some text) ∷ fault.0,
-  (mid, got, fault.1),
+pub pieces_fail : {S : Type 0} (did : S → Call → S → Type 0) (old mid new : S) (digest : Digest) (text : List ℕ) (size : ℕ) (names : List Digest) (why : ReadFault)
+    → Spells text size names → did old (Got (Table digest) (Some text)) mid → ArePiecesFault did mid names why new → IsFileFault did old digest why new
+pieces_fail did old mid new digest text size names read_fault.Missing spells got fault = absurd fault
+pieces_fail did old mid new digest text size names read_fault.Damaged spells got fault = (
+  text,
+  fault.0,
+  inr (size, names, spells, fault.1),
+  (mid, got, fault.2),
   λ file rest small named e. (
       let pieces : pieces_given file ≡ fault.0 ++ rest = ap later e in
-      fault.2 file rest small pieces
+      fault.3 file rest small pieces
       ),
 )
-pieces_fail did old mid new digest text read_fault.Device got fault =
-    ((Table digest, Some text) ∷ fault.0, fails_later did old mid new (Table digest) (Some text) fault.0 read_fault.Device got fault.1)
-pieces_fail did old mid new digest text read_fault.OutOfMemory got fault =
-    ((Table digest, Some text) ∷ fault.0, fails_later did old mid new (Table digest) (Some text) fault.0 read_fault.OutOfMemory got fault.1)
+pieces_fail did old mid new digest text size names read_fault.Device spells got fault =
+    ((Table digest, Some text) ∷ fault.0, fails_later did old mid new (Table digest) (Some text) fault.0 shelf_fault.Device got fault.1)
+pieces_fail did old mid new digest text size names read_fault.OutOfMemory spells got (inl fault) =
+    inl ((Table digest, Some text) ∷ fault.0, fails_later did old mid new (Table digest) (Some text) fault.0 shelf_fault.OutOfMemory got fault.1)
+pieces_fail did old mid new digest text size names read_fault.OutOfMemory spells got (inr fault) = inr (
+  text,
+  fault.0,
+  spelled_table text size names spells,
+  not_empty text size names spells fault.3,
+  inr (size, names, spells, fault.1),
+  (mid, got, fault.2),
+)
 
 -- ---- a file is read
 
@@ -202,7 +248,9 @@ pub other_file : {S : Type 0} (did : S → Call → S → Type 0) (old mid new :
     → Spells text size names → did old (Got (Table digest) (Some text)) mid → names_of joined ≡ names → GivesInTurn did mid (pieces_given joined) new
     → (length joined ≡ size → digest_of joined ≡ digest → ⊥) → IsFileFault did old digest read_fault.Damaged new
 other_file did old mid new digest joined text size names spells got named gives differs = (
-  (Table digest, Some text) ∷ pieces_given joined,
+  text,
+  pieces_given joined,
+  inr (size, names, spells, all_asked names joined named),
   (mid, got, gives),
   λ file rest small is e. (
       let table : text_of (length file) (names_of file) ≡ text = ap first_bytes e in

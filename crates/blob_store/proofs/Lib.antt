@@ -4,3 +4,5 @@ mod Additions
 mod Turns
 mod FileReads
 mod Stretched
+mod WantedOrder
+mod Kept

@@ -9,7 +9,8 @@ use Rattle.host_names.specs.Digests.{digest_cmp, digest_cmp-IsAntisymmetric}
 use Rattle.blob_store.specs.declared.shelves.ShelfName.{ShelfName}
 use Rattle.blob_store.specs.declared.shelves.ShelfName.TheVariants.{Part, Table}
 use Rattle.blob_store.specs.declared.mem_shelf.MemShelf.{MemShelf}
-use Rattle.blob_store.specs.Shelves.{IsPutAt, found_in}
+use Rattle.blob_store.specs.Keeping.{Keeps}
+use Rattle.blob_store.specs.Shelves.{Does, IsPutAt, found_in}
 
 is_eq-true : (o : Ordering) → is_eq o ≡ true → o ≡ Equal
 is_eq-true Less e = cc e
@@ -50,4 +51,12 @@ pub table_put : (old new : MemShelf) (digest : Digest) (bytes : _) → new.parts
 table_put old new digest bytes same put = record {
   here = ap (option_map (λ b. b.items)) put.1;
   others = other_than_table old new digest bytes same put;
+}
+
+pub mem_shelf_keeps : Keeps Does found_in
+mem_shelf_keeps = record {
+  put = λ old new name bytes does. does.here;
+  others = λ old new name other bytes does differ. does.others other differ;
+  got = λ old new name answer does. does.0;
+  stays = λ old new name other answer does. does.1 other;
 }

@@ -1,15 +1,15 @@
 -- The text of a table, and what it is read as.
-use Rattle.std.proofs.Common.{◌≡◌, ℕ, ◌+◌, ◌*◌, ◌≤◌, List, [], ◌∷◌, ◌++◌, length, map, take, drop, zero, suc, refl, sym, ap, ◌∙◌, arith, All}
-use Rattle.std.proofs.lemmas.List.{take-append-drop, length-drop, length-append, nil_from_length}
-use Rattle.std.proofs.lemmas.List.{take_at}
-use Rattle.std.proofs.lemmas.List.Elements.{recursion_from_All}
+use Rattle.std.proofs.Common.{◌≡◌, ◌≢◌, ℕ, ◌+◌, ◌*◌, ◌≤◌, List, [], ◌∷◌, ◌++◌, length, map, take, drop, zero, suc, refl, sym, ap, subst, ◌∙◌, arith, All}
+use Rattle.std.proofs.lemmas.List.{take-append-drop, length-drop, length-append, length-take, nil_from_length}
+use Rattle.std.proofs.lemmas.List.{drop_at, take_at}
+use Rattle.std.proofs.lemmas.List.Elements.{All-from_recursion, recursion_from_All}
 use Rattle.std.specs.List.{AllByRecursion}
 use Rattle.std.proofs.lemmas.Nat.{from_be_bytes-to_be_bytes_8}
 use Rattle.std.specs.List.{concat}
 use Rattle.std.specs.Simd.{first_chunks}
 use Rattle.std.specs.Int.{w64, to_be_bytes, from_be_bytes}
 use Rattle.host_names.specs.declared.digests.Digest.{Digest}
-use Rattle.blob_store.specs.Tables.{IsTable, pieces_of, size_of, text_of}
+use Rattle.blob_store.specs.Tables.{IsTable, Spells, pieces_of, size_of, text_of}
 
 -- lists of 20 bytes, joined again
 pub concat-first_chunks : (k : ℕ) (bytes : List ℕ) → length bytes ≡ k * 20 → concat (first_chunks 20 k bytes) ≡ bytes
@@ -48,3 +48,55 @@ is_table size names small count each =
       small = omega (arith, told, small);
       room = omega (arith, all, after, count, told);
     }
+
+-- each name that is read has 20 bytes
+chunks_sized : (k : ℕ) (bytes : List ℕ) → length bytes ≡ k * 20 → AllByRecursion (λ (b : List ℕ). length b ≡ 20) (first_chunks 20 k bytes)
+chunks_sized zero bytes size = tt
+chunks_sized (suc k) bytes size =
+    let left = length-drop 20 bytes in
+    let front = length-take 20 bytes in
+    (omega (arith, front, size), chunks_sized k (drop 20 bytes) (omega (arith, left, size)))
+
+names_sized : (names : List Digest) → AllByRecursion (λ (b : List ℕ). length b ≡ 20) (map (λ (name : Digest). name.0) names) → AllByRecursion (λ (name : Digest). length name.0 ≡ 20) names
+names_sized [] each = tt
+names_sized (name ∷ names) each = (each.0, names_sized names each.1)
+
+pub all_sized : (k : ℕ) (bytes : List ℕ) (names : List Digest) → length bytes ≡ k * 20 → map (λ (name : Digest). name.0) names ≡ first_chunks 20 k bytes
+    → All (λ (name : Digest). length name.0 ≡ 20) names
+all_sized k bytes names size are =
+    let P : List (List ℕ) → Type 0 = AllByRecursion (λ (b : List ℕ). length b ≡ 20) in
+    All-from_recursion (λ (name : Digest). length name.0 ≡ 20) names (names_sized names (subst P (sym are) (chunks_sized k bytes size)))
+
+-- what spells a table is one, and where it has names its file isn't empty
+pub spelled_table : (text : List ℕ) (size : ℕ) (names : List Digest) → Spells text size names → IsTable text
+spelled_table text size names spells = subst IsTable (sym spells.spelled) (is_table size names spells.small spells.count spells.named)
+
+pub not_empty : (text : List ℕ) (size : ℕ) (names : List Digest) → Spells text size names → names ≢ [] → size_of text ≢ 0
+not_empty text size names spells some e =
+    let told : size ≡ size_of text = sym (size_told size names spells.small) ∙ ap size_of (sym spells.spelled) in
+    some (nil_from_length names (omega (arith, told, e, spells.count)))
+
+-- the names are read back
+concat_told : (names others : List Digest) → AllByRecursion (λ (name : Digest). length name.0 ≡ 20) names → AllByRecursion (λ (name : Digest). length name.0 ≡ 20) others
+    → concat (map (λ (name : Digest). name.0) names) ≡ concat (map (λ (name : Digest). name.0) others) → names ≡ others
+concat_told [] [] each of_others e = refl
+concat_told [] (o ∷ others) each of_others e =
+    let counted = ap length e ∙ length-append o.0 (concat (map (λ (name : Digest). name.0) others)) in
+    absurd (omega (arith, counted, of_others.0))
+concat_told (n ∷ names) [] each of_others e =
+    let counted = sym (length-append n.0 (concat (map (λ (name : Digest). name.0) names))) ∙ ap length e in
+    absurd (omega (arith, counted, each.0))
+concat_told (n ∷ names) (o ∷ others) each of_others e =
+    let one = concat (map (λ (name : Digest). name.0) names) in
+    let two = concat (map (λ (name : Digest). name.0) others) in
+    let front : n.0 ≡ o.0 = sym (take_at n.0 one 20 each.0) ∙ ap (take 20) e ∙ take_at o.0 two 20 of_others.0 in
+    let back : one ≡ two = sym (drop_at n.0 one 20 each.0) ∙ ap (drop 20) e ∙ drop_at o.0 two 20 of_others.0 in
+    let same : n ≡ o = ap (λ (bytes : List ℕ). record { 0 = bytes }) front in
+    ap (λ (d : Digest). d ∷ names) same ∙ ap (λ l. o ∷ l) (concat_told names others each.1 of_others.1 back)
+
+pub names_told : (size other : ℕ) (names others : List Digest) → AllByRecursion (λ (name : Digest). length name.0 ≡ 20) names
+    → AllByRecursion (λ (name : Digest). length name.0 ≡ 20) others → text_of size names ≡ text_of other others → names ≡ others
+names_told size other names others each of_others e =
+    concat_told names others each of_others
+    (sym (drop_at (to_be_bytes w64 size) (concat (map (λ (name : Digest). name.0) names)) 8 refl) ∙ ap (drop 8) e
+    ∙ drop_at (to_be_bytes w64 other) (concat (map (λ (name : Digest). name.0) others)) 8 refl)

@@ -5,3 +5,5 @@ pub mod Faults
 pub mod Reads
 pub mod Stretches
 pub mod Shelves
+pub mod Openings
+pub mod Keeping

@@ -1,15 +1,16 @@
 -- What a shelf answers where a file is read from it.
-use Rattle.std.specs.Prelude.{◌≡◌, ◌⊎◌, ℕ, ◌≤◌, List, [], ◌∷◌, ◌++◌, Option, Some, None, length, map}
+use Rattle.std.specs.Prelude.{◌≡◌, ◌≢◌, ◌⊎◌, ℕ, ◌≤◌, List, [], ◌∷◌, ◌++◌, Option, Some, None, length, map}
 use Rattle.host_names.specs.declared.digests.Digest.{Digest}
 use Rattle.host_names.specs.Blobs.{digest_of}
 use Rattle.byte_view.specs.Cuts.{Follows, cut, names_of}
 use Rattle.blob_store.specs.declared.shelves.ShelfName.{ShelfName}
 use Rattle.blob_store.specs.declared.shelves.ShelfName.TheVariants.{Part, Table}
+use Rattle.blob_store.specs.declared.shelves.ShelfFault.{ShelfFault}
 use Rattle.blob_store.specs.declared.shelves.ShelfFault.TheVariants as shelf_fault
 use Rattle.blob_store.specs.declared.reading.ReadFault.{ReadFault}
 use Rattle.blob_store.specs.declared.reading.ReadFault.TheVariants as read_fault
 use Rattle.blob_store.specs.Calls.{Call, Got, GetFails}
-use Rattle.blob_store.specs.Tables.{text_of}
+use Rattle.blob_store.specs.Tables.{IsTable, Spells, size_of, text_of}
 
 -- names that a shelf is asked for, and what it answers to each
 abbrev pub Answers : Type 0
@@ -32,22 +33,34 @@ GivesInTurn {S} did old (answer ∷ answers) new = (mid : S) × did old (Got ans
 abbrev pub AreOfNone : Digest → Answers → Type 0
 AreOfNone digest answers = (file : List ℕ) (rest : Answers) → length file ≤ 16777216 → digest_of file ≡ digest → answers_of file ≡ answers ++ rest → ⊥
 
--- after these answers the device failed, or there was no memory there
-abbrev pub FailsAfter : {S : Type 0} → (did : S → Call → S → Type 0) → S → Answers → ReadFault → S → Type 0
-FailsAfter {S} did old answers read_fault.Device new =
-    (mid : S) × (name : ShelfName) × GivesInTurn did old answers mid × did mid (GetFails name shelf_fault.Device) new
-FailsAfter {S} did old answers read_fault.OutOfMemory new =
-    GivesInTurn did old answers new
-    ⊎ ((mid : S) × (name : ShelfName) × GivesInTurn did old answers mid × did mid (GetFails name shelf_fault.OutOfMemory) new)
-FailsAfter did old answers read_fault.Missing new = ⊥
-FailsAfter did old answers read_fault.Damaged new = ⊥
+-- after these answers the shelf failed
+abbrev pub FailsAfter : {S : Type 0} → (did : S → Call → S → Type 0) → S → Answers → ShelfFault → S → Type 0
+FailsAfter {S} did old answers fault new = (mid : S) × (name : ShelfName) × GivesInTurn did old answers mid × did mid (GetFails name fault) new
 
--- why a file of this digest can't be read: the shelf has no table of it, or what it answered is of no such file, or it failed
+-- these are asked for: of the pieces of these names the first ones, in order
+abbrev pub AreAsked : List Digest → Answers → Type 0
+AreAsked names answers = (later : List Digest) × (map Part names ≡ map (λ answer. answer.0) answers ++ map Part later)
+
+-- nothing is asked for after a table; or it has this text, and of the pieces that it names the first ones are
+abbrev pub AreNamedBy : List ℕ → Answers → Type 0
+AreNamedBy text answers = (answers ≡ []) ⊎ ((size : ℕ) × (names : List Digest) × Spells text size names × AreAsked names answers)
+
+-- why a file of this digest can't be read: the shelf has no table of it, or its answers are of no such file, or it failed; or there was
+-- no memory for the names in a table, of which an empty file's has none
 abbrev pub IsFileFault : {S : Type 0} → (did : S → Call → S → Type 0) → S → Digest → ReadFault → S → Type 0
 IsFileFault did old digest read_fault.Missing new = did old (Got (Table digest) None) new
-IsFileFault did old digest read_fault.Damaged new = (answers : Answers) × GivesInTurn did old answers new × AreOfNone digest answers
-IsFileFault did old digest read_fault.Device new = (answers : Answers) × FailsAfter did old answers read_fault.Device new
-IsFileFault did old digest read_fault.OutOfMemory new = (answers : Answers) × FailsAfter did old answers read_fault.OutOfMemory new
+IsFileFault did old digest read_fault.Damaged new =
+    (text : List ℕ) × (answers : Answers) × AreNamedBy text answers × GivesInTurn did old ((Table digest, Some text) ∷ answers) new
+    × AreOfNone digest ((Table digest, Some text) ∷ answers)
+IsFileFault did old digest read_fault.Device new = (answers : Answers) × FailsAfter did old answers shelf_fault.Device new
+IsFileFault did old digest read_fault.OutOfMemory new =
+    ((answers : Answers) × FailsAfter did old answers shelf_fault.OutOfMemory new)
+    ⊎ ((text : List ℕ) × (answers : Answers) × IsTable text × (size_of text ≢ 0) × AreNamedBy text answers
+    × GivesInTurn did old ((Table digest, Some text) ∷ answers) new)
+
+-- a file of this digest is read whole, and isn't too large
+abbrev pub IsFileRead : {S : Type 0} → (did : S → Call → S → Type 0) → S → Digest → List ℕ → S → Type 0
+IsFileRead did old digest file new = (digest_of file ≡ digest) × (length file ≤ 16777216) × GivesInTurn did old (answers_of file) new
 
 -- ---- what private functions say
 
@@ -58,7 +71,8 @@ IsTableFault did old digest read_fault.Damaged new =
     (text : List ℕ) × did old (Got (Table digest) (Some text)) new × ((file : List ℕ) → length file ≤ 16777216 → text_of (length file) (names_of file) ≡ text → ⊥)
 IsTableFault did old digest read_fault.Device new = did old (GetFails (Table digest) shelf_fault.Device) new
 IsTableFault did old digest read_fault.OutOfMemory new =
-    did old (GetFails (Table digest) shelf_fault.OutOfMemory) new ⊎ ((text : List ℕ) × did old (Got (Table digest) (Some text)) new)
+    did old (GetFails (Table digest) shelf_fault.OutOfMemory) new
+    ⊎ ((text : List ℕ) × did old (Got (Table digest) (Some text)) new × IsTable text × (size_of text ≢ 0))
 
 -- a shelf gives the next piece of a file, which has this name
 abbrev pub IsNextRead : {S : Type 0} → (did : S → Call → S → Type 0) → S → Digest → (before after : List ℕ) → S → Type 0
@@ -83,8 +97,10 @@ abbrev pub AreNoPieces : Answers → Type 0
 AreNoPieces answers = (file : List ℕ) (rest : Answers) → length file ≤ 16777216 → pieces_given file ≡ answers ++ rest → ⊥
 
 -- why the pieces of these names aren't those of a file
-abbrev pub ArePiecesFault : {S : Type 0} → (did : S → Call → S → Type 0) → S → ReadFault → S → Type 0
-ArePiecesFault did old read_fault.Missing new = ⊥
-ArePiecesFault did old read_fault.Damaged new = (answers : Answers) × GivesInTurn did old answers new × AreNoPieces answers
-ArePiecesFault did old read_fault.Device new = (answers : Answers) × FailsAfter did old answers read_fault.Device new
-ArePiecesFault did old read_fault.OutOfMemory new = (answers : Answers) × FailsAfter did old answers read_fault.OutOfMemory new
+abbrev pub ArePiecesFault : {S : Type 0} → (did : S → Call → S → Type 0) → S → List Digest → ReadFault → S → Type 0
+ArePiecesFault did old names read_fault.Missing new = ⊥
+ArePiecesFault did old names read_fault.Damaged new = (answers : Answers) × AreAsked names answers × GivesInTurn did old answers new × AreNoPieces answers
+ArePiecesFault did old names read_fault.Device new = (answers : Answers) × FailsAfter did old answers shelf_fault.Device new
+ArePiecesFault did old names read_fault.OutOfMemory new =
+    ((answers : Answers) × FailsAfter did old answers shelf_fault.OutOfMemory new)
+    ⊎ ((answers : Answers) × AreAsked names answers × GivesInTurn did old answers new × (names ≢ []))

@@ -1,5 +1,5 @@
 -- Tables: the size of a file and the names of its pieces, as a shelf keeps them.
-use Rattle.std.specs.Prelude.{◌≡◌, ℕ, ◌+◌, ◌*◌, ◌/◌, ◌≤◌, List, ◌++◌, length, map, take}
+use Rattle.std.specs.Prelude.{◌≡◌, ℕ, ◌+◌, ◌*◌, ◌/◌, ◌≤◌, List, ◌++◌, All, length, map, take}
 use Rattle.std.specs.List.{concat}
 use Rattle.std.specs.Int.{w64, to_be_bytes, from_be_bytes}
 use Rattle.host_names.specs.declared.digests.Digest.{Digest}
@@ -16,6 +16,7 @@ pieces_of size = (size + 65535) / 65536
 pub record Spells (text : List ℕ) (size : ℕ) (names : List Digest) : Type 0 where
   pub small : size ≤ 16777216
   pub count : length names ≡ pieces_of size
+  pub named : All (λ (name : Digest). length name.0 ≡ 20) names
   pub spelled : text ≡ text_of size names
 
 -- the size that a text begins with

@@ -9,11 +9,14 @@ ghost use Rattle.blob_store.specs.Calls.{Got, PutsInTurn, things_of};
 ghost use Rattle.blob_store.specs.Faults.{HasPutSome, IsChunkFault};
 ghost use Rattle.blob_store.specs.Reads.{GivesInTurn};
 ghost use Rattle.blob_store.specs.Stretches.{IsStretchFault, chunks_given};
+ghost use Rattle.blob_store.specs.Openings.{IsOpenFault, IsOpened};
 ghost use Rattle.blob_store.specs.Tables.{text_of};
+ghost use Rattle.blob_store.specs.declared.openings.OpenFault.TheVariants as open_fault;
 ghost use Rattle.blob_store.specs.declared.shelves.ShelfFault.TheVariants as shelf_fault;
 ghost use Rattle.blob_store.specs.declared.blobs.UploadFault.TheVariants as upload_fault;
 
 use crate::known::Known;
+use crate::openings::{OpenFault, Wanted, in_order, take_files};
 use crate::reading::{ReadFault, read_chunk};
 use crate::shelves::{Shelf, ShelfFault, ShelfName};
 use crate::stretches::read_stretch;
@@ -159,6 +162,27 @@ impl<S: Shelf> Blobs<S> {
         ensures known { self.new.known ≡ self.old.known }
     {
         read_stretch(self.alloc, &mut self.shelf, info, first, last)
+    }
+}
+
+impl<S: Shelf + Drop> Blobs<S> {
+    /// A store over a shelf that may have files. Each wanted file is read whole, in the order of the digests, and those that
+    /// the shelf gave whole are known. One that is missing or damaged isn't known, and is a fault where it must be there: the
+    /// first such one, and no later file is read. A digest that is wanted twice must be there if it must for either. A failure
+    /// of the device is a fault at any file.
+    pub fn open(alloc: Global, shelf: S, wanted: &[Wanted]) -> Result<Blobs<S>, OpenFault>
+        ensures opened { IfOk result (λ blobs. IsOpened S.did shelf wanted.now blobs.known blobs.shelf) }
+        ensures fault { IfErr result (λ fault. (new : S) × IsOpenFault S.did shelf wanted.now fault new × (fault ≡ open_fault.Device → S.failures shelf < S.failures new)) }
+        ensures count { IfOk result (λ blobs. S.failures shelf ≤ S.failures blobs.shelf) }
+    {
+        let mut shelf = shelf;
+        let needs = in_order(alloc, wanted).map_err(|_| OpenFault::OutOfMemory)?;
+        let known = take_files(alloc, &mut shelf, &needs)?;
+        Ok(Blobs {
+            alloc,
+            shelf,
+            known,
+        })
     }
 }
 

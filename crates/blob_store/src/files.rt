@@ -1,11 +1,10 @@
 //! Files that are read from a shelf whole.
-ghost use Rattle.std.specs.Prelude.{◌≡◌, ◌<◌, ◌≤◌, IfErr, IfOk, Some, length};
-ghost use Rattle.host_names.specs.Blobs.{digest_of};
+ghost use Rattle.std.specs.Prelude.{◌≡◌, ◌<◌, ◌≤◌, IfErr, IfOk, Some};
 ghost use Rattle.byte_view.specs.Cuts.{names_of};
 ghost use Rattle.blob_store.specs.declared.reading.ReadFault.TheVariants as read_fault;
 ghost use Rattle.blob_store.specs.declared.shelves.ShelfName.TheVariants as shelf_name;
 ghost use Rattle.blob_store.specs.Calls.{Got};
-ghost use Rattle.blob_store.specs.Reads.{ArePiecesFault, GivesInTurn, IsFileFault, IsNextFault, IsNextRead, IsTableFault, answers_of, pieces_given};
+ghost use Rattle.blob_store.specs.Reads.{ArePiecesFault, GivesInTurn, IsFileFault, IsFileRead, IsNextFault, IsNextRead, IsTableFault, pieces_given};
 ghost use Rattle.blob_store.specs.Tables.{Spells};
 
 use crate::reading::{ReadFault, of_shelf, read_chunk};
@@ -58,7 +57,7 @@ fn read_pieces<S: Shelf>(
     names: &[Digest],
 ) -> Result<Joined, ReadFault>
     ensures read { IfOk result (λ file. (names_of file ≡ names.now) × GivesInTurn S.did shelf.old (pieces_given file) shelf.new) }
-    ensures fault { IfErr result (λ fault. ArePiecesFault S.did shelf.old fault shelf.new) }
+    ensures fault { IfErr result (λ fault. ArePiecesFault S.did shelf.old names.now fault shelf.new) }
     ensures device { IfErr result (λ fault. fault ≡ read_fault.Device → S.failures shelf.old < S.failures shelf.new) }
     ensures count { S.failures shelf.old ≤ S.failures shelf.new }
 {
@@ -76,7 +75,7 @@ pub fn read_file<S: Shelf>(
     shelf: &mut S,
     digest: &Digest,
 ) -> Result<BlobInfo, ReadFault>
-    ensures read { IfOk result (λ file. (digest_of file ≡ digest.now) × (length file ≤ 16777216) × GivesInTurn S.did shelf.old (answers_of file) shelf.new) }
+    ensures read { IfOk result (λ file. IsFileRead S.did shelf.old digest.now file shelf.new) }
     ensures fault { IfErr result (λ fault. IsFileFault S.did shelf.old digest.now fault shelf.new) }
     ensures device { IfErr result (λ fault. fault ≡ read_fault.Device → S.failures shelf.old < S.failures shelf.new) }
     ensures count { S.failures shelf.old ≤ S.failures shelf.new }

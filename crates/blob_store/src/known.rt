@@ -49,10 +49,11 @@ impl Known {
         self.files.get(digest)
     }
 
-    /// Adds a file. A digest that is known keeps its file. Without memory nothing changes.
+    /// Adds a file. A digest that is known keeps its file, and takes no memory. Without memory nothing changes.
     pub(crate) fn keep(&mut self, file: Arc<BlobInfo>) -> Result<(), AllocError>
         ensures ok { OnOk result (self.new ≡ with_file self.old file.value) }
         ensures err { OnErr result (self.new ≡ self.old) }
+        ensures memory { OnErr result (map.get self.old (digest_of file.value) ≡ None) }
     {
         let digest = file.digest();
         if self.find(&digest).is_some() {

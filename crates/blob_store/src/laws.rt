@@ -1,10 +1,52 @@
-//! Laws of tables, each the contract of a function that does nothing.
-ghost use Rattle.std.specs.Prelude.{◌≡◌, ℕ, ◌≤◌, List, All, length};
+//! Laws of tables and shelves, each the contract of a function that does nothing.
+ghost use Rattle.std.specs.Prelude.{◌≡◌, ℕ, ◌≤◌, List, All, None, Option, Some, length};
+ghost use Rattle.std.specs.List.{Contains};
+ghost use Rattle.host_names.specs.Blobs.{digest_of};
 ghost use Rattle.host_names.specs.declared.digests.Digest.{Digest};
+ghost use Rattle.byte_view.specs.Cuts.{cut};
+ghost use Rattle.blob_store.specs.declared.reading.ReadFault.TheVariants as read_fault;
+ghost use Rattle.blob_store.specs.declared.shelves.ShelfName.{ShelfName};
+ghost use Rattle.blob_store.specs.declared.shelves.ShelfName.TheVariants.{Part};
+ghost use Rattle.blob_store.specs.Calls.{Got, PutsInTurn, things_of};
+ghost use Rattle.blob_store.specs.Faults.{IsChunkFault};
+ghost use Rattle.blob_store.specs.Keeping.{Agree, HasFile, Keeps};
+ghost use Rattle.blob_store.specs.Reads.{IsFileFault, IsFileRead};
+ghost use Rattle.blob_store.specs.Shelves.{Does, found_in};
 ghost use Rattle.blob_store.specs.Tables.{IsTable, pieces_of, size_of, text_of};
+
+use crate::shelves::Shelf;
 
 /// What is written for a file that isn't too large can be read, and tells the file's size.
 pub fn files_have_tables()
     ensures readable { (size : ℕ) (names : List Digest) → size ≤ 16777216 → length names ≡ pieces_of size → All (λ name. length name.0 ≡ 20) names → IsTable (text_of size names) }
     ensures size { (size : ℕ) (names : List Digest) → size ≤ 16777216 → size_of (text_of size names) ≡ size }
+{}
+
+/// A shelf that keeps what is put there has a file that was uploaded, and the files that it had, where no two pieces share a digest and differ.
+pub fn uploads_are_kept<S: Shelf>()
+    ensures uploaded { (has : S → ShelfName → Option (List ℕ)) (old new : S) (file : List ℕ) → Keeps S.did has → Agree (things_of file) (things_of file)
+        → PutsInTurn S.did old (things_of file) None new → HasFile has new file }
+    ensures stays { (has : S → ShelfName → Option (List ℕ)) (old new : S) (file other : List ℕ) → Keeps S.did has → Agree (things_of file) (things_of other)
+        → PutsInTurn S.did old (things_of other) None new → HasFile has old file → HasFile has new file }
+{}
+
+/// Of a file that such a shelf has, each piece and the whole are read as they are, and neither is missing or damaged.
+pub fn kept_files_are_read<S: Shelf>()
+    ensures piece { (has : S → ShelfName → Option (List ℕ)) (old new : S) (file piece chunk : List ℕ) → Keeps S.did has → HasFile has old file → Contains (cut file) piece
+        → S.did old (Got (Part (digest_of piece)) (Some chunk)) new → chunk ≡ piece }
+    ensures piece_there { (has : S → ShelfName → Option (List ℕ)) (old new : S) (file piece : List ℕ) → Keeps S.did has → HasFile has old file → Contains (cut file) piece
+        → ¬ (IsChunkFault S.did old (digest_of piece) read_fault.Missing new) }
+    ensures piece_whole { (has : S → ShelfName → Option (List ℕ)) (old new : S) (file piece : List ℕ) → Keeps S.did has → HasFile has old file → Contains (cut file) piece
+        → ¬ (IsChunkFault S.did old (digest_of piece) read_fault.Damaged new) }
+    ensures file { (has : S → ShelfName → Option (List ℕ)) (old new : S) (file read : List ℕ) → Keeps S.did has → HasFile has old file
+        → IsFileRead S.did old (digest_of file) read new → read ≡ file }
+    ensures file_there { (has : S → ShelfName → Option (List ℕ)) (old new : S) (file : List ℕ) → Keeps S.did has → HasFile has old file
+        → ¬ (IsFileFault S.did old (digest_of file) read_fault.Missing new) }
+    ensures file_whole { (has : S → ShelfName → Option (List ℕ)) (old new : S) (file : List ℕ) → Keeps S.did has → HasFile has old file → length file ≤ 16777216
+        → ¬ (IsFileFault S.did old (digest_of file) read_fault.Damaged new) }
+{}
+
+/// A shelf in memory keeps what is put there.
+pub fn shelves_in_memory_keep()
+    ensures { Keeps Does found_in }
 {}

@@ -6,6 +6,7 @@ mod files;
 mod known;
 mod laws;
 mod mem_shelf;
+mod openings;
 mod reading;
 mod shelves;
 mod stretches;
@@ -13,8 +14,9 @@ mod tables;
 
 pub use blobs::{Blobs, UploadFault};
 pub use files::read_file;
-pub use laws::files_have_tables;
+pub use laws::{files_have_tables, kept_files_are_read, shelves_in_memory_keep, uploads_are_kept};
 pub use mem_shelf::MemShelf;
+pub use openings::{OpenFault, Wanted};
 pub use reading::ReadFault;
 pub use shelves::{Shelf, ShelfFault, ShelfName};
 pub use tables::{Table, TableFault, table_text};

@@ -1,5 +1,5 @@
 //! Tables: what is kept of a file next to its pieces.
-ghost use Rattle.std.specs.Prelude.{◌≡◌, ◌↔◌, ◌*◌, ◌%◌, ◌<◌, IfErr, IfOk, IfSome, IsSome, length, map, take};
+ghost use Rattle.std.specs.Prelude.{◌≡◌, ◌≢◌, ◌↔◌, ◌*◌, ◌%◌, ◌<◌, All, IfErr, IfOk, IfSome, IsOk, IsSome, length, map, take};
 ghost use Rattle.std.specs.Int.{to_be_bytes, w64};
 ghost use Rattle.std.specs.List.{concat};
 ghost use Rattle.blob_store.specs.declared.tables.TableFault.TheVariants.{OutOfMemory};
@@ -62,6 +62,8 @@ fn names_in(alloc: Global, bytes: &[u8]) -> Result<Vec<Digest>, AllocError>
     requires { length bytes.now % 20 ≡ 0 }
     ensures names { IfOk result (λ names. concat (map (λ name. name.0) names.items) ≡ bytes.now) }
     ensures count { IfOk result (λ names. length names.items * 20 ≡ length bytes.now) }
+    ensures sized { IfOk result (λ names. All (λ name. length name.0 ≡ 20) names.items) }
+    ensures empty { length bytes.now ≡ 0 → IsOk result }
 {
     let (arrays, _) = bytes.as_chunks::<20>();
     let mut names = Vec::with_capacity(alloc, arrays.len())?;
@@ -72,10 +74,12 @@ fn names_in(alloc: Global, bytes: &[u8]) -> Result<Vec<Digest>, AllocError>
 }
 
 impl Table {
-    /// The table with this text. Memory is taken only for the names of a file of at most `MAX_SIZE` bytes.
+    /// The table with this text. Memory is taken only for the names of a file of at most `MAX_SIZE` bytes, and none for the
+    /// empty file.
     pub fn read(alloc: Global, text: &[u8]) -> Result<Table, TableFault>
         ensures read { IfOk result (λ table. Spells text.now table.size table.names.items) }
         ensures judged { IfErr result (λ fault. (fault ≡ OutOfMemory) ↔ IsTable text.now) }
+        ensures memory { IfErr result (λ fault. fault ≡ OutOfMemory → size_of text.now ≢ 0) }
     {
         let size = size_in(text).ok_or(TableFault::Damaged)?;
         let names = names_in(alloc, &text[8..]).map_err(|_| TableFault::OutOfMemory)?;

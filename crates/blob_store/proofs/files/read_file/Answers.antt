@@ -1,5 +1,6 @@
-use Rattle.std.proofs.Common.{rules, ◌≡◌, Err, length, ◌∙◌}
+use Rattle.std.proofs.Common.{rules, ◌≡◌, Err, length, subst, ◌∙◌}
 use Rattle.host_names.specs.Blobs.{digest_of}
+use Rattle.blob_store.specs.Reads.{ArePiecesFault}
 use Rattle.blob_store.proofs.FileReads.{other_file, pieces_fail, table_fails}
 use Rattle.blob_store.proofs.files.read_file.Goals as goal
 use Rattle.blob_store.proofs.files.read_file.Goals.{then-len-table-via-then-len-table, then-len-table-via-else-len-table+then-ne}
@@ -16,7 +17,9 @@ returns-in_err-read_pieces-clause-fault g c =
     let why = c.in_err-read_pieces.field-0.0 in
     let table = c.in_ok-table.ensures.read in
     let is : c.from_residual-in_err-read_pieces.result ≡ Err why = search rules in
-    let fault = pieces_fail g.S.Shelf.did c.args.shelf.now c.read_table.new.shelf c.read_pieces.new.shelf c.args.digest.now table.0 why table.2 c.in_err-read_pieces.ensures.fault in
+    let pieces = subst (λ names. ArePiecesFault g.S.Shelf.did c.read_table.new.shelf names why c.read_pieces.new.shelf) c.as_slice.ensures.value c.in_err-read_pieces.ensures.fault in
+    let fault = pieces_fail g.S.Shelf.did c.args.shelf.now c.read_table.new.shelf c.read_pieces.new.shelf c.args.digest.now table.0 c.in_ok-table.table.size
+    c.in_ok-table.table.names.items why table.1 table.2 pieces in
     search (rules, fault)
 
 pub returns-then-len-table-clause-fault : goal.returns-then-len-table-clause-fault

@@ -11,7 +11,7 @@ returns-in_err-read_next-clause-fault g c =
     let k = c.loop-name.name-index in
     let is : c.from_residual.result ≡ Err why = search rules in
     let fault = no_more did c.args.shelf.now c.loop-name.shelf c.read_next.new.shelf c.loop-name.joined (drop k names) names (get_or names k (record { 0 = [] })) why
-    c.loop-name.invariant.0 c.in_err-read_next.ensures.fault in
+    (drop (k + 1) names) (drop_more names k (record { 0 = [] }) c.loop-name-test.true) c.loop-name.invariant.0 c.in_err-read_next.ensures.fault in
     search (rules, fault)
 
 pub loop-name-preserved : goal.loop-name-preserved

@@ -1,5 +1,4 @@
-use Rattle.std.proofs.Common.{◌≡◌, Option, Some, subst, sym}
-use Rattle.std.specs.declared.vec.Vec.{Vec}
+use Rattle.std.proofs.Common.{subst, sym}
 use Rattle.blob_store.specs.Tables.{IsTable}
 use Rattle.blob_store.proofs.FileReads.{no_table}
 use Rattle.blob_store.proofs.files.read_table.Goals as goal

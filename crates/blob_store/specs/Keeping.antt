@@ -1,0 +1,29 @@
+-- Shelves that keep what is put on them.
+use Rattle.std.specs.Prelude.{◌≡◌, ◌≢◌, ℕ, List, Option, Some}
+use Rattle.std.specs.List.{AllByRecursion}
+use Rattle.blob_store.specs.declared.shelves.ShelfName.{ShelfName}
+use Rattle.blob_store.specs.Calls.{Call, Put, Got, things_of}
+
+-- a name, and the bytes that are put under it
+abbrev pub Thing : Type 0
+Thing = ShelfName × List ℕ
+
+-- a shelf keeps what is put on it, where `has` tells what it has under each name: a put gives one name its bytes, and what is asked for
+-- is what is there. Of calls that fail nothing is said
+pub record Keeps {S : Type 0} (did : S → Call → S → Type 0) (has : S → ShelfName → Option (List ℕ)) : Type 0 where
+  pub put : (old new : S) (name : ShelfName) (bytes : List ℕ) → did old (Put name bytes) new → has new name ≡ Some bytes
+  pub others : (old new : S) (name other : ShelfName) (bytes : List ℕ) → did old (Put name bytes) new → other ≢ name → has new other ≡ has old other
+  pub got : (old new : S) (name : ShelfName) (answer : Option (List ℕ)) → did old (Got name answer) new → answer ≡ has old name
+  pub stays : (old new : S) (name other : ShelfName) (answer : Option (List ℕ)) → did old (Got name answer) new → has new other ≡ has old other
+
+-- it has all these things
+abbrev pub HasAll : {S : Type 0} → (has : S → ShelfName → Option (List ℕ)) → S → List Thing → Type 0
+HasAll has shelf things = AllByRecursion (λ (thing : Thing). has shelf thing.0 ≡ Some thing.1) things
+
+-- it has a file: each of its pieces, and its table
+abbrev pub HasFile : {S : Type 0} → (has : S → ShelfName → Option (List ℕ)) → S → List ℕ → Type 0
+HasFile has shelf file = HasAll has shelf (things_of file)
+
+-- things of one name are the same in both; so no piece of the one file has the digest of another piece of the other
+abbrev pub Agree : List Thing → List Thing → Type 0
+Agree things others = AllByRecursion (λ (thing : Thing). AllByRecursion (λ (other : Thing). thing.0 ≡ other.0 → thing.1 ≡ other.1) others) things
