@@ -2,13 +2,13 @@
 use Rattle.std.proofs.Common.{◌≡◌, inl, inr, ℕ, ◌<◌, ◌≤◌, List, length, true, false, sym, subst, ◌∙◌, arith, slice_index_or, nat_lt}
 use Rattle.std.specs.Prelude.{Contains}
 use Rattle.std.specs.Cmp.{IsTotalOrder}
-use Rattle.std.specs.List.Sorted.{IsPartitionPoint, IsPartitionedBy, IsSorted}
+use Rattle.std.specs.List.Sorted.{IsPartitionPoint, IsPartitionedBy, IsPermutation, IsSorted}
 use Rattle.std.specs.Ordering.{is_lt}
 use Rattle.std.proofs.lemmas.Bool.Decides.{nat_tests}
 use Rattle.std.proofs.lemmas.Cmp.{back_total, nat_cmp_total, on_total, then_total}
 use Rattle.std.proofs.lemmas.List.{get_or_default}
 use Rattle.std.proofs.lemmas.List.Elements.{Contains-get_or}
-use Rattle.std.proofs.lemmas.List.Sorted.{ranks_by, sorted_far}
+use Rattle.std.proofs.lemmas.List.Sorted.{Contains-permutation, IsPermutation-sym, ranks_by, sorted_far}
 use Rattle.peer_ring.specs.declared.points.Point.{Point}
 use Rattle.peer_ring.specs.Points.{point_cmp}
 use Rattle.peer_ring.specs.Owners.{ComesFirst, IsNext, IsOwner}
@@ -92,3 +92,16 @@ first_next points sorted d some = record {
 -- what a read outside the points would give
 abbrev pub no_point : Point
 no_point = record { hash = 0; peer = record { 0 = 0 } }
+
+-- points in another order have the same next point
+next_moves : (points others : List Point) → IsPermutation points others → (hash : ℕ) (p : Point) → IsNext points hash p → IsNext others hash p
+next_moves points others moved hash p next = record {
+  is_point = Contains-permutation points others p moved next.is_point;
+  not_below = next.not_below;
+  first = λ q at. next.first q (Contains-permutation others points q (IsPermutation-sym points others moved) at);
+}
+
+pub owner_moves : (points others : List Point) (hash peer : ℕ) → IsPermutation points others → IsOwner points hash peer → IsOwner others hash peer
+owner_moves points others hash peer moved (p, is, inl next) = (p, is, inl (next_moves points others moved hash p next))
+owner_moves points others hash peer moved (p, is, inr none) =
+    (p, is, inr ((λ q at. none.0 q (Contains-permutation others points q (IsPermutation-sym points others moved) at)), next_moves points others moved 0 p none.1))

@@ -2,3 +2,4 @@
 pub mod Hashes
 pub mod Points
 pub mod Owners
+pub mod Rings

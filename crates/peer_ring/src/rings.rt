@@ -1,6 +1,7 @@
 //! Rings of peers.
-ghost use Rattle.std.specs.Prelude.{◌≡◌, ◌↔◌, ◌*◌, ◌<◌, Err, IfOk, length, map};
+ghost use Rattle.std.specs.Prelude.{◌≡◌, ◌↔◌, ◌*◌, ◌<◌, Err, IfOk, Some, length, map, slice_get};
 ghost use Rattle.std.specs.List.Sorted.{IsPermutation, IsSorted};
+ghost use Rattle.std.specs.String.{string_bytes};
 ghost use Rattle.peer_ring.specs.Points.{point_cmp, points_of};
 ghost use Rattle.peer_ring.specs.Owners.{IsOwner};
 ghost use Rattle.peer_ring.specs.declared.rings.RingFault.TheVariants.{NoPeers, TooManyPeers};
@@ -8,6 +9,7 @@ ghost use Rattle.peer_ring.specs.declared.rings.RingFault.TheVariants.{NoPeers, 
 use crate::points::{Point, push_points};
 use crate::ring_hashes::RingHash;
 use std::alloc::{AllocError, Global};
+use std::marker::Model;
 use thiserror::Error;
 
 /// The most peers of a ring.
@@ -24,13 +26,27 @@ pub enum RingFault {
     OutOfMemory,
 }
 
-/// Peers on a ring, each with 50 points.
+/// One to eight peers on a ring, each with 50 points. Contracts see the hash and the names of the peers; the points are
+/// always theirs.
 #[derive(Drop)]
-pub struct Ring<H: Drop> {
+pub struct Ring<H: RingHash + Drop> {
     hash: H,
+    names: Vec<String>,
     points: Vec<Point>,
-    ghost sorted: { IsSorted point_cmp points.items },
-    ghost some: { 0 < length points.items },
+}
+
+impl<H: RingHash + Drop> Model for Ring<H> {
+    ghost use Rattle.std.specs.Prelude.{map};
+    ghost use Rattle.std.specs.String.{string_bytes};
+    ghost use Rattle.peer_ring.specs.Rings.{HasPoints, Peers, coded_peers};
+
+    ghost Value = { Peers H };
+
+    ghost coded = { coded_peers H.code };
+
+    ghost view = { λ r. record { hash = r.hash; names = map string_bytes r.names.items } };
+
+    ghost invariant = { λ r. HasPoints (H.hashed r.hash) (map string_bytes r.names.items) r.points.items };
 }
 
 /// The points of peers, in the order of the ring.
@@ -49,6 +65,17 @@ fn sorted_points<H: RingHash>(
     }
     points.as_mut_slice().sort_unstable();
     Ok(points)
+}
+
+/// Copies of names.
+fn copied(alloc: Global, names: &[&str]) -> Result<Vec<String>, AllocError>
+    ensures { IfOk result (λ copies. map string_bytes copies.items ≡ map (λ name. name.now) names.now) }
+{
+    let mut copies = Vec::new(alloc);
+    for name in names {
+        copies.push(String::from_str(alloc, name)?)?;
+    }
+    Ok(copies)
 }
 
 /// Whose the next point is from a hash on, around the ring.
@@ -70,8 +97,7 @@ impl<H: RingHash + Copy + Drop> Ring<H> {
     pub fn new(alloc: Global, names: &[&str], hash: &H) -> Result<Ring<H>, RingFault>
         ensures none { (result ≡ Err NoPeers) ↔ (length names.now ≡ 0) }
         ensures many { (result ≡ Err TooManyPeers) ↔ (8 < length names.now) }
-        ensures hash { IfOk result (λ ring. ring.hash ≡ hash.now) }
-        ensures points { IfOk result (λ ring. IsPermutation (points_of (H.hashed hash.now) (map (λ name. name.now) names.now) 0) ring.points.items) }
+        ensures ring { IfOk result (λ ring. ring ≡ record { hash = hash.now; names = map (λ name. name.now) names.now }) }
     {
         if names.is_empty() {
             return Err(RingFault::NoPeers);
@@ -80,15 +106,26 @@ impl<H: RingHash + Copy + Drop> Ring<H> {
             return Err(RingFault::TooManyPeers);
         }
         let points = sorted_points(alloc, names, hash).map_err(|_| RingFault::OutOfMemory)?;
+        let names = copied(alloc, names).map_err(|_| RingFault::OutOfMemory)?;
         Ok(Ring {
             hash: *hash,
+            names,
             points,
         })
     }
 
-    /// The peer that owns a key.
+    /// The name of a peer, by its place.
+    pub fn name(&self, peer: usize) -> &str
+        requires { peer < length self.now.names }
+        ensures { slice_get self.now.names peer ≡ Some result.now }
+    {
+        self.names[peer].as_str()
+    }
+
+    /// The peer that owns a key, by its place.
     pub fn owner(&self, key: &[u8]) -> usize
-        ensures { IsOwner self.now.points.items (H.hashed self.now.hash key.now) result }
+        ensures owner { IsOwner (points_of (H.hashed self.now.hash) self.now.names 0) (H.hashed self.now.hash key.now) result }
+        ensures peer { result < length self.now.names }
     {
         owner_among(&self.points, self.hash.hash(key))
     }

@@ -1,0 +1,3 @@
+//! One file of tests for each library.
+mod flights;
+mod rings;
