@@ -1,0 +1,5 @@
+mod Sizes
+mod Entries
+mod Evictions
+mod Lookups
+mod Fewest

@@ -1,0 +1,9 @@
+//! Two caches of chunks under one limit: of what a node owns, and of what its peers gave it.
+#![tactic(auto)]
+
+mod caches;
+mod laws;
+mod lists;
+
+pub use caches::{ChunkCache, Which};
+pub use laws::{caches_stay_within_their_limit, the_fewest_chunks_are_evicted};
