@@ -1,0 +1,2 @@
+mod CutShort
+pub mod Runs

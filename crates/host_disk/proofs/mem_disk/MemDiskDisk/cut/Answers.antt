@@ -1,0 +1,7 @@
+use Rattle.host_disk.proofs.CutShort.{cut_crash}
+use Rattle.host_disk.proofs.mem_disk.MemDiskDisk.cut.Goals as goal
+
+pub returns-clause-crash : goal.returns-clause-crash
+returns-clause-crash c modelled =
+    let was = c.args.self.now in
+    rw (c.cut.ensures.cut, c.tick.ensures.content) (cut_crash was.content c.args.size was.between)
