@@ -1,5 +1,5 @@
 -- What is sent, by the bytes that holds show and by those of their file.
-use Rattle.std.proofs.Common.{◌≡◌, Result, Ok, Err, IfOk, ℕ, ◌+◌, ◌-◌, ◌<◌, ◌≤◌, List, [], ◌∷◌, ◌++◌, zero, suc, length, map, drop, codes, refl, sym, ap, ◌∙◌, arith, All, append-nil}
+use Rattle.std.proofs.Common.{◌≡◌, Result, Ok, Err, IfOk, ℕ, ◌+◌, ◌-◌, ◌<◌, List, [], ◌∷◌, ◌++◌, zero, suc, length, map, drop, codes, refl, sym, ap, ◌∙◌, arith, All, append-nil}
 use Rattle.std.proofs.lemmas.List.{length-append, length-drop, length-map, length-take, nil_from_length, take_all}
 use Rattle.std.proofs.lemmas.List.Elements.{All-head, All-tail}
 use Rattle.std.proofs.lemmas.Result.{IfOk-weaker}

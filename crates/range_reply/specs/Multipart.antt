@@ -12,7 +12,7 @@ use Rattle.range_reply.specs.declared.boundaries.Boundary.{Boundary}
 abbrev pub text_of : Boundary → List ℕ
 text_of boundary = boundary.text.bytes
 
--- a boundary for ranges of the file with this digest; there are eight, numbered from 0
+-- the candidate with this number for the boundary of ranges of the file with this digest; those from 0 to 7 are tried
 abbrev pub candidate : Digest → ℕ → List ℕ
 candidate digest i = codes "fh" ++ (decimal i ++ (codes "-" ++ encode_lower digest.0))
 

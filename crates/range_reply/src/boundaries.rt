@@ -6,14 +6,14 @@ use crate::texts::decimal_text;
 use arrayvec::ArrayString;
 use host_names::Digest;
 
-/// A boundary of a `multipart/byteranges` body (RFC 2046, section 5.1.1).
+/// A text that may separate the parts of a `multipart/byteranges` body (RFC 2046, section 5.1.1), whether it occurs in them or not.
 #[derive(Clone, Copy, Debug)]
 pub struct Boundary {
     text: ArrayString<64>,
 }
 
 impl Boundary {
-    /// The candidate with this number, for ranges of the file with this digest.
+    /// The candidate with this number, for ranges of the file with this digest. Those from 0 to 7 are tried.
     pub fn candidate(digest: Digest, number: u8) -> Boundary
         ensures { text_of result ≡ candidate digest number }
     {

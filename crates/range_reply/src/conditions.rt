@@ -30,8 +30,8 @@ fn strong_tag(digest: Digest) -> ArrayString<42>
 }
 
 impl IfRange {
-    /// What the values of all If-Range fields say of the file with this digest: one that is exactly the strong entity tag
-    /// holds, and anything else doesn't. A weak tag never counts as the strong one.
+    /// What the values of all If-Range fields say of the file with this digest: `Absent` where there is no value, `True` where
+    /// there is one and it is exactly the strong entity tag, and else `False`. A weak tag never counts as the strong one.
     pub fn of(values: &[&[u8]], digest: Digest) -> IfRange
         ensures { result ≡ condition_of digest (map (λ value. value.now) values.now) }
     {

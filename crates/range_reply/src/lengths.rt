@@ -54,8 +54,8 @@ fn with_parts(
     Some(total)
 }
 
-/// How many bytes the body has that sends these intervals of a file, or `None` where a `u64` doesn't hold that. It takes no
-/// memory.
+/// How many bytes the body has that sends these intervals of a file in parts with this boundary, or `None` where a `u64` doesn't
+/// hold that. It takes no memory.
 pub fn multipart_length(
     info: &BlobInfo,
     boundary: &Boundary,

@@ -18,14 +18,14 @@ fn occurs(bytes: &[u8], text: &[u8]) -> bool
     memmem::find(text, bytes).is_some()
 }
 
-/// The last bytes of a text.
+/// The last 64 bytes of a text, or all where it has fewer.
 fn last_bytes(text: &[u8]) -> ArrayVec<u8, 64>
     ensures { result.items ≡ ending text.now }
 {
     ArrayVec::try_from(&text[text.len().saturating_sub(SIDE)..]).unwrap()
 }
 
-/// The bytes before an edge, and as many after it.
+/// These bytes before an edge, and the first 64 after it, or all where there are fewer.
 fn around_edge(before: &[u8], after: &[u8]) -> ArrayVec<u8, 128>
     requires { length before.now ≤ 64 }
     ensures { result.items ≡ before.now ++ take 64 after.now }
@@ -38,7 +38,8 @@ fn around_edge(before: &[u8], after: &[u8]) -> ArrayVec<u8, 128>
     bytes
 }
 
-/// The last bytes before the next edge, where these are the bytes around the edge before the piece.
+/// The last 64 bytes before the edge after a piece, or all where there are fewer. `edge` is what is looked through at the edge
+/// before the piece.
 fn last_bytes_after(edge: &[u8], piece: &[u8]) -> ArrayVec<u8, 64>
     ensures { (seen : List ℕ) → edge.now ≡ ending seen ++ take 64 piece.now → result.items ≡ ending (seen ++ piece.now) }
 {
