@@ -157,6 +157,7 @@ impl History {
         if self.is_full() {
             return Err(ChangeError::Refused(ChangeRefusal::HistoryFull));
         }
+        self.files_were_uploaded(uploads);
         let number = self.len() + 1;
         let alloc = self.records.allocator();
         let decision = decided(alloc, &self.state, uploads, number, &command)?;

@@ -5,6 +5,7 @@ ghost use Rattle.std.specs.Map.{keys_of};
 ghost use Rattle.host_names.specs.Cells.{cell_cmp};
 ghost use Rattle.host_names.specs.Refusals.{IsRefusedBy};
 ghost use Rattle.site_change.specs.Changes.{applied, refusal};
+ghost use Rattle.site_change.specs.Uploaded.{AreUploaded};
 ghost use Rattle.site_state.specs.Named.{AliasesNamed};
 ghost use Rattle.site_state.specs.States.{may_stand, with_cells};
 ghost use Rattle.change_undo.specs.Kept as spec;
@@ -51,6 +52,7 @@ pub(crate) fn decided<U: Uploads>(
     number: u64,
     command: &Command,
 ) -> Result<Decision, ChangeError>
+    requires known { AreUploaded (U.contents uploads.now) state.now }
     ensures refused { IsRefusedBy (refusal command.now number state.now (U.contents uploads.now)) result }
     ensures plan { IfOk result (λ decided. IsPlanOf (U.contents uploads.now) state.now number command.now decided.plan) }
     ensures rising { IfOk result (λ decided. IsStrictlySortedBy cell_cmp (keys_of decided.writes.items)) }

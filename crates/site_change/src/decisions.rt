@@ -11,6 +11,7 @@ ghost use Rattle.host_names.specs.Refusals.{IsRefusedBy};
 ghost use Rattle.site_change.specs.Decisions.{IsDecision};
 ghost use Rattle.site_change.specs.Plans.{IsDifference, ReplacesOfKind, WritesOfKind};
 ghost use Rattle.site_change.specs.TouchedCells.{AreTouched};
+ghost use Rattle.site_change.specs.Uploaded.{AreUploaded};
 
 use crate::cell_commands::{
     cancel, move_alias, plan_one, remove, remove_alias, remove_deploy, rename,
@@ -91,7 +92,8 @@ fn decision<U: Uploads>(
 }
 
 /// Decides a command that would become the entry of this number: what it changes in the state, with what was
-/// uploaded, and what it touches, or why it is refused. It is out of memory only where it isn't refused.
+/// uploaded, and what it touches, or why it is refused. Each file that is served or kept has to be among the uploads. It is
+/// out of memory only where it isn't refused.
 pub fn decide<U: Uploads>(
     alloc: Global,
     state: &State,
@@ -99,6 +101,7 @@ pub fn decide<U: Uploads>(
     number: u64,
     command: &Command,
 ) -> Result<Plan, ChangeError>
+    requires known { AreUploaded (U.contents uploads.now) state.now }
     ensures refused { IsRefusedBy (refusal command.now number state.now (U.contents uploads.now)) result }
     ensures accepted { OnOk result (refusal command.now number state.now (U.contents uploads.now) ≡ None) }
     ensures plan { IfOk result (λ plan. IsDifference state.now

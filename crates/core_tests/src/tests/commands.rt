@@ -1,9 +1,12 @@
 //! What each command changes and touches, and the words of the reasons to refuse one.
-use super::fixtures::{assert_text, cell, halves, push_value, uploaded, write_words};
-use super::hosts::{Host, command, host_of};
-use host_names::{Cell, ChangeError, MemoryUploads};
+ghost use Rattle.host_names.specs.Blobs.{Contents};
+ghost use Rattle.site_change.specs.Uploaded.{AreUploaded};
+
+use super::fixtures::{assert_text, cell, draft, halves, push_value};
+use super::hosts::{Host, assert_told as assert_answers, command, host_of};
+use host_names::{Cell, ChangeError, MemoryUploads, SiteName};
 use site_change::{Change, Plan, decide};
-use site_state::{State, Value};
+use site_state::{Draft, State, Value};
 use std::alloc::{AllocError, Global};
 use std::process::Abort;
 use std::test::Fail;
@@ -88,7 +91,9 @@ fn told(
     uploads: &MemoryUploads,
     number: u64,
     words: &str,
-) -> Result<String, Fail> {
+) -> Result<String, Fail>
+    requires { AreUploaded uploads.now state.now }
+{
     let command = command(alloc, "one", words)?;
     told_plan(alloc, decide(alloc, state, uploads, number, &command))
 }
@@ -101,13 +106,22 @@ fn assert_told(
     uploads: &MemoryUploads,
     number: u64,
     rows: &str,
-) -> Result<(), Fail> {
+) -> Result<(), Fail>
+    requires { AreUploaded uploads.now state.now }
+{
     for row in rows.lines() {
         let (words, wanted) = halves(row, " -> ")?;
         let text = told(alloc, state, uploads, number, words)?;
         assert_text(rt, words, text.as_str(), wanted);
     }
     Ok(())
+}
+
+/// The same in the state of a host, with its uploads.
+fn assert_told_at(rt: &impl Abort, host: &Host, number: u64, rows: &str) -> Result<(), Fail> {
+    host.history.files_were_uploaded(&host.uploads);
+    let state = host.history.state();
+    assert_told(rt, host.alloc, state, &host.uploads, number, rows)
 }
 
 #[test]
@@ -131,14 +145,7 @@ restore 6 -> live /a: none, abc; live /b: abc, none; live /c: none, abc; kept 6:
 restore 7 -> live /b: abc, none; live /d: none, abc; draft 7: draft of 3, none
 remove-deploy 1 -> kept 1: tree of 2, none";
     let host = host_of(&rt, rt.alloc(), DEPLOYED)?;
-    assert_told(
-        &rt,
-        rt.alloc(),
-        host.history.state(),
-        &host.uploads,
-        10,
-        rows,
-    )
+    assert_told_at(&rt, &host, 10, rows)
 }
 
 #[test]
@@ -150,14 +157,7 @@ open /a=abc /c=abc -> no change
 open /a=abc /c=hello -> draft 6: draft of 2, draft of 2
 auto /a=abc /c=abc -> draft 6: draft of 2, draft of 2";
     let host = host_of(&rt, rt.alloc(), DEPLOYED)?;
-    assert_told(
-        &rt,
-        rt.alloc(),
-        host.history.state(),
-        &host.uploads,
-        6,
-        rows,
-    )
+    assert_told_at(&rt, &host, 6, rows)
 }
 
 /// Which of these cells a plan touches.
@@ -175,13 +175,9 @@ fn told_touched(alloc: Global, plan: &Plan, cells: &[Cell]) -> Result<String, Fa
 /// Which of these a command at the site `one` touches.
 fn touched(host: &Host, cells: &[Cell], words: &str) -> Result<String, Fail> {
     let command = command(host.alloc, "one", words)?;
-    let plan = decide(
-        host.alloc,
-        host.history.state(),
-        &host.uploads,
-        10,
-        &command,
-    )?;
+    host.history.files_were_uploaded(&host.uploads);
+    let state = host.history.state();
+    let plan = decide(host.alloc, state, &host.uploads, 10, &command)?;
     told_touched(host.alloc, &plan, cells)
 }
 
@@ -216,28 +212,45 @@ remove-deploy 1 -> kept 1, alias later, alias next";
     assert_touched(&rt, &host, cells.as_slice(), rows)
 }
 
-/// A state in which the deploy that is kept under a number is open under it too, which no history leads to.
-fn opened_again(alloc: Global) -> Result<State, Fail> {
-    let mut state = State::new(alloc);
-    write_words(alloc, &mut state, "one", "live /b", "file abc")?;
-    write_words(alloc, &mut state, "one", "kept 3", "tree /b=abc")?;
-    write_words(alloc, &mut state, "one", "draft 3", "draft /b=abc")?;
-    Ok(state)
+/// Opens a deploy at the site `one` under a number. Where a deploy is kept under it, no history leads to that.
+fn open_again(state: &mut State, number: u64, draft: Draft) -> Result<(), Fail>
+    ensures { (uploads : Contents) → AreUploaded uploads state.old → AreUploaded uploads state.new }
+{
+    let cell = Cell::Draft(SiteName::new("one")?, number);
+    let value = Some(Value::Draft(draft));
+    if !state.may_write(&cell, &value) {
+        return Err(Fail::from("a draft may be written"));
+    }
+    Ok(state.set_cell(cell, value)?)
+}
+
+/// Asserts what is told of the row in the state of a host where such a deploy is open.
+fn assert_told_opened(
+    rt: &impl Abort,
+    host: &Host,
+    number: u64,
+    files: &str,
+    row: &str,
+) -> Result<(), Fail> {
+    host.history.files_were_uploaded(&host.uploads);
+    let mut state = host.history.state().copy()?;
+    let draft = draft(host.alloc, false, false, files)?;
+    open_again(&mut state, number, draft)?;
+    assert_told(rt, host.alloc, &state, &host.uploads, 10, row)
 }
 
 #[test]
 fn publishing_what_is_kept_changes_its_draft_alone(rt: HostRuntime) -> Result<(), Fail> {
-    let state = opened_again(rt.alloc())?;
-    let uploads = uploaded(rt.alloc(), "abc")?;
+    let host = host_of(&rt, rt.alloc(), DEPLOYED)?;
     let row = "publish 3 -> draft 3: draft of 1, none";
-    assert_told(&rt, rt.alloc(), &state, &uploads, 10, row)
+    assert_told_opened(&rt, &host, 3, "/b=abc", row)
 }
 
 #[test]
 fn commands_are_refused_in_words(rt: HostRuntime) -> Result<(), Fail> {
     let rows = "\
 publish 1 -> no such draft
-publish 6 -> not complete
+publish 10 -> not complete
 cancel 1 -> no such draft
 restore 2 -> no such deploy
 remove /c -> no such file
@@ -245,7 +258,7 @@ rename /c /d -> no such file
 rename /b /b -> same path
 remove-alias later -> no such alias
 remove-deploy 3 -> the deploy is in use";
-    let host = host_of(&rt, rt.alloc(), DEPLOYED)?;
-    let nothing = MemoryUploads::new(rt.alloc());
-    assert_told(&rt, rt.alloc(), host.history.state(), &nothing, 10, rows)
+    let mut host = host_of(&rt, rt.alloc(), DEPLOYED)?;
+    assert_answers(&rt, &mut host, "one open /a=lost -> 10")?;
+    assert_told_at(&rt, &host, 11, rows)
 }
