@@ -1,2 +1,3 @@
+mod AllImages
 mod CutShort
 pub mod Runs
