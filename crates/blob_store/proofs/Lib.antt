@@ -5,3 +5,4 @@ mod Turns
 mod FileReads
 mod WantedOrder
 mod Kept
+mod KeptOpen
