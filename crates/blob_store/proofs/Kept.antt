@@ -29,7 +29,7 @@ is_eq-true Less e = cc e
 is_eq-true Equal e = refl
 is_eq-true Greater e = cc e
 
-same_digest : (a b : Digest) → (a ≡ b) ⊎ (a ≢ b)
+pub same_digest : (a b : Digest) → (a ≡ b) ⊎ (a ≢ b)
 same_digest a b =
     elim (eq_by_cmp digest_cmp a b) as (λ t. eq_by_cmp digest_cmp a b ≡ t → (a ≡ b) ⊎ (a ≢ b)) [
       | true ↦ λ e. inl (digest_cmp-IsAntisymmetric a b (is_eq-true _ e))
@@ -92,7 +92,7 @@ module _ {S : Type 0} (did : S → Call → S → Type 0) (has : S → ShelfName
 
   -- ---- what is given
 
-  same_after : (old new : S) (answers : Answers) → GivesInTurn did old answers new → (name : ShelfName) → has new name ≡ has old name
+  pub same_after : (old new : S) (answers : Answers) → GivesInTurn did old answers new → (name : ShelfName) → has new name ≡ has old name
   same_after old new [] gives name = ap (λ s. has s name) gives
   same_after old new (a ∷ answers) gives name = same_after gives.0 new answers gives.2 name ∙ keeps.stays old gives.0 a.0 name a.1 gives.1
 

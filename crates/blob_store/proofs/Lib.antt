@@ -6,3 +6,4 @@ mod FileReads
 mod Stretched
 mod WantedOrder
 mod Kept
+mod KeptOpen

@@ -94,6 +94,13 @@ impl<S: Shelf> Blobs<S> {
         }
     }
 
+    /// Hands out the shelf, without what is known.
+    pub fn into_shelf(self) -> S
+        ensures { result ≡ self.shelf }
+    {
+        self.shelf
+    }
+
     /// What is known of the file of a digest.
     pub fn find(&self, digest: &Digest) -> Option<&Arc<BlobInfo>>
         ensures found { option_map (λ info. info.now.value) result ≡ map.get self.now.known digest.now }

@@ -1,7 +1,8 @@
 //! Laws of tables and shelves, each the contract of a function that does nothing.
-ghost use Rattle.std.specs.Prelude.{◌≡◌, ℕ, ◌≤◌, List, All, None, Option, Some, length};
+ghost use Rattle.std.specs.FinMap as map;
+ghost use Rattle.std.specs.Prelude.{◌≡◌, Bool, ℕ, ◌≤◌, List, All, None, Option, Some, length};
 ghost use Rattle.std.specs.List.{Contains};
-ghost use Rattle.host_names.specs.Blobs.{digest_of};
+ghost use Rattle.host_names.specs.Blobs.{Contents, digest_of};
 ghost use Rattle.host_names.specs.declared.digests.Digest.{Digest};
 ghost use Rattle.byte_view.specs.Cuts.{cut};
 ghost use Rattle.blob_store.specs.declared.reading.ReadFault.TheVariants as read_fault;
@@ -10,6 +11,9 @@ ghost use Rattle.blob_store.specs.declared.shelves.ShelfName.TheVariants.{Part};
 ghost use Rattle.blob_store.specs.Calls.{Got, PutsInTurn, things_of};
 ghost use Rattle.blob_store.specs.Faults.{IsChunkFault};
 ghost use Rattle.blob_store.specs.Keeping.{Agree, HasFile, Keeps};
+ghost use Rattle.blob_store.specs.declared.openings.OpenFault.TheVariants as open_fault;
+ghost use Rattle.blob_store.specs.declared.openings.Wanted.{Wanted};
+ghost use Rattle.blob_store.specs.Openings.{IsOpenFault, IsOpened, need_of};
 ghost use Rattle.blob_store.specs.Reads.{IsFileFault, IsFileRead};
 ghost use Rattle.blob_store.specs.Shelves.{Does, found_in};
 ghost use Rattle.blob_store.specs.Tables.{IsTable, pieces_of, size_of, text_of};
@@ -44,6 +48,17 @@ pub fn kept_files_are_read<S: Shelf>()
         → ¬ (IsFileFault S.did old (digest_of file) read_fault.Missing new) }
     ensures file_whole { (has : S → ShelfName → Option (List ℕ)) (old new : S) (file : List ℕ) → Keeps S.did has → HasFile has old file → length file ≤ 16777216
         → ¬ (IsFileFault S.did old (digest_of file) read_fault.Damaged new) }
+{}
+
+/// A store that is opened over such a shelf knows each wanted file that the shelf has, and no such file keeps it from being opened.
+pub fn kept_files_are_known<S: Shelf>()
+    ensures known { (has : S → ShelfName → Option (List ℕ)) (old new : S) (wanted : List Wanted) (known : Contents) (file : List ℕ) (must : Bool) → Keeps S.did has
+        → HasFile has old file → length file ≤ 16777216 → need_of wanted (digest_of file) ≡ Some must
+        → IsOpened S.did old wanted known new → map.get known (digest_of file) ≡ Some file }
+    ensures there { (has : S → ShelfName → Option (List ℕ)) (old new : S) (wanted : List Wanted) (file : List ℕ) → Keeps S.did has → HasFile has old file
+        → length file ≤ 16777216 → ¬ (IsOpenFault S.did old wanted (open_fault.MissingBlob (digest_of file)) new) }
+    ensures whole { (has : S → ShelfName → Option (List ℕ)) (old new : S) (wanted : List Wanted) (file : List ℕ) → Keeps S.did has → HasFile has old file
+        → length file ≤ 16777216 → ¬ (IsOpenFault S.did old wanted (open_fault.DamagedBlob (digest_of file)) new) }
 {}
 
 /// A shelf in memory keeps what is put there.

@@ -14,7 +14,10 @@ mod tables;
 
 pub use blobs::{Blobs, UploadFault};
 pub use files::read_file;
-pub use laws::{files_have_tables, kept_files_are_read, shelves_in_memory_keep, uploads_are_kept};
+pub use laws::{
+    files_have_tables, kept_files_are_known, kept_files_are_read, shelves_in_memory_keep,
+    uploads_are_kept,
+};
 pub use mem_shelf::MemShelf;
 pub use openings::{OpenFault, Wanted};
 pub use reading::ReadFault;

@@ -1,0 +1,5 @@
+//! Stores over shelves in memory, and over shelves that answer wrong.
+mod fixtures;
+mod openings;
+mod uploads;
+mod wrong_shelves;
