@@ -1,5 +1,6 @@
 /* Stands before the C library's malloc and realloc in a program, and refuses one call of these: that at the place
- * REFUSED_PLACE, counted from 1. At the end it writes how many there were to the file ALLOCATIONS_FILE, if that is named. */
+ * REFUSED_PLACE, counted from 1. At the end it writes how many there were to the file ALLOCATIONS_FILE, if that is named. A
+ * program with threads ends by _exit, which calls no destructor. */
 #define _GNU_SOURCE
 #include <dlfcn.h>
 #include <stdio.h>
@@ -13,7 +14,7 @@ static unsigned long refused_place(void) {
 }
 
 static int is_refused(void) {
-    return ++count == refused_place();
+    return __atomic_add_fetch(&count, 1, __ATOMIC_SEQ_CST) == refused_place();
 }
 
 static void *next(const char *name) {
@@ -40,4 +41,11 @@ __attribute__((destructor)) static void tell(void) {
     if (!file) return;
     fprintf(file, "%lu\n", seen);
     fclose(file);
+}
+
+void _exit(int status) {
+    void (*real)(int) = (void (*)(int))next("_exit");
+    tell();
+    real(status);
+    __builtin_unreachable();
 }
