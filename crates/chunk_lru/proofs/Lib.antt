@@ -3,3 +3,4 @@ mod Entries
 mod Evictions
 mod Lookups
 mod Fewest
+mod OwnNames

@@ -59,16 +59,17 @@ size_of-to_front name chunks = sum_by-moved (λ chunk. 40 + length chunk) (has_n
 pub inserted-absent : (chunk : List ℕ) (chunks : List (List ℕ)) → found (digest_of chunk) chunks ≡ None → inserted chunk chunks ≡ chunk ∷ chunks
 inserted-absent chunk chunks none = ap (λ o. if is_some o then to_front (digest_of chunk) chunks else chunk ∷ chunks) none
 
+-- what passes the test has the name
+pub same_name : (name : Digest) (chunk : List ℕ) → has_name name chunk ≡ true → digest_of chunk ≡ name
+same_name name chunk passes = ap (λ (bytes : List ℕ). let d : Digest = record { 0 = bytes } in d) (sym ((bytes_eq-Decides name.0 (digest_of chunk).0).0 passes))
+
 -- what is found has the name
 pub found-name : (name : Digest) (chunks : List (List ℕ)) (chunk : List ℕ) → found name chunks ≡ Some chunk → digest_of chunk ≡ name
 found-name name [] chunk none = cc none
 found-name name (c ∷ chunks) chunk some = by (has_name name c) refl some (found-name name chunks chunk)
   where
-    same : has_name name c ≡ true → digest_of c ≡ name
-    same passes = ap (λ (bytes : List ℕ). let d : Digest = record { 0 = bytes } in d) (sym ((bytes_eq-Decides name.0 (digest_of c).0).0 passes))
-
     by : (b : Bool) → has_name name c ≡ b → cond b (Some c) (found name chunks) ≡ Some chunk → (found name chunks ≡ Some chunk → digest_of chunk ≡ name) → digest_of chunk ≡ name
-    by true passes here h = ap digest_of (let is : chunk ≡ c = cc here in is) ∙ same passes
+    by true passes here h = ap digest_of (let is : chunk ≡ c = cc here in is) ∙ same_name name c passes
     by false fails later h = h later
 
 -- each counts 40 at least

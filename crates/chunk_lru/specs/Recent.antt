@@ -1,5 +1,5 @@
 -- Chunks in the order of their last use, the latest first. Each is its bytes.
-use Rattle.std.specs.Prelude.{ℕ, ◌+◌, ◌-◌, ◌≡◌, Bool, List, ◌∷◌, Option, if◌then◌else◌, is_some, length, map, take}
+use Rattle.std.specs.Prelude.{ℕ, ◌+◌, ◌-◌, ◌≡◌, Bool, List, [], ◌∷◌, None, Option, if◌then◌else◌, is_some, length, map, take}
 use Rattle.std.specs.List.{AllByRecursion, cons_option, find, sum_by}
 use Rattle.std.specs.Set.{remove_key}
 use Rattle.std.specs.Str.{bytes_eq}
@@ -25,6 +25,11 @@ inserted chunk chunks = if is_some (found (digest_of chunk) chunks) then to_fron
 -- all but the one that was used the longest ago
 abbrev pub without_last : List (List ℕ) → List (List ℕ)
 without_last chunks = take (length chunks - 1) chunks
+
+-- no two have one name: none is found under the name of one before it
+abbrev pub HaveOwnNames : List (List ℕ) → Type 0
+HaveOwnNames [] = Unit {0}
+HaveOwnNames (chunk ∷ chunks) = (found (digest_of chunk) chunks ≡ None) × HaveOwnNames chunks
 
 -- what they count together: 40 for each, and its bytes
 abbrev pub size_of : List (List ℕ) → ℕ
