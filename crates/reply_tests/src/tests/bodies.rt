@@ -7,6 +7,7 @@ use byte_view::BlobInfo;
 use range_reply::{Boundary, IfRange, ReplyPlan, body, boundary, multipart_length, plan};
 use range_spec::{Choice, parse};
 use std::alloc::Global;
+use std::process::Abort;
 use std::str;
 use std::test::Fail;
 
@@ -43,10 +44,22 @@ fn answered(alloc: Global, cut: &CutFile, value: &str) -> Result<Vec<u8>, Fail> 
     sent(alloc, cut, &planned)
 }
 
+/// Asserts which text is sent where a Range field has this value.
+fn assert_sent(
+    rt: &impl Abort,
+    alloc: Global,
+    file: &CutFile,
+    value: &str,
+    wanted: &str,
+) -> Result<(), Fail> {
+    let body = answered(alloc, file, value)?;
+    assert_text(rt, value, str::from_utf8(body.as_slice())?, wanted);
+    Ok(())
+}
+
 #[test]
 fn several_ranges_are_sent_in_parts(rt: HostRuntime) -> Result<(), Fail> {
     let file = cut(rt.alloc(), b"hello world")?;
-    let body = answered(rt.alloc(), &file, "bytes=0-4,-5")?;
     let wanted = "--fh0-2aae6c35c94fcfb415dbe95f408b9ce91ee846ed\r
 Content-Type: text/plain; charset=utf-8\r
 Content-Range: bytes 0-4/11\r
@@ -59,8 +72,16 @@ Content-Range: bytes 6-10/11\r
 world\r
 --fh0-2aae6c35c94fcfb415dbe95f408b9ce91ee846ed--\r
 ";
-    assert_eq!(rt; body.len(), 305);
-    assert_text(&rt, "0-4,-5", str::from_utf8(body.as_slice())?, wanted);
+    assert_eq!(rt; wanted.len(), 305);
+    assert_sent(&rt, rt.alloc(), &file, "bytes=0-4,-5", wanted)
+}
+
+/// Asserts of each row which text is sent of a file.
+fn assert_rows(rt: &impl Abort, alloc: Global, file: &CutFile, rows: &str) -> Result<(), Fail> {
+    for row in rows.lines() {
+        let (value, wanted) = halves(row, " -> ")?;
+        assert_sent(rt, alloc, file, value, wanted)?;
+    }
     Ok(())
 }
 
@@ -75,15 +96,13 @@ bytes=11- ->
 bytes=-0 -> 
 bytes=0-9,0-9 -> hello world
 bytes=4-2 -> hello world";
-    for row in rows.lines() {
-        let (value, wanted) = halves(row, " -> ")?;
-        let body = answered(rt.alloc(), &file, value)?;
-        assert_text(&rt, value, str::from_utf8(body.as_slice())?, wanted);
-    }
-    let empty = cut(rt.alloc(), b"")?;
-    let none = answered(rt.alloc(), &empty, "bytes=-5")?;
-    assert_eq!(rt; none.len(), 0);
-    Ok(())
+    assert_rows(&rt, rt.alloc(), &file, rows)
+}
+
+#[test]
+fn nothing_is_sent_of_an_empty_file(rt: HostRuntime) -> Result<(), Fail> {
+    let file = cut(rt.alloc(), b"")?;
+    assert_rows(&rt, rt.alloc(), &file, "bytes=-5 -> \nbytes=0- -> ")
 }
 
 /// So many zeros.
@@ -91,25 +110,31 @@ fn zeros(alloc: Global, count: usize) -> Result<Vec<u8>, Fail> {
     Ok(Vec::from_elem(alloc, 0u8, count)?)
 }
 
-/// Whether so many zeros are sent of a file.
-fn are_sent(alloc: Global, cut: &CutFile, value: &str, count: usize) -> Result<bool, Fail> {
-    let wanted = zeros(alloc, count)?;
-    Ok(answered(alloc, cut, value)?.as_slice() == wanted.as_slice())
+/// Asserts that so many zeros are sent of a file, as `bytes=5-6 -> 2`.
+fn assert_zeros(rt: &impl Abort, alloc: Global, file: &CutFile, row: &str) -> Result<(), Fail> {
+    let (value, count) = halves(row, " -> ")?;
+    let wanted = zeros(alloc, count.parse::<usize>()?)?;
+    let body = answered(alloc, file, value)?;
+    assert_holds(rt, row, body.as_slice() == wanted.as_slice(), true);
+    Ok(())
+}
+
+/// A file of so many zeros.
+fn file_of_zeros(alloc: Global, count: usize) -> Result<CutFile, Fail> {
+    let bytes = zeros(alloc, count)?;
+    cut(alloc, bytes.as_slice())
 }
 
 #[test]
 fn what_is_sent_goes_on_across_the_edge_of_a_chunk(rt: HostRuntime) -> Result<(), Fail> {
-    let bytes = zeros(rt.alloc(), 65_537)?;
-    let file = cut(rt.alloc(), bytes.as_slice())?;
+    let file = file_of_zeros(rt.alloc(), 65_537)?;
     let rows = "\
 bytes=65535-65536 -> 2
 bytes=65530- -> 7
 bytes=0- -> 65537
 bytes -> 65537";
     for row in rows.lines() {
-        let (value, count) = halves(row, " -> ")?;
-        let are_sent = are_sent(rt.alloc(), &file, value, count.parse::<usize>()?)?;
-        assert_holds(&rt, row, are_sent, true);
+        assert_zeros(&rt, rt.alloc(), &file, row)?;
     }
     Ok(())
 }
