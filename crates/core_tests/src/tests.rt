@@ -1,5 +1,6 @@
 //! One file of tests for each library, and what they share.
 mod blocks;
+mod caches;
 mod commands;
 mod copies;
 mod fixtures;
