@@ -175,7 +175,7 @@ impl<S: Shelf> Blobs<S> {
 impl<S: Shelf + Drop> Blobs<S> {
     /// A store over a shelf that may have files. Each wanted file is read whole, in the order of the digests, and those that
     /// the shelf gave whole are known. One that is missing or damaged isn't known, and is a fault where it must be there: the
-    /// first such one, and no later file is read. A digest that is wanted twice must be there if it must for either. A failure
+    /// first such one. A digest that is wanted twice must be there if it must for either. A failure
     /// of the device is a fault at any file.
     pub fn open(alloc: Global, shelf: S, wanted: &[Wanted]) -> Result<Blobs<S>, OpenFault>
         ensures opened { IfOk result (λ blobs. IsOpened S.did shelf wanted.now blobs.known blobs.shelf) }

@@ -26,7 +26,8 @@ pub fn files_have_tables()
     ensures size { (size : ℕ) (names : List Digest) → size ≤ 16777216 → size_of (text_of size names) ≡ size }
 {}
 
-/// A shelf that keeps what is put there has a file that was uploaded, and the files that it had, where no two pieces share a digest and differ.
+/// A shelf that keeps what is put there has a file that was uploaded, and the files that it had, where no two pieces, nor the two
+/// files, share a digest and differ.
 pub fn uploads_are_kept<S: Shelf>()
     ensures uploaded { (has : S → ShelfName → Option (List ℕ)) (old new : S) (file : List ℕ) → Keeps S.did has → Agree (things_of file) (things_of file)
         → PutsInTurn S.did old (things_of file) None new → HasFile has new file }

@@ -13,7 +13,7 @@ use std::marker::Model;
 use std::num::NonZeroUsize;
 use std::sync::Arc;
 
-/// One of the two caches: of chunks that a node owns, or of those that its peers gave it.
+/// One of the two caches: of chunks that the source gave, or of those that a peer gave.
 #[derive(Clone, Copy, Debug, PartialEq, Eq)]
 pub enum Which {
     Main,

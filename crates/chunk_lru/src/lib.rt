@@ -1,4 +1,4 @@
-//! Two caches of chunks under one limit: of what a node owns, and of what its peers gave it.
+//! Two caches of chunks under one limit: of what the source gave, and of what a peer gave.
 #![tactic(auto)]
 
 mod caches;
