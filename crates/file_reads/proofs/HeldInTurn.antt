@@ -76,23 +76,16 @@ module _ {H : Type 0} (gave : H → Held → H → Type 0) where
         let after = longer h.0 new h.1 h.2 h.3 h.4 in
         (after.done, rest, holds ++ h.0 ∷ [], new, sym after.all, after.held, inr (fault.0, refl))
 
-  module _ (failed : H → List ℕ → ℕ → ℕ → ReadFault → H → Type 0) (file : List ℕ) (old mid new : H) (why : ReadFault) where
+  module _ (failed : H → List ℕ → ℕ → ℕ → ReadFault → H → Type 0) (file : List ℕ) (old new : H) (why : ReadFault) where
     -- all were held, and there was no memory then
     pub no_room : (stretches : List (ℕ × ℕ)) (holds : List Held) → AreHeld gave old file stretches holds new → why ≡ OutOfMemory → AreNotHeld gave failed old file stretches why new
     no_room stretches holds held is = (stretches, [], holds, new, sym (append-nil stretches), held, inr (is, refl))
 
-    -- some were held, and of others one wasn't
-    pub not_later : (first second : List (ℕ × ℕ)) (xs : List Held) → AreHeld gave old file first xs mid → AreNotHeld gave failed mid file second why new
-        → AreNotHeld gave failed old file (first ++ second) why new
-    not_later first second xs held fault =
-        let before = fault.0 in
-        let left = fault.1 in
-        let ys = fault.2 in (
-          first ++ before,
-          left,
-          xs ++ ys,
-          fault.3,
-          ap (λ l. first ++ l) fault.4 ∙ sym (append_assoc first before left),
-          held_more file old mid fault.3 first before xs ys held fault.5,
-          fault.6,
-        )
+  -- nothing is held
+  pub nothing_held : (file : List ℕ) (old : H) (stretches : List (ℕ × ℕ)) → stretches ≡ [] → AreHeld gave old file stretches [] old
+  nothing_held file old stretches none = subst (λ l. AreHeld gave old file l [] old) (sym none) (record {
+    same_file = All-nil (λ (h : Held). h.file ≡ file);
+    in_order = refl;
+    lawful = All-nil IsHeld;
+    given = refl;
+  })

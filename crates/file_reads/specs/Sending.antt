@@ -1,5 +1,6 @@
 -- What is sent of a file where a plan asks for some of its bytes.
-use Rattle.std.specs.Prelude.{◌≡◌, ◌⊎◌, ℕ, nat_lt, Bool, true, false, List, ◌++◌, All, length, map, Option, Some, None}
+use Rattle.std.specs.Prelude.{◌≡◌, ◌⊎◌, ℕ, nat_lt, Bool, true, false, List, [], ◌++◌, All, length, map, Option, Some, None}
+use Rattle.std.specs.List.{concat}
 use Rattle.host_names.specs.declared.digests.Digest.{Digest}
 use Rattle.host_names.specs.Blobs.{digest_of}
 use Rattle.byte_view.specs.Cuts.{IsPure, slice}
@@ -8,9 +9,10 @@ use Rattle.range_spec.specs.declared.selection.Choice.{Choice}
 use Rattle.range_spec.specs.declared.selection.Choice.TheVariants.{Whole, Many, None416}
 use Rattle.range_spec.specs.Chosen.{intervals_in}
 use Rattle.range_reply.specs.declared.boundaries.Boundary.{Boundary}
-use Rattle.range_reply.specs.Bodies.{body_text, stretches, text_in, whole_of}
+use Rattle.range_reply.specs.Bodies.{body_text, shown_text, stretches, text_in, whole_of}
 use Rattle.range_reply.specs.Boundaries.{HasNoBoundary, IsBoundaryFor}
 use Rattle.range_reply.specs.Multipart.{text_of}
+use Rattle.range_reply.specs.Slices.{all_shown}
 use Rattle.file_reads.specs.declared.bodies.FileBody.{FileBody}
 use Rattle.blob_store.specs.declared.reading.ReadFault.{ReadFault}
 use Rattle.file_reads.specs.Holding.{AreHeld, AreNotHeld}
@@ -31,22 +33,34 @@ pub record IsExact (file : List ℕ) (plan : Choice) (content_type : List ℕ) (
   pub sent : IsSent (slices_of file (intervals_in plan)) (digest_of file) plan body.boundary body.plan
   pub bytes : body.bytes.items ≡ body_text (text_in body.boundary) content_type file body.plan
 
--- the stretches that a plan asks for are held, and then, where several parts have no boundary, all of the file
-abbrev pub AreWanted : List ℕ → Choice → List (ℕ × ℕ) → Type 0
-AreWanted file plan held = (held ≡ stretches (length file) plan) ⊎ (held ≡ stretches (length file) plan ++ whole_of (length file))
+-- the stretches that are held after those of a plan: all of the file, where it has several parts and no boundary
+abbrev pub more_of : ℕ → Choice → Option Boundary → List (ℕ × ℕ)
+more_of size (Many intervals) None = whole_of size
+more_of size plan boundary = []
 
--- what a plan asks for is read of a file: its stretches were held, and where no held chunk differs from a piece of the file that has its
--- digest, the body is that of the file itself
+-- the holds of what is sent: those of the plan, or the ones after them
+abbrev pub sent_holds : List Held → List Held → Choice → Option Boundary → List Held
+sent_holds holds more (Many intervals) None = more
+sent_holds holds more plan boundary = holds
+
+-- what a plan asks for is read of a file: its stretches were held, and all of the file after them where several parts have no boundary; the body is
+-- what the chunks show, and where none of them differs from a piece of the file that has its digest, that of the file itself
 pub record IsRead {H : Type 0} (gave : H → Held → H → Type 0) (old : H) (file : List ℕ) (plan : Choice) (content_type : List ℕ) (body : FileBody) (new : H) : Type 0 where
-  pub stretches_held : List (ℕ × ℕ)
-  pub wanted : AreWanted file plan stretches_held
   pub holds : List Held
-  pub held : AreHeld gave old file stretches_held holds new
-  pub exact : All (λ h. All (IsPure file) h.chunks) holds → IsExact file plan content_type body
+  pub mid : H
+  pub held : AreHeld gave old file (stretches (length file) plan) holds mid
+  pub sent : IsSent (all_shown holds) (digest_of file) plan body.boundary body.plan
+  pub more : List Held
+  pub more_held : AreHeld gave mid file (more_of (length file) plan body.boundary) more new
+  pub bytes : body.bytes.items ≡ shown_text (text_in body.boundary) content_type (sent_holds holds more plan body.boundary) body.plan
+  pub exact : All (λ h. All (IsPure file) h.chunks) (holds ++ more) → IsExact file plan content_type body
 
--- why it isn't read: its stretches can't be held
+-- why it isn't read: the stretches of the plan can't be held; or each boundary occurs in one of several parts, and all of the file can't be
 abbrev pub IsNotRead : {H : Type 0} → (gave : H → Held → H → Type 0) → (failed : H → List ℕ → ℕ → ℕ → ReadFault → H → Type 0) → H → List ℕ → Choice → ReadFault → H → Type 0
-IsNotRead gave failed old file plan why new = (held : List (ℕ × ℕ)) × AreWanted file plan held × AreNotHeld gave failed old file held why new
+IsNotRead {H} gave failed old file plan why new =
+    AreNotHeld gave failed old file (stretches (length file) plan) why new
+    ⊎ ((intervals : List (ℕ × ℕ)) × (holds : List Held) × (mid : H) × (plan ≡ Many intervals) × AreHeld gave old file intervals holds mid
+    × HasNoBoundary (all_shown holds) (digest_of file) × AreNotHeld gave failed mid file (whole_of (length file)) why new)
 
 -- whether a plan sends a byte of a file of this many bytes
 abbrev pub sends_bytes : ℕ → Choice → Bool
@@ -56,7 +70,13 @@ sends_bytes size plan = true
 
 -- ---- what private functions say
 
--- all of a file is held, and where no held chunk differs from a piece of the file that has its digest, these are its bytes
+-- all of a file is held, these are the bytes that its chunks show, and where none of them differs from a piece of the file that has its digest,
+-- those of the file
 abbrev pub IsWholeRead : {H : Type 0} → (gave : H → Held → H → Type 0) → H → List ℕ → List ℕ → H → Type 0
 IsWholeRead gave old file bytes new =
-    (holds : List Held) × AreHeld gave old file (whole_of (length file)) holds new × (All (λ h. All (IsPure file) h.chunks) holds → bytes ≡ file)
+    (holds : List Held) × AreHeld gave old file (whole_of (length file)) holds new × (bytes ≡ concat (all_shown holds))
+    × (All (λ h. All (IsPure file) h.chunks) holds → bytes ≡ file)
+
+-- a plan has several parts
+abbrev pub HasParts : Choice → Type 0
+HasParts plan = (intervals : List (ℕ × ℕ)) × (plan ≡ Many intervals)

@@ -11,7 +11,7 @@ use Rattle.blob_store.specs.Stretches.{IsStretchFault, chunks_given}
 abbrev pub HoldsOfStore : {S : Type 0} → (did : S → Call → S → Type 0) → S → Held → S → Type 0
 HoldsOfStore did old hold new = GivesInTurn did old (chunks_given hold.chunks) new
 
--- the fault is what the shelf answered, and a device is blamed only where it failed
+-- the fault is what the shelf answered, or want of memory, and a device is blamed only where it failed
 abbrev pub FailsOnStore : {S : Type 0} → (did : S → Call → S → Type 0) → (failures : S → ℕ) → S → List ℕ → (first last : ℕ) → ReadFault → S → Type 0
 FailsOnStore did failures old file first last fault new =
     IsStretchFault did old file first last fault new × (fault ≡ Device → failures old < failures new)

@@ -1,12 +1,12 @@
 //! The body that sends some bytes of a file.
-ghost use Rattle.std.specs.Prelude.{◌≡◌, ◌<◌, ℕ, All, IfErr, IfOk, IsTrue, MatchResult, None, length};
+ghost use Rattle.std.specs.Prelude.{◌≡◌, ◌<◌, All, IfErr, IfOk, IsTrue, MatchResult, None, length};
 ghost use Rattle.blob_store.specs.declared.reading.ReadFault.TheVariants.{OutOfMemory};
-ghost use Rattle.range_reply.specs.Bodies.{AreFor, HasBoundary, body_text, text_in, whole_of};
-ghost use Rattle.range_reply.specs.Slices.{ArePure, all_meant};
+ghost use Rattle.range_reply.specs.Bodies.{AreFor, HasBoundary, body_text, shown_text, text_in, whole_of};
+ghost use Rattle.range_reply.specs.Slices.{ArePure, all_meant, all_shown};
 ghost use Rattle.range_spec.specs.Chosen.{LiesWithin, intervals_in};
 ghost use Rattle.range_spec.specs.declared.selection.Choice.TheVariants as choice;
 ghost use Rattle.file_reads.specs.Holding.{AreNotHeld};
-ghost use Rattle.file_reads.specs.Sending.{IsNotRead, IsRead, IsSent, IsWholeRead, sends_bytes};
+ghost use Rattle.file_reads.specs.Sending.{HasParts, IsNotRead, IsRead, IsSent, IsWholeRead, sends_bytes};
 
 use crate::holders::Holder;
 use crate::stretches::{hold_for, hold_whole};
@@ -39,7 +39,8 @@ fn boundary_for(
     digest: Digest,
 ) -> Result<Option<Boundary>, NoBoundary>
     ensures separated { IfOk result (λ found. HasBoundary found plan.now) }
-    ensures several { IfErr result (λ _. (size : ℕ) → IsTrue (sends_bytes size plan.now)) }
+    ensures several { IfErr result (λ _. HasParts plan.now) }
+    ensures shown { MatchResult result (λ found. IsSent (all_shown holds.now) digest plan.now found plan.now) (λ _. IsSent (all_shown holds.now) digest plan.now None choice.Whole) }
     ensures pure { ArePure holds.now → MatchResult result (λ found. IsSent (all_meant holds.now) digest plan.now found plan.now) (λ _. IsSent (all_meant holds.now) digest plan.now None choice.Whole) }
 {
     match plan {
@@ -60,6 +61,7 @@ fn join(
     requires held { AreFor holds.now info.now plan.now }
     requires within { All (LiesWithin (length info.now)) (intervals_in plan.now) }
     requires separated { HasBoundary boundary plan.now }
+    ensures text { IfOk result (λ bytes. bytes.items ≡ shown_text (text_in boundary) content_type.now holds.now plan.now) }
     ensures pure { ArePure holds.now → IfOk result (λ bytes. bytes.items ≡ body_text (text_in boundary) content_type.now info.now plan.now) }
     ensures fault { IfErr result (λ fault. fault ≡ OutOfMemory) }
     ensures memory { IfErr result (λ _. 0 < length (body_text (text_in boundary) content_type.now info.now plan.now)) }

@@ -1,8 +1,8 @@
 use Rattle.std.proofs.Common.{rules, ◌≡◌, IfOk, sym, subst}
-use Rattle.std.proofs.lemmas.Result.{IfOk-weaker}
-use Rattle.range_reply.specs.Slices.{ArePure}
+use Rattle.std.specs.List.{concat}
+use Rattle.range_reply.specs.Slices.{ArePure, all_shown}
 use Rattle.file_reads.specs.Sending.{IsWholeRead}
-use Rattle.file_reads.proofs.Joined.{are_pure, ok_when}
+use Rattle.file_reads.proofs.Joined.{are_pure, ok_both, ok_when}
 use Rattle.file_reads.proofs.bodies.read_whole.Goals as goal
 
 pub returns-clause-read : goal.returns-clause-read
@@ -14,6 +14,9 @@ returns-clause-read g c =
     let of_file : c.deref.result.now ≡ file = search rules in
     let joined : ArePure holds → IfOk c.join.result (λ bytes. bytes.items ≡ file) =
     λ pure. subst (λ f. IfOk c.join.result (λ bytes. bytes.items ≡ f)) of_file (c.join.ensures.pure (subst ArePure (sym seen) pure)) in
-    IfOk-weaker c.join.result (λ bytes. ArePure holds → bytes.items ≡ file) (λ bytes. IsWholeRead g.H.Holder.gave c.args.holder.now file bytes.items c.hold_whole.new.holder)
-    (λ bytes same. (holds, held, λ pure. same (are_pure file holds held.same_file held.lawful pure)))
-    (ok_when c.join.result (ArePure holds) (λ bytes. bytes.items ≡ file) joined)
+    let shown : IfOk c.join.result (λ bytes. bytes.items ≡ concat (all_shown holds)) =
+    subst (λ hs. IfOk c.join.result (λ bytes. bytes.items ≡ concat (all_shown hs))) seen c.join.ensures.text in
+    ok_both c.join.result (λ bytes. bytes.items ≡ concat (all_shown holds)) (λ bytes. ArePure holds → bytes.items ≡ file)
+    (λ bytes. IsWholeRead g.H.Holder.gave c.args.holder.now file bytes.items c.hold_whole.new.holder)
+    (λ bytes shows same. (holds, held, shows, λ pure. same (are_pure file holds held.same_file held.lawful pure)))
+    shown (ok_when c.join.result (ArePure holds) (λ bytes. bytes.items ≡ file) joined)
