@@ -1,3 +1,4 @@
+mod Stored
 mod TableTexts
 mod Shelved
 mod Additions

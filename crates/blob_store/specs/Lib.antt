@@ -1,4 +1,5 @@
 -- what public clauses say
+pub mod Files
 pub mod Tables
 pub mod Calls
 pub mod Faults

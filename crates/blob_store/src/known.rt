@@ -20,7 +20,8 @@ impl Model for Known {
     ghost use Rattle.std.specs.Coded.{coded_ℕ, coded_list};
     ghost use Rattle.std.specs.FinMap as map;
     ghost use Rattle.host_names.specs.Digests.{coded_digest};
-    ghost use Rattle.host_names.specs.Blobs.{Contents, AreDigested, stored};
+    ghost use Rattle.host_names.specs.Blobs.{Contents, AreDigested};
+    ghost use Rattle.blob_store.specs.Files.{stored};
 
     ghost Value = { Contents };
 

@@ -1,2 +1,1 @@
 pub mod HexText
-pub mod Stored

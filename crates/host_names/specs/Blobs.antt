@@ -1,6 +1,6 @@
 -- What has been uploaded.
-use Rattle.std.specs.Prelude.{◌≡◌, ℕ, List, map, Some, if◌then◌else◌}
-use Rattle.std.specs.FinMap.{FinMap, get, contains_key, insert, from_entries}
+use Rattle.std.specs.Prelude.{◌≡◌, ℕ, List, Some, if◌then◌else◌}
+use Rattle.std.specs.FinMap.{FinMap, get, contains_key, insert}
 use Rattle.sha1.specs.Sha1 as sha
 use Rattle.host_names.specs.declared.digests.Digest.{Digest}
 use Rattle.host_names.specs.Digests.{digest_cmp}
@@ -20,7 +20,3 @@ AreDigested files = (digest : Digest) (bytes : List ℕ) → get files digest �
 -- the files with one more; a digest that names a file already keeps that file
 abbrev pub with_file : Contents → List ℕ → Contents
 with_file files bytes = if contains_key files (digest_of bytes) then files else insert files (digest_of bytes) bytes
-
--- the bytes of files that are kept in a list
-abbrev pub stored : {File : Type 0} → (File → List ℕ) → List (Digest × File) → Contents
-stored bytes files = from_entries (map (λ e. (e.0, bytes e.1)) files)

@@ -20,7 +20,8 @@ use crate::commands::Command;
 use crate::plans::Plan;
 use crate::publishing::{publish, restore};
 use crate::touched::TouchedCells;
-use host_names::{Cell, ChangeError, ChangeRefusal, SiteName, Uploads};
+use byte_view::Uploads;
+use host_names::{Cell, ChangeError, ChangeRefusal, SiteName};
 use site_state::{Draft, Listing, State, Value};
 use std::alloc::{AllocError, Global};
 

@@ -21,7 +21,8 @@ use crate::plans::{Change, Plan, push_change};
 use crate::touched::{Touched, TouchedCells};
 use crate::trees::{file_at, tree_of};
 use crate::uploads::uploads_are_digested;
-use host_names::{Cell, CellRef, ChangeError, ChangeRefusal, Digest, FilePath, SiteName, Uploads};
+use byte_view::Uploads;
+use host_names::{Cell, CellRef, ChangeError, ChangeRefusal, Digest, FilePath, SiteName};
 use site_state::{Draft, Listing, State, Tree, Value, least_missing};
 use std::alloc::{AllocError, Global};
 

@@ -4,7 +4,8 @@ ghost use Rattle.std.specs.FinMap as map;
 ghost use Rattle.site_state.specs.Missing.{if_lacking, least_missing_of};
 ghost use Rattle.site_change.specs.Changes as changes;
 
-use host_names::{Digest, FilePath, Uploads};
+use byte_view::Uploads;
+use host_names::{Digest, FilePath};
 use site_state::{File, Listing, PathMap, Tree};
 use std::alloc::{AllocError, Global};
 use std::sync::Arc;

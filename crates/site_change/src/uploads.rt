@@ -1,7 +1,8 @@
 //! What is known of all uploads.
 ghost use Rattle.host_names.specs.Blobs.{AreDigested};
 
-use host_names::{Digest, Uploads};
+use byte_view::Uploads;
+use host_names::Digest;
 
 /// Each file is there under its own digest. The work is one look-up.
 pub fn uploads_are_digested<U: Uploads>(uploads: &U)

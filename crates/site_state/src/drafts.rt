@@ -4,7 +4,8 @@ ghost use Rattle.site_state.specs.Missing;
 ghost use Rattle.site_state.specs.Missing.{AreMissing, first_lacking_of, least_missing_of};
 
 use crate::values::Draft;
-use host_names::{Digest, FilePath, Uploads};
+use byte_view::Uploads;
+use host_names::{Digest, FilePath};
 use std::alloc::{AllocError, Global};
 
 fn is_lacking<U: Uploads>(uploads: &U, digest: &Digest) -> bool

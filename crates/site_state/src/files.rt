@@ -1,15 +1,16 @@
 //! A file as the state keeps it.
-ghost use Rattle.std.specs.Prelude.{◌≡◌};
+ghost use Rattle.std.specs.Prelude.{◌≡◌, length};
 ghost use Rattle.std.specs.Cmp.{partial_equiv_from_equiv};
 ghost use Rattle.site_state.specs.Values.{one_digest};
 ghost use Rattle.site_state.specs.SameValues.{one_digest-equiv};
 
-use host_names::{BlobInfo, Digest};
+use byte_view::BlobInfo;
+use host_names::Digest;
 use std::alloc::AllocError;
 use std::marker::Model;
 use std::sync::Arc;
 
-/// An uploaded file, which the state shares with what else holds it. Contracts see its bytes.
+/// An uploaded file: what is kept of it without its bytes, shared with what else holds it. Contracts see its bytes.
 #[derive(Drop)]
 pub struct File {
     info: Arc<BlobInfo>,
@@ -33,11 +34,18 @@ impl File {
         File { info }
     }
 
-    /// Its bytes.
-    pub fn bytes(&self) -> &[u8]
+    /// What is kept of it without its bytes.
+    pub fn info(&self) -> &BlobInfo
         ensures { result.now ≡ self.now }
     {
-        self.info.bytes()
+        &self.info
+    }
+
+    /// How many bytes it has.
+    pub fn len(&self) -> usize
+        ensures { result ≡ length self.now }
+    {
+        self.info.len()
     }
 
     /// The digest of its bytes.

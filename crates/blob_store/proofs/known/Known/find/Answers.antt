@@ -1,7 +1,7 @@
 use Rattle.std.proofs.Common.{◌≡◌, Option, Some, None, option_map, option_copied, refl, sym, ap, ◌∙◌}
 use Rattle.std.specs.FinMap as map
 use denote.Ref.{Bor}
-use Rattle.host_names.proofs.Stored.{get-stored}
+use Rattle.blob_store.proofs.Stored.{get-stored}
 use Rattle.blob_store.proofs.known.Known.find.Goals as goal
 
 -- what a reference that was found refers to

@@ -1,6 +1,6 @@
 use Rattle.std.proofs.Common.{rules, refl, ap, ◌∙◌}
 use Rattle.host_names.specs.Blobs.{digest_of}
-use Rattle.host_names.proofs.Stored.{new_file}
+use Rattle.blob_store.proofs.Stored.{new_file}
 use Rattle.host_names.specs.declared.digests.Digest.{Digest}
 use Rattle.blob_store.proofs.known.Known.keep.Goals as goal
 

@@ -1,4 +1,4 @@
-use Rattle.host_names.proofs.Stored.{AreDigested-none}
+use Rattle.blob_store.proofs.Stored.{AreDigested-none}
 use Rattle.blob_store.proofs.known.Known.new.Goals as goal
 
 pub invariant_of-result : goal.invariant_of-result

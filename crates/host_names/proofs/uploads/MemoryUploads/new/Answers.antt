@@ -1,5 +1,0 @@
-use Rattle.host_names.proofs.Stored.{AreDigested-none}
-use Rattle.host_names.proofs.uploads.MemoryUploads.new.Goals as goal
-
-pub invariant_of-result : goal.invariant_of-result
-invariant_of-result c = AreDigested-none (λ file. file.value) _ c.new.ensures.empty
