@@ -16,6 +16,7 @@ ghost use Rattle.blob_store.specs.declared.shelves.ShelfFault.TheVariants as she
 ghost use Rattle.blob_store.specs.declared.blobs.UploadFault.TheVariants as upload_fault;
 
 use crate::known::Known;
+use crate::shelf_files::Files;
 use crate::openings::{OpenFault, Wanted, in_order, take_files};
 use crate::reading::{ReadFault, read_chunk};
 use crate::shelves::{Shelf, ShelfFault, ShelfName};
@@ -81,6 +82,33 @@ fn put_file<S: Shelf>(
     shelf.put(ShelfName::Table(info.digest()), table)
 }
 
+/// Puts a file of at most `MAX_SIZE` bytes on a shelf, and answers what is kept of it.
+pub(crate) fn put_whole<S: Shelf>(
+    alloc: Global,
+    shelf: &mut S,
+    digest: Digest,
+    bytes: &[u8],
+) -> Result<Arc<BlobInfo>, UploadFault>
+    requires { digest ≡ digest_of bytes.now }
+    ensures large { (result ≡ Err upload_fault.TooLarge) ↔ (16777216 < length bytes.now) }
+    ensures info { IfOk result (λ info. info.value ≡ bytes.now) }
+    ensures put { OnOk result (PutsInTurn S.did shelf.old (things_of bytes.now) None shelf.new) }
+    ensures not_put { IfErr result (λ fault. HasPutSome S.did shelf.old (things_of bytes.now) fault shelf.new) }
+    ensures device { IfErr result (λ fault. fault ≡ upload_fault.Device → S.failures shelf.old < S.failures shelf.new) }
+    ensures count { S.failures shelf.old ≤ S.failures shelf.new }
+{
+    if bytes.len() > MAX_SIZE {
+        return Err(UploadFault::TooLarge);
+    }
+    let info = BlobInfo::digested(alloc, digest, bytes).map_err(|_| UploadFault::OutOfMemory)?;
+    let table = table_text(alloc, info.len(), info.names()).map_err(
+        |_| UploadFault::OutOfMemory,
+    )?;
+    let info = Arc::new(alloc, info).map_err(|_| UploadFault::OutOfMemory)?;
+    put_file(shelf, &info, bytes, table.as_slice()).map_err(of_shelf)?;
+    Ok(info)
+}
+
 impl<S: Shelf> Blobs<S> {
     /// A store over a shelf, of which it knows no file yet.
     pub fn new(alloc: Global, shelf: S) -> Blobs<S>
@@ -92,6 +120,19 @@ impl<S: Shelf> Blobs<S> {
             shelf,
             known: Known::new(alloc),
         }
+    }
+
+    /// Its halves: what is known of the files, and the files on the shelf.
+    pub fn into_parts(self) -> (Known, Files<S>)
+        ensures known { result.0 ≡ self.known }
+        ensures shelf { result.1.shelf ≡ self.shelf }
+    {
+        let Blobs {
+            alloc,
+            shelf,
+            known,
+        } = self;
+        (known, Files::new(alloc, shelf))
     }
 
     /// Hands out the shelf, without what is known.
@@ -125,15 +166,11 @@ impl<S: Shelf> Blobs<S> {
         if bytes.len() > MAX_SIZE {
             return Err(UploadFault::TooLarge);
         }
-        let info = BlobInfo::of(self.alloc, bytes).map_err(|_| UploadFault::OutOfMemory)?;
-        if let Some(known) = self.known.find(&info.digest()) {
+        let digest = Digest::of_bytes(bytes);
+        if let Some(known) = self.known.find(&digest) {
             return known.clone().map_err(|_| UploadFault::OutOfMemory);
         }
-        let table = table_text(self.alloc, info.len(), info.names()).map_err(
-            |_| UploadFault::OutOfMemory,
-        )?;
-        let info = Arc::new(self.alloc, info).map_err(|_| UploadFault::OutOfMemory)?;
-        put_file(&mut self.shelf, &info, bytes, table.as_slice()).map_err(of_shelf)?;
+        let info = put_whole(self.alloc, &mut self.shelf, digest, bytes)?;
         let kept = info.clone().map_err(|_| UploadFault::OutOfMemory)?;
         self.known.keep(kept).map_err(|_| UploadFault::OutOfMemory)?;
         Ok(info)

@@ -3,7 +3,7 @@ ghost use Rattle.std.specs.Prelude.{◌≡◌, None, OnErr, OnOk, option_map};
 ghost use Rattle.std.specs.FinMap as map;
 ghost use Rattle.host_names.specs.Blobs.{AreDigested, digest_of, with_file};
 
-use byte_view::BlobInfo;
+use byte_view::{BlobInfo, Uploads};
 use host_names::Digest;
 use std::alloc::{AllocError, Global};
 use std::collections::BTreeMap;
@@ -12,7 +12,7 @@ use std::sync::Arc;
 
 /// What is kept of each file, under its digest. Contracts see the bytes of each.
 #[derive(Drop)]
-pub(crate) struct Known {
+pub struct Known {
     files: BTreeMap<Digest, Arc<BlobInfo>>,
 }
 
@@ -34,7 +34,7 @@ impl Model for Known {
 
 impl Known {
     /// No files yet.
-    pub(crate) fn new(alloc: Global) -> Known
+    pub fn new(alloc: Global) -> Known
         ensures { result ≡ map.empty }
     {
         Known {
@@ -43,7 +43,7 @@ impl Known {
     }
 
     /// The file of a digest, if it is known.
-    pub(crate) fn find(&self, digest: &Digest) -> Option<&Arc<BlobInfo>>
+    pub fn find(&self, digest: &Digest) -> Option<&Arc<BlobInfo>>
         ensures found { option_map (λ info. info.now.value) result ≡ map.get self.now digest.now }
         ensures digested { AreDigested self.now }
     {
@@ -51,7 +51,7 @@ impl Known {
     }
 
     /// Adds a file. A digest that is known keeps its file, and takes no memory. Without memory nothing changes.
-    pub(crate) fn keep(&mut self, file: Arc<BlobInfo>) -> Result<(), AllocError>
+    pub fn keep(&mut self, file: Arc<BlobInfo>) -> Result<(), AllocError>
         ensures ok { OnOk result (self.new ≡ with_file self.old file.value) }
         ensures err { OnErr result (self.new ≡ self.old) }
         ensures memory { OnErr result (map.get self.old (digest_of file.value) ≡ None) }
@@ -62,5 +62,13 @@ impl Known {
         }
         self.files.insert(digest, file)?;
         Ok(())
+    }
+}
+
+impl Uploads for Known {
+    ghost contents = { λ known. known };
+
+    fn find(&self, digest: &Digest) -> Option<&Arc<BlobInfo>> {
+        self.find(digest)
     }
 }

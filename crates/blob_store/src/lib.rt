@@ -8,12 +8,14 @@ mod laws;
 mod mem_shelf;
 mod openings;
 mod reading;
+mod shelf_files;
 mod shelves;
 mod stretches;
 mod tables;
 
 pub use blobs::{Blobs, UploadFault};
 pub use files::read_file;
+pub use known::Known;
 pub use laws::{
     files_have_tables, kept_files_are_known, kept_files_are_read, shelves_in_memory_keep,
     uploads_are_kept,
@@ -21,5 +23,6 @@ pub use laws::{
 pub use mem_shelf::MemShelf;
 pub use openings::{OpenFault, Wanted};
 pub use reading::ReadFault;
+pub use shelf_files::Files;
 pub use shelves::{Shelf, ShelfFault, ShelfName};
 pub use tables::{Table, TableFault, table_text};

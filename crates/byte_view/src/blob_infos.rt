@@ -57,9 +57,17 @@ impl BlobInfo {
     pub fn of(alloc: Global, bytes: &[u8]) -> Result<BlobInfo, AllocError>
         ensures { IfOk result (λ info. info ≡ bytes.now) }
     {
+        BlobInfo::digested(alloc, Digest::of_bytes(bytes), bytes)
+    }
+
+    /// The same, where their digest is known already.
+    pub fn digested(alloc: Global, digest: Digest, bytes: &[u8]) -> Result<BlobInfo, AllocError>
+        requires { digest ≡ digest_of bytes.now }
+        ensures { IfOk result (λ info. info ≡ bytes.now) }
+    {
         let names = names_in(alloc, bytes)?;
         Ok(BlobInfo {
-            digest: Digest::of_bytes(bytes),
+            digest,
             size: bytes.len(),
             names,
             contents: Tag::of::<&[u8], AllBytes>(&bytes),

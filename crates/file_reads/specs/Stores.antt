@@ -4,6 +4,7 @@ use Rattle.byte_view.specs.Holds.{Held}
 use Rattle.blob_store.specs.declared.reading.ReadFault.{ReadFault}
 use Rattle.blob_store.specs.declared.reading.ReadFault.TheVariants.{Device}
 use Rattle.blob_store.specs.Calls.{Call}
+use Rattle.blob_store.specs.declared.shelf_files.Files.{Files}
 use Rattle.blob_store.specs.Reads.{GivesInTurn}
 use Rattle.blob_store.specs.Stretches.{IsStretchFault, chunks_given}
 
@@ -15,3 +16,13 @@ HoldsOfStore did old hold new = GivesInTurn did old (chunks_given hold.chunks) n
 abbrev pub FailsOnStore : {S : Type 0} → (did : S → Call → S → Type 0) → (failures : S → ℕ) → S → List ℕ → (first last : ℕ) → ReadFault → S → Type 0
 FailsOnStore did failures old file first last fault new =
     IsStretchFault did old file first last fault new × (fault ≡ Device → failures old < failures new)
+
+-- ---- of the files of a shelf
+
+-- they gave a hold
+abbrev pub GaveOfFiles : {S : Type 0} → (did : S → Call → S → Type 0) → (failures : S → ℕ) → Files S → Held → Files S → Type 0
+GaveOfFiles did failures old hold new = HoldsOfStore did old.shelf hold new.shelf
+
+-- they couldn't hold a stretch of a file
+abbrev pub FailedOfFiles : {S : Type 0} → (did : S → Call → S → Type 0) → (failures : S → ℕ) → Files S → List ℕ → (first last : ℕ) → ReadFault → Files S → Type 0
+FailedOfFiles did failures old file first last fault new = FailsOnStore did failures old.shelf file first last fault new.shelf

@@ -2,9 +2,9 @@
 ghost use Rattle.std.specs.Prelude.{◌≡◌, ◌<◌, ◌≤◌, ℕ, IfErr, IfOk, List, length};
 ghost use Rattle.byte_view.specs.Holds.{Held};
 ghost use Rattle.blob_store.specs.declared.reading.ReadFault.{ReadFault as Fault};
-ghost use Rattle.file_reads.specs.Stores.{FailsOnStore, HoldsOfStore};
+ghost use Rattle.file_reads.specs.Stores.{FailedOfFiles, FailsOnStore, GaveOfFiles, HoldsOfStore};
 
-use blob_store::{Blobs, ReadFault, Shelf};
+use blob_store::{Blobs, Files, ReadFault, Shelf};
 use byte_view::{BlobInfo, Hold};
 use std::sync::Arc;
 
@@ -30,6 +30,17 @@ impl<S: Shelf> Holder for Blobs<S> {
     ghost gave = { λ old hold new. HoldsOfStore S.did old.shelf hold new.shelf × (new.known ≡ old.known) };
 
     ghost failed = { λ old file first last fault new. FailsOnStore S.did S.failures old.shelf file first last fault new.shelf × (new.known ≡ old.known) };
+
+    fn hold(&mut self, info: Arc<BlobInfo>, first: usize, last: usize) -> Result<Hold, ReadFault> {
+        self.hold(info, first, last)
+    }
+}
+
+/// Each chunk is read from the shelf.
+impl<S: Shelf> Holder for Files<S> {
+    ghost gave = { GaveOfFiles S.did S.failures };
+
+    ghost failed = { FailedOfFiles S.did S.failures };
 
     fn hold(&mut self, info: Arc<BlobInfo>, first: usize, last: usize) -> Result<Hold, ReadFault> {
         self.hold(info, first, last)

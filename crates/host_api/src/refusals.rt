@@ -39,6 +39,12 @@ pub enum Refusal {
     NotListed,
     /// The deploy lists another digest at the path.
     WrongDigest,
+    /// The store doesn't have all chunks of the file.
+    Missing,
+    /// What the store has of the file isn't the file.
+    Damaged,
+    /// The device of the store failed.
+    Device,
     /// There was no memory for the request.
     OutOfMemory,
     /// The target is on no route.
@@ -107,6 +113,9 @@ impl Refusal {
             Refusal::BadBody => ("BadBody", StatusCode::BAD_REQUEST),
             Refusal::NotListed => ("NotListed", StatusCode::NOT_FOUND),
             Refusal::WrongDigest => ("WrongDigest", StatusCode::UNPROCESSABLE_ENTITY),
+            Refusal::Missing => ("Missing", StatusCode::SERVICE_UNAVAILABLE),
+            Refusal::Damaged => ("Damaged", StatusCode::SERVICE_UNAVAILABLE),
+            Refusal::Device => ("Device", StatusCode::SERVICE_UNAVAILABLE),
             Refusal::OutOfMemory => ("OutOfMemory", StatusCode::SERVICE_UNAVAILABLE),
             Refusal::NoRoute => ("NoRoute", StatusCode::NOT_FOUND),
             Refusal::BadMethod(_) => ("BadMethod", StatusCode::METHOD_NOT_ALLOWED),

@@ -1,5 +1,7 @@
 pub mod FieldTexts
 pub mod Telling
+pub mod Reading
+pub mod Keeping
 mod Memory
 pub mod Kept
 pub mod Reached

@@ -8,7 +8,7 @@ use Rattle.host_api.specs.declared.refusals.Refusal.TheVariants.{OutOfMemory}
 use Rattle.host_api.specs.declared.routes.Route.{Route}
 use Rattle.http_wire.specs.Requests.{RequestParts}
 use Rattle.host_server.specs.Memory.{asking_takes, route_takes}
-use Rattle.host_server.specs.Replies.{asked_for}
+use Rattle.host_server.specs.Asks.{asked_for}
 
 -- why nothing is asked for: there was no memory where some is taken, or the request asks for nothing
 abbrev pub IsUnasked : RequestParts → List ℕ → Refusal → Type 0

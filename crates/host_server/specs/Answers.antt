@@ -1,20 +1,21 @@
 -- What the functions that answer a request do.
 use Rattle.std.specs.Prelude.{◌≡◌, ◌⊎◌, ℕ, List, ◌++◌, Result, Ok, Err, IsTrue}
 use Rattle.host_names.specs.declared.names.SiteName.{SiteName}
+use Rattle.blob_store.specs.Calls.{Call}
 use Rattle.http_wire.specs.Requests.{RequestParts}
-use Rattle.range_spec.specs.declared.grammar.Asked.{Asked}
 use Rattle.site_change.specs.Changes.{IsWithin}
 use Rattle.change_undo.specs.declared.entries.Entry.{Entry}
-use Rattle.host_api.specs.declared.bodies.Ask.{Ask}
 use Rattle.host_api.specs.declared.refusals.Refusal.{Refusal}
 use Rattle.host_api.specs.declared.refusals.Refusal.TheVariants.{OutOfMemory}
 use Rattle.host_api.specs.declared.texts.Told.{Told}
 use Rattle.host_api.specs.declared.versions.Version.{Version}
 use Rattle.host_server.specs.declared.replies.Reply.{Reply}
+use Rattle.host_server.specs.declared.servers.Server.{Server}
 use Rattle.host_server.specs.Bodies.{answer_of}
+use Rattle.host_server.specs.Files.{IsReadReply, ReadRunsOut}
 use Rattle.host_server.specs.Hosts.{Host, state_of}
 use Rattle.host_server.specs.Memory.{takes_text}
-use Rattle.host_server.specs.Replies.{Answer, told_answer, refused_answer, read_answer, lends, AsksRange, IsReplyToAsk, AskRunsOut}
+use Rattle.host_server.specs.Replies.{Answer, told_answer, refused_answer}
 use Rattle.host_server.specs.Versions.{file_of}
 
 -- ---- promised to a caller
@@ -37,18 +38,14 @@ abbrev pub answer_by : Result Reply Refusal → Answer
 answer_by (Ok reply) = answer_of reply
 answer_by (Err refusal) = refused_answer refusal
 
--- the call gives the reply to the reading of this file, or finds no memory to lend it
-abbrev pub GivesFile : List ℕ → Asked → Result (List ℕ) Refusal → Result Reply Refusal → Type 0
-GivesFile path range file result =
-    (answer_by result ≡ read_answer path range file) ⊎ ((result ≡ Err OutOfMemory) × IsTrue (lends range file))
+-- the call gives the reply to the reading of this file, or runs out of memory
+abbrev pub ReadsFile : {S : Type 0} → (did : S → Call → S → Type 0) → (failures : S → ℕ) → Server S → RequestParts → List ℕ → Result (List ℕ) Refusal → Result Reply Refusal → Server S
+    → Type 0
+ReadsFile did failures server parts path file result next =
+    IsReadReply did failures server parts path file (answer_by result) next
+    ⊎ ((result ≡ Err OutOfMemory) × ReadRunsOut did failures server parts file next)
 
 -- the call reads the version of the site at the path, as the Range of the request asks
-abbrev pub Reads : Host → RequestParts → SiteName → Version → List ℕ → Result Reply Refusal → Type 0
-Reads host parts site version path result =
-    (range : Asked) × AsksRange parts range × GivesFile path range (file_of (state_of host) site version path) result
-
--- the answer to what a request asks for
-abbrev pub AnswersAsk : Host → RequestParts → List ℕ → Result Ask Refusal → Answer → Host → Type 0
-AnswersAsk host parts body asking answer next =
-    IsReplyToAsk host parts body asking answer next
-    ⊎ ((answer ≡ refused_answer OutOfMemory) × AskRunsOut host parts body asking next)
+abbrev pub Reads : {S : Type 0} → (did : S → Call → S → Type 0) → (failures : S → ℕ) → Server S → RequestParts → SiteName → Version → List ℕ → Result Reply Refusal → Server S → Type 0
+Reads did failures server parts site version path result next =
+    ReadsFile did failures server parts path (file_of (state_of server.house) site version path) result next

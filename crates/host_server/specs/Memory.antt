@@ -47,14 +47,6 @@ refusal_on host command (Some site) = commit_refusal host (command site)
 abbrev pub deploy_refusal : Host → ℕ → (SiteName → Command) → Option ChangeRefusal
 deploy_refusal host n command = refusal_on host command (site_of_deploy (entry_at host.entries n))
 
--- What a host has where an upload runs out of memory, whose bytes are accepted: what was there, where no file of their
--- digest was; or the bytes too, where the deploy would be published that they complete.
-abbrev pub UploadRunsOut : Host → ℕ → List ℕ → List ℕ → Host → Type 0
-UploadRunsOut host n path bytes next =
-    (at : SiteName × Digest) × (judge_upload host n path bytes ≡ Ok at)
-    × (((next ≡ host) × (map.get host.uploads (digest_of bytes) ≡ None))
-    ⊎ ((next ≡ with_upload host bytes) × IsTrue (is_published (with_upload host bytes) at.0 n)))
-
 -- What a host has where an undo runs out of memory: what was there, where the undo is not refused, or by a clash that
 -- takes memory to name.
 abbrev pub UndoRunsOut : Host → SiteName → ℕ → Host → Type 0

@@ -1,14 +1,18 @@
--- What a run of the program does: one connection to an empty host, where its words ask for that. Where its status isn't 0, it
+-- What a run of the program does: one connection to an empty server, where its words ask for that. Where its status isn't 0, it
 -- says why.
-use Rattle.std.specs.Prelude.{◌≡◌, ◌≢◌, ◌⊎◌, ℕ, List, [], Result, Ok, Err, codes}
+use Rattle.std.specs.Prelude.{◌≡◌, ◌≢◌, ◌⊎◌, ℕ, List, [], None, Result, Ok, Err, codes}
 use Rattle.std.specs.FinMap as map
 use Rattle.std.specs.Io.KnownBytes.{Appends}
 use Rattle.command_line.specs.CommandLine.{AskForSolo}
 use Rattle.http_wire.specs.Sending.{AppendsFront}
 use Rattle.host_server.specs.declared.connections.ConnectionFault.{ConnectionFault}
 use Rattle.host_server.specs.declared.connections.ConnectionFault.TheVariants as fault
+use Rattle.blob_store.specs.Shelves.{Does, found_in}
+use Rattle.blob_store.specs.declared.mem_shelf.MemShelf.{MemShelf}
+use Rattle.blob_store.specs.declared.shelves.ShelfName.{ShelfName}
+use Rattle.host_server.specs.Asks.{IsAnswer}
 use Rattle.host_server.specs.Hosts.{Host}
-use Rattle.host_server.specs.Replies.{IsAnswer}
+use Rattle.host_server.specs.declared.servers.Server.{Server}
 use Rattle.host_server.specs.Serving.{Stream, Serves}
 
 -- a host without entries and uploads, which may have as many entries as any
@@ -56,14 +60,21 @@ IsNotRead says_fail status said new_said = (status ≡ 2) × IsSaid says_fail me
 abbrev pub IsNotServed : (says_fail : Type 0) → List (List ℕ) → ℕ → (said new_said : Stream) → Type 0
 IsNotServed says_fail words status said new_said = IsRefused says_fail words status said new_said ⊎ IsNotRead says_fail status said new_said
 
--- the words ask for a connection, and the status says how it ended
+-- a server without entries and files, whose shelf is in memory
+pub record IsEmpty (server : Server MemShelf) : Type 0 where
+  pub host : server.house ≡ empty_host
+  pub shelf : (name : ShelfName) → found_in server.files.shelf name ≡ None
+
+-- the words ask for a connection to such a server, and the status says how it ended
 pub record IsServed (read_fails write_fails says_fail : Type 0) (words : List (List ℕ)) (status : ℕ) (stream held new_held said new_said : Stream)
     : Type 0 where
   pub asked : AskForSolo words
   pub ended : Result (Unit {0}) ConnectionFault
   pub says : status ≡ status_of ended
-  pub next : Host
-  pub serves : Serves IsAnswer read_fails write_fails ended empty_host next stream held new_held
+  pub start : Server MemShelf
+  pub empty : IsEmpty start
+  pub next : Server MemShelf
+  pub serves : Serves (IsAnswer Does (λ shelf. 0)) read_fails write_fails ended start next stream held new_held
   pub end_said : SaysEnd says_fail ended said new_said
 
 -- A run: no connection is served, and nothing is answered; or one is. So the status is 1 exactly where the words ask for nothing

@@ -1,11 +1,14 @@
-//! The host on one connection: what a request is answered, and what the host has then.
+//! The host on one connection: what a request is answered, and what the host and its files are then.
 #![tactic(auto)]
 
 mod answers;
 mod bodies;
 mod connections;
 mod host;
+mod media_types;
+mod reads;
 mod replies;
+mod servers;
 mod services;
 mod solo;
 
@@ -13,5 +16,6 @@ pub use answers::{Request, answer};
 pub use connections::{ConnectionFault, serve_connection};
 pub use host::{HostView, SoloHouse, list_changes, show_deploy};
 pub use replies::Reply;
+pub use servers::Server;
 pub use services::Service;
 pub use solo::run_solo;

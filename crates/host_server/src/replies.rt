@@ -3,30 +3,32 @@ ghost use Rattle.std.specs.Prelude.{◌≡◌, ◌≢◌, All, length, false, So
 ghost use Rattle.http_wire.specs.Replies.{fields_of};
 ghost use Rattle.http_wire.specs.Sending.{WritesText};
 ghost use Rattle.http_wire.specs.Timing.{NoRead, Ran};
-ghost use Rattle.range_spec.specs.declared.selection.Choice.TheVariants.{One};
 ghost use Rattle.host_api.specs.Texts.{has_cell, told_text};
 ghost use Rattle.host_api.specs.declared.refusals.Refusal.TheVariants.{Head, OutOfMemory};
-ghost use Rattle.host_server.specs.Bodies.{answer_of, bytes_of};
+ghost use Rattle.host_server.specs.Bodies.{answer_of, bytes_of, media_text};
 ghost use Rattle.host_server.specs.Replies as spec;
 ghost use Rattle.host_server.specs.Answers.{Tells};
 ghost use Rattle.host_server.specs.Memory.{takes_text};
-ghost use Rattle.host_server.specs.Replies.{told_answer, refused_answer, file_answer, part_answer, gives_bytes, fields_for, sent_text};
-ghost use Rattle.range_spec.specs.Chosen.{LiesWithin, intervals_in};
+ghost use Rattle.host_names.specs.Blobs.{digest_of};
+ghost use Rattle.host_server.specs.Files.{SendsParts, sent_answer};
+ghost use Rattle.host_server.specs.Replies.{told_answer, refused_answer, part_answer, fields_for, sent_text};
 
-use crate::bodies::{Body, FilePart};
+use crate::bodies::Body;
+use crate::media_types::{MediaType, PartsType};
+use byte_view::BlobInfo;
+use file_reads::FileBody;
 use host_api::{HeadRefusal, Refusal, Told, content_type, short_text, text};
 use host_names::{Digest, FilePath};
 use http::StatusCode;
 use http_wire::{ContentRange, Duplex, FieldText, ReplyHead, WriteFault, write_reply};
 use range_spec::Choice;
-use site_state::File;
 use std::alloc::{AllocError, Global};
 
 /// A reply, before it is written. Its length, and whether ranges are served, follow from the rest.
 #[derive(Drop)]
 pub struct Reply {
     status: StatusCode,
-    content_type: FieldText<'static>,
+    content_type: MediaType,
     /// The digest of the file, where the reply has a file or a part of one.
     etag: Option<Digest>,
     content_range: Option<ContentRange>,
@@ -95,7 +97,7 @@ impl Reply {
     {
         Reply {
             status: status_told(told),
-            content_type: FieldText::new("application/json"),
+            content_type: MediaType::Fixed(FieldText::new("application/json")),
             etag: None,
             content_range: range_told(told),
             allow: allow_told(told),
@@ -121,73 +123,78 @@ impl Reply {
         Reply::with_json(&Told::Refused(Refusal::OutOfMemory), body)
     }
 
-    /// The reply to a request that is refused by its head. It takes no memory.
-    pub(crate) fn refusing(why: HeadRefusal) -> Reply
-        ensures { answer_of result ≡ refused_answer (Head why) }
+    /// The reply to a request that is refused for a reason that names no cell. It takes no memory.
+    fn plain(reason: Refusal) -> Reply
+        requires { has_cell reason ≡ false }
+        ensures { answer_of result ≡ refused_answer reason }
     {
-        let told = Told::Refused(Refusal::Head(why));
+        let told = Told::Refused(reason);
         match short_body(&told) {
             Some(body) => Reply::with_json(&told, body),
             None => unreachable!(),
         }
     }
 
-    /// The reply with a part of the file at a path, or with the whole of it. Its entity tag is the digest of the whole
-    /// (RFC 9110, section 8.8.3).
+    /// The reply to a request that is refused by its head. It takes no memory.
+    pub(crate) fn refusing(why: HeadRefusal) -> Reply
+        ensures { answer_of result ≡ refused_answer (Head why) }
+    {
+        Reply::plain(Refusal::Head(why))
+    }
+
+    /// The reply with some bytes of a file. Its entity tag is the digest of the whole (RFC 9110, section 8.8.3).
     fn of_part(
         status: StatusCode,
-        path: &FilePath,
-        file: &File,
+        content_type: MediaType,
+        info: &BlobInfo,
         range: Option<ContentRange>,
-        part: FilePart,
+        bytes: Vec<u8>,
     ) -> Reply
-        ensures { answer_of result ≡ part_answer status path.now file.now range part }
+        ensures { answer_of result ≡ part_answer status (media_text content_type) info.now range bytes.items }
     {
         Reply {
             status,
-            content_type: FieldText::new(content_type(path)),
-            etag: Some(file.digest()),
+            content_type,
+            etag: Some(info.digest()),
             content_range: range,
             allow: None,
-            body: Body::Part(part),
+            body: Body::File(bytes),
         }
     }
 
-    /// The reply with the whole file at a path.
-    fn of_whole(path: &FilePath, file: &File) -> Result<Reply, AllocError>
-        ensures { IfOk result (λ reply. answer_of reply ≡ part_answer 200 path.now file.now None file.now) }
+    /// The reply with what was read of the file at a path (RFC 9110, sections 15.3.1, 15.3.7 and 15.5.17).
+    pub(crate) fn of_file(path: &FilePath, info: &BlobInfo, body: FileBody) -> Reply
+        requires { SendsParts (digest_of info.now) body }
+        ensures { answer_of result ≡ sent_answer path.now info.now body }
     {
-        let part = FilePart::new(file, 0, file.bytes().len())?;
-        Ok(Reply::of_part(StatusCode::OK, path, file, None, part))
-    }
-
-    /// The reply with the bytes of the file at a path from the first to the last (RFC 9110, section 15.3.7).
-    fn of_range(path: &FilePath, file: &File, first: u64, last: u64) -> Result<Reply, AllocError>
-        requires { LiesWithin (length file.now) (first, last) }
-        ensures { IfOk result (λ reply. answer_of reply ≡ file_answer path.now file.now (One first last)) }
-    {
-        let length = file.bytes().len() as u64;
-        let part = FilePart::new(file, first as usize, last as usize + 1)?;
-        let range = ContentRange::Of {
-            first,
-            last,
-            length,
-        };
-        Ok(Reply::of_part(StatusCode::PARTIAL_CONTENT, path, file, Some(range), part))
-    }
-
-    /// The reply with what was chosen of the file at a path (RFC 9110, sections 15.3.7 and 15.5.17).
-    pub(crate) fn of_file(path: &FilePath, file: &File, choice: &Choice) -> Result<Reply, Refusal>
-        requires { All (LiesWithin (length file.now)) (intervals_in choice.now) }
-        ensures ok { IfOk result (λ reply. answer_of reply ≡ file_answer path.now file.now choice.now) }
-        ensures refused { IfErr result (λ refusal. refusal ≢ OutOfMemory → refused_answer refusal ≡ file_answer path.now file.now choice.now) }
-        ensures memory { IsErrOf result OutOfMemory → IsTrue (gives_bytes choice.now) }
-        ensures plain { IfErr result (λ refusal. has_cell refusal ≡ false) }
-    {
-        match choice {
-            Choice::Whole | Choice::Many(_) => Ok(Reply::of_whole(path, file)?),
-            Choice::One(first, last) => Ok(Reply::of_range(path, file, *first, *last)?),
-            Choice::None416 => Err(Refusal::NotSatisfiable(file.bytes().len() as u64)),
+        let FileBody {
+            plan,
+            boundary,
+            bytes,
+        } = body;
+        let own = MediaType::Fixed(FieldText::new(content_type(path)));
+        let length = info.len() as u64;
+        match plan {
+            Choice::Whole => Reply::of_part(StatusCode::OK, own, info, None, bytes),
+            Choice::One(first, last) => {
+                let range = ContentRange::Of {
+                    first,
+                    last,
+                    length,
+                };
+                Reply::of_part(StatusCode::PARTIAL_CONTENT, own, info, Some(range), bytes)
+            }
+            Choice::Many(_) => {
+                let parts = PartsType::of(&boundary.unwrap(), info.digest());
+                Reply::of_part(
+                    StatusCode::PARTIAL_CONTENT,
+                    MediaType::Parts(parts),
+                    info,
+                    None,
+                    bytes,
+                )
+            }
+            Choice::None416 => Reply::plain(Refusal::NotSatisfiable(length)),
         }
     }
 
@@ -198,7 +205,7 @@ impl Reply {
     {
         ReplyHead {
             status: self.status,
-            content_type: Some(self.content_type),
+            content_type: Some(self.content_type.as_field()),
             content_length: Some(self.body.bytes().len() as u64),
             etag,
             accept_ranges: self.etag.is_some(),

@@ -4,11 +4,13 @@ ghost use Rattle.http_wire.specs.Requests.{RequestParts};
 ghost use Rattle.host_server.specs.Answers.{Grows};
 ghost use Rattle.host_server.specs.Bodies.{answer_of};
 ghost use Rattle.host_server.specs.Growth.{itself, grows_then};
-ghost use Rattle.host_server.specs.Replies.{Answer, IsAnswer};
+ghost use Rattle.host_server.specs.Asks.{IsAnswer};
+ghost use Rattle.host_server.specs.Replies.{Answer};
 
 use crate::answers::{Request, answer};
-use crate::host::SoloHouse;
+use crate::servers::Server;
 use crate::replies::Reply;
+use blob_store::Shelf;
 use std::alloc::Global;
 
 /// Answers requests, one after another.
@@ -30,16 +32,16 @@ pub trait Service {
     ghost goes_on: { (first mid last : Self) → grows first mid → grows mid last → grows first last };
 }
 
-impl Service for SoloHouse {
-    ghost answers = { IsAnswer };
+impl<S: Shelf> Service for Server<S> {
+    ghost answers = { IsAnswer S.did S.failures };
 
-    ghost grows = { Grows };
+    ghost grows = { λ old new. Grows old.house new.house };
 
     fn answer(&mut self, alloc: Global, request: Request) -> Reply {
         answer(alloc, request, self)
     }
 
-    ghost stays = { itself };
+    ghost stays = { λ server. itself server.house };
 
-    ghost goes_on = { grows_then };
+    ghost goes_on = { λ first mid last. grows_then first.house mid.house last.house };
 }

@@ -5,7 +5,8 @@ ghost use Rattle.command_line.specs.CommandLine.{AskForSolo};
 ghost use Rattle.host_server.specs.Solo.{IsNotServed, IsSaid, Runs, SaysEnd, status_of};
 
 use crate::connections::{ConnectionFault, serve_connection};
-use crate::host::SoloHouse;
+use crate::servers::Server;
+use blob_store::MemShelf;
 use change_undo::GREATEST_LIMIT;
 use command_line::{Refusal, Wanted, read};
 use http_wire::{Duplex, Sink, write_all};
@@ -58,7 +59,7 @@ fn status_after<E: Sink>(errors: &mut E, ended: Result<(), ConnectionFault>) -> 
 }
 
 /// Runs the program for the words after its name, and answers its exit status: `solo` serves one connection, over
-/// an empty host. Where the status isn't 0, `errors` is told why; else nothing is written there.
+/// an empty server. Where the status isn't 0, `errors` is told why; else nothing is written there.
 ///
 /// Memory may run out while the words are read, whatever they are: no contract tells when it does.
 pub fn run_solo<S: AsStr, D: Duplex, E: Sink>(
@@ -72,8 +73,8 @@ pub fn run_solo<S: AsStr, D: Duplex, E: Sink>(
 {
     match wanted(alloc, words, errors) {
         Ok(Wanted::Solo) => {
-            let mut house = SoloHouse::new(alloc, GREATEST_LIMIT);
-            let ended = serve_connection(alloc, duplex, &mut house);
+            let mut server = Server::new(alloc, MemShelf::new(alloc), GREATEST_LIMIT);
+            let ended = serve_connection(alloc, duplex, &mut server);
             status_after(errors, ended)
         }
         Err(status) => status,

@@ -34,9 +34,9 @@ impl File {
         File { info }
     }
 
-    /// What is kept of it without its bytes.
-    pub fn info(&self) -> &BlobInfo
-        ensures { result.now ≡ self.now }
+    /// What is kept of it without its bytes, which can be shared.
+    pub fn info(&self) -> &Arc<BlobInfo>
+        ensures { result.now.value ≡ self.now }
     {
         &self.info
     }

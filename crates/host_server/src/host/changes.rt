@@ -84,7 +84,7 @@ impl SoloHouse {
         judge_opening(self, &files)?;
         self.lawful();
         let draft = Draft { auto, files };
-        let required = missing(self.uploads().allocator(), &draft, self.uploads())?;
+        let required = missing(self.alloc, &draft, self.uploads())?;
         let is_ready = auto && required.is_empty();
         let owner = site.copied();
         let Draft { auto, files } = draft;

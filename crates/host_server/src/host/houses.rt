@@ -1,4 +1,4 @@
-//! A host on one thread, with its history and its uploads in memory.
+//! A host on one thread: its history, and what is known of its uploads.
 ghost use Rattle.std.specs.Prelude.{◌≡◌, ◌≤◌, Option, [], Some, None, IfOk, OnOk, OnErr, length, nat_le, option_copied, option_map};
 ghost use Rattle.std.specs.FinMap as map;
 ghost use Rattle.host_names.specs.Blobs.{digest_of};
@@ -13,32 +13,36 @@ ghost use Rattle.host_server.specs.Reasons.{commit_refusal};
 
 use super::readiness::Readiness;
 use change_undo::{Entry, History};
-use host_names::{BlobInfo, ChangeError, MemoryUploads, SiteName, Uploads};
+use blob_store::Known;
+use byte_view::BlobInfo;
+use host_names::{ChangeError, SiteName};
 use site_change::Command;
 use site_state::State;
 use std::alloc::{AllocError, Global};
 use std::marker::Model;
+use std::sync::Arc;
 
 /// A host on one thread. Contracts see its entries, their limit, and its uploads; the state is what these give. The
 /// readiness of its deploys is kept for speed alone.
 #[derive(Drop)]
 pub struct SoloHouse {
+    pub(super) alloc: Global,
     history: History,
-    uploads: MemoryUploads,
+    uploads: Known,
     readiness: Readiness,
 }
 
 impl Model for SoloHouse {
     ghost use Rattle.std.specs.Coded.{coded_list};
     ghost use Rattle.change_undo.specs.contracts.entries.Entry as entry;
-    ghost use Rattle.host_names.specs.contracts.uploads.MemoryUploads as memory;
+    ghost use Rattle.blob_store.specs.contracts.known.Known as known;
     ghost use Rattle.host_server.specs.Answers.{Grows};
     ghost use Rattle.host_server.specs.Hosts.{Host, host_of, coded_host};
     ghost use Rattle.host_server.specs.Readiness.{IsKeptWith};
 
     ghost Value = { Host };
 
-    ghost coded = { coded_host (coded_list entry.the_row.coded) memory.the_row.coded };
+    ghost coded = { coded_host (coded_list entry.the_row.coded) known.the_row.coded };
 
     ghost view = { λ h. host_of h.history h.uploads };
 
@@ -53,8 +57,9 @@ impl SoloHouse {
         ensures { result ≡ record { limit = limit; entries = []; uploads = map.empty } }
     {
         SoloHouse {
+            alloc,
             history: History::new(alloc, limit),
-            uploads: MemoryUploads::new(alloc),
+            uploads: Known::new(alloc),
             readiness: Readiness::new(alloc),
         }
     }
@@ -104,7 +109,7 @@ impl SoloHouse {
     }
 
     /// What was uploaded.
-    pub fn uploads(&self) -> &MemoryUploads
+    pub fn uploads(&self) -> &Known
         ensures { result.now ≡ self.now.uploads }
     {
         &self.uploads
@@ -134,13 +139,13 @@ impl SoloHouse {
 
     /// Adds a file to the uploads. A digest that is known keeps its file, and takes no memory. Without memory nothing
     /// changes.
-    pub(crate) fn keep(&mut self, file: BlobInfo) -> Result<(), AllocError>
-        ensures ok { OnOk result (self.new ≡ with_upload self.old file) }
+    pub(crate) fn keep(&mut self, file: Arc<BlobInfo>) -> Result<(), AllocError>
+        ensures ok { OnOk result (self.new ≡ with_upload self.old file.value) }
         ensures err { OnErr result (self.new ≡ self.old) }
-        ensures unknown { OnErr result (map.get self.old.uploads (digest_of file) ≡ None) }
+        ensures unknown { OnErr result (map.get self.old.uploads (digest_of file.value) ≡ None) }
         ensures grows { Grows self.old self.new }
     {
-        self.uploads.add_file(file)
+        self.uploads.keep(file)
     }
 
     /// Whether the deploy of a number publishes itself now.

@@ -12,5 +12,6 @@ mod views;
 pub use change_lists::list_changes;
 pub use deploys::show_deploy;
 pub use houses::SoloHouse;
+pub(crate) use uploads::judge_upload;
 pub(crate) use versions::file;
 pub use views::HostView;

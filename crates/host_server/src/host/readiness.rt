@@ -5,7 +5,7 @@ ghost use Rattle.std.specs.Ordering.{nat_cmp};
 ghost use Rattle.site_state.specs.Missing.{first_lacking_of, least_missing_of};
 ghost use Rattle.host_server.specs.Readiness.{place_of};
 
-use host_names::Uploads;
+use byte_view::Uploads;
 use site_state::{Draft, first_lacking};
 use std::alloc::Global;
 use std::collections::BTreeMap;

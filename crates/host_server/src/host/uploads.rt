@@ -1,17 +1,14 @@
-//! Uploads to deploys.
-ghost use Rattle.std.specs.Prelude.{◌≡◌, ◌⊎◌, false, Ok, Err, OnErr, IfOk, IfErr, IsErrOf};
-ghost use Rattle.host_server.specs.Answers.{Grows};
+//! What may be uploaded to a deploy.
+ghost use Rattle.std.specs.Prelude.{◌≡◌, Ok, Err, IfOk, IfErr};
+ghost use Rattle.host_names.specs.Blobs.{digest_of};
 ghost use Rattle.host_server.specs.Hosts.{state_of};
-ghost use Rattle.host_server.specs.Outcomes.{Does, kept, upload_outcome};
-ghost use Rattle.host_server.specs.Memory.{UploadRunsOut};
 ghost use Rattle.host_server.specs.Outcomes;
 ghost use Rattle.site_state.specs.States.{draft_at, kept_at};
 
 use super::deploys::site_of_deploy;
-use super::houses::SoloHouse;
 use super::views::HostView;
-use host_api::{Refusal, Told};
-use host_names::{BlobInfo, ChangeRefusal, Digest, FilePath, SiteName};
+use host_api::Refusal;
+use host_names::{ChangeRefusal, Digest, FilePath, SiteName};
 
 /// The digest that a deploy, which is open or kept, lists at a path; none where it removes the file.
 fn listed_at<H: HostView>(
@@ -31,17 +28,17 @@ fn listed_at<H: HostView>(
     Some(tree.get(path).map(|file| file.digest()))
 }
 
-/// Whether the bytes may be uploaded as the file of a path of a deploy: the site of the deploy, the digest that it
-/// lists, and the file. It takes no memory.
-fn judge_upload<H: HostView>(
+/// Whether the bytes may be uploaded as the file of a path of a deploy: the site of the deploy, and the digest that it
+/// lists, which is theirs. It takes no memory.
+pub(crate) fn judge_upload<H: HostView>(
     host: &H,
     number: u64,
     path: &FilePath,
-    bytes: Vec<u8>,
-) -> Result<(SiteName, Digest, BlobInfo), Refusal>
-    ensures ok { IfOk result (λ (site, digest, file). (Outcomes.judge_upload (H.host host.now) number path.now bytes.items ≡ Ok (site, digest))
-        × (file ≡ bytes.items)) }
-    ensures refused { IfErr result (λ reason. Outcomes.judge_upload (H.host host.now) number path.now bytes.items ≡ Err reason) }
+    bytes: &[u8],
+) -> Result<(SiteName, Digest), Refusal>
+    ensures ok { IfOk result (λ at. Outcomes.judge_upload (H.host host.now) number path.now bytes.now ≡ Ok at) }
+    ensures digest { IfOk result (λ at. at.1 ≡ digest_of bytes.now) }
+    ensures refused { IfErr result (λ reason. Outcomes.judge_upload (H.host host.now) number path.now bytes.now ≡ Err reason) }
 {
     let Some(site) = site_of_deploy(host, number) else {
         return Err(Refusal::Change(ChangeRefusal::NoSuchDeploy));
@@ -50,27 +47,8 @@ fn judge_upload<H: HostView>(
         return Err(Refusal::Change(ChangeRefusal::NoSuchDeploy));
     };
     let digest = listed.ok_or(Refusal::NotListed)?;
-    let file = BlobInfo::from(bytes);
-    if digest != file.digest() {
+    if digest != Digest::of_bytes(bytes) {
         return Err(Refusal::WrongDigest);
     }
-    Ok((site.copied(), digest, file))
-}
-
-impl SoloHouse {
-    /// Takes the bytes as the file of a path of a deploy, and publishes the deploy if it is ready. Where that fails, the
-    /// upload remains.
-    pub fn upload(&mut self, number: u64, path: &FilePath, bytes: Vec<u8>) -> Result<Told, Refusal>
-        ensures done { Does result self.new (upload_outcome self.old number path.now bytes.items) }
-        ensures told { IfOk result (λ told. Outcomes.is_refusal told ≡ false) }
-        ensures memory { IsErrOf result Refusal.OutOfMemory → UploadRunsOut self.old number path.now bytes.items self.new }
-        ensures stands { OnErr result ((self.new ≡ self.old)
-            ⊎ (self.new ≡ kept self.old bytes.items (Outcomes.judge_upload self.old number path.now bytes.items))) }
-        ensures grows { Grows self.old self.new }
-    {
-        let (site, digest, file) = judge_upload(self, number, path, bytes)?;
-        self.keep(file)?;
-        let published = self.publish_if_ready(&site, number)?;
-        Ok(Told::Uploaded { published, digest })
-    }
+    Ok((site.copied(), digest))
 }

@@ -5,7 +5,8 @@ ghost use Rattle.host_server.specs.Hosts.{Host, state_of};
 
 use super::houses::SoloHouse;
 use change_undo::Entry;
-use host_names::{MemoryUploads, Uploads};
+use blob_store::Known;
+use byte_view::Uploads;
 use site_state::State;
 
 /// What can be read of a host: what is answered without a change is found by these calls alone.
@@ -42,7 +43,7 @@ pub trait HostView {
 }
 
 impl HostView for SoloHouse {
-    type Stored = MemoryUploads;
+    type Stored = Known;
 
     ghost host = { λ h. h };
 
@@ -50,7 +51,7 @@ impl HostView for SoloHouse {
         self.state()
     }
 
-    fn uploads(&self) -> &MemoryUploads {
+    fn uploads(&self) -> &Known {
         self.uploads()
     }
 

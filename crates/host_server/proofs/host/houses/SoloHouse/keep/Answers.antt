@@ -8,13 +8,13 @@ use Rattle.host_server.proofs.host.houses.SoloHouse.keep.Goals as goal
 
 pub invariant_of-self : goal.invariant_of-self
 invariant_of-self c = record {
-  over = kept_by_upload c.add_file.result c.self.inside.history c.self.inside.uploads c.add_file.new.self c.args.file c.self.invariant.over
-      c.add_file.ensures.ok c.add_file.ensures.err;
-  reached = reached_by_upload c.add_file.result c.self.inside.history.entries c.self.inside.uploads c.add_file.new.self c.self.inside.readiness.places c.args.file
-      c.self.invariant.reached c.add_file.ensures.ok c.add_file.ensures.err;
+  over = kept_by_upload c.keep.result c.self.inside.history c.self.inside.uploads c.keep.new.self c.args.file.value c.self.invariant.over
+      c.keep.ensures.ok c.keep.ensures.err;
+  reached = reached_by_upload c.keep.result c.self.inside.history.entries c.self.inside.uploads c.keep.new.self c.self.inside.readiness.places c.args.file.value
+      c.self.invariant.reached c.keep.ensures.ok c.keep.ensures.err;
 }
 
 pub returns-clause-grows : goal.returns-clause-grows
 returns-clause-grows c =
-    let P : Host → Type 0 = λ h. Grows h (host_of c.self.inside.history c.add_file.new.self) in
-    subst P c.self.view_is (grows_uploads c.add_file.result c.self.inside.history c.self.inside.uploads c.add_file.new.self c.args.file c.add_file.ensures.ok c.add_file.ensures.err)
+    let P : Host → Type 0 = λ h. Grows h (host_of c.self.inside.history c.keep.new.self) in
+    subst P c.self.view_is (grows_uploads c.keep.result c.self.inside.history c.self.inside.uploads c.keep.new.self c.args.file.value c.keep.ensures.ok c.keep.ensures.err)

@@ -1,0 +1,66 @@
+//! Files on a shelf, without what is known of them.
+ghost use Rattle.std.specs.Prelude.{◌≡◌, ◌↔◌, ◌<◌, ◌≤◌, Err, IfErr, IfOk, None, OnOk, length};
+ghost use Rattle.host_names.specs.Blobs.{digest_of};
+ghost use Rattle.blob_store.specs.declared.blobs.UploadFault.TheVariants as upload_fault;
+ghost use Rattle.blob_store.specs.declared.reading.ReadFault.TheVariants as read_fault;
+ghost use Rattle.blob_store.specs.Calls.{PutsInTurn, things_of};
+ghost use Rattle.blob_store.specs.Faults.{HasPutSome};
+ghost use Rattle.blob_store.specs.Reads.{GivesInTurn};
+ghost use Rattle.blob_store.specs.Stretches.{IsStretchFault, chunks_given};
+
+use crate::blobs::{UploadFault, put_whole};
+use crate::reading::ReadFault;
+use crate::shelves::Shelf;
+use crate::stretches::read_stretch;
+use byte_view::{BlobInfo, Hold};
+use host_names::Digest;
+use std::alloc::Global;
+use std::sync::Arc;
+
+/// Files on a shelf. What is known of them is kept elsewhere.
+#[derive(Drop)]
+pub struct Files<S> {
+    alloc: Global,
+    shelf: S,
+}
+
+impl<S: Shelf> Files<S> {
+    /// The files of a shelf.
+    pub fn new(alloc: Global, shelf: S) -> Files<S>
+        ensures { result.shelf ≡ shelf }
+    {
+        Files { alloc, shelf }
+    }
+
+    /// Puts a file of at most `MAX_SIZE` bytes on the shelf, each piece and then its table, and answers what is kept of it.
+    pub fn put(&mut self, digest: Digest, bytes: &[u8]) -> Result<Arc<BlobInfo>, UploadFault>
+        requires { digest ≡ digest_of bytes.now }
+        ensures large { (result ≡ Err upload_fault.TooLarge) ↔ (16777216 < length bytes.now) }
+        ensures info { IfOk result (λ info. info.value ≡ bytes.now) }
+        ensures put { OnOk result (PutsInTurn S.did self.old.shelf (things_of bytes.now) None self.new.shelf) }
+        ensures not_put { IfErr result (λ fault. HasPutSome S.did self.old.shelf (things_of bytes.now) fault self.new.shelf) }
+        ensures device { IfErr result (λ fault. fault ≡ upload_fault.Device → S.failures self.old.shelf < S.failures self.new.shelf) }
+        ensures count { S.failures self.old.shelf ≤ S.failures self.new.shelf }
+    {
+        put_whole(self.alloc, &mut self.shelf, digest, bytes)
+    }
+
+    /// A stretch of a file, from its first to its last byte, with the chunks that it meets, as the shelf gives them now. Each chunk
+    /// is asked for once, and has the name and the length of its piece.
+    pub fn hold(
+        &mut self,
+        info: Arc<BlobInfo>,
+        first: usize,
+        last: usize,
+    ) -> Result<Hold, ReadFault>
+        requires ordered { first ≤ last }
+        requires within { last < length info.value }
+        ensures stretch { IfOk result (λ hold. (hold.file ≡ info.value) × (hold.first ≡ first) × (hold.last ≡ last)) }
+        ensures given { IfOk result (λ hold. GivesInTurn S.did self.old.shelf (chunks_given hold.chunks) self.new.shelf) }
+        ensures fault { IfErr result (λ fault. IsStretchFault S.did self.old.shelf info.value first last fault self.new.shelf) }
+        ensures device { IfErr result (λ fault. fault ≡ read_fault.Device → S.failures self.old.shelf < S.failures self.new.shelf) }
+        ensures count { S.failures self.old.shelf ≤ S.failures self.new.shelf }
+    {
+        read_stretch(self.alloc, &mut self.shelf, info, first, last)
+    }
+}

@@ -1,0 +1,125 @@
+-- What a request is answered, and what the server has then.
+use Rattle.std.specs.Prelude.{◌≡◌, ◌⊎◌, ℕ, List, Result, Ok, Err, IsTrue}
+use Rattle.host_names.specs.declared.digests.Digest.{Digest}
+use Rattle.blob_store.specs.Calls.{Call}
+use Rattle.http_wire.specs.Requests.{RequestParts}
+use Rattle.site_change.specs.declared.commands.Command.{Command}
+use Rattle.site_change.specs.declared.commands.Command.TheVariants.{Cancel, RemoveDeploy}
+use Rattle.host_api.specs.Bodies.{asked, then_with}
+use Rattle.host_api.specs.Routes.{routed}
+use Rattle.host_api.specs.Texts.{has_cell}
+use Rattle.host_api.specs.declared.bodies.Ask.{Ask}
+use Rattle.host_api.specs.declared.bodies.Ask.TheVariants as ask
+use Rattle.host_api.specs.declared.refusals.Refusal.{Refusal}
+use Rattle.host_api.specs.declared.refusals.Refusal.TheVariants.{OutOfMemory}
+use Rattle.host_api.specs.declared.texts.Told.{Told}
+use Rattle.host_api.specs.declared.texts.Told.TheVariants.{Changes}
+use Rattle.host_server.specs.Files.{IsReadReply, ReadRunsOut}
+use Rattle.host_server.specs.Hosts.{Host, state_of}
+use Rattle.host_server.specs.Memory.{CommandRunsOut, UndoRunsOut, DeployRunsOut, TextRunsOut, asking_takes, takes_text}
+use Rattle.host_server.specs.Outcomes.{Outcome, AreRequired, commit_outcome, deploy_outcome, undone}
+use Rattle.host_server.specs.Reasons.{commit_refusal, undo_refusal}
+use Rattle.host_server.specs.Replies.{Answer, refused_answer, told_answer}
+use Rattle.host_server.specs.Shown.{ShowsDeploy, is_open, shown_lines}
+use Rattle.host_server.specs.Storing.{IsUploadReply, UploadRunsOut}
+use Rattle.host_server.specs.Versions.{file_of}
+use Rattle.host_server.specs.declared.servers.Server.{Server}
+
+-- what a request of these parts and this body asks for, or the first reason why it asks for nothing
+abbrev pub asked_for : RequestParts → List ℕ → Result Ask Refusal
+asked_for parts body = then_with (routed parts.method parts.target) (λ route. asked route body)
+
+-- ---- without the files
+
+-- the reply, and what the host has then
+abbrev pub IsTold : Outcome → Answer → Host → Type 0
+IsTold out answer next = (answer ≡ told_answer out.told) × (next ≡ out.host)
+
+-- the same of a command: whichever list of missing digests is told, it is the right one
+abbrev pub IsCommitTold : Host → Command → Answer → Host → Type 0
+IsCommitTold host command answer next =
+    (required : List Digest) × AreRequired host.uploads command (commit_refusal host command) required
+    × IsTold (commit_outcome host command required (commit_refusal host command)) answer next
+
+-- the reply to what a request asks for that no file is read or stored for, and what the host has then
+abbrev pub IsHostReply : Host → Result Ask Refusal → Answer → Host → Type 0
+IsHostReply host (Err refusal) answer next = (answer ≡ refused_answer refusal) × (next ≡ host)
+IsHostReply host (Ok (ask.Command command)) answer next = IsCommitTold host command answer next
+IsHostReply host (Ok (ask.Undo site change)) answer next = IsTold (undone host site change (undo_refusal host site change)) answer next
+IsHostReply host (Ok (ask.Changes site)) answer next = (answer ≡ told_answer (Changes (shown_lines host site))) × (next ≡ host)
+IsHostReply host (Ok (ask.Deploy deploy)) answer next =
+    (told : Told) × ShowsDeploy host deploy told × (answer ≡ told_answer told) × (next ≡ host)
+IsHostReply host (Ok (ask.RemoveDeploy deploy)) answer next =
+    IsTold (deploy_outcome host deploy (λ site. RemoveDeploy site deploy)) answer next
+IsHostReply host (Ok (ask.Cancel deploy)) answer next = IsTold (deploy_outcome host deploy (λ site. Cancel site deploy)) answer next
+IsHostReply host asking answer next = ⊥
+
+-- the digests of an open deploy are listed, or what is told of a deploy takes a text
+abbrev pub ShowingRunsOut : Host → ℕ → Type 0
+ShowingRunsOut host n = IsTrue (is_open host n) ⊎ ((told : Told) × ShowsDeploy host n told × IsTrue (takes_text told))
+
+-- what the host has where the carrying out of that runs out of memory, or the text that tells it
+abbrev pub HostRunsOut : Host → Result Ask Refusal → Host → Type 0
+HostRunsOut host (Err refusal) next = (next ≡ host) × IsTrue (has_cell refusal)
+HostRunsOut host (Ok (ask.Command command)) next =
+    CommandRunsOut host command next
+    ⊎ ((required : List Digest) × AreRequired host.uploads command (commit_refusal host command) required
+    × TextRunsOut (commit_outcome host command required (commit_refusal host command)) next)
+HostRunsOut host (Ok (ask.Undo site change)) next =
+    UndoRunsOut host site change next ⊎ TextRunsOut (undone host site change (undo_refusal host site change)) next
+HostRunsOut host (Ok (ask.Changes site)) next = next ≡ host
+HostRunsOut host (Ok (ask.Deploy deploy)) next = (next ≡ host) × ShowingRunsOut host deploy
+HostRunsOut host (Ok (ask.RemoveDeploy deploy)) next =
+    DeployRunsOut host deploy (λ site. RemoveDeploy site deploy) next
+    ⊎ TextRunsOut (deploy_outcome host deploy (λ site. RemoveDeploy site deploy)) next
+HostRunsOut host (Ok (ask.Cancel deploy)) next =
+    DeployRunsOut host deploy (λ site. Cancel site deploy) next
+    ⊎ TextRunsOut (deploy_outcome host deploy (λ site. Cancel site deploy)) next
+HostRunsOut host asking next = ⊥
+
+-- ---- with them
+
+-- the reply to what a request asks for, and what the server has then: only a read and an upload call the shelf
+abbrev pub IsReplyToAsk : {S : Type 0} → (did : S → Call → S → Type 0) → (failures : S → ℕ) → Server S → RequestParts → List ℕ → Result Ask Refusal → Answer → Server S → Type 0
+IsReplyToAsk did failures server parts body (Ok (ask.Read site version path)) answer next =
+    IsReadReply did failures server parts path (file_of (state_of server.house) site version path) answer next
+IsReplyToAsk did failures server parts body (Ok (ask.Upload deploy path)) answer next = IsUploadReply did failures server deploy path body answer next
+IsReplyToAsk did failures server parts body asking answer next = IsHostReply server.house asking answer next.house × (next.files ≡ server.files)
+
+-- what the server has where the carrying out of that runs out of memory, or the text that tells it
+abbrev pub AskRunsOut : {S : Type 0} → (did : S → Call → S → Type 0) → (failures : S → ℕ) → Server S → RequestParts → List ℕ → Result Ask Refusal → Server S → Type 0
+AskRunsOut did failures server parts body (Ok (ask.Read site version path)) next =
+    ReadRunsOut did failures server parts (file_of (state_of server.house) site version path) next
+AskRunsOut did failures server parts body (Ok (ask.Upload deploy path)) next = UploadRunsOut did failures server deploy path body next
+AskRunsOut did failures server parts body asking next = HostRunsOut server.house asking next.house × (next.files ≡ server.files)
+
+-- the reply to a request of these parts and this body, and what the server has then
+abbrev pub IsReply : {S : Type 0} → (did : S → Call → S → Type 0) → (failures : S → ℕ) → Server S → RequestParts → List ℕ → Answer → Server S → Type 0
+IsReply did failures server parts body answer next = IsReplyToAsk did failures server parts body (asked_for parts body) answer next
+
+-- What the server has where a request runs out of memory: what was there, where it takes memory to find what is asked for;
+-- or what the carrying out leaves.
+abbrev pub RunsOut : {S : Type 0} → (did : S → Call → S → Type 0) → (failures : S → ℕ) → Server S → RequestParts → List ℕ → Server S → Type 0
+RunsOut did failures server parts body next =
+    ((next ≡ server) × IsTrue (asking_takes parts body)) ⊎ AskRunsOut did failures server parts body (asked_for parts body) next
+
+-- the reply that there is no memory, and what the server has then
+abbrev pub IsWithoutMemory : {S : Type 0} → (did : S → Call → S → Type 0) → (failures : S → ℕ) → Server S → RequestParts → List ℕ → Answer → Server S → Type 0
+IsWithoutMemory did failures server parts body answer next = (answer ≡ refused_answer OutOfMemory) × RunsOut did failures server parts body next
+
+-- the answer to a request: the reply to it, or that there is no memory
+abbrev pub IsAnswer : {S : Type 0} → (did : S → Call → S → Type 0) → (failures : S → ℕ) → Server S → RequestParts → List ℕ → Answer → Server S → Type 0
+IsAnswer did failures server parts body answer next =
+    IsReply did failures server parts body answer next ⊎ IsWithoutMemory did failures server parts body answer next
+
+-- ---- what private functions say
+
+-- the answer to what a request asks for that no file is read or stored for
+abbrev pub AnswersHost : Host → Result Ask Refusal → Answer → Host → Type 0
+AnswersHost host asking answer next = IsHostReply host asking answer next ⊎ ((answer ≡ refused_answer OutOfMemory) × HostRunsOut host asking next)
+
+-- the answer to what a request asks for
+abbrev pub AnswersAsk : {S : Type 0} → (did : S → Call → S → Type 0) → (failures : S → ℕ) → Server S → RequestParts → List ℕ → Result Ask Refusal → Answer → Server S → Type 0
+AnswersAsk did failures server parts body asking answer next =
+    IsReplyToAsk did failures server parts body asking answer next
+    ⊎ ((answer ≡ refused_answer OutOfMemory) × AskRunsOut did failures server parts body asking next)

@@ -1,0 +1,114 @@
+-- What is answered to the reading of a file.
+use Rattle.std.specs.Prelude.{◌≡◌, ◌≢◌, ◌⊎◌, ℕ, ◌<◌, List, [], ◌∷◌, ◌++◌, Bool, true, false, Option, Some, None, Result, Ok, Err, IsTrue, length, codes}
+use Rattle.std.specs.Str.{bytes_eq}
+use Rattle.host_names.specs.Blobs.{digest_of}
+use Rattle.host_names.specs.declared.digests.Digest.{Digest}
+use Rattle.blob_store.specs.Calls.{Call}
+use Rattle.blob_store.specs.declared.reading.ReadFault.{ReadFault}
+use Rattle.blob_store.specs.declared.reading.ReadFault.TheVariants as fault
+use Rattle.blob_store.specs.declared.shelf_files.Files.{Files}
+use Rattle.range_spec.specs.declared.grammar.Asked.{Asked}
+use Rattle.range_spec.specs.declared.grammar.Asked.TheVariants.{Ignore}
+use Rattle.range_spec.specs.declared.selection.Choice.{Choice}
+use Rattle.range_spec.specs.declared.selection.Choice.TheVariants.{Whole, One, Many, None416}
+use Rattle.range_spec.specs.Understood.{IsUnderstoodAs}
+use Rattle.range_reply.specs.Bodies.{text_in}
+use Rattle.range_reply.specs.Conditions.{condition_of}
+use Rattle.range_reply.specs.Multipart.{candidate, text_of}
+use Rattle.range_reply.specs.Plans.{planned}
+use Rattle.range_reply.specs.declared.boundaries.Boundary.{Boundary}
+use Rattle.file_reads.specs.Sending.{IsNotRead, IsRead}
+use Rattle.file_reads.specs.Stores.{FailedOfFiles, GaveOfFiles}
+use Rattle.file_reads.specs.declared.bodies.FileBody.{FileBody}
+use Rattle.http_wire.specs.Fields.{values_of}
+use Rattle.http_wire.specs.Requests.{RequestParts}
+use Rattle.http_wire.specs.declared.replies.ContentRange.TheVariants.{Of}
+use Rattle.host_api.specs.Types.{type_of}
+use Rattle.host_api.specs.declared.refusals.Refusal.{Refusal}
+use Rattle.host_api.specs.declared.refusals.Refusal.TheVariants as reason
+use Rattle.host_server.specs.Replies.{Answer, part_answer, refused_answer}
+use Rattle.host_server.specs.declared.servers.Server.{Server}
+
+-- ---- what is asked for
+
+-- what these values of Range ask for (RFC 9110, section 14.2): a lone one of a GET
+abbrev pub AskedBy : Bool → List (List ℕ) → Asked → Type 0
+AskedBy true (value ∷ []) range = IsUnderstoodAs value range
+AskedBy true (value ∷ other ∷ values) range = range ≡ Ignore
+AskedBy true [] range = range ≡ Ignore
+AskedBy false values range = range ≡ Ignore
+
+-- what a request of these parts asks for by its Range
+abbrev pub AsksRange : RequestParts → Asked → Type 0
+AsksRange parts range = AskedBy (bytes_eq parts.method (codes "GET")) (values_of (codes "range") parts.fields) range
+
+-- what is to be sent of a file where a request of these parts asks for that: its If-Range may let the range be ignored (section 13.1.5)
+abbrev pub plan_of : RequestParts → Asked → List ℕ → Choice
+plan_of parts range file = planned range (condition_of (digest_of file) (values_of (codes "if-range") parts.fields)) (length file)
+
+-- ---- what is sent
+
+-- the type of parts with this boundary between them (RFC 9110, section 14.6)
+abbrev pub parts_type : List ℕ → List ℕ
+parts_type boundary = codes "multipart/byteranges; boundary=" ++ boundary
+
+-- what is sent of the file at a path, with these bytes (RFC 9110, sections 15.3.1, 15.3.7 and 15.5.17)
+abbrev pub sent_as : List ℕ → List ℕ → Choice → Option Boundary → List ℕ → Answer
+sent_as path file Whole boundary bytes = part_answer 200 (type_of path) file None bytes
+sent_as path file (One first last) boundary bytes = part_answer 206 (type_of path) file (Some (Of first last (length file))) bytes
+sent_as path file (Many intervals) boundary bytes = part_answer 206 (parts_type (text_in boundary)) file None bytes
+sent_as path file None416 boundary bytes = refused_answer (reason.NotSatisfiable (length file))
+
+-- the same of what was read
+abbrev pub sent_answer : List ℕ → List ℕ → FileBody → Answer
+sent_answer path file body = sent_as path file body.plan body.boundary body.bytes.items
+
+-- why a file can't be read, as it is told
+abbrev pub refusal_of_read : ReadFault → Refusal
+refusal_of_read fault.Missing = reason.Missing
+refusal_of_read fault.Damaged = reason.Damaged
+refusal_of_read fault.Device = reason.Device
+refusal_of_read fault.OutOfMemory = reason.OutOfMemory
+
+-- ---- the reply
+
+-- Such a plan of a file at a path is carried out, and the files are then these: none of the range is there, and that is told; or what was read
+-- is sent; or it can't be read, and the reason is told, which is what the shelf answered.
+abbrev pub IsFileSent : {S : Type 0} → (did : S → Call → S → Type 0) → (failures : S → ℕ) → Files S → List ℕ → List ℕ → Choice → Answer → Files S → Type 0
+IsFileSent did failures old path file plan answer new =
+    ((plan ≡ None416) × (answer ≡ refused_answer (reason.NotSatisfiable (length file))) × (new ≡ old))
+    ⊎ ((body : FileBody) × IsRead (GaveOfFiles did failures) old file plan (type_of path) body new × (answer ≡ sent_answer path file body))
+    ⊎ ((why : ReadFault) × (why ≢ fault.OutOfMemory) × IsNotRead (GaveOfFiles did failures) (FailedOfFiles did failures) old file plan why new
+    × (answer ≡ refused_answer (refusal_of_read why)))
+
+-- the reply to the reading of this file at the path, or of none for this reason
+abbrev pub IsReadReply : {S : Type 0} → (did : S → Call → S → Type 0) → (failures : S → ℕ) → Server S → RequestParts → List ℕ → Result (List ℕ) Refusal → Answer → Server S
+    → Type 0
+IsReadReply did failures server parts path (Err refusal) answer next = (answer ≡ refused_answer refusal) × (next ≡ server)
+IsReadReply did failures server parts path (Ok file) answer next =
+    (range : Asked) × AsksRange parts range × IsFileSent did failures server.files path file (plan_of parts range file) answer next.files × (next.house ≡ server.house)
+
+-- ---- where memory runs out
+
+-- whether something is read of the file
+abbrev pub is_read : Choice → Bool
+is_read None416 = false
+is_read plan = true
+
+-- the reading of this file runs out of memory: before it, or in it
+abbrev pub ReadRunsOut : {S : Type 0} → (did : S → Call → S → Type 0) → (failures : S → ℕ) → Server S → RequestParts → Result (List ℕ) Refusal → Server S → Type 0
+ReadRunsOut did failures server parts (Err refusal) next = ⊥
+ReadRunsOut did failures server parts (Ok file) next =
+    (range : Asked) × AsksRange parts range × IsTrue (is_read (plan_of parts range file)) × (next.house ≡ server.house)
+    × ((next.files ≡ server.files)
+    ⊎ IsNotRead (GaveOfFiles did failures) (FailedOfFiles did failures) server.files file (plan_of parts range file) fault.OutOfMemory next.files)
+
+-- ---- what private functions say
+
+-- the text is one of the eight boundaries for ranges of the file with this digest
+abbrev pub IsOfEight : Digest → List ℕ → Type 0
+IsOfEight digest text = (number : ℕ) × (number < 8) × (text ≡ candidate digest number)
+
+-- where several parts are sent of it, one of these is between them
+abbrev pub SendsParts : Digest → FileBody → Type 0
+SendsParts digest body = (intervals : List (ℕ × ℕ)) → body.plan ≡ Many intervals → IsOfEight digest (text_in body.boundary) × ((boundary : Boundary) × (body.boundary ≡ Some boundary))

@@ -1,0 +1,89 @@
+-- What is answered to an upload.
+use Rattle.std.specs.Prelude.{◌≡◌, ◌≢◌, ◌⊎◌, ℕ, ◌<◌, ◌≤◌, List, Option, Some, None, Result, Ok, Err, IsSome, IsTrue, length}
+use Rattle.std.specs.FinMap as map
+use Rattle.host_names.specs.Blobs.{Contents, digest_of}
+use Rattle.host_names.specs.declared.digests.Digest.{Digest}
+use Rattle.host_names.specs.declared.names.SiteName.{SiteName}
+use Rattle.blob_store.specs.Calls.{Call, PutsInTurn, things_of}
+use Rattle.blob_store.specs.Faults.{HasPutSome}
+use Rattle.blob_store.specs.declared.blobs.UploadFault.{UploadFault}
+use Rattle.blob_store.specs.declared.blobs.UploadFault.TheVariants as fault
+use Rattle.host_api.specs.declared.refusals.HeadRefusal.TheVariants.{BodyTooLarge}
+use Rattle.host_api.specs.declared.refusals.Refusal.{Refusal}
+use Rattle.host_api.specs.declared.refusals.Refusal.TheVariants as reason
+use Rattle.host_api.specs.declared.texts.Told.{Told}
+use Rattle.host_server.specs.Hosts.{Host, with_upload}
+use Rattle.host_server.specs.Memory.{is_published, TextRunsOut}
+use Rattle.host_server.specs.Outcomes.{Outcome, judge_upload, told_by, upload_outcome}
+use Rattle.host_server.specs.Replies.{Answer, refused_answer, told_answer}
+use Rattle.host_server.specs.declared.servers.Server.{Server}
+
+-- the bytes are on the shelf: nothing is put of those that are known, and of others each piece, and then the table
+abbrev pub IsStored : {S : Type 0} → (did : S → Call → S → Type 0) → Contents → S → List ℕ → S → Type 0
+IsStored did uploads old bytes new =
+    (IsSome (map.get uploads (digest_of bytes)) × (new ≡ old))
+    ⊎ ((map.get uploads (digest_of bytes) ≡ None) × (length bytes ≤ 16777216) × PutsInTurn did old (things_of bytes) None new)
+
+-- why they can't be: they aren't known, and are too many, or the device failed, or there was no memory
+pub record IsNotStored {S : Type 0} (did : S → Call → S → Type 0) (failures : S → ℕ) (uploads : Contents) (old : S) (bytes : List ℕ) (why : UploadFault) (new : S) : Type 0 where
+  pub unknown : map.get uploads (digest_of bytes) ≡ None
+  pub large : why ≡ fault.TooLarge → 16777216 < length bytes
+  pub failed : why ≡ fault.Device → failures old < failures new
+  pub put : HasPutSome did old (things_of bytes) why new
+
+-- the reason, as it is told
+abbrev pub refusal_of_upload : UploadFault → Refusal
+refusal_of_upload fault.TooLarge = reason.Head BodyTooLarge
+refusal_of_upload fault.Device = reason.Device
+refusal_of_upload fault.OutOfMemory = reason.OutOfMemory
+
+-- where nothing is against the bytes they are on the shelf, which else stays as it was
+abbrev pub IsStoredIf : {S : Type 0} → (did : S → Call → S → Type 0) → Result (SiteName × Digest) Refusal → Contents → S → List ℕ → S → Type 0
+IsStoredIf did (Ok at) uploads old bytes new = IsStored did uploads old bytes new
+IsStoredIf did (Err why) uploads old bytes new = new ≡ old
+
+-- the bytes are stored where nothing is against them, and the host does what comes of that
+pub record IsUploaded {S : Type 0} (did : S → Call → S → Type 0) (server : Server S) (n : ℕ) (path bytes : List ℕ) (told : Told) (next : Server S) : Type 0 where
+  pub stored : IsStoredIf did (judge_upload server.house n path bytes) server.house.uploads server.files.shelf bytes next.files.shelf
+  pub told_is : told ≡ (upload_outcome server.house n path bytes).told
+  pub host_is : next.house ≡ (upload_outcome server.house n path bytes).host
+
+-- nothing is against the bytes, but they can't be stored, and nothing else is done
+pub record IsRefusedByStore {S : Type 0} (did : S → Call → S → Type 0) (failures : S → ℕ) (server : Server S) (n : ℕ) (path bytes : List ℕ) (why : UploadFault) (next : Server S)
+    : Type 0 where
+  pub at : SiteName × Digest
+  pub judged : judge_upload server.house n path bytes ≡ Ok at
+  pub not_stored : IsNotStored did failures server.house.uploads server.files.shelf bytes why next.files.shelf
+  pub same : next.house ≡ server.house
+
+-- the bytes are stored and known, and there is no memory for the entry that publishes the deploy that they complete
+pub record IsUnpublished {S : Type 0} (did : S → Call → S → Type 0) (server : Server S) (n : ℕ) (path bytes : List ℕ) (next : Server S) : Type 0 where
+  pub at : SiteName × Digest
+  pub judged : judge_upload server.house n path bytes ≡ Ok at
+  pub stored : IsStored did server.house.uploads server.files.shelf bytes next.files.shelf
+  pub known : next.house ≡ with_upload server.house bytes
+  pub published : IsTrue (is_published (with_upload server.house bytes) at.0 n)
+
+-- ---- the reply
+
+-- the reply to an upload: what comes of it, or the reason why the store doesn't take the bytes
+abbrev pub IsUploadReply : {S : Type 0} → (did : S → Call → S → Type 0) → (failures : S → ℕ) → Server S → ℕ → List ℕ → List ℕ → Answer → Server S → Type 0
+IsUploadReply did failures server n path bytes answer next =
+    ((told : Told) × IsUploaded did server n path bytes told next × (answer ≡ told_answer told))
+    ⊎ ((why : UploadFault) × (why ≢ fault.OutOfMemory) × IsRefusedByStore did failures server n path bytes why next × (answer ≡ refused_answer (refusal_of_upload why)))
+
+-- an upload runs out of memory: the store does, or the entry that publishes, or the text of the reply
+abbrev pub UploadRunsOut : {S : Type 0} → (did : S → Call → S → Type 0) → (failures : S → ℕ) → Server S → ℕ → List ℕ → List ℕ → Server S → Type 0
+UploadRunsOut did failures server n path bytes next =
+    IsRefusedByStore did failures server n path bytes fault.OutOfMemory next
+    ⊎ IsUnpublished did server n path bytes next
+    ⊎ ((told : Told) × IsUploaded did server n path bytes told next × TextRunsOut (upload_outcome server.house n path bytes) next.house)
+
+-- ---- what private functions say
+
+-- the call did that, or says why not
+abbrev pub DoesUpload : {S : Type 0} → (did : S → Call → S → Type 0) → (failures : S → ℕ) → Server S → ℕ → List ℕ → List ℕ → Result Told Refusal → Server S → Type 0
+DoesUpload did failures server n path bytes result next =
+    IsUploaded did server n path bytes (told_by result) next
+    ⊎ ((why : UploadFault) × IsRefusedByStore did failures server n path bytes why next × (result ≡ Err (refusal_of_upload why)))
+    ⊎ ((result ≡ Err reason.OutOfMemory) × IsUnpublished did server n path bytes next)
