@@ -1,14 +1,15 @@
 -- The text of an entity tag, and the type of several parts, can be the value of a field.
-use Rattle.std.proofs.Common.{◌≡◌, ◌∙◌, ℕ, zero, suc, ◌==◌, ◌<◌, ◌&&◌, ◌||◌, Bool, not, nat_le, true, List, [], ◌∷◌, ◌++◌, codes, decimal, Ok, refl, sym, subst, arith}
+use Rattle.std.proofs.Common.{◌≡◌, ◌∙◌, ℕ, zero, suc, ◌+◌, ◌==◌, ◌<◌, ◌&&◌, ◌||◌, Bool, not, nat_le, true, List, [], ◌∷◌, ◌++◌, codes, decimal, length, Ok, refl, sym, ap, subst, arith}
 use Rattle.std.specs.Prelude.{IsTrue}
 use Rattle.std.specs.List.{list_all}
 use Rattle.std.proofs.lemmas.Bool.{and_from, and_parts}
+use Rattle.std.proofs.lemmas.Fmt.{decimal_digit}
 use Rattle.std.proofs.lemmas.List.Sums.{list_all-from_AllPass}
 use Rattle.hex.specs.Hex.{decode_sized, encode_lower, is_hex_digit}
 use Rattle.hex.proofs.HexLemmas.{decode_of-ok, decode_sized-ok, decode_sized-twice}
 use Rattle.http_wire.specs.FieldTexts.{is_field_text}
 use Rattle.host_names.specs.declared.digests.Digest.{Digest}
-use Rattle.host_server.specs.Files.{IsOfEight, parts_type}
+use Rattle.host_server.specs.PartsTypes.{IsOfEight, parts_type}
 
 -- the test of a byte of a field's value, written out
 abbrev is_visible : ℕ → Bool
@@ -36,16 +37,19 @@ joined_is_valid (c ∷ a) b left right =
     let parts = and_parts (is_visible c) (is_field_text a) left in
     and_from (is_visible c) (is_field_text (a ++ b)) parts.0 (joined_is_valid a b parts.1 right)
 
+digit_is_valid : (n : ℕ) → n < 8 → IsTrue (is_field_text ((48 + n) ∷ []))
+digit_is_valid zero small = refl
+digit_is_valid (suc zero) small = refl
+digit_is_valid (suc (suc zero)) small = refl
+digit_is_valid (suc (suc (suc zero))) small = refl
+digit_is_valid (suc (suc (suc (suc zero)))) small = refl
+digit_is_valid (suc (suc (suc (suc (suc zero))))) small = refl
+digit_is_valid (suc (suc (suc (suc (suc (suc zero)))))) small = refl
+digit_is_valid (suc (suc (suc (suc (suc (suc (suc zero))))))) small = refl
+digit_is_valid (suc (suc (suc (suc (suc (suc (suc (suc n)))))))) small = absurd (omega (arith, small))
+
 number_is_valid : (n : ℕ) → n < 8 → IsTrue (is_field_text (decimal n))
-number_is_valid zero small = refl
-number_is_valid (suc zero) small = refl
-number_is_valid (suc (suc zero)) small = refl
-number_is_valid (suc (suc (suc zero))) small = refl
-number_is_valid (suc (suc (suc (suc zero)))) small = refl
-number_is_valid (suc (suc (suc (suc (suc zero))))) small = refl
-number_is_valid (suc (suc (suc (suc (suc (suc zero)))))) small = refl
-number_is_valid (suc (suc (suc (suc (suc (suc (suc zero))))))) small = refl
-number_is_valid (suc (suc (suc (suc (suc (suc (suc (suc n)))))))) small = absurd (omega (arith, small))
+number_is_valid n small = subst (λ t. IsTrue (is_field_text t)) (sym (decimal_digit n (omega (arith, small)))) (digit_is_valid n small)
 
 pub parts_type_is_valid : (digest : Digest) (text hex : List ℕ) → IsOfEight digest text → hex ≡ encode_lower digest.0 → decode_sized hex 20 ≡ Ok digest.0
     → IsTrue (is_field_text (parts_type text))
@@ -54,3 +58,10 @@ parts_type_is_valid digest text hex (number, small, is) digits undone =
     let rest = joined_is_valid (decimal number) (codes "-" ++ encode_lower digest.0) (number_is_valid number small) (joined_is_valid (codes "-") (encode_lower digest.0) refl tag) in
     subst (λ t. IsTrue (is_field_text (parts_type t))) (sym is)
     (joined_is_valid (codes "multipart/byteranges; boundary=") (codes "fh" ++ (decimal number ++ (codes "-" ++ encode_lower digest.0))) refl (joined_is_valid (codes "fh") (decimal number ++ (codes "-" ++ encode_lower digest.0)) refl rest))
+
+pub boundary_is_short : (digest : Digest) (text hex : List ℕ) → IsOfEight digest text → hex ≡ encode_lower digest.0 → decode_sized hex 20 ≡ Ok digest.0 → length text ≡ 44
+boundary_is_short digest text hex (number, small, is) digits undone =
+    let tag : length (encode_lower digest.0) ≡ 40 = sym (ap length digits) ∙ decode_sized-ok hex 20 digest.0 undone in
+    let parts : length text ≡ suc (suc (suc (suc (length (encode_lower digest.0))))) =
+    ap length is ∙ ap (λ (d : List ℕ). length (codes "fh" ++ (d ++ (codes "-" ++ encode_lower digest.0)))) (decimal_digit number (omega (arith, small))) in
+    omega (arith, tag, parts)

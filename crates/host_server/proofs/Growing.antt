@@ -10,9 +10,8 @@ use Rattle.change_undo.specs.declared.entries.Entry.TheVariants.{Change, Undo}
 use Rattle.change_undo.specs.Histories.{Past, run, IsLegal, IsLegalAfter, is_allowed}
 use Rattle.change_undo.proofs.Runs.{history-grows, is_accepted, run-undone_at_once}
 use Rattle.change_undo.proofs.Found.{IsWithin-itself, kept-with_file}
-use Rattle.host_server.specs.Answers.{Grows}
+use Rattle.host_server.specs.Hosts.{Grows, Host, host_of, state_of, with_entries, with_entry, with_upload}
 use Rattle.host_server.specs.Growth.{itself}
-use Rattle.host_server.specs.Hosts.{Host, host_of, state_of, with_entries, with_entry, with_upload}
 
 pub grows_same : (old new : Host) → new ≡ old → Grows old new
 grows_same old new is = subst (Grows old) (sym is) (itself old)

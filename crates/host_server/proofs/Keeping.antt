@@ -25,10 +25,6 @@ some_there : {R : Type 0} (value : R → List ℕ) (found : Option R) (there : O
 some_there value None there some is = absurd (cc some)
 some_there value (Some x) there some is = ap is_some (sym is)
 
-there_some : (o : Option (List ℕ)) → is_some o ≡ true → IsSome o
-there_some None some = absurd (cc some)
-there_some (Some x) some = tt
-
 -- a file that is known changes nothing
 with_known : (host : Host) (bytes : List ℕ) → is_some (map.get host.uploads (digest_of bytes)) ≡ true → host ≡ with_upload host bytes
 with_known host bytes some =
@@ -39,7 +35,7 @@ pub known_already : {S R : Type 0} (did : S → Call → S → Type 0) (value : 
     → IsStored did host.uploads shelf bytes shelf × (host ≡ with_upload host bytes)
 known_already did value host shelf digest bytes found is at some =
     let there = some_there value found (map.get host.uploads (digest_of bytes)) some (found_at value host.uploads digest bytes found is at) in
-    (inl (there_some (map.get host.uploads (digest_of bytes)) there, refl), with_known host bytes there)
+    (inl (there, refl), with_known host bytes there)
 
 none_there : {R : Type 0} (value : R → List ℕ) (found : Option R) (there : Option (List ℕ)) → is_some found ≡ false → option_map value found ≡ there → there ≡ None
 none_there value None there none is = sym is

@@ -18,7 +18,8 @@ use Rattle.host_api.specs.declared.refusals.Refusal.{Refusal}
 use Rattle.host_api.specs.declared.refusals.Refusal.TheVariants as reason
 use Rattle.host_server.specs.Answers.{ReadsFile}
 use Rattle.host_server.specs.Bodies.{answer_of}
-use Rattle.host_server.specs.Files.{AsksRange, IsOfEight, SendsParts, is_read, plan_of, refusal_of_read, sent_answer}
+use Rattle.host_server.specs.PartsTypes.{IsOfEight}
+use Rattle.host_server.specs.Files.{AsksRange, SendsParts, is_read, plan_of, refusal_of_read, sent_answer}
 use Rattle.host_server.specs.Replies.{refused_answer}
 use Rattle.host_server.specs.declared.replies.Reply.{Reply}
 use Rattle.host_server.specs.declared.servers.Server.{Server}

@@ -1,10 +1,8 @@
 -- What the functions that answer a request do.
-use Rattle.std.specs.Prelude.{◌≡◌, ◌⊎◌, ℕ, List, ◌++◌, Result, Ok, Err, IsTrue}
+use Rattle.std.specs.Prelude.{◌≡◌, ◌⊎◌, ℕ, List, Result, Ok, Err, IsTrue}
 use Rattle.host_names.specs.declared.names.SiteName.{SiteName}
 use Rattle.blob_store.specs.Calls.{Call}
 use Rattle.http_wire.specs.Requests.{RequestParts}
-use Rattle.site_change.specs.Changes.{IsWithin}
-use Rattle.change_undo.specs.declared.entries.Entry.{Entry}
 use Rattle.host_api.specs.declared.refusals.Refusal.{Refusal}
 use Rattle.host_api.specs.declared.refusals.Refusal.TheVariants.{OutOfMemory}
 use Rattle.host_api.specs.declared.texts.Told.{Told}
@@ -13,21 +11,10 @@ use Rattle.host_server.specs.declared.replies.Reply.{Reply}
 use Rattle.host_server.specs.declared.servers.Server.{Server}
 use Rattle.host_server.specs.Bodies.{answer_of}
 use Rattle.host_server.specs.Files.{IsReadReply, ReadRunsOut}
-use Rattle.host_server.specs.Hosts.{Host, state_of}
+use Rattle.host_server.specs.Hosts.{state_of}
 use Rattle.host_server.specs.Memory.{takes_text}
 use Rattle.host_server.specs.Replies.{Answer, told_answer, refused_answer}
 use Rattle.host_server.specs.Versions.{file_of}
-
--- ---- promised to a caller
-
--- what was there stays: more entries may follow, and more may be uploaded
-pub record Grows (old new : Host) : Type 0 where
-  pub same_limit : new.limit ≡ old.limit
-  pub more : List Entry
-  pub longer : new.entries ≡ old.entries ++ more
-  pub uploads : IsWithin old.uploads new.uploads
-
--- ---- of private functions
 
 -- the answer tells that, or that there is no memory for its text
 abbrev pub Tells : Told → Answer → Type 0

@@ -14,7 +14,6 @@ use Rattle.range_spec.specs.declared.selection.Choice.TheVariants.{Whole, One, M
 use Rattle.range_spec.specs.Understood.{IsUnderstoodAs}
 use Rattle.range_reply.specs.Bodies.{text_in}
 use Rattle.range_reply.specs.Conditions.{condition_of}
-use Rattle.range_reply.specs.Multipart.{candidate, text_of}
 use Rattle.range_reply.specs.Plans.{planned}
 use Rattle.range_reply.specs.declared.boundaries.Boundary.{Boundary}
 use Rattle.file_reads.specs.Sending.{IsNotRead, IsRead}
@@ -26,6 +25,7 @@ use Rattle.http_wire.specs.declared.replies.ContentRange.TheVariants.{Of}
 use Rattle.host_api.specs.Types.{type_of}
 use Rattle.host_api.specs.declared.refusals.Refusal.{Refusal}
 use Rattle.host_api.specs.declared.refusals.Refusal.TheVariants as reason
+use Rattle.host_server.specs.PartsTypes.{IsOfEight, parts_type}
 use Rattle.host_server.specs.Replies.{Answer, part_answer, refused_answer}
 use Rattle.host_server.specs.declared.servers.Server.{Server}
 
@@ -47,10 +47,6 @@ abbrev pub plan_of : RequestParts → Asked → List ℕ → Choice
 plan_of parts range file = planned range (condition_of (digest_of file) (values_of (codes "if-range") parts.fields)) (length file)
 
 -- ---- what is sent
-
--- the type of parts with this boundary between them (RFC 9110, section 14.6)
-abbrev pub parts_type : List ℕ → List ℕ
-parts_type boundary = codes "multipart/byteranges; boundary=" ++ boundary
 
 -- what is sent of the file at a path, with these bytes (RFC 9110, sections 15.3.1, 15.3.7 and 15.5.17)
 abbrev pub sent_as : List ℕ → List ℕ → Choice → Option Boundary → List ℕ → Answer
@@ -104,10 +100,6 @@ ReadRunsOut did failures server parts (Ok file) next =
     ⊎ IsNotRead (GaveOfFiles did failures) (FailedOfFiles did failures) server.files file (plan_of parts range file) fault.OutOfMemory next.files)
 
 -- ---- what private functions say
-
--- the text is one of the eight boundaries for ranges of the file with this digest
-abbrev pub IsOfEight : Digest → List ℕ → Type 0
-IsOfEight digest text = (number : ℕ) × (number < 8) × (text ≡ candidate digest number)
 
 -- where several parts are sent of it, one of these is between them
 abbrev pub SendsParts : Digest → FileBody → Type 0

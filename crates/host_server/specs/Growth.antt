@@ -3,8 +3,7 @@ use Rattle.std.specs.Prelude.{◌++◌, [], refl}
 use Rattle.std.proofs.Common.{ap, sym, ◌∙◌}
 use Rattle.std.proofs.lemmas.List.{append-nil, append_assoc}
 use Rattle.change_undo.proofs.Found.{IsWithin-itself, IsWithin-trans}
-use Rattle.host_server.specs.Answers.{Grows}
-use Rattle.host_server.specs.Hosts.{Host}
+use Rattle.host_server.specs.Hosts.{Grows, Host}
 
 pub itself : (host : Host) → Grows host host
 itself host = record { same_limit = refl; more = []; longer = sym (append-nil host.entries); uploads = IsWithin-itself host.uploads }

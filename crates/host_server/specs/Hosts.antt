@@ -1,9 +1,10 @@
 -- What a host has: its entries and its uploads.
-use Rattle.std.specs.Prelude.{ℕ, ◌+◌, List, [], ◌∷◌, ◌++◌, length, unwrap_or, refl}
+use Rattle.std.specs.Prelude.{◌≡◌, ℕ, ◌+◌, List, [], ◌∷◌, ◌++◌, length, unwrap_or, refl}
 use Rattle.std.specs.Coded.{Coded, code_by, coded×, coded_ℕ}
 use Rattle.std.specs.FinMap as map
 use Rattle.host_names.specs.Blobs.{Contents, with_file}
 use Rattle.site_state.specs.States.{State}
+use Rattle.site_change.specs.Changes.{IsWithin}
 use Rattle.change_undo.specs.declared.entries.Entry.{Entry}
 use Rattle.change_undo.specs.Histories.{Past, run, IsLegal}
 use Rattle.change_undo.specs.Plans.{IsHistoryOver}
@@ -37,6 +38,13 @@ with_upload host bytes = record { limit = host.limit; entries = host.entries; up
 -- a host whose entries were each allowed in their place
 abbrev pub IsLawful : Host → Type 0
 IsLawful host = IsLegal host.uploads host.entries
+
+-- what was there stays: more entries may follow, and more may be uploaded
+pub record Grows (old new : Host) : Type 0 where
+  pub same_limit : new.limit ≡ old.limit
+  pub more : List Entry
+  pub longer : new.entries ≡ old.entries ++ more
+  pub uploads : IsWithin old.uploads new.uploads
 
 -- ---- how it is kept
 

@@ -9,6 +9,7 @@ pub mod Versions
 pub mod Shown
 -- what is answered, and what a connection and a run of the program do
 pub mod Replies
+pub mod PartsTypes
 pub mod Files
 pub mod Storing
 pub mod Asks

@@ -7,8 +7,8 @@ ghost use Rattle.site_change.specs.declared.commands.Command.{Command as Change}
 ghost use Rattle.host_server.specs.Asks as spec;
 ghost use Rattle.host_server.specs.Asks.{AnswersAsk, IsAnswer};
 ghost use Rattle.host_server.specs.Bodies.{answer_of};
-ghost use Rattle.host_server.specs.Hosts.{state_of, with_entries};
-ghost use Rattle.host_server.specs.Answers.{Grows, Tells};
+ghost use Rattle.host_server.specs.Hosts.{Grows, state_of, with_entries};
+ghost use Rattle.host_server.specs.Answers.{Tells};
 ghost use Rattle.host_server.specs.Memory.{asking_takes};
 ghost use Rattle.host_server.specs.Shown.{shown_lines};
 ghost use Rattle.host_server.specs.Outcomes.{told_by};
@@ -34,11 +34,11 @@ pub struct Request {
 
 impl Request {
     ghost use Rattle.std.specs.Prelude.{◌≡◌};
-    ghost use Rattle.host_server.specs.Replies as spec;
+    ghost use Rattle.host_server.specs.Replies as replies;
 
     /// Whether the connection ends after the reply (RFC 9112, section 9.6).
     pub(crate) fn closes(&self) -> bool
-        ensures { result ≡ spec.closes self.now.head self.now.is_last }
+        ensures { result ≡ replies.closes self.now.head self.now.is_last }
     {
         self.is_last || self.head.version() == HttpVersion::HTTP_10 || self.head.asks_close()
     }

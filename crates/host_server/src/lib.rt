@@ -6,6 +6,7 @@ mod bodies;
 mod connections;
 mod host;
 mod media_types;
+mod parts_types;
 mod reads;
 mod replies;
 mod servers;

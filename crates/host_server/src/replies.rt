@@ -5,22 +5,27 @@ ghost use Rattle.http_wire.specs.Sending.{WritesText};
 ghost use Rattle.http_wire.specs.Timing.{NoRead, Ran};
 ghost use Rattle.host_api.specs.Texts.{has_cell, told_text};
 ghost use Rattle.host_api.specs.declared.refusals.Refusal.TheVariants.{Head, OutOfMemory};
-ghost use Rattle.host_server.specs.Bodies.{answer_of, bytes_of, media_text};
+ghost use Rattle.host_server.specs.Bodies.{answer_of, bytes_of};
 ghost use Rattle.host_server.specs.Replies as spec;
 ghost use Rattle.host_server.specs.Answers.{Tells};
 ghost use Rattle.host_server.specs.Memory.{takes_text};
 ghost use Rattle.host_names.specs.Blobs.{digest_of};
+ghost use Rattle.range_reply.specs.Multipart.{text_of};
+ghost use Rattle.host_api.specs.Types.{type_of};
 ghost use Rattle.host_server.specs.Files.{SendsParts, sent_answer};
+ghost use Rattle.host_server.specs.PartsTypes.{IsOfEight, parts_type};
 ghost use Rattle.host_server.specs.Replies.{told_answer, refused_answer, part_answer, fields_for, sent_text};
 
 use crate::bodies::Body;
-use crate::media_types::{MediaType, PartsType};
+use crate::media_types::MediaType;
+use crate::parts_types::PartsType;
 use byte_view::BlobInfo;
 use file_reads::FileBody;
 use host_api::{HeadRefusal, Refusal, Told, content_type, short_text, text};
 use host_names::{Digest, FilePath};
 use http::StatusCode;
 use http_wire::{ContentRange, Duplex, FieldText, ReplyHead, WriteFault, write_reply};
+use range_reply::Boundary;
 use range_spec::Choice;
 use std::alloc::{AllocError, Global};
 
@@ -142,21 +147,37 @@ impl Reply {
         Reply::plain(Refusal::Head(why))
     }
 
-    /// The reply with some bytes of a file. Its entity tag is the digest of the whole (RFC 9110, section 8.8.3).
+    /// The reply with some bytes of the file at a path. Its entity tag is the digest of the whole (RFC 9110, section 8.8.3).
     fn of_part(
         status: StatusCode,
-        content_type: MediaType,
+        path: &FilePath,
         info: &BlobInfo,
         range: Option<ContentRange>,
         bytes: Vec<u8>,
     ) -> Reply
-        ensures { answer_of result ≡ part_answer status (media_text content_type) info.now range bytes.items }
+        ensures { answer_of result ≡ part_answer status (type_of path.now) info.now range bytes.items }
     {
         Reply {
             status,
-            content_type,
+            content_type: MediaType::Fixed(FieldText::new(content_type(path))),
             etag: Some(info.digest()),
             content_range: range,
+            allow: None,
+            body: Body::File(bytes),
+        }
+    }
+
+    /// The reply with several parts of a file.
+    fn of_parts(info: &BlobInfo, boundary: &Boundary, bytes: Vec<u8>) -> Reply
+        requires { IsOfEight (digest_of info.now) (text_of boundary.now) }
+        ensures { answer_of result ≡ part_answer 206 (parts_type (text_of boundary.now)) info.now None bytes.items }
+    {
+        let digest = info.digest();
+        Reply {
+            status: StatusCode::PARTIAL_CONTENT,
+            content_type: MediaType::Parts(PartsType::of(boundary, digest)),
+            etag: Some(digest),
+            content_range: None,
             allow: None,
             body: Body::File(bytes),
         }
@@ -172,28 +193,18 @@ impl Reply {
             boundary,
             bytes,
         } = body;
-        let own = MediaType::Fixed(FieldText::new(content_type(path)));
         let length = info.len() as u64;
         match plan {
-            Choice::Whole => Reply::of_part(StatusCode::OK, own, info, None, bytes),
+            Choice::Whole => Reply::of_part(StatusCode::OK, path, info, None, bytes),
             Choice::One(first, last) => {
                 let range = ContentRange::Of {
                     first,
                     last,
                     length,
                 };
-                Reply::of_part(StatusCode::PARTIAL_CONTENT, own, info, Some(range), bytes)
+                Reply::of_part(StatusCode::PARTIAL_CONTENT, path, info, Some(range), bytes)
             }
-            Choice::Many(_) => {
-                let parts = PartsType::of(&boundary.unwrap(), info.digest());
-                Reply::of_part(
-                    StatusCode::PARTIAL_CONTENT,
-                    MediaType::Parts(parts),
-                    info,
-                    None,
-                    bytes,
-                )
-            }
+            Choice::Many(_) => Reply::of_parts(info, &boundary.unwrap(), bytes),
             Choice::None416 => Reply::plain(Refusal::NotSatisfiable(length)),
         }
     }

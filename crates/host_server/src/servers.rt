@@ -3,8 +3,7 @@ ghost use Rattle.std.specs.Prelude.{◌≡◌, ◌≤◌, [], false, IfErr, IfOk
 ghost use Rattle.std.specs.FinMap as map;
 ghost use Rattle.host_names.specs.Blobs.{digest_of};
 ghost use Rattle.blob_store.specs.declared.blobs.UploadFault.{UploadFault as Fault};
-ghost use Rattle.host_server.specs.Answers.{Grows};
-ghost use Rattle.host_server.specs.Hosts.{with_upload};
+ghost use Rattle.host_server.specs.Hosts.{Grows, with_upload};
 ghost use Rattle.host_server.specs.Outcomes;
 ghost use Rattle.host_server.specs.Storing as spec;
 ghost use Rattle.host_server.specs.Storing.{DoesUpload, IsNotStored, IsStored};

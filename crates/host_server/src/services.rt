@@ -1,7 +1,7 @@
 //! What answers the requests of a connection.
 ghost use Rattle.std.specs.Prelude.{ℕ, List};
 ghost use Rattle.http_wire.specs.Requests.{RequestParts};
-ghost use Rattle.host_server.specs.Answers.{Grows};
+ghost use Rattle.host_server.specs.Hosts.{Grows};
 ghost use Rattle.host_server.specs.Bodies.{answer_of};
 ghost use Rattle.host_server.specs.Growth.{itself, grows_then};
 ghost use Rattle.host_server.specs.Asks.{IsAnswer};

@@ -3,7 +3,7 @@ ghost use Rattle.std.specs.Prelude.{◌≡◌, ◌⊎◌, true, false, Some, Non
 ghost use Rattle.site_change.specs.declared.commands.Command.TheVariants as command;
 ghost use Rattle.change_undo.specs.Histories.{may_take_memory};
 ghost use Rattle.change_undo.specs.declared.entries.Entry.TheVariants as entry;
-ghost use Rattle.host_server.specs.Answers.{Grows};
+ghost use Rattle.host_server.specs.Hosts.{Grows};
 ghost use Rattle.host_names.specs.declared.names.SiteName.{SiteName as Site};
 ghost use Rattle.host_server.specs.Memory.{CommandRunsOut, deploy_refusal, is_published};
 ghost use Rattle.host_server.specs.Outcomes;

@@ -5,8 +5,7 @@ ghost use Rattle.host_names.specs.Blobs.{digest_of};
 ghost use Rattle.host_names.specs.Refusals.{IsRefusedBy};
 ghost use Rattle.change_undo.specs.Histories.{run, entry_at, marked_entry, IsUndoRefusedBy};
 ghost use Rattle.change_undo.specs.declared.entries.Entry.TheVariants as entry;
-ghost use Rattle.host_server.specs.Answers.{Grows};
-ghost use Rattle.host_server.specs.Hosts.{Host, state_of, next_number, with_entry, with_upload, IsLawful};
+ghost use Rattle.host_server.specs.Hosts.{Grows, Host, state_of, next_number, with_entry, with_upload, IsLawful};
 ghost use Rattle.host_server.specs.Outcomes;
 ghost use Rattle.host_server.specs.Reasons;
 ghost use Rattle.host_server.specs.Reasons.{commit_refusal};
@@ -36,7 +35,6 @@ impl Model for SoloHouse {
     ghost use Rattle.std.specs.Coded.{coded_list};
     ghost use Rattle.change_undo.specs.contracts.entries.Entry as entry;
     ghost use Rattle.blob_store.specs.contracts.known.Known as known;
-    ghost use Rattle.host_server.specs.Answers.{Grows};
     ghost use Rattle.host_server.specs.Hosts.{Host, host_of, coded_host};
     ghost use Rattle.host_server.specs.Readiness.{IsKeptWith};
 

@@ -1,4 +1,4 @@
-use Rattle.std.proofs.Common.{Ok, refl, subst, sym}
+use Rattle.std.proofs.Common.{◌≡◌, Ok, refl, subst, sym}
 use Rattle.host_api.specs.declared.bodies.Ask.{Ask}
 use Rattle.host_server.specs.Asks.{AnswersAsk}
 use Rattle.host_server.specs.Bodies.{answer_of}
@@ -25,7 +25,7 @@ pub returns-in-Command : goal.returns-in-Command
 returns-in-Command g c =
     let server = c.args.server.now in
     let next = c.change.new.self in
-    let after : Server g.S = record { house = next; files = server.files } in
+    let after : Server g.row.S.Denot = record { house = next; files = server.files } in
     let A : Ask → Type 0 = λ a. AnswersAsk g.S.Shelf.did g.S.Shelf.failures server c.args.head.now c.args.body.items (Ok a) (answer_of c.tell.result) after in
     record {
       replied = subst A (sym c.in-Command.is) (on_server (server.files ≡ server.files) (told_command server.house next c.in-Command.command c.change.result
@@ -38,7 +38,7 @@ returns-in-Undo g c =
     let server = c.args.server.now in
     let host = server.house in
     let next = c.take_back.new.self in
-    let after : Server g.S = record { house = next; files = server.files } in
+    let after : Server g.row.S.Denot = record { house = next; files = server.files } in
     let site = c.in-Undo.site in
     let k = c.in-Undo.change in
     let A : Ask → Type 0 = λ a. AnswersAsk g.S.Shelf.did g.S.Shelf.failures server c.args.head.now c.args.body.items (Ok a) (answer_of c.tell-in-Undo.result) after in
@@ -74,7 +74,7 @@ returns-in-RemoveDeploy g c =
     let server = c.args.server.now in
     let host = server.house in
     let next = c.remove_deploy.new.self in
-    let after : Server g.S = record { house = next; files = server.files } in
+    let after : Server g.row.S.Denot = record { house = next; files = server.files } in
     let n = c.in-RemoveDeploy.deploy in
     let A : Ask → Type 0 = λ a. AnswersAsk g.S.Shelf.did g.S.Shelf.failures server c.args.head.now c.args.body.items (Ok a) (answer_of c.tell-in-RemoveDeploy.result) after in
     record {
@@ -89,7 +89,7 @@ returns-in-Cancel g c =
     let server = c.args.server.now in
     let host = server.house in
     let next = c.cancel.new.self in
-    let after : Server g.S = record { house = next; files = server.files } in
+    let after : Server g.row.S.Denot = record { house = next; files = server.files } in
     let n = c.in-Cancel.deploy in
     let A : Ask → Type 0 = λ a. AnswersAsk g.S.Shelf.did g.S.Shelf.failures server c.args.head.now c.args.body.items (Ok a) (answer_of c.tell-in-Cancel.result) after in
     record {

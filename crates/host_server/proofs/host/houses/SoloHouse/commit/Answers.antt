@@ -1,12 +1,10 @@
 use Rattle.std.proofs.Common.{subst}
-use Rattle.host_server.specs.Hosts.{Host}
+use Rattle.host_server.specs.Hosts.{Host, Grows, host_of}
 use Rattle.host_server.specs.Reasons.{commit_refusal}
 use Rattle.host_names.specs.Refusals.{IsRefusedBy}
 use Rattle.host_server.proofs.Reached.{reached_by_history}
 use Rattle.host_server.proofs.Refusing.{refused_as_kept}
 use Rattle.change_undo.specs.declared.entries.Entry.TheVariants.{Change}
-use Rattle.host_server.specs.Answers.{Grows}
-use Rattle.host_server.specs.Hosts.{host_of}
 use Rattle.host_server.proofs.Growing.{grows_past, same_entries}
 use Rattle.host_server.proofs.host.houses.SoloHouse.commit.Goals as goal
 

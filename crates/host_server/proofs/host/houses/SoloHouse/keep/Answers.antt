@@ -1,8 +1,7 @@
 use Rattle.host_server.proofs.Kept.{kept_by_upload}
 use Rattle.host_server.proofs.Reached.{reached_by_upload}
 use Rattle.std.proofs.Common.{subst}
-use Rattle.host_server.specs.Answers.{Grows}
-use Rattle.host_server.specs.Hosts.{Host, host_of}
+use Rattle.host_server.specs.Hosts.{Grows, Host, host_of}
 use Rattle.host_server.proofs.Growing.{grows_uploads}
 use Rattle.host_server.proofs.host.houses.SoloHouse.keep.Goals as goal
 

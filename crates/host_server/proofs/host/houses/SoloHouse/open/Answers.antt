@@ -13,8 +13,8 @@ use Rattle.host_server.proofs.host.houses.SoloHouse.open.Goals as goal
 
 pub publish_if-requires : goal.publish_if-requires
 publish_if-requires c =
-    let ready = ready_as_opened c.args.self.now c.commit.new.self c.uploads-2.result.now c.copied-owner.result c.args.site c.args.files c.args.auto c.in_ok-id.id c.in_ok-required.required.items
-    c.lawful.ensures c.uploads-2.ensures c.in_ok-required.ensures.least_first c.in_ok-id.ensures.refused c.in_ok-id.ensures.entries c.in_ok-id.ensures.number (search rules) in
+    let ready = ready_as_opened c.args.self.now c.commit.new.self c.uploads.result.now c.copied-owner.result c.args.site c.args.files c.args.auto c.in_ok-id.id c.in_ok-required.required.items
+    c.lawful.ensures c.uploads.ensures c.in_ok-required.ensures.least_first c.in_ok-id.ensures.refused c.in_ok-id.ensures.entries c.in_ok-id.ensures.number (search rules) in
     elim c.if-auto.branch [
       | then-auto w ↦ none_required c.in_ok-required.required.items (vec_len c.in_ok-required.required) c.args.auto c.if-auto.is_ready w.is_empty-is_ready.result
           (search rules) w.is_empty-is_ready.ensures w.if-auto.true w.is_ready-is ∙ ready
@@ -23,8 +23,8 @@ publish_if-requires c =
 
 pub returns-in_err-published-clause-done : goal.returns-in_err-published-clause-done
 returns-in_err-published-clause-done c =
-    let done = open_done c.args.self.now c.commit.new.self c.publish_if.new.self c.uploads-2.result.now c.copied-owner.result c.args.site c.args.files c.args.auto c.in_ok-id.id
-    c.in_ok-required.required.items c.publish_if.result c.uploads-2.ensures c.in_ok-required.ensures.exactly c.in_ok-id.ensures.refused c.in_ok-id.ensures.entries
+    let done = open_done c.args.self.now c.commit.new.self c.publish_if.new.self c.uploads.result.now c.copied-owner.result c.args.site c.args.files c.args.auto c.in_ok-id.id
+    c.in_ok-required.required.items c.publish_if.result c.uploads.ensures c.in_ok-required.ensures.exactly c.in_ok-id.ensures.refused c.in_ok-id.ensures.entries
     c.in_ok-id.ensures.number (search rules) c.publish_if.ensures.done in
     let P : Result Told Refusal → Type 0 = λ r. DoesCommit r c.publish_if.new.self c.args.self.now (Open c.args.site c.args.files c.args.auto) in
     let is : c.from_residual-in_err-published.result ≡ Err c.in_err-published.field-0.0 = search rules in
@@ -32,8 +32,8 @@ returns-in_err-published-clause-done c =
 
 pub returns-clause-done : goal.returns-clause-done
 returns-clause-done c =
-    let done = open_done c.args.self.now c.commit.new.self c.publish_if.new.self c.uploads-2.result.now c.copied-owner.result c.args.site c.args.files c.args.auto c.in_ok-id.id
-    c.in_ok-required.required.items c.publish_if.result c.uploads-2.ensures c.in_ok-required.ensures.exactly c.in_ok-id.ensures.refused c.in_ok-id.ensures.entries
+    let done = open_done c.args.self.now c.commit.new.self c.publish_if.new.self c.uploads.result.now c.copied-owner.result c.args.site c.args.files c.args.auto c.in_ok-id.id
+    c.in_ok-required.required.items c.publish_if.result c.uploads.ensures c.in_ok-required.ensures.exactly c.in_ok-id.ensures.refused c.in_ok-id.ensures.entries
     c.in_ok-id.ensures.number (search rules) c.publish_if.ensures.done in
     let P : Result Told Refusal → Type 0 = λ r. DoesCommit r c.publish_if.new.self c.args.self.now (Open c.args.site c.args.files c.args.auto) in
     subst P (ap (answer c.in_ok-id.id c.in_ok-required.required.items) c.in_ok-published.was
