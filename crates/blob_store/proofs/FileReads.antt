@@ -10,12 +10,10 @@ use Rattle.byte_view.proofs.CutPieces.{concat-cut, length-cut}
 use Rattle.byte_view.proofs.NextPieces.{follows_in, length-digest, names-next}
 use Rattle.blob_store.specs.declared.shelves.ShelfName.{ShelfName}
 use Rattle.blob_store.specs.declared.shelves.ShelfName.TheVariants.{Part, Table}
-use Rattle.blob_store.specs.declared.shelves.ShelfFault.{ShelfFault}
-use Rattle.blob_store.specs.declared.shelves.ShelfFault.TheVariants as shelf_fault
 use Rattle.blob_store.specs.declared.reading.ReadFault.{ReadFault}
 use Rattle.blob_store.specs.declared.reading.ReadFault.TheVariants as read_fault
 use Rattle.blob_store.specs.Calls.{Call, Got}
-use Rattle.blob_store.specs.Reads.{Answers, AreAsked, AreNoPieces, ArePiecesFault, FailsAfter, GivesInTurn, IsFileFault, IsNextFault, IsNextRead, IsNoPiece, IsTableFault, answers_of, pieces_given}
+use Rattle.blob_store.specs.Reads.{Answers, AreAsked, AreNoPieces, ArePiecesFault, GivesInTurn, IsFileFault, IsNextFault, IsNextRead, IsNoPiece, IsTableFault, answers_of, pieces_given}
 use Rattle.blob_store.specs.Tables.{IsTable, Spells, pieces_of, size_of, text_of}
 use Rattle.blob_store.proofs.TableTexts.{is_table, not_empty, size_told, spelled_table}
 
@@ -26,10 +24,6 @@ module _ {S : Type 0} (did : S → Call → S → Type 0) where
       → did mid (Got name answer) new → GivesInTurn did old (answers ++ (name, answer) ∷ []) new
   gives_then old mid new [] name answer gives got = (new, subst (λ s. did s (Got name answer) new) gives got, refl)
   gives_then old mid new (a ∷ answers) name answer gives got = (gives.0, gives.1, gives_then gives.0 mid new answers name answer gives.2 got)
-
-  pub fails_later : (old mid new : S) (name : ShelfName) (answer : Option (List ℕ)) (answers : Answers) (why : ShelfFault) → did old (Got name answer) mid
-      → FailsAfter did mid answers why new → FailsAfter did old ((name, answer) ∷ answers) why new
-  fails_later old mid new name answer answers why got fails = (fails.0, fails.1, (mid, got, fails.2), fails.3)
 
 -- ---- pieces
 
@@ -106,15 +100,25 @@ parts_asked (piece ∷ pieces) = ap (λ l. Part (digest_of piece) ∷ l) (parts_
 
 -- all pieces of a file
 pub all_asked : (names : List Digest) (file : List ℕ) → names_of file ≡ names → AreAsked names (pieces_given file)
-all_asked names file named =
-    ([], ap (map Part) (sym named) ∙ parts_asked (cut file) ∙ sym (append-nil (map (λ (answer : ShelfName × Option (List ℕ)). answer.0) (pieces_given file))))
+all_asked names file named = (
+  file,
+  [],
+  [],
+  sym (append-nil (pieces_given file)),
+  omega (arith),
+  ap (map Part) (sym named) ∙ parts_asked (cut file) ∙ sym (append-nil (map (λ (answer : ShelfName × Option (List ℕ)). answer.0) (pieces_given file))),
+)
 
 -- those of a file, and one more
 pub one_asked : (names rest : List Digest) (file : List ℕ) (name : Digest) (answer : Option (List ℕ)) → names_of file ++ name ∷ rest ≡ names
     → AreAsked names (pieces_given file ++ (Part name, answer) ∷ [])
 one_asked names rest file name answer named =
     let asked : Answers → List ShelfName = map (λ a. a.0) in (
+      file,
+      (Part name, answer) ∷ [],
       rest,
+      refl,
+      omega (arith),
       ap (map Part) (sym named) ∙ map-append Part (names_of file) (name ∷ rest) ∙ ap (λ l. l ++ Part name ∷ map Part rest) (parts_asked (cut file))
           ∙ sym (append_assoc (asked (pieces_given file)) (Part name ∷ []) (map Part rest))
           ∙ ap (λ l. l ++ map Part rest) (sym (map-append (λ (a : ShelfName × Option (List ℕ)). a.0) (pieces_given file) ((Part name, answer) ∷ []))),
@@ -157,8 +161,8 @@ module _ {S : Type 0} (did : S → Call → S → Type 0) (old now new : S) (joi
     gives_then did old now new (pieces_given joined) (Part name) fault.0 so.gives fault.2,
     no_piece joined name fault.0 fault.1,
   )
-  no_more read_fault.Device rest more so fault = (pieces_given joined, (now, Part name, so.gives, fault))
-  no_more read_fault.OutOfMemory rest more so (inl fault) = inl (pieces_given joined, (now, Part name, so.gives, fault))
+  no_more read_fault.Device rest more so fault = (joined, name, rest, now, ap (λ l. names_of joined ++ l) (sym more) ∙ so.named, so.gives, fault)
+  no_more read_fault.OutOfMemory rest more so (inl fault) = inl (joined, name, rest, now, ap (λ l. names_of joined ++ l) (sym more) ∙ so.named, so.gives, fault)
   no_more read_fault.OutOfMemory rest more so (inr fault) =
       let named = ap (λ l. names_of joined ++ l) (sym more) ∙ so.named in
       inr (
@@ -195,8 +199,8 @@ table_fails did old new digest read_fault.Damaged fault = (
       fault.2 file small text
       ),
 )
-table_fails did old new digest read_fault.Device fault = ([], (old, Table digest, refl, fault))
-table_fails did old new digest read_fault.OutOfMemory (inl fault) = inl ([], (old, Table digest, refl, fault))
+table_fails did old new digest read_fault.Device fault = inl fault
+table_fails did old new digest read_fault.OutOfMemory (inl fault) = inl (inl fault)
 table_fails did old new digest read_fault.OutOfMemory (inr fault) = inr (fault.0, [], fault.2, fault.3, inl refl, (new, fault.1, refl))
 
 pub pieces_fail : {S : Type 0} (did : S → Call → S → Type 0) (old mid new : S) (digest : Digest) (text : List ℕ) (size : ℕ) (names : List Digest) (why : ReadFault)
@@ -212,10 +216,8 @@ pieces_fail did old mid new digest text size names read_fault.Damaged spells got
       fault.3 file rest small pieces
       ),
 )
-pieces_fail did old mid new digest text size names read_fault.Device spells got fault =
-    ((Table digest, Some text) ∷ fault.0, fails_later did old mid new (Table digest) (Some text) fault.0 shelf_fault.Device got fault.1)
-pieces_fail did old mid new digest text size names read_fault.OutOfMemory spells got (inl fault) =
-    inl ((Table digest, Some text) ∷ fault.0, fails_later did old mid new (Table digest) (Some text) fault.0 shelf_fault.OutOfMemory got fault.1)
+pieces_fail did old mid new digest text size names read_fault.Device spells got fault = inr (text, size, names, mid, spells, got, fault)
+pieces_fail did old mid new digest text size names read_fault.OutOfMemory spells got (inl fault) = inl (inr (text, size, names, mid, spells, got, fault))
 pieces_fail did old mid new digest text size names read_fault.OutOfMemory spells got (inr fault) = inr (
   text,
   fault.0,

@@ -1,5 +1,5 @@
 -- What a shelf gives that keeps what is put on it.
-use Rattle.std.proofs.Common.{◌≡◌, ◌≢◌, ◌⊎◌, inl, inr, ℕ, ◌≤◌, true, false, List, [], ◌∷◌, ◌++◌, Option, Some, None, length, map, refl, sym, ap, ◌∙◌}
+use Rattle.std.proofs.Common.{◌≡◌, ◌≢◌, ◌⊎◌, inl, inr, ℕ, ◌≤◌, true, false, List, [], ◌∷◌, ◌++◌, Option, Some, None, length, map, refl, sym, ap, subst, ◌∙◌}
 use Rattle.std.proofs.lemmas.Cmp.{eq_by_cmp_equiv}
 use Rattle.std.proofs.lemmas.List.Elements.{All-contains, All-from_recursion, recursion_from_All}
 use Rattle.std.specs.List.{AllByRecursion, Contains, concat}
@@ -14,8 +14,12 @@ use Rattle.byte_view.proofs.CutPieces.{concat-cut}
 use Rattle.blob_store.specs.declared.shelves.ShelfName.{ShelfName}
 use Rattle.blob_store.specs.declared.shelves.ShelfName.TheVariants.{Part, Table}
 use Rattle.blob_store.specs.declared.reading.ReadFault.TheVariants as read_fault
-use Rattle.blob_store.specs.Calls.{Call, Put, Got, PutsInTurn}
-use Rattle.blob_store.specs.Faults.{IsChunkFault}
+use Rattle.blob_store.specs.declared.blobs.UploadFault.{UploadFault}
+use Rattle.blob_store.specs.declared.blobs.UploadFault.TheVariants as upload_fault
+use Rattle.blob_store.specs.declared.shelves.ShelfFault.{ShelfFault}
+use Rattle.blob_store.specs.declared.shelves.ShelfFault.TheVariants as shelf_fault
+use Rattle.blob_store.specs.Calls.{Call, Put, PutFails, Got, PutsInTurn}
+use Rattle.blob_store.specs.Faults.{HasPutSome, IsChunkFault}
 use Rattle.blob_store.specs.Keeping.{Agree, HasAll, HasFile, Keeps, Thing}
 use Rattle.blob_store.specs.Reads.{Answers, GivesInTurn, IsFileFault, IsFileRead, answers_of, pieces_given}
 use Rattle.blob_store.specs.Tables.{text_of}
@@ -57,7 +61,13 @@ fewer : (t : Thing) (things more : List Thing) → Agree more (t ∷ things) →
 fewer t things [] agree = tt
 fewer t things (m ∷ more) agree = (agree.0.1, fewer t things more agree.1)
 
-abbrev some_bytes : Option (List ℕ) → List ℕ
+-- a shelf that has the same has the same things
+pub moved : {S : Type 0} (has : S → ShelfName → Option (List ℕ)) (old new : S) (things : List Thing) → ((name : ShelfName) → has new name ≡ has old name) → HasAll has old things
+    → HasAll has new things
+moved has old new [] same are = tt
+moved has old new (t ∷ things) same are = (same t.0 ∙ are.0, moved has old new things same are.1)
+
+abbrev pub some_bytes : Option (List ℕ) → List ℕ
 some_bytes None = []
 some_bytes (Some bytes) = bytes
 
@@ -68,27 +78,46 @@ module _ {S : Type 0} (did : S → Call → S → Type 0) (has : S → ShelfName
     | inr differ ↦ keeps.others old new t.0 name t.1 put differ ∙ had
   ]
 
-  stays_there : (old new : S) (name : ShelfName) (bytes : List ℕ) (things : List Thing) → AllByRecursion (λ (t : Thing). name ≡ t.0 → bytes ≡ t.1) things
-      → PutsInTurn did old things None new → has old name ≡ Some bytes → has new name ≡ Some bytes
-  stays_there old new name bytes [] agree puts had = ap (λ s. has s name) puts.1 ∙ had
-  stays_there old new name bytes (t ∷ things) agree (inl fails) had = absurd (cc fails.1)
-  stays_there old new name bytes (t ∷ things) agree (inr puts) had =
-      stays_there puts.0 new name bytes things agree.1 puts.2 (one_put old puts.0 name bytes t agree.0 puts.1 had)
+  put_not : (old new : S) (name : ShelfName) (bytes : List ℕ) (t : Thing) (why : ShelfFault) → (name ≡ t.0 → bytes ≡ t.1) → did old (PutFails t.0 t.1 why) new
+      → has old name ≡ Some bytes → has new name ≡ Some bytes
+  put_not old new name bytes t why agree fails had = elim (same_name name t.0) [
+    | inl same ↦ elim (keeps.put_fails old new t.0 t.1 why fails) [
+      | inl stays ↦ ap (has new) same ∙ stays ∙ ap (has old) (sym same) ∙ had
+      | inr put ↦ ap (has new) same ∙ put ∙ ap Some (sym (agree same))
+    ]
+    | inr differ ↦ keeps.put_fails_others old new t.0 name t.1 why fails differ ∙ had
+  ]
+
+  stays_there : (old new : S) (name : ShelfName) (bytes : List ℕ) (things : List Thing) (outcome : Option ShelfFault)
+      → AllByRecursion (λ (t : Thing). name ≡ t.0 → bytes ≡ t.1) things → PutsInTurn did old things outcome new → has old name ≡ Some bytes → has new name ≡ Some bytes
+  stays_there old new name bytes [] outcome agree puts had = ap (λ s. has s name) puts.1 ∙ had
+  stays_there old new name bytes (t ∷ things) outcome agree (inl fails) had = put_not old new name bytes t fails.0 agree.0 fails.2 had
+  stays_there old new name bytes (t ∷ things) outcome agree (inr puts) had =
+      stays_there puts.0 new name bytes things outcome agree.1 puts.2 (one_put old puts.0 name bytes t agree.0 puts.1 had)
 
   -- what was put is there
   pub all_there : (old new : S) (things : List Thing) → Agree things things → PutsInTurn did old things None new → HasAll has new things
   all_there old new [] agree puts = tt
   all_there old new (t ∷ things) agree (inl fails) = absurd (cc fails.1)
   all_there old new (t ∷ things) agree (inr puts) = (
-    stays_there puts.0 new t.0 t.1 things agree.0.1 puts.2 (keeps.put old puts.0 t.0 t.1 puts.1),
+    stays_there puts.0 new t.0 t.1 things None agree.0.1 puts.2 (keeps.put old puts.0 t.0 t.1 puts.1),
     all_there puts.0 new things (fewer t things things agree.1) puts.2,
   )
 
   -- what was there still is
-  pub still_there : (old new : S) (had things : List Thing) → Agree had things → PutsInTurn did old things None new → HasAll has old had → HasAll has new had
-  still_there old new [] things agree puts are = tt
-  still_there old new (h ∷ had) things agree puts are =
-      (stays_there old new h.0 h.1 things agree.0 puts are.0, still_there old new had things agree.1 puts are.1)
+  pub still_there : (old new : S) (had things : List Thing) (outcome : Option ShelfFault) → Agree had things → PutsInTurn did old things outcome new → HasAll has old had
+      → HasAll has new had
+  still_there old new [] things outcome agree puts are = tt
+  still_there old new (h ∷ had) things outcome agree puts are =
+      (stays_there old new h.0 h.1 things outcome agree.0 puts are.0, still_there old new had things outcome agree.1 puts are.1)
+
+  pub there_after_fault : (old new : S) (had things : List Thing) (fault : UploadFault) → Agree had things → HasPutSome did old things fault new → HasAll has old had
+      → HasAll has new had
+  there_after_fault old new had things upload_fault.TooLarge agree same are = subst (λ s. HasAll has s had) (sym same) are
+  there_after_fault old new had things upload_fault.Device agree puts are = still_there old new had things (Some shelf_fault.Device) agree puts are
+  there_after_fault old new had things upload_fault.OutOfMemory agree (inl same) are = subst (λ s. HasAll has s had) (sym same) are
+  there_after_fault old new had things upload_fault.OutOfMemory agree (inr (inl puts)) are = still_there old new had things (Some shelf_fault.OutOfMemory) agree puts are
+  there_after_fault old new had things upload_fault.OutOfMemory agree (inr (inr puts)) are = still_there old new had things None agree puts are
 
   -- ---- what is given
 
@@ -97,7 +126,7 @@ module _ {S : Type 0} (did : S → Call → S → Type 0) (has : S → ShelfName
   same_after old new (a ∷ answers) gives name = same_after gives.0 new answers gives.2 name ∙ keeps.stays old gives.0 a.0 name a.1 gives.1
 
   -- each answer is what is there
-  given_there : (first old new : S) (answers : Answers) → ((name : ShelfName) → has old name ≡ has first name) → GivesInTurn did old answers new
+  pub given_there : (first old new : S) (answers : Answers) → ((name : ShelfName) → has old name ≡ has first name) → GivesInTurn did old answers new
       → AllByRecursion (λ (a : ShelfName × Option (List ℕ)). a.1 ≡ has first a.0) answers
   given_there first old new [] same gives = tt
   given_there first old new (a ∷ answers) same gives = (
@@ -113,13 +142,13 @@ module _ {S : Type 0} (did : S → Call → S → Type 0) (has : S → ShelfName
       ((all.0, rest.0), rest.1)
 
   module _ (s : S) (file : List ℕ) (there : HasFile has s file) where
-    parts : AllByRecursion (λ piece. has s (Part (digest_of piece)) ≡ Some piece) (cut file)
+    pub parts : AllByRecursion (λ piece. has s (Part (digest_of piece)) ≡ Some piece) (cut file)
     parts = (pieces_there s (cut file) (Table (digest_of file), text_of (length file) (names_of file)) there).0
 
     table : has s (Table (digest_of file)) ≡ Some (text_of (length file) (names_of file))
     table = (pieces_there s (cut file) (Table (digest_of file), text_of (length file) (names_of file)) there).1
 
-    part_there : (piece : List ℕ) → Contains (cut file) piece → has s (Part (digest_of piece)) ≡ Some piece
+    pub part_there : (piece : List ℕ) → Contains (cut file) piece → has s (Part (digest_of piece)) ≡ Some piece
     part_there piece among =
         All-contains (λ piece. has s (Part (digest_of piece)) ≡ Some piece) (cut file) piece
         (All-from_recursion (λ piece. has s (Part (digest_of piece)) ≡ Some piece) (cut file) parts) among
@@ -138,7 +167,7 @@ module _ {S : Type 0} (did : S → Call → S → Type 0) (has : S → ShelfName
     pub piece_not_damaged : (new : S) (piece : List ℕ) → Contains (cut file) piece → IsChunkFault did s (digest_of piece) read_fault.Damaged new → ⊥
     piece_not_damaged new piece among fault = fault.1 (ap digest_of (piece_given new piece fault.0 among fault.2))
 
-    same_pieces : (pieces others : List (List ℕ)) → AllByRecursion (λ piece. has s (Part (digest_of piece)) ≡ Some piece) pieces
+    pub same_pieces : (pieces others : List (List ℕ)) → AllByRecursion (λ piece. has s (Part (digest_of piece)) ≡ Some piece) pieces
         → AllByRecursion (λ (a : ShelfName × Option (List ℕ)). a.1 ≡ has s a.0) (map given others) → map digest_of others ≡ map digest_of pieces → others ≡ pieces
     same_pieces [] [] are gives e = refl
     same_pieces [] (o ∷ others) are gives e = absurd (cc e)
@@ -187,6 +216,6 @@ module _ {S : Type 0} (did : S → Call → S → Type 0) (has : S → ShelfName
           | inr asked ↦
               let named : names_of file ≡ asked.1 = names_told (length file) asked.0 (names_of file) asked.1 (all_named (cut file))
               (recursion_from_All (λ (name : Digest). length name.0 ≡ 20) asked.1 asked.2.named) (sym told ∙ asked.2.spelled) in
-              begins (cut file) answers (map Part asked.3.0) (ap (map Part) named ∙ asked.3.1) gives.1 parts
+              begins (cut file) answers (map Part asked.3.2) (ap (map Part) named ∙ asked.3.5) gives.1 parts
         ] in
         fault.4 file front.0 small refl (ap (λ t. (Table (digest_of file), Some t) ∷ pieces_given file) (sym told) ∙ ap (λ l. (Table (digest_of file), Some text) ∷ l) front.1)

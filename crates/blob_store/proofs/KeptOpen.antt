@@ -18,11 +18,11 @@ use Rattle.blob_store.specs.declared.reading.ReadFault.TheVariants as read_fault
 use Rattle.blob_store.specs.declared.shelves.ShelfName.{ShelfName}
 use Rattle.blob_store.specs.declared.shelves.ShelfName.TheVariants.{Table}
 use Rattle.blob_store.specs.Calls.{Call, things_of}
-use Rattle.blob_store.specs.Keeping.{HasAll, HasFile, Keeps, Thing}
+use Rattle.blob_store.specs.Keeping.{HasFile, Keeps}
 use Rattle.blob_store.specs.Openings.{AreTaken, IsOpenFault, IsOpened, IsTaken, Need, Taken, known_with, need_of}
 use Rattle.blob_store.specs.Reads.{IsFileFault, IsFileRead, answers_of}
 use Rattle.blob_store.proofs.Additions.{get_added}
-use Rattle.blob_store.proofs.Kept.{file_given, file_not_damaged, file_not_missing, same_after, same_digest}
+use Rattle.blob_store.proofs.Kept.{file_given, file_not_damaged, file_not_missing, moved, same_after, same_digest}
 
 -- ---- what is known after one file more
 
@@ -52,10 +52,6 @@ at_itself : (digest : Digest) → is_at (digest_cmp digest) digest ≡ true
 at_itself digest = (eq_by_cmp_equiv digest_cmp_total).refl digest
 
 module _ {S : Type 0} (did : S → Call → S → Type 0) (has : S → ShelfName → Option (List ℕ)) (keeps : Keeps did has) (file : List ℕ) (small : length file ≤ 16777216) where
-  moved : (old new : S) (things : List Thing) → ((name : ShelfName) → has new name ≡ has old name) → HasAll has old things → HasAll has new things
-  moved old new [] same are = tt
-  moved old new (t ∷ things) same are = (same t.0 ∙ are.0, moved old new things same are.1)
-
   after_taken : (old new : S) (need : Need) (read : Option (List ℕ)) → IsTaken did old need read new → (name : ShelfName) → has new name ≡ has old name
   after_taken old new need (Some read) is name = same_after did has keeps old new (answers_of read) is.2 name
   after_taken old new need None is name = elim is.1 [
@@ -90,7 +86,7 @@ module _ {S : Type 0} (did : S → Call → S → Type 0) (has : S → ShelfName
       → get (fold (λ k one. known_with k one.file) known taken) (digest_of file) ≡ Some file
   known_still old new [] known there are e = e
   known_still old new (t ∷ taken) known there are e =
-      let later = moved old are.0 (things_of file) (after_taken old are.0 t.need t.file are.1) there in
+      let later = moved has old are.0 (things_of file) (after_taken old are.0 t.need t.file are.1) there in
       let now : get (known_with known t.file) (digest_of file) ≡ Some file = elim (same_digest t.need.0 (digest_of file)) [
         | inl same ↦ ap (λ o. get (known_with known o) (digest_of file)) (is_read old are.0 t.need t.file same there are.1) ∙ known_here known (inr e)
         | inr differ ↦ stays_right known t.need t.file old are.0 differ are.1 ∙ e
@@ -102,7 +98,7 @@ module _ {S : Type 0} (did : S → Call → S → Type 0) (has : S → ShelfName
       → get (fold (λ k one. known_with k one.file) known taken) (digest_of file) ≡ Some file
   known_after old new [] known must there are none wanted = absurd (cc wanted)
   known_after old new (t ∷ taken) known must there are none wanted =
-      let later = moved old are.0 (things_of file) (after_taken old are.0 t.need t.file are.1) there in
+      let later = moved has old are.0 (things_of file) (after_taken old are.0 t.need t.file are.1) there in
       elim (same_digest t.need.0 (digest_of file)) [
         | inl same ↦
             let now = ap (λ o. get (known_with known o) (digest_of file)) (is_read old are.0 t.need t.file same there are.1) ∙ known_here known (inl none) in
@@ -131,12 +127,12 @@ module _ {S : Type 0} (did : S → Call → S → Type 0) (has : S → ShelfName
   not_missing old new wanted there (inr none) = absurd (cc none.1)
   not_missing old new wanted there (inl is) =
       let stop = is.2 in
-      let later = moved old stop.3 (things_of file) (after_all old stop.3 stop.0 stop.5) there in
+      let later = moved has old stop.3 (things_of file) (after_all old stop.3 stop.0 stop.5) there in
       file_not_missing did has keeps stop.3 file later new stop.6.1
 
   pub not_damaged : (old new : S) (wanted : List Wanted) → HasFile has old file → IsOpenFault did old wanted (open_fault.DamagedBlob (digest_of file)) new → ⊥
   not_damaged old new wanted there (inr none) = absurd (cc none.1)
   not_damaged old new wanted there (inl is) =
       let stop = is.2 in
-      let later = moved old stop.3 (things_of file) (after_all old stop.3 stop.0 stop.5) there in
+      let later = moved has old stop.3 (things_of file) (after_all old stop.3 stop.0 stop.5) there in
       file_not_damaged did has keeps stop.3 file later new small stop.6.1

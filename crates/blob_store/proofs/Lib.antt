@@ -6,5 +6,6 @@ mod Turns
 mod FileReads
 mod Stretched
 mod WantedOrder
-mod Kept
+pub mod Kept
+pub mod KeptStretches
 mod KeptOpen

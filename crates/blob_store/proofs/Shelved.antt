@@ -1,5 +1,5 @@
 -- What a shelf in memory has after something was put there.
-use Rattle.std.proofs.Common.{◌≡◌, ◌≢◌, true, false, Some, option_map, refl, sym, ap}
+use Rattle.std.proofs.Common.{inl, ◌≡◌, ◌≢◌, true, false, Some, option_map, refl, sym, ap}
 use Rattle.std.specs.BTreeMap.{UpdatesBy, get, is_at}
 use Rattle.std.specs.Ordering.{is_eq}
 use Rattle.std.specs.declared.cmp.Ordering.{Ordering}
@@ -59,4 +59,7 @@ mem_shelf_keeps = record {
   others = λ old new name other bytes does differ. does.others other differ;
   got = λ old new name answer does. does.0;
   stays = λ old new name other answer does. does.1 other;
+  put_fails = λ old new name bytes fault does. inl (does.1 name);
+  put_fails_others = λ old new name other bytes fault does differ. does.1 other;
+  get_fails = λ old new name other fault does. does.1 other;
 }

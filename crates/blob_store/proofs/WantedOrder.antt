@@ -1,5 +1,5 @@
 -- Wanted digests in order, and what came of each.
-use Rattle.std.proofs.Common.{◌≡◌, ◌≢◌, inl, inr, ℕ, ◌<◌, ◌||◌, ◌&&◌, Bool, true, false, cond, List, [], ◌∷◌, ◌++◌, Option, Some, None, map, refl, sym, ap, subst, ◌∙◌}
+use Rattle.std.proofs.Common.{◌≡◌, ℕ, ◌||◌, ◌&&◌, Bool, true, false, cond, List, [], ◌∷◌, ◌++◌, Option, Some, None, map, refl, sym, ap, subst, ◌∙◌}
 use Rattle.std.proofs.lemmas.List.{append-nil, append_assoc, map-append}
 use Rattle.std.proofs.lemmas.List.Sums.{fold-append}
 use Rattle.std.specs.BTreeMap.{is_at}
@@ -14,10 +14,9 @@ use Rattle.host_names.specs.declared.digests.Digest.{Digest}
 use Rattle.host_names.specs.Digests.{digest_cmp, digest_cmp-IsAntisymmetric}
 use Rattle.host_names.specs.Blobs.{Contents}
 use Rattle.blob_store.specs.declared.openings.OpenFault.{OpenFault}
-use Rattle.blob_store.specs.declared.openings.OpenFault.TheVariants as open_fault
 use Rattle.blob_store.specs.declared.openings.Wanted.{Wanted}
 use Rattle.blob_store.specs.Calls.{Call}
-use Rattle.blob_store.specs.Openings.{AreTaken, IsOpenFault, IsOrderOf, IsTaken, IsTakeFault, Need, StopsAmong, Taken, known_of, known_with, must_of, need_of}
+use Rattle.blob_store.specs.Openings.{AreTaken, IsOrderOf, IsTaken, IsTakeFault, Need, StopsAmong, Taken, known_of, known_with, must_of, need_of}
 
 -- ---- the order
 
@@ -141,12 +140,3 @@ module _ {S : Type 0} (did : S → Call → S → Type 0) where
       → (taken : List Taken) × (needs ≡ map (λ one. one.need) taken) × AreTaken did first taken now × (known ≡ known_of taken)
   all_taken first now needs left known none so =
       (so.taken, sym so.asked ∙ ap (λ l. map (λ t. t.need) so.taken ++ l) none ∙ append-nil (map (λ t. t.need) so.taken), so.calls, so.kept)
-
-  module _ (failures : S → ℕ) (old : S) (wanted : List Wanted) where
-    pub no_order : (wanted ≢ []) → (x : S) × IsOpenFault did old wanted open_fault.OutOfMemory x × (open_fault.OutOfMemory ≡ open_fault.Device → failures old < failures x)
-    no_order some = (old, inr (some, refl, refl), λ e. absurd (cc e))
-
-    pub not_opened : (new : S) (needs : List Need) (fault : OpenFault) → IsOrderOf wanted needs → StopsAmong did old needs fault new
-        → (fault ≡ open_fault.Device → failures old < failures new)
-        → (x : S) × IsOpenFault did old wanted fault x × (fault ≡ open_fault.Device → failures old < failures x)
-    not_opened new needs fault order stops fails = (new, inl (needs, order, stops), fails)

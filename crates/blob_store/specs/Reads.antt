@@ -33,13 +33,24 @@ GivesInTurn {S} did old (answer ∷ answers) new = (mid : S) × did old (Got ans
 abbrev pub AreOfNone : Digest → Answers → Type 0
 AreOfNone digest answers = (file : List ℕ) (rest : Answers) → length file ≤ 16777216 → digest_of file ≡ digest → answers_of file ≡ answers ++ rest → ⊥
 
--- after these answers the shelf failed
-abbrev pub FailsAfter : {S : Type 0} → (did : S → Call → S → Type 0) → S → Answers → ShelfFault → S → Type 0
-FailsAfter {S} did old answers fault new = (mid : S) × (name : ShelfName) × GivesInTurn did old answers mid × did mid (GetFails name fault) new
-
--- these are asked for: of the pieces of these names the first ones, in order
+-- these are asked for: of the pieces of these names the first ones, in order, and nothing after one that isn't what a file has there
 abbrev pub AreAsked : List Digest → Answers → Type 0
-AreAsked names answers = (later : List Digest) × (map Part names ≡ map (λ answer. answer.0) answers ++ map Part later)
+AreAsked names answers =
+    (file : List ℕ) × (last : Answers) × (later : List Digest) × (answers ≡ pieces_given file ++ last) × (length last ≤ 1)
+    × (map Part names ≡ map (λ answer. answer.0) answers ++ map Part later)
+
+-- the shelf failed at a piece of these names, after it gave those before it, and it was asked for nothing else
+abbrev pub FailsAtPiece : {S : Type 0} → (did : S → Call → S → Type 0) → S → List Digest → ShelfFault → S → Type 0
+FailsAtPiece {S} did old names fault new =
+    (file : List ℕ) × (name : Digest) × (later : List Digest) × (mid : S) × (names_of file ++ name ∷ later ≡ names)
+    × GivesInTurn did old (pieces_given file) mid × did mid (GetFails (Part name) fault) new
+
+-- it failed at the table of a file, or gave it and failed at a piece that it names
+abbrev pub FailsAtFile : {S : Type 0} → (did : S → Call → S → Type 0) → S → Digest → ShelfFault → S → Type 0
+FailsAtFile {S} did old digest fault new =
+    did old (GetFails (Table digest) fault) new
+    ⊎ ((text : List ℕ) × (size : ℕ) × (names : List Digest) × (mid : S) × Spells text size names × did old (Got (Table digest) (Some text)) mid
+    × FailsAtPiece did mid names fault new)
 
 -- nothing is asked for after a table; or it has this text, and of the pieces that it names the first ones are
 abbrev pub AreNamedBy : List ℕ → Answers → Type 0
@@ -52,9 +63,9 @@ IsFileFault did old digest read_fault.Missing new = did old (Got (Table digest) 
 IsFileFault did old digest read_fault.Damaged new =
     (text : List ℕ) × (answers : Answers) × AreNamedBy text answers × GivesInTurn did old ((Table digest, Some text) ∷ answers) new
     × AreOfNone digest ((Table digest, Some text) ∷ answers)
-IsFileFault did old digest read_fault.Device new = (answers : Answers) × FailsAfter did old answers shelf_fault.Device new
+IsFileFault did old digest read_fault.Device new = FailsAtFile did old digest shelf_fault.Device new
 IsFileFault did old digest read_fault.OutOfMemory new =
-    ((answers : Answers) × FailsAfter did old answers shelf_fault.OutOfMemory new)
+    FailsAtFile did old digest shelf_fault.OutOfMemory new
     ⊎ ((text : List ℕ) × (answers : Answers) × IsTable text × (size_of text ≢ 0) × AreNamedBy text answers
     × GivesInTurn did old ((Table digest, Some text) ∷ answers) new)
 
@@ -100,7 +111,7 @@ AreNoPieces answers = (file : List ℕ) (rest : Answers) → length file ≤ 167
 abbrev pub ArePiecesFault : {S : Type 0} → (did : S → Call → S → Type 0) → S → List Digest → ReadFault → S → Type 0
 ArePiecesFault did old names read_fault.Missing new = ⊥
 ArePiecesFault did old names read_fault.Damaged new = (answers : Answers) × AreAsked names answers × GivesInTurn did old answers new × AreNoPieces answers
-ArePiecesFault did old names read_fault.Device new = (answers : Answers) × FailsAfter did old answers shelf_fault.Device new
+ArePiecesFault did old names read_fault.Device new = FailsAtPiece did old names shelf_fault.Device new
 ArePiecesFault did old names read_fault.OutOfMemory new =
-    ((answers : Answers) × FailsAfter did old answers shelf_fault.OutOfMemory new)
+    FailsAtPiece did old names shelf_fault.OutOfMemory new
     ⊎ ((answers : Answers) × AreAsked names answers × GivesInTurn did old answers new × (names ≢ []))

@@ -16,9 +16,9 @@ ghost use Rattle.blob_store.specs.declared.shelves.ShelfFault.TheVariants as she
 ghost use Rattle.blob_store.specs.declared.blobs.UploadFault.TheVariants as upload_fault;
 
 use crate::known::Known;
-use crate::shelf_files::Files;
-use crate::openings::{OpenFault, Wanted, in_order, take_files};
+use crate::openings::{OpenFault, Wanted, open_files};
 use crate::reading::{ReadFault, read_chunk};
+use crate::shelf_files::Files;
 use crate::shelves::{Shelf, ShelfFault, ShelfName};
 use crate::stretches::read_stretch;
 use crate::tables::table_text;
@@ -45,6 +45,13 @@ pub struct Blobs<S> {
     alloc: Global,
     shelf: S,
     known: Known,
+}
+
+/// A store that couldn't be opened: why, and its shelf as it is then.
+#[derive(Drop)]
+pub struct NotOpened<S> {
+    pub fault: OpenFault,
+    pub shelf: S,
 }
 
 /// What an upload answers for a fault of the shelf.
@@ -101,9 +108,7 @@ pub(crate) fn put_whole<S: Shelf>(
         return Err(UploadFault::TooLarge);
     }
     let info = BlobInfo::digested(alloc, digest, bytes).map_err(|_| UploadFault::OutOfMemory)?;
-    let table = table_text(alloc, info.len(), info.names()).map_err(
-        |_| UploadFault::OutOfMemory,
-    )?;
+    let table = table_text(alloc, info.len(), info.names()).map_err(|_| UploadFault::OutOfMemory)?;
     let info = Arc::new(alloc, info).map_err(|_| UploadFault::OutOfMemory)?;
     put_file(shelf, &info, bytes, table.as_slice()).map_err(of_shelf)?;
     Ok(info)
@@ -119,6 +124,27 @@ impl<S: Shelf> Blobs<S> {
             alloc,
             shelf,
             known: Known::new(alloc),
+        }
+    }
+
+    /// A store over a shelf that may have files. Each wanted file is read whole, in the order of the digests, and those that
+    /// the shelf gave whole are known. One that is missing or damaged isn't known, and is a fault where it must be there: the
+    /// first such one. A digest that is wanted twice must be there if it must for either. A failure
+    /// of the device is a fault at any file. After a fault nothing more is asked for, and the shelf is handed back.
+    pub fn open(alloc: Global, shelf: S, wanted: &[Wanted]) -> Result<Blobs<S>, NotOpened<S>>
+        ensures opened { IfOk result (λ blobs. IsOpened S.did shelf wanted.now blobs.known blobs.shelf) }
+        ensures fault { IfErr result (λ stop. IsOpenFault S.did shelf wanted.now stop.fault stop.shelf) }
+        ensures device { IfErr result (λ stop. stop.fault ≡ open_fault.Device → S.failures shelf < S.failures stop.shelf) }
+        ensures count { MatchResult result (λ blobs. S.failures shelf ≤ S.failures blobs.shelf) (λ stop. S.failures shelf ≤ S.failures stop.shelf) }
+    {
+        let mut shelf = shelf;
+        match open_files(alloc, &mut shelf, wanted) {
+            Ok(known) => Ok(Blobs {
+                alloc,
+                shelf,
+                known,
+            }),
+            Err(fault) => Err(NotOpened { fault, shelf }),
         }
     }
 
@@ -206,27 +232,6 @@ impl<S: Shelf> Blobs<S> {
         ensures known { self.new.known ≡ self.old.known }
     {
         read_stretch(self.alloc, &mut self.shelf, info, first, last)
-    }
-}
-
-impl<S: Shelf + Drop> Blobs<S> {
-    /// A store over a shelf that may have files. Each wanted file is read whole, in the order of the digests, and those that
-    /// the shelf gave whole are known. One that is missing or damaged isn't known, and is a fault where it must be there: the
-    /// first such one. A digest that is wanted twice must be there if it must for either. A failure
-    /// of the device is a fault at any file.
-    pub fn open(alloc: Global, shelf: S, wanted: &[Wanted]) -> Result<Blobs<S>, OpenFault>
-        ensures opened { IfOk result (λ blobs. IsOpened S.did shelf wanted.now blobs.known blobs.shelf) }
-        ensures fault { IfErr result (λ fault. (new : S) × IsOpenFault S.did shelf wanted.now fault new × (fault ≡ open_fault.Device → S.failures shelf < S.failures new)) }
-        ensures count { IfOk result (λ blobs. S.failures shelf ≤ S.failures blobs.shelf) }
-    {
-        let mut shelf = shelf;
-        let needs = in_order(alloc, wanted).map_err(|_| OpenFault::OutOfMemory)?;
-        let known = take_files(alloc, &mut shelf, &needs)?;
-        Ok(Blobs {
-            alloc,
-            shelf,
-            known,
-        })
     }
 }
 

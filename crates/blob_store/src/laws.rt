@@ -4,17 +4,21 @@ ghost use Rattle.std.specs.Prelude.{◌≡◌, Bool, ℕ, ◌≤◌, List, All, 
 ghost use Rattle.std.specs.List.{Contains};
 ghost use Rattle.host_names.specs.Blobs.{Contents, digest_of};
 ghost use Rattle.host_names.specs.declared.digests.Digest.{Digest};
-ghost use Rattle.byte_view.specs.Cuts.{cut};
+ghost use Rattle.byte_view.specs.Cuts.{IsPure, cut, pieces_met};
+ghost use Rattle.byte_view.specs.Holds.{Held, IsHeld};
 ghost use Rattle.blob_store.specs.declared.reading.ReadFault.TheVariants as read_fault;
 ghost use Rattle.blob_store.specs.declared.shelves.ShelfName.{ShelfName};
 ghost use Rattle.blob_store.specs.declared.shelves.ShelfName.TheVariants.{Part};
 ghost use Rattle.blob_store.specs.Calls.{Got, PutsInTurn, things_of};
-ghost use Rattle.blob_store.specs.Faults.{IsChunkFault};
+ghost use Rattle.blob_store.specs.Faults.{HasPutSome, IsChunkFault};
+ghost use Rattle.blob_store.specs.Stretches.{IsStretchFault, chunks_given};
+ghost use Rattle.blob_store.specs.declared.blobs.UploadFault.{UploadFault};
+ghost use Rattle.blob_store.specs.declared.reading.ReadFault.{ReadFault};
 ghost use Rattle.blob_store.specs.Keeping.{Agree, HasFile, Keeps};
 ghost use Rattle.blob_store.specs.declared.openings.OpenFault.TheVariants as open_fault;
 ghost use Rattle.blob_store.specs.declared.openings.Wanted.{Wanted};
 ghost use Rattle.blob_store.specs.Openings.{IsOpenFault, IsOpened, need_of};
-ghost use Rattle.blob_store.specs.Reads.{IsFileFault, IsFileRead};
+ghost use Rattle.blob_store.specs.Reads.{GivesInTurn, IsFileFault, IsFileRead};
 ghost use Rattle.blob_store.specs.Shelves.{Does, found_in};
 ghost use Rattle.blob_store.specs.Tables.{IsTable, pieces_of, size_of, text_of};
 
@@ -27,12 +31,14 @@ pub fn files_have_tables()
 {}
 
 /// A shelf that keeps what is put there has a file that was uploaded, and the files that it had, where no two pieces, nor the two
-/// files, share a digest and differ.
+/// files, share a digest and differ. An upload that fails loses none of these either.
 pub fn uploads_are_kept<S: Shelf>()
     ensures uploaded { (has : S → ShelfName → Option (List ℕ)) (old new : S) (file : List ℕ) → Keeps S.did has → Agree (things_of file) (things_of file)
         → PutsInTurn S.did old (things_of file) None new → HasFile has new file }
     ensures stays { (has : S → ShelfName → Option (List ℕ)) (old new : S) (file other : List ℕ) → Keeps S.did has → Agree (things_of file) (things_of other)
         → PutsInTurn S.did old (things_of other) None new → HasFile has old file → HasFile has new file }
+    ensures stays_after_fault { (has : S → ShelfName → Option (List ℕ)) (old new : S) (file other : List ℕ) (fault : UploadFault) → Keeps S.did has
+        → Agree (things_of file) (things_of other) → HasPutSome S.did old (things_of other) fault new → HasFile has old file → HasFile has new file }
 {}
 
 /// Of a file that such a shelf has, each piece and the whole are read as they are, and neither is missing or damaged.
@@ -49,6 +55,22 @@ pub fn kept_files_are_read<S: Shelf>()
         → ¬ (IsFileFault S.did old (digest_of file) read_fault.Missing new) }
     ensures file_whole { (has : S → ShelfName → Option (List ℕ)) (old new : S) (file : List ℕ) → Keeps S.did has → HasFile has old file → length file ≤ 16777216
         → ¬ (IsFileFault S.did old (digest_of file) read_fault.Damaged new) }
+{}
+
+/// Of a file that such a shelf has, each stretch is read as it is, and is neither missing nor damaged. Reading it changes nothing on the shelf.
+pub fn kept_stretches_are_held<S: Shelf>()
+    ensures held { (has : S → ShelfName → Option (List ℕ)) (old new : S) (hold : Held) → Keeps S.did has → HasFile has old hold.file → IsHeld hold
+        → GivesInTurn S.did old (chunks_given hold.chunks) new → hold.chunks ≡ pieces_met hold.file hold.first hold.last }
+    ensures pure { (has : S → ShelfName → Option (List ℕ)) (old new : S) (hold : Held) → Keeps S.did has → HasFile has old hold.file
+        → GivesInTurn S.did old (chunks_given hold.chunks) new → All (IsPure hold.file) hold.chunks }
+    ensures there { (has : S → ShelfName → Option (List ℕ)) (old new : S) (file : List ℕ) (first last : ℕ) → Keeps S.did has → HasFile has old file
+        → ¬ (IsStretchFault S.did old file first last read_fault.Missing new) }
+    ensures whole { (has : S → ShelfName → Option (List ℕ)) (old new : S) (file : List ℕ) (first last : ℕ) → Keeps S.did has → HasFile has old file
+        → ¬ (IsStretchFault S.did old file first last read_fault.Damaged new) }
+    ensures stays { (has : S → ShelfName → Option (List ℕ)) (old new : S) (chunks : List (List ℕ)) (name : ShelfName) → Keeps S.did has
+        → GivesInTurn S.did old (chunks_given chunks) new → has new name ≡ has old name }
+    ensures stays_after_fault { (has : S → ShelfName → Option (List ℕ)) (old new : S) (file : List ℕ) (first last : ℕ) (fault : ReadFault) (name : ShelfName) → Keeps S.did has
+        → IsStretchFault S.did old file first last fault new → has new name ≡ has old name }
 {}
 
 /// A store that is opened over such a shelf knows each wanted file that the shelf has, and no such file keeps it from being opened.

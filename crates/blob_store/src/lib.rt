@@ -13,12 +13,12 @@ mod shelves;
 mod stretches;
 mod tables;
 
-pub use blobs::{Blobs, UploadFault};
+pub use blobs::{Blobs, NotOpened, UploadFault};
 pub use files::read_file;
 pub use known::Known;
 pub use laws::{
-    files_have_tables, kept_files_are_known, kept_files_are_read, shelves_in_memory_keep,
-    uploads_are_kept,
+    files_have_tables, kept_files_are_known, kept_files_are_read, kept_stretches_are_held,
+    shelves_in_memory_keep, uploads_are_kept,
 };
 pub use mem_shelf::MemShelf;
 pub use openings::{OpenFault, Wanted};

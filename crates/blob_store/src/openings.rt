@@ -1,7 +1,7 @@
 //! Which files a store is opened with, and what is read of them.
 ghost use Rattle.std.specs.Prelude.{◌≡◌, ◌≢◌, ◌<◌, ◌≤◌, IfErr, IfOk, List, ℕ, OnErr, OnOk, Option, [], map};
 ghost use Rattle.blob_store.specs.declared.openings.OpenFault.TheVariants as open_fault;
-ghost use Rattle.blob_store.specs.Openings.{AreTaken, IsOrderOf, IsTaken, IsTakeFault, StopsAmong, Taken, known_of, known_with, must_of};
+ghost use Rattle.blob_store.specs.Openings.{AreTaken, IsOpenFault, IsOpened, IsOrderOf, IsTaken, IsTakeFault, StopsAmong, Taken, known_of, known_with, must_of};
 
 use crate::files::read_file;
 use crate::known::Known;
@@ -47,10 +47,7 @@ fn must_be_there(one: &Wanted, before: Option<bool>) -> bool
 }
 
 /// The wanted digests in order, each with whether its file must be there.
-pub(crate) fn in_order(
-    alloc: Global,
-    wanted: &[Wanted],
-) -> Result<BTreeMap<Digest, bool>, AllocError>
+fn in_order(alloc: Global, wanted: &[Wanted]) -> Result<BTreeMap<Digest, bool>, AllocError>
     ensures order { IfOk result (λ order. IsOrderOf wanted.now order.entries) }
     ensures memory { OnErr result (wanted.now ≢ []) }
 {
@@ -90,7 +87,7 @@ fn take_file<S: Shelf>(
 }
 
 /// Reads each file of these digests in turn, up to the first without which the store can't be opened.
-pub(crate) fn take_files<S: Shelf>(
+fn take_files<S: Shelf>(
     alloc: Global,
     shelf: &mut S,
     needs: &BTreeMap<Digest, bool>,
@@ -105,4 +102,19 @@ pub(crate) fn take_files<S: Shelf>(
         take_file(alloc, shelf, &mut known, digest, *must)?;
     }
     Ok(known)
+}
+
+/// Reads each wanted file in the order of the digests, up to the first without which the store can't be opened.
+pub(crate) fn open_files<S: Shelf>(
+    alloc: Global,
+    shelf: &mut S,
+    wanted: &[Wanted],
+) -> Result<Known, OpenFault>
+    ensures opened { IfOk result (λ known. IsOpened S.did shelf.old wanted.now known shelf.new) }
+    ensures fault { IfErr result (λ fault. IsOpenFault S.did shelf.old wanted.now fault shelf.new) }
+    ensures device { IfErr result (λ fault. fault ≡ open_fault.Device → S.failures shelf.old < S.failures shelf.new) }
+    ensures count { S.failures shelf.old ≤ S.failures shelf.new }
+{
+    let needs = in_order(alloc, wanted).map_err(|_| OpenFault::OutOfMemory)?;
+    take_files(alloc, shelf, &needs)
 }

@@ -1,2 +1,3 @@
 mod HeldInTurn
 mod Joined
+mod Stored

@@ -2,7 +2,7 @@
 ghost use Rattle.std.specs.Prelude.{◌≡◌, ◌<◌, ◌≤◌, ℕ, IfErr, IfOk, List, length};
 ghost use Rattle.byte_view.specs.Holds.{Held};
 ghost use Rattle.blob_store.specs.declared.reading.ReadFault.{ReadFault as Fault};
-ghost use Rattle.file_reads.specs.Stores.{FailedOfFiles, FailsOnStore, GaveOfFiles, HoldsOfStore};
+ghost use Rattle.file_reads.specs.Stores.{FailedOfFiles, GaveOfFiles, StoreFailed, StoreGave};
 
 use blob_store::{Blobs, Files, ReadFault, Shelf};
 use byte_view::{BlobInfo, Hold};
@@ -27,9 +27,9 @@ pub trait Holder {
 
 /// Each chunk is read from the shelf, and what is known stays.
 impl<S: Shelf> Holder for Blobs<S> {
-    ghost gave = { λ old hold new. HoldsOfStore S.did old.shelf hold new.shelf × (new.known ≡ old.known) };
+    ghost gave = { λ old hold new. StoreGave S.did S.failures old hold new };
 
-    ghost failed = { λ old file first last fault new. FailsOnStore S.did S.failures old.shelf file first last fault new.shelf × (new.known ≡ old.known) };
+    ghost failed = { λ old file first last fault new. StoreFailed S.did S.failures old file first last fault new };
 
     fn hold(&mut self, info: Arc<BlobInfo>, first: usize, last: usize) -> Result<Hold, ReadFault> {
         self.hold(info, first, last)

@@ -3,7 +3,9 @@
 
 mod bodies;
 mod holders;
+mod laws;
 mod stretches;
 
 pub use bodies::{FileBody, read_body};
 pub use holders::Holder;
+pub use laws::{kept_files_are_sent, reads_from_stores_count_failures};

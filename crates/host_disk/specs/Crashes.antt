@@ -45,6 +45,6 @@ pub record LeavesOnly {D : Type 0} (moment : D → ℕ) (left_since : D → ℕ 
   -- for a run that began earlier
   pub before : (t : ℕ) (c : List ℕ) → t ≤ moment old → left_since new t c → left_since old t c ⊎ P c
 
--- the count of failed calls stays at Ok, and rises at an error, unless it is at the top of a u64
+-- the count of failed calls stays at Ok, and rises by one at an error, unless it is at the top of a u64
 abbrev pub CountsFailure : {T E : Type 0} → Result T E → ℕ → ℕ → Type 0
-CountsFailure result old new = MatchResult result (λ _. new ≡ old) (λ _. min (old + 1) (2 ^ 64 - 1) ≤ new)
+CountsFailure result old new = MatchResult result (λ _. new ≡ old) (λ _. new ≡ min (old + 1) (2 ^ 64 - 1))

@@ -1,5 +1,5 @@
 //! A disk: one file of bytes, which a crash may leave half written.
-ghost use Rattle.std.specs.Prelude.{◌≡◌, ◌≤◌, ◌↔◌, ℕ, Bool, IsTrue, List, IfOk, OnOk, length, take};
+ghost use Rattle.std.specs.Prelude.{◌≡◌, ◌<◌, ◌≤◌, ◌↔◌, ℕ, Bool, IsErr, IsTrue, List, IfOk, OnOk, length, take};
 ghost use Rattle.host_disk.specs.Crashes.{CountsFailure, Cut, Elapses, Follows, IsRead, IsWritten, Only, Torn};
 
 use crate::faults::DeviceFault;
@@ -49,12 +49,14 @@ pub trait Disk {
         ensures time { IsTrue is_modelled → Elapses (moment self.old) (moment self.new) (left_since self.old) (left_since self.new) (may_leave self.new) }
         ensures cause { CountsFailure result (faults self.old) (faults self.new) };
 
-    /// Writes bytes from `at` on, over what is there and past its end. One that would begin past the end is a failure, and a
-    /// failure may leave it half written. Until a sync, a crash may leave any bytes there.
+    /// Writes bytes from `at` on, over what is there and past its end. One that would begin past the end is a failure that
+    /// changes nothing; any other failure may leave it half written. Until a sync, a crash may leave any bytes there.
     fn write_at(&mut self, at: usize, bytes: &[u8]) -> Result<(), DeviceFault>
         ensures written { IsTrue is_modelled → OnOk result (IsWritten (seen self.old) at bytes.now (seen self.new)) }
         ensures seen { IsTrue is_modelled → Torn at (length bytes.now) (seen self.old) (seen self.new) }
+        ensures past { IsTrue is_modelled → length (seen self.old) < at → IsErr result × (seen self.new ≡ seen self.old) }
         ensures crash { IsTrue is_modelled → Follows (Torn at (length bytes.now)) (may_leave self.old) (may_leave self.new) }
+        ensures past_crash { IsTrue is_modelled → length (seen self.old) < at → (c : List ℕ) → may_leave self.new c ↔ may_leave self.old c }
         ensures time { IsTrue is_modelled → Elapses (moment self.old) (moment self.new) (left_since self.old) (left_since self.new) (may_leave self.new) }
         ensures cause { CountsFailure result (faults self.old) (faults self.new) };
 

@@ -1,7 +1,7 @@
 //! A disk in memory, which may crash as any disk may.
 ghost use Rattle.std.specs.Prelude.{◌≡◌, [], IfOk, true};
 ghost use Rattle.std.proofs.Common.{inl};
-ghost use Rattle.host_disk.specs.Contents.{IsBetween, IsImage};
+ghost use Rattle.host_disk.specs.Contents.{IsBetween, IsImage, empty_file};
 ghost use Rattle.host_disk.specs.Crashes.{Only};
 ghost use Rattle.host_disk.specs.Pasts.{IsAfter, LeftSince, age, only_now, stays};
 
@@ -29,6 +29,7 @@ impl MemDisk {
         ensures empty { IfOk result (λ disk. ⟦<MemDisk as Disk>⟧.seen disk ≡ []) }
         ensures durable { IfOk result (λ disk. Only [] (⟦<MemDisk as Disk>⟧.may_leave disk)) }
         ensures failures { IfOk result (λ disk. ⟦<MemDisk as Disk>⟧.faults disk ≡ 0) }
+        ensures room { IfOk result (λ disk. disk.content ≡ empty_file room) }
     {
         Ok(MemDisk {
             content: Content::new(alloc, room)?,

@@ -46,15 +46,17 @@ pub(crate) fn opened<S: Shelf + Drop>(
                 .count();
             format!(in alloc; "knows {known}")
         }
-        Err(OpenFault::MissingBlob(digest)) => format!(in alloc;
-            "missing {}",
-            digest.to_hex().as_str()
-        ),
-        Err(OpenFault::DamagedBlob(digest)) => format!(in alloc;
-            "damaged {}",
-            digest.to_hex().as_str()
-        ),
-        Err(OpenFault::Device) => format!(in alloc; "device"),
-        Err(OpenFault::OutOfMemory) => Err(AllocError),
+        Err(stop) => match stop.fault {
+            OpenFault::MissingBlob(digest) => format!(in alloc;
+                "missing {}",
+                digest.to_hex().as_str()
+            ),
+            OpenFault::DamagedBlob(digest) => format!(in alloc;
+                "damaged {}",
+                digest.to_hex().as_str()
+            ),
+            OpenFault::Device => format!(in alloc; "device"),
+            OpenFault::OutOfMemory => Err(AllocError),
+        },
     }
 }

@@ -1,4 +1,4 @@
-//! A shelf that answers one call wrong, for each call of an opening.
+//! A shelf that answers one call wrong, and openings of which each call is answered so.
 ghost use Rattle.std.specs.Prelude.{◌≡◌, ◌≢◌, IfErr};
 ghost use Rattle.blob_store.specs.declared.shelves.ShelfFault.TheVariants.{Device};
 
@@ -11,7 +11,7 @@ use std::test::Fail;
 
 /// What is wrong with an answer.
 #[derive(Clone, Copy, Debug, PartialEq, Eq)]
-enum Wrong {
+pub(crate) enum Wrong {
     Lost,
     Changed,
     Cut,
@@ -22,7 +22,7 @@ enum Wrong {
 
 /// A shelf in memory that answers the call after so many others wrong, and each other call right.
 #[derive(Drop)]
-struct WrongShelf {
+pub(crate) struct WrongShelf {
     shelf: MemShelf,
     wrong: Wrong,
     /// How many calls come before the wrong one; none after it.
@@ -31,6 +31,16 @@ struct WrongShelf {
 }
 
 impl WrongShelf {
+    /// Answers the call after so many others wrong.
+    pub(crate) fn new(shelf: MemShelf, wrong: Wrong, before: u32) -> WrongShelf {
+        WrongShelf {
+            shelf,
+            wrong,
+            before: Some(before),
+            failures: 0,
+        }
+    }
+
     /// Whether this call is the wrong one.
     fn is_now(&mut self) -> bool
         ensures { self.new.failures ≡ self.old.failures }
@@ -117,12 +127,7 @@ fn told(alloc: Global, file: &[u8], wrong: Wrong) -> Result<String, Fail> {
         let mut shelf = MemShelf::new(alloc);
         let digest = put(alloc, &mut shelf, file)?;
         put(alloc, &mut shelf, b"other")?;
-        let shelf = WrongShelf {
-            shelf,
-            wrong,
-            before: Some(before),
-            failures: 0,
-        };
+        let shelf = WrongShelf::new(shelf, wrong, before);
         let one = opened(alloc, shelf, &[Wanted { digest, must: true }])?;
         let (word, _) = one.as_str().split_once(' ').unwrap_or((one.as_str(), ""));
         text.push_str(word)?;
