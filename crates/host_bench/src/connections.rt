@@ -2,7 +2,8 @@
 ghost use Rattle.std.specs.Prelude.{◌≡◌};
 
 use anyhow::{Result, anyhow};
-use host_server::{SoloHouse, serve_connection};
+use blob_store::MemShelf;
+use host_server::{Server, serve_connection};
 use http_wire::{Counting, Pair};
 use std::alloc::{AllocError, Global};
 use std::time::{Duration, Instant};
@@ -26,12 +27,12 @@ fn gets(alloc: Global) -> Result<String, AllocError> {
 }
 
 /// Answers the requests of a connection, each by the file.
-fn read_all(alloc: Global, house: &mut SoloHouse, requests: &str) -> Result<()> {
+fn read_all(alloc: Global, server: &mut Server<MemShelf>, requests: &str) -> Result<()> {
     let mut duplex = Pair {
         source: requests.as_bytes(),
         sink: Counting(0),
     };
-    serve_connection(alloc, &mut duplex, house)?;
+    serve_connection(alloc, &mut duplex, server)?;
     if duplex.sink.0 < REQUESTS.saturating_mul(LEAST_REPLY) {
         return Err(anyhow!("a file was not served"));
     }
@@ -39,11 +40,15 @@ fn read_all(alloc: Global, house: &mut SoloHouse, requests: &str) -> Result<()> 
 }
 
 /// The time of so many connections of GETs.
-pub(crate) fn time_gets(rt: &HostRuntime, house: &mut SoloHouse, times: u64) -> Result<Duration> {
+pub(crate) fn time_gets(
+    rt: &HostRuntime,
+    server: &mut Server<MemShelf>,
+    times: u64,
+) -> Result<Duration> {
     let requests = gets(rt.alloc())?;
     let begun = Instant::now(rt)?;
     for _ in 0..times {
-        read_all(rt.alloc(), house, requests.as_str())?;
+        read_all(rt.alloc(), server, requests.as_str())?;
     }
     Ok(begun.elapsed(rt)?)
 }

@@ -5,9 +5,11 @@ ghost use Rattle.change_undo.specs.Histories.{Past};
 ghost use Rattle.change_undo.specs.Plans.{IsHistoryOver};
 
 use crate::files::{Contents, listing};
+use crate::stores::empty_store;
 use anyhow::{Result, anyhow};
+use blob_store::{Blobs, MemShelf};
 use change_undo::{GREATEST_LIMIT, History};
-use host_names::{ChangeError, MemoryUploads, SiteName};
+use host_names::{ChangeError, SiteName};
 use site_change::Command;
 use std::alloc::Global;
 use std::time::{Duration, Instant};
@@ -30,16 +32,16 @@ fn opening(alloc: Global) -> Result<Command> {
 }
 
 /// A history without entries, which is what it is over these uploads.
-fn empty(alloc: Global, uploads: &MemoryUploads) -> History
-    ensures { IsHistoryOver uploads.now result }
+fn empty(alloc: Global, uploads: &Blobs<MemShelf>) -> History
+    ensures { IsHistoryOver uploads.now.known result }
 {
     let _ = uploads;
     History::new(alloc, GREATEST_LIMIT)
 }
 
 /// A history of so many openings, each of which adds a cell.
-fn opened(alloc: Global, uploads: &MemoryUploads, count: u64) -> Result<History>
-    ensures { IfOk result (λ history. IsHistoryOver uploads.now history) }
+fn opened(alloc: Global, uploads: &Blobs<MemShelf>, count: u64) -> Result<History>
+    ensures { IfOk result (λ history. IsHistoryOver uploads.now.known history) }
 {
     let mut history = empty(alloc, uploads);
     for _ in 0..count {
@@ -49,8 +51,8 @@ fn opened(alloc: Global, uploads: &MemoryUploads, count: u64) -> Result<History>
 }
 
 /// Cancels a deploy in a copy.
-fn cancel_in_copy(history: &History, uploads: &MemoryUploads) -> Result<()>
-    requires { IsHistoryOver uploads.now history.now }
+fn cancel_in_copy(history: &History, uploads: &Blobs<MemShelf>) -> Result<()>
+    requires { IsHistoryOver uploads.now.known history.now }
 {
     let mut copy = history.copy()?;
     let site = SiteName::new("one")?;
@@ -61,7 +63,7 @@ fn cancel_in_copy(history: &History, uploads: &MemoryUploads) -> Result<()>
 
 /// The time of so many copies of a history of so many entries and cells, with one commit on each.
 pub(crate) fn time_copies(rt: &HostRuntime, entries: u64, times: u64) -> Result<Duration> {
-    let uploads = MemoryUploads::new(rt.alloc());
+    let uploads = empty_store(rt.alloc());
     let history = opened(rt.alloc(), &uploads, entries)?;
     let begun = Instant::now(rt)?;
     for _ in 0..times {

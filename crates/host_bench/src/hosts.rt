@@ -3,10 +3,11 @@ ghost use Rattle.std.specs.Prelude.{◌≡◌};
 
 use crate::files::{Contents, content, listing, path};
 use anyhow::{Result, anyhow};
+use blob_store::MemShelf;
 use change_undo::GREATEST_LIMIT;
 use host_api::{Refusal, Told};
 use host_names::{AliasName, FilePath, SiteName};
-use host_server::SoloHouse;
+use host_server::Server;
 use site_change::{Command, MOST_FILES};
 use site_state::Listing;
 use std::alloc::Global;
@@ -20,9 +21,9 @@ pub(crate) struct Upload {
     pub(crate) bytes: Vec<u8>,
 }
 
-/// A host without entries.
-pub(crate) fn empty_host(alloc: Global) -> SoloHouse {
-    SoloHouse::new(alloc, GREATEST_LIMIT)
+/// A server without entries, whose files are in memory.
+pub(crate) fn empty_server(alloc: Global) -> Server<MemShelf> {
+    Server::new(alloc, MemShelf::new(alloc), GREATEST_LIMIT)
 }
 
 /// What a call told, which no measurement expects to be refused.
@@ -30,14 +31,19 @@ fn expected(told: Result<Told, Refusal>) -> Result<Told> {
     told.map_err(|refusal| anyhow!("the host refused it: {}", refusal.name()))
 }
 
+/// Puts a command to the host.
+fn change(server: &mut Server<MemShelf>, command: Command) -> Result<Told> {
+    expected(server.house_mut().change(command))
+}
+
 /// Opens a deploy of what is listed, and answers its number.
-fn open_listing(house: &mut SoloHouse, files: Listing) -> Result<u64> {
+fn open_listing(server: &mut Server<MemShelf>, files: Listing) -> Result<u64> {
     let opening = Command::Open {
         site: SiteName::new("one")?,
         files,
         auto: true,
     };
-    match expected(house.change(opening))? {
+    match change(server, opening)? {
         Told::Opened { id, .. } => Ok(id),
         _ => Err(anyhow!("an opening told something else")),
     }
@@ -46,28 +52,28 @@ fn open_listing(house: &mut SoloHouse, files: Listing) -> Result<u64> {
 /// Opens a deploy that adds these files to the site, and answers its number.
 pub(crate) fn open(
     alloc: Global,
-    house: &mut SoloHouse,
+    server: &mut Server<MemShelf>,
     files: Range<u64>,
     contents: Contents,
 ) -> Result<u64> {
-    open_listing(house, listing(alloc, true, files, contents)?)
+    open_listing(server, listing(alloc, true, files, contents)?)
 }
 
 /// Keeps a deploy of one file, which is uploaded, and answers its number.
-pub(crate) fn keep(alloc: Global, house: &mut SoloHouse, file: u64) -> Result<u64> {
+pub(crate) fn keep(alloc: Global, server: &mut Server<MemShelf>, file: u64) -> Result<u64> {
     let end = file.saturating_add(1);
-    let deploy = open_listing(house, listing(alloc, false, file..end, Contents::Own)?)?;
+    let deploy = open_listing(server, listing(alloc, false, file..end, Contents::Own)?)?;
     let mut planned = Vec::new(alloc);
     plan(alloc, &mut planned, deploy, file..end)?;
-    upload_all(house, planned)?;
+    upload_all(server, planned)?;
     Ok(deploy)
 }
 
 /// Moves an alias of the site to a deploy.
-pub(crate) fn move_alias(house: &mut SoloHouse, number: u64) -> Result<()> {
+pub(crate) fn move_alias(server: &mut Server<MemShelf>, number: u64) -> Result<()> {
     let site = SiteName::new("one")?;
     let name = AliasName::new("next")?;
-    let _ = expected(house.change(Command::MoveAlias { site, name, number }))?;
+    let _ = change(server, Command::MoveAlias { site, name, number })?;
     Ok(())
 }
 
@@ -89,46 +95,49 @@ pub(crate) fn plan(
 }
 
 /// Uploads each of these, in their order.
-pub(crate) fn upload_all(house: &mut SoloHouse, uploads: Vec<Upload>) -> Result<()> {
+pub(crate) fn upload_all(server: &mut Server<MemShelf>, uploads: Vec<Upload>) -> Result<()> {
     for upload in uploads {
         let Upload {
             deploy,
             path,
             bytes,
         } = upload;
-        let _ = expected(house.upload(deploy, &path, bytes))?;
+        let _ = expected(server.upload(deploy, &path, bytes))?;
     }
     Ok(())
 }
 
 /// Opens a deploy of these files, and uploads all of them.
-pub(crate) fn fill(alloc: Global, house: &mut SoloHouse, files: Range<u64>) -> Result<()> {
-    let deploy = open(alloc, house, files.start..files.end, Contents::Own)?;
+pub(crate) fn fill(alloc: Global, server: &mut Server<MemShelf>, files: Range<u64>) -> Result<()> {
+    let deploy = open(alloc, server, files.start..files.end, Contents::Own)?;
     let mut planned = Vec::new(alloc);
     plan(alloc, &mut planned, deploy, files)?;
-    upload_all(house, planned)
+    upload_all(server, planned)
 }
 
 /// Makes the site serve so many files, all of one content, which is uploaded.
-pub(crate) fn serve(alloc: Global, house: &mut SoloHouse, count: u64) -> Result<()> {
-    fill(alloc, house, 0..1)?;
+pub(crate) fn serve(alloc: Global, server: &mut Server<MemShelf>, count: u64) -> Result<()> {
+    fill(alloc, server, 0..1)?;
     for first in (0..count).step_by(MOST_FILES) {
         let end = count.min(first.saturating_add(MOST_FILES as u64));
-        let _ = open(alloc, house, first..end, Contents::First)?;
+        let _ = open(alloc, server, first..end, Contents::First)?;
     }
     Ok(())
 }
 
 /// Renames the first file of the site, or renames it back.
-pub(crate) fn rename(alloc: Global, house: &mut SoloHouse, back: bool) -> Result<()> {
+pub(crate) fn rename(alloc: Global, server: &mut Server<MemShelf>, back: bool) -> Result<()> {
     let here = path(alloc, 0)?;
     let there = FilePath::read(alloc, "/renamed")?;
     let (source, target) = if back { (there, here) } else { (here, there) };
     let site = SiteName::new("one")?;
-    let _ = expected(house.change(Command::Rename {
-        site,
-        source,
-        target,
-    }))?;
+    let _ = change(
+        server,
+        Command::Rename {
+            site,
+            source,
+            target,
+        },
+    )?;
     Ok(())
 }

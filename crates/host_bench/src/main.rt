@@ -1,4 +1,4 @@
-//! Measures calls of a host: a run makes one measurement and prints its number. bench/README.md has them all.
+//! Measures calls of a host and of a store: a run makes one measurement and prints its number. bench/README.md has them all.
 #![tactic(auto)]
 
 ghost use Rattle.std.specs.Prelude.{◌≡◌};
@@ -8,6 +8,7 @@ mod copies;
 mod files;
 mod hosts;
 mod measurements;
+mod stores;
 
 use anyhow::{Result, anyhow};
 use measurements::Measurement;

@@ -1,14 +1,16 @@
-//! The measurements: each makes its host, and then takes the time of some calls.
+//! The measurements: each makes its server or its store, and then takes the time of some calls.
 ghost use Rattle.std.specs.Prelude.{◌≡◌};
 
 use crate::connections::{REQUESTS, time_gets};
 use crate::copies::time_copies;
 use crate::files::Contents;
 use crate::hosts::{
-    Upload, empty_host, fill, keep, move_alias, open, plan, rename, serve, upload_all,
+    Upload, empty_server, fill, keep, move_alias, open, plan, rename, serve, upload_all,
 };
+use crate::stores::{time_digest, time_equal, time_read, time_upload, time_uploads};
 use anyhow::Result;
-use host_server::SoloHouse;
+use blob_store::MemShelf;
+use host_server::Server;
 use std::alloc::Global;
 use std::time::{Duration, Instant};
 
@@ -20,7 +22,12 @@ put FILES        nanoseconds of an upload to an open deploy of so many files tha
 deploy FILES     nanoseconds of a deploy of so many files of 64 bytes: its opening and all uploads
 history CHANGES  nanoseconds of a change where so many rename one file
 moves CHANGES    nanoseconds of a change where so many move one alias
-copy ENTRIES     nanoseconds of a copy of a history of so many entries and cells, with one commit on it";
+copy ENTRIES     nanoseconds of a copy of a history of so many entries and cells, with one commit on it
+digest BYTES     nanoseconds of a pass of SHA-1 over so many bytes
+upload BYTES     nanoseconds of an upload of so many bytes to a store in memory
+equal BYTES      the same where all pieces of the file are the same
+uploads FILES    nanoseconds of an upload of 16 MiB to a store in memory, to which so many files go
+read BYTES       nanoseconds of a read of so many bytes from a store in memory, into one body";
 
 /// How many connections of GETs are timed in a site.
 const CONNECTIONS: u64 = 1_000;
@@ -44,6 +51,11 @@ pub(crate) enum Measurement {
     History(u64),
     Moves(u64),
     Copy(u64),
+    Digest(u64),
+    Upload(u64),
+    Equal(u64),
+    Uploads(u64),
+    Read(u64),
 }
 
 impl Measurement {
@@ -59,6 +71,11 @@ impl Measurement {
             "history" => Some(Measurement::History(count)),
             "moves" => Some(Measurement::Moves(count)),
             "copy" => Some(Measurement::Copy(count)),
+            "digest" => Some(Measurement::Digest(count)),
+            "upload" => Some(Measurement::Upload(count)),
+            "equal" => Some(Measurement::Equal(count)),
+            "uploads" => Some(Measurement::Uploads(count)),
+            "read" => Some(Measurement::Read(count)),
             _ => None,
         }
     }
@@ -73,6 +90,11 @@ impl Measurement {
             Measurement::History(changes) => renamings(rt, 1, *changes),
             Measurement::Moves(changes) => moves(rt, *changes),
             Measurement::Copy(entries) => copies(rt, *entries),
+            Measurement::Digest(bytes) => Ok(time_digest(rt, *bytes as usize)?.as_nanos()),
+            Measurement::Upload(bytes) => Ok(time_upload(rt, *bytes as usize)?.as_nanos()),
+            Measurement::Equal(bytes) => Ok(time_equal(rt, *bytes as usize)?.as_nanos()),
+            Measurement::Uploads(files) => Ok(each(time_uploads(rt, *files)?, *files)),
+            Measurement::Read(bytes) => Ok(time_read(rt, *bytes as usize)?.as_nanos()),
         }
     }
 }
@@ -84,37 +106,37 @@ fn each(took: Duration, calls: u64) -> u128 {
 
 /// The time of one GET of a file in a site that serves so many.
 fn gets(rt: &HostRuntime, files: u64) -> Result<u128> {
-    let mut house = empty_host(rt.alloc());
-    serve(rt.alloc(), &mut house, files)?;
-    let took = time_gets(rt, &mut house, CONNECTIONS)?;
+    let mut server = empty_server(rt.alloc());
+    serve(rt.alloc(), &mut server, files)?;
+    let took = time_gets(rt, &mut server, CONNECTIONS)?;
     Ok(each(took, CONNECTIONS.saturating_mul(REQUESTS)))
 }
 
 /// The time of so many renamings.
-fn time_renamings(rt: &HostRuntime, house: &mut SoloHouse, times: u64) -> Result<Duration> {
+fn time_renamings(rt: &HostRuntime, server: &mut Server<MemShelf>, times: u64) -> Result<Duration> {
     let begun = Instant::now(rt)?;
     for turn in 0..times {
-        rename(rt.alloc(), house, turn % 2 == 1)?;
+        rename(rt.alloc(), server, turn % 2 == 1)?;
     }
     Ok(begun.elapsed(rt)?)
 }
 
 /// The time of one of so many renamings in a site that serves so many files.
 fn renamings(rt: &HostRuntime, files: u64, times: u64) -> Result<u128> {
-    let mut house = empty_host(rt.alloc());
-    serve(rt.alloc(), &mut house, files)?;
-    Ok(each(time_renamings(rt, &mut house, times)?, times))
+    let mut server = empty_server(rt.alloc());
+    serve(rt.alloc(), &mut server, files)?;
+    Ok(each(time_renamings(rt, &mut server, times)?, times))
 }
 
 /// The time of one of so many moves of an alias between two deploys.
 fn moves(rt: &HostRuntime, times: u64) -> Result<u128> {
-    let mut house = empty_host(rt.alloc());
-    let first = keep(rt.alloc(), &mut house, 0)?;
-    let second = keep(rt.alloc(), &mut house, 1)?;
+    let mut server = empty_server(rt.alloc());
+    let first = keep(rt.alloc(), &mut server, 0)?;
+    let second = keep(rt.alloc(), &mut server, 1)?;
     let begun = Instant::now(rt)?;
     for turn in 0..times {
         let number = if turn % 2 == 0 { first } else { second };
-        move_alias(&mut house, number)?;
+        move_alias(&mut server, number)?;
     }
     Ok(each(begun.elapsed(rt)?, times))
 }
@@ -125,35 +147,39 @@ fn copies(rt: &HostRuntime, entries: u64) -> Result<u128> {
 }
 
 /// Opens deploys of so many files each, and gives the uploads to them but for the last of each, which would publish it.
-fn plan_all(alloc: Global, house: &mut SoloHouse, files: u64) -> Result<Vec<Upload>> {
+fn plan_all(alloc: Global, server: &mut Server<MemShelf>, files: u64) -> Result<Vec<Upload>> {
     let mut planned = Vec::new(alloc);
     for first in (0..FILES).step_by(files.max(1) as usize) {
         let end = first.saturating_add(files);
-        let deploy = open(alloc, house, first..end, Contents::Own)?;
+        let deploy = open(alloc, server, first..end, Contents::Own)?;
         plan(alloc, &mut planned, deploy, first..end.saturating_sub(1))?;
     }
     Ok(planned)
 }
 
 /// The time of these uploads.
-fn time_uploads(rt: &HostRuntime, house: &mut SoloHouse, planned: Vec<Upload>) -> Result<Duration> {
+fn time_uploads(
+    rt: &HostRuntime,
+    server: &mut Server<MemShelf>,
+    planned: Vec<Upload>,
+) -> Result<Duration> {
     let begun = Instant::now(rt)?;
-    upload_all(house, planned)?;
+    upload_all(server, planned)?;
     Ok(begun.elapsed(rt)?)
 }
 
 /// The time of one of the uploads to open deploys of so many files, which stay open.
 fn puts(rt: &HostRuntime, files: u64) -> Result<u128> {
-    let mut house = empty_host(rt.alloc());
-    let planned = plan_all(rt.alloc(), &mut house, files)?;
+    let mut server = empty_server(rt.alloc());
+    let planned = plan_all(rt.alloc(), &mut server, files)?;
     let calls = planned.len() as u64;
-    Ok(each(time_uploads(rt, &mut house, planned)?, calls))
+    Ok(each(time_uploads(rt, &mut server, planned)?, calls))
 }
 
 /// The time of a deploy of so many files, from before its opening to its publishing.
 fn deploy(rt: &HostRuntime, files: u64) -> Result<u128> {
-    let mut house = empty_host(rt.alloc());
+    let mut server = empty_server(rt.alloc());
     let begun = Instant::now(rt)?;
-    fill(rt.alloc(), &mut house, 0..files)?;
+    fill(rt.alloc(), &mut server, 0..files)?;
     Ok(begun.elapsed(rt)?.as_nanos())
 }

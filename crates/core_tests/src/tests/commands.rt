@@ -4,7 +4,8 @@ ghost use Rattle.site_change.specs.Uploaded.{AreUploaded};
 
 use super::fixtures::{assert_text, cell, draft, halves, push_value};
 use super::hosts::{Host, assert_told as assert_answers, command, host_of};
-use host_names::{Cell, ChangeError, MemoryUploads, SiteName};
+use blob_store::{Blobs, MemShelf};
+use host_names::{Cell, ChangeError, SiteName};
 use site_change::{Change, Plan, decide};
 use site_state::{Draft, State, Value};
 use std::alloc::{AllocError, Global};
@@ -88,11 +89,11 @@ fn told_plan(alloc: Global, answer: Result<Plan, ChangeError>) -> Result<String,
 fn told(
     alloc: Global,
     state: &State,
-    uploads: &MemoryUploads,
+    uploads: &Blobs<MemShelf>,
     number: u64,
     words: &str,
 ) -> Result<String, Fail>
-    requires { AreUploaded uploads.now state.now }
+    requires { AreUploaded uploads.now.known state.now }
 {
     let command = command(alloc, "one", words)?;
     told_plan(alloc, decide(alloc, state, uploads, number, &command))
@@ -103,11 +104,11 @@ fn assert_told(
     rt: &impl Abort,
     alloc: Global,
     state: &State,
-    uploads: &MemoryUploads,
+    uploads: &Blobs<MemShelf>,
     number: u64,
     rows: &str,
 ) -> Result<(), Fail>
-    requires { AreUploaded uploads.now state.now }
+    requires { AreUploaded uploads.now.known state.now }
 {
     for row in rows.lines() {
         let (words, wanted) = halves(row, " -> ")?;

@@ -3,13 +3,17 @@ ghost use Rattle.std.specs.Prelude.{◌≡◌, true, Option, [], ◌∷◌, ◌+
 ghost use Rattle.host_names.specs.declared.digests.Digest.{Digest};
 ghost use Rattle.site_state.specs.Files.{IsByPath};
 
-use host_names::{AliasName, BlobInfo, Cell, Digest, FilePath, MemoryUploads, SiteName};
+use blob_store::{Blobs, MemShelf, UploadFault};
+use byte_view::BlobInfo;
+use host_names::{AliasName, Cell, Digest, FilePath, SiteName};
 use site_state::{Draft, File, Listing, PathMap, State, Tree, Value};
 use std::alloc::{AllocError, Global};
 use std::process::Abort;
-use std::str;
 use std::sync::Arc;
 use std::test::Fail;
+
+/// What files are told by: each has the bytes of one of these words.
+const WORDS: &str = "hello abc old new two a 1 2 3 4 5 6 7 8";
 
 /// The two halves of a row of a table.
 pub(crate) fn halves<'a>(row: &'a str, separator: &str) -> Result<(&'a str, &'a str), Fail> {
@@ -31,11 +35,16 @@ fn file(alloc: Global, bytes: &str) -> Result<File, AllocError> {
     Ok(File::new(Arc::new(alloc, info)?))
 }
 
+/// A store in memory without files.
+pub(crate) fn no_uploads(alloc: Global) -> Blobs<MemShelf> {
+    Blobs::new(alloc, MemShelf::new(alloc))
+}
+
 /// Each word is uploaded as a file of its bytes.
-pub(crate) fn uploaded(alloc: Global, words: &str) -> Result<MemoryUploads, AllocError> {
-    let mut uploads = MemoryUploads::new(alloc);
+pub(crate) fn uploaded(alloc: Global, words: &str) -> Result<Blobs<MemShelf>, UploadFault> {
+    let mut uploads = no_uploads(alloc);
     for word in words.split(' ') {
-        uploads.add(Vec::from_slice(alloc, word.as_bytes())?)?;
+        uploads.upload(word.as_bytes())?;
     }
     Ok(uploads)
 }
@@ -160,9 +169,18 @@ pub(crate) fn write_words(
     Ok(write(state, cell, value(alloc, held)?)?)
 }
 
+/// The word whose digest a file has.
+fn word_of(file: &File) -> &'static str {
+    let digest = file.digest();
+    let mut words = WORDS.split(' ');
+    words
+        .find(|word| Digest::of_bytes(word.as_bytes()) == digest)
+        .unwrap_or("another file")
+}
+
 pub(crate) fn push_value(text: &mut String, value: &Value) -> Result<(), AllocError> {
     match value {
-        Value::Live(file) => text.push_str(str::from_utf8(file.bytes()).unwrap_or("no text")),
+        Value::Live(file) => text.push_str(word_of(file)),
         Value::Kept(tree) => write!(text, "tree of {}", tree.entries().len()),
         Value::Alias(number) => write!(text, "deploy {number}"),
         Value::Draft(draft) => write!(text, "draft of {}", draft.files.entries().len()),

@@ -1,8 +1,8 @@
 //! Histories: their limit, their entries, the clashes of their changes, and the words of what is refused.
-use super::fixtures::{assert_holds, assert_sites, assert_text, halves};
+use super::fixtures::{assert_holds, assert_sites, assert_text, halves, no_uploads};
 use super::hosts::{Host, assert_told, host_of};
 use change_undo::{Entry, GREATEST_LIMIT, History};
-use host_names::{MemoryUploads, SiteName};
+use host_names::SiteName;
 use site_change::Command;
 use std::alloc::{AllocError, Global};
 use std::process::Abort;
@@ -18,7 +18,7 @@ one undo 0 -> the history is full
 one undo 1 -> the history is full
 one undo 2 -> the history is full
 one undo 3 -> the history is full";
-    let mut host = Host::new(rt.alloc(), 2, MemoryUploads::new(rt.alloc()));
+    let mut host = Host::new(rt.alloc(), 2, no_uploads(rt.alloc()));
     assert_told(&rt, &mut host, rows)
 }
 

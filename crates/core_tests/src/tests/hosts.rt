@@ -2,8 +2,9 @@
 ghost use Rattle.std.specs.Prelude.{◌≤◌};
 
 use super::fixtures::{assert_text, draft, halves, uploaded};
+use blob_store::{Blobs, MemShelf};
 use change_undo::{GREATEST_LIMIT, History};
-use host_names::{AliasName, ChangeError, FilePath, MemoryUploads, SiteName};
+use host_names::{AliasName, ChangeError, FilePath, SiteName};
 use site_change::Command;
 use std::alloc::{AllocError, Global};
 use std::marker::Model;
@@ -77,29 +78,30 @@ pub(crate) fn command(alloc: Global, site: &str, words: &str) -> Result<Command,
 #[derive(Drop)]
 pub(crate) struct Host {
     pub(crate) alloc: Global,
-    pub(crate) uploads: MemoryUploads,
+    pub(crate) uploads: Blobs<MemShelf>,
     pub(crate) history: History,
 }
 
 impl Model for Host {
-    ghost use Rattle.std.specs.Coded.{coded×};
+    ghost use Rattle.std.specs.Coded.{coded_ℕ, coded_list, coded×};
+    ghost use Rattle.std.specs.FinMap as map;
     ghost use Rattle.host_names.specs.Blobs.{Contents};
-    ghost use Rattle.host_names.specs.contracts.uploads.MemoryUploads as memory;
+    ghost use Rattle.host_names.specs.Digests.{coded_digest};
     ghost use Rattle.change_undo.specs.contracts.histories.History as histories;
     ghost use Rattle.change_undo.specs.Histories.{Past};
     ghost use Rattle.change_undo.specs.Plans.{IsHistoryOver};
 
     ghost Value = { Contents × Past };
 
-    ghost coded = { coded× memory.the_row.coded histories.the_row.coded };
+    ghost coded = { coded× (map.code coded_digest (coded_list coded_ℕ)) histories.the_row.coded };
 
-    ghost view = { λ h. (h.uploads, h.history) };
+    ghost view = { λ h. (h.uploads.known, h.history) };
 
-    ghost invariant = { λ h. IsHistoryOver h.uploads h.history };
+    ghost invariant = { λ h. IsHistoryOver h.uploads.known h.history };
 }
 
 impl Host {
-    pub(crate) fn new(alloc: Global, limit: u64, uploads: MemoryUploads) -> Host
+    pub(crate) fn new(alloc: Global, limit: u64, uploads: Blobs<MemShelf>) -> Host
         requires some { 1 ≤ limit }
         requires bounded { limit ≤ GREATEST_LIMIT }
     {

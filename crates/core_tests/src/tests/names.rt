@@ -1,7 +1,9 @@
 //! Copies of cells and what is printed of them, and uploads.
-use super::fixtures::{assert_text, cell};
-use host_names::{BlobInfo, Digest, MemoryUploads, Uploads};
-use std::alloc::{AllocError, Global};
+use super::fixtures::{assert_text, cell, no_uploads};
+use blob_store::{Blobs, MemShelf};
+use byte_view::BlobInfo;
+use host_names::Digest;
+use std::alloc::Global;
 use std::process::Abort;
 use std::sync::Arc;
 use std::test::Fail;
@@ -30,74 +32,49 @@ fn cells_are_printed_by_their_kinds(rt: HostRuntime) -> Result<(), Fail> {
     Ok(())
 }
 
-fn add(alloc: Global, uploads: &mut MemoryUploads, bytes: &[u8]) -> Result<Digest, AllocError> {
-    uploads.add(Vec::from_slice(alloc, bytes)?)
-}
-
-/// A file of these bytes, that was uploaded elsewhere.
-fn shared(alloc: Global, bytes: &[u8]) -> Result<Arc<BlobInfo>, AllocError> {
-    Ok(Arc::new(alloc, BlobInfo::of(alloc, bytes)?)?)
-}
-
-/// Asserts which bytes were uploaded under the digest of these.
-fn assert_found(rt: &impl Abort, uploads: &MemoryUploads, bytes: &[u8], wanted: Option<&[u8]>) {
-    let found = uploads.find(&Digest::of_bytes(bytes));
-    assert_eq!(rt; found.map(|file| file.bytes()), wanted);
-}
-
-fn add_three(alloc: Global, uploads: &mut MemoryUploads) -> Result<(), AllocError> {
-    add(alloc, uploads, b"hello")?;
-    add(alloc, uploads, b"")?;
-    uploads.keep(shared(alloc, b"shared")?)
+/// Asserts whether the file of these bytes is known, under its digest and with its size.
+fn assert_known(rt: &impl Abort, uploads: &Blobs<MemShelf>, bytes: &[u8], is_known: bool) {
+    let digest = Digest::of_bytes(bytes);
+    let wanted = is_known.then_some((digest, bytes.len()));
+    let found = uploads.find(&digest);
+    assert_eq!(rt; found.map(|info| (info.digest(), info.len())), wanted);
 }
 
 #[test]
 fn uploads_are_found_by_their_digests(rt: HostRuntime) -> Result<(), Fail> {
-    let mut uploads = MemoryUploads::new(rt.alloc());
-    assert_found(&rt, &uploads, b"hello", None);
-    add_three(rt.alloc(), &mut uploads)?;
-    assert_found(&rt, &uploads, b"hello", Some(b"hello"));
-    assert_found(&rt, &uploads, b"", Some(b""));
-    assert_found(&rt, &uploads, b"shared", Some(b"shared"));
-    assert_found(&rt, &uploads, b"abc", None);
+    let mut uploads = no_uploads(rt.alloc());
+    assert_known(&rt, &uploads, b"hello", false);
+    uploads.upload(b"hello")?;
+    uploads.upload(b"")?;
+    assert_known(&rt, &uploads, b"hello", true);
+    assert_known(&rt, &uploads, b"", true);
+    assert_known(&rt, &uploads, b"abc", false);
     Ok(())
 }
 
-fn assert_owners(rt: &impl Abort, file: &Arc<BlobInfo>, wanted: usize) {
-    assert_eq!(rt; Arc::strong_count(file), wanted);
+fn assert_owners(rt: &impl Abort, info: &Arc<BlobInfo>, wanted: usize) {
+    assert_eq!(rt; Arc::strong_count(info), wanted);
 }
 
-/// Keeps a file, and again one of the same bytes: the uploads own it once.
-fn keep_again(
+/// Uploads the bytes of a file that is known: the answer is one more owner of what is kept of it.
+fn upload_again(
     rt: &impl Abort,
-    alloc: Global,
-    uploads: &mut MemoryUploads,
+    uploads: &mut Blobs<MemShelf>,
+    bytes: &[u8],
     first: &Arc<BlobInfo>,
 ) -> Result<(), Fail> {
-    uploads.keep(Arc::try_clone(first)?)?;
-    assert_owners(rt, first, 2);
-    uploads.keep(shared(alloc, b"hello")?)?;
-    assert_owners(rt, first, 2);
-    Ok(())
-}
-
-/// Adds the bytes of a file that is kept: the uploads own it once.
-fn add_again(
-    rt: &impl Abort,
-    alloc: Global,
-    uploads: &mut MemoryUploads,
-    first: &Arc<BlobInfo>,
-) -> Result<(), Fail> {
-    let digest = add(alloc, uploads, b"hello")?;
-    assert_owners(rt, first, 2);
-    assert_eq!(rt; digest, first.digest());
+    let again = uploads.upload(bytes)?;
+    assert_owners(rt, first, 3);
+    assert_eq!(rt; again.digest(), first.digest());
     Ok(())
 }
 
 #[test]
-fn uploads_keep_one_copy_of_a_file(rt: HostRuntime) -> Result<(), Fail> {
-    let mut uploads = MemoryUploads::new(rt.alloc());
-    let first = shared(rt.alloc(), b"hello")?;
-    keep_again(&rt, rt.alloc(), &mut uploads, &first)?;
-    add_again(&rt, rt.alloc(), &mut uploads, &first)
+fn what_is_kept_of_a_file_is_kept_once(rt: HostRuntime) -> Result<(), Fail> {
+    let mut uploads = no_uploads(rt.alloc());
+    let first = uploads.upload(b"hello")?;
+    assert_owners(&rt, &first, 2);
+    upload_again(&rt, &mut uploads, b"hello", &first)?;
+    assert_owners(&rt, &first, 2);
+    Ok(())
 }

@@ -4,9 +4,10 @@ use super::asserts::{assert_number, assert_text};
 use super::fakes::{Narrow, Trickle};
 use super::talks::{
     REPLIES, REQUESTS, assert_answers, assert_ended, assert_history, assert_serves, count_whole,
-    joined, new_house,
+    joined, new_server,
 };
-use host_server::{ConnectionFault, SoloHouse, serve_connection};
+use blob_store::MemShelf;
+use host_server::{ConnectionFault, Server, serve_connection};
 use http_wire::{Pair, Reading, Source, Writing};
 use std::alloc::Global;
 use std::process::Abort;
@@ -16,22 +17,22 @@ use std::test::Fail;
 fn assert_front_answered<S: Source + Drop>(
     rt: &impl Abort,
     alloc: Global,
-    house: &mut SoloHouse,
+    server: &mut Server<MemShelf>,
     source: S,
     count: usize,
 ) -> Result<(), Fail> {
     let wanted = joined(alloc, REPLIES.get(..count).ok_or("no such reply")?)?;
     let fault = Err(ConnectionFault::InputFault);
-    assert_serves(rt, alloc, house, source, wanted.as_str(), fault);
-    assert_history(rt, alloc, house, count)
+    assert_serves(rt, alloc, server, source, wanted.as_str(), fault);
+    assert_history(rt, alloc, server, count)
 }
 
 /// Asserts what comes of the run where this read fails: each before it gave a byte, and nothing is read after it.
 fn assert_read_fails(rt: &impl Abort, alloc: Global, asked: &str, call: usize) -> Result<(), Fail> {
     let whole = count_whole(&REQUESTS, call);
-    let mut house = new_house(alloc);
+    let mut server = new_server(alloc);
     let mut source = Trickle::new(asked.as_bytes(), call);
-    let answered = assert_front_answered(rt, alloc, &mut house, Reading(&mut source), whole);
+    let answered = assert_front_answered(rt, alloc, &mut server, Reading(&mut source), whole);
     assert_number(rt, source.calls, call.saturating_add(1));
     answered
 }
@@ -57,17 +58,17 @@ fn assert_cut(
     fails: bool,
 ) -> Result<(), Fail> {
     let front = replies.get(..count).ok_or("no such front")?;
-    let mut house = new_house(alloc);
+    let mut server = new_server(alloc);
     let mut duplex = Pair {
         source: asked.as_bytes(),
         sink: Writing(Narrow::new(alloc, 1, count, fails)),
     };
-    let ended = serve_connection(alloc, &mut duplex, &mut house);
+    let ended = serve_connection(alloc, &mut duplex, &mut server);
     assert_ended(rt, ended, Err(ConnectionFault::OutputFault));
     assert_text(rt, duplex.sink.0.held.as_slice(), front);
     assert_number(rt, duplex.sink.0.calls, count.saturating_add(1));
     let answered = count_whole(&REPLIES, count).saturating_add(1);
-    assert_history(rt, alloc, &house, answered)
+    assert_history(rt, alloc, &server, answered)
 }
 
 #[test]
@@ -86,10 +87,10 @@ fn a_write_fails_after_each_count_of_bytes(rt: HostRuntime) -> Result<(), Fail> 
 fn assert_answers_one_by_one(
     rt: &impl Abort,
     alloc: Global,
-    house: &mut SoloHouse,
+    server: &mut Server<MemShelf>,
 ) -> Result<(), Fail> {
     for at in 0..5usize {
-        assert_answers(rt, alloc, house, &REQUESTS[at..=at], &REPLIES[at..=at])?;
+        assert_answers(rt, alloc, server, &REQUESTS[at..=at], &REPLIES[at..=at])?;
     }
     Ok(())
 }
@@ -97,6 +98,6 @@ fn assert_answers_one_by_one(
 #[test]
 fn answers_requests_of_separate_connections_alike(rt: HostRuntime) -> Result<(), Fail> {
     let alloc = rt.alloc();
-    let mut house = new_house(alloc);
-    assert_answers_one_by_one(&rt, alloc, &mut house)
+    let mut server = new_server(alloc);
+    assert_answers_one_by_one(&rt, alloc, &mut server)
 }

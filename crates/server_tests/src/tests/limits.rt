@@ -3,9 +3,10 @@
 use super::asserts::assert_number;
 use super::talks::{
     ONE, OPEN, OPENED, READ, SENT, UPLOAD, assert_answers, assert_ended, assert_has, entries,
-    joined, new_house,
+    joined, new_server,
 };
-use host_server::{SoloHouse, serve_connection};
+use blob_store::MemShelf;
+use host_server::{Server, serve_connection};
 use http_wire::{Pair, Writing};
 use std::alloc::Global;
 use std::process::Abort;
@@ -25,13 +26,13 @@ const FULL: &str =
 fn assert_talk(
     rt: &impl Abort,
     alloc: Global,
-    house: &mut SoloHouse,
+    server: &mut Server<MemShelf>,
     requests: &[&str],
     replies: &[&str],
     wanted: (&str, bool),
 ) -> Result<(), Fail> {
-    assert_answers(rt, alloc, house, requests, replies)?;
-    assert_has(rt, alloc, house, wanted)
+    assert_answers(rt, alloc, server, requests, replies)?;
+    assert_has(rt, alloc, server, wanted)
 }
 
 const OPENINGS: [&str; 3] = [OPENING, OPENING, UNDO];
@@ -39,8 +40,8 @@ const OPENINGS: [&str; 3] = [OPENING, OPENING, UNDO];
 #[test]
 fn an_opening_stands_whose_publishing_finds_the_history_full(rt: HostRuntime) -> Result<(), Fail> {
     let alloc = rt.alloc();
-    let mut house = SoloHouse::new(alloc, 1);
-    assert_talk(&rt, alloc, &mut house, &OPENINGS, &[FULL; 3], (ONE, false))
+    let mut server = Server::new(alloc, MemShelf::new(alloc), 1);
+    assert_talk(&rt, alloc, &mut server, &OPENINGS, &[FULL; 3], (ONE, false))
 }
 
 /// An upload of what the deploy doesn't list.
@@ -57,8 +58,8 @@ const UPLOADED: [&str; 4] = [OPENED, FULL, FULL, WRONG_DIGEST];
 #[test]
 fn an_upload_stands_whose_publishing_finds_the_history_full(rt: HostRuntime) -> Result<(), Fail> {
     let alloc = rt.alloc();
-    let mut house = SoloHouse::new(alloc, 1);
-    assert_talk(&rt, alloc, &mut house, &UPLOADS, &UPLOADED, (ONE, true))
+    let mut server = Server::new(alloc, MemShelf::new(alloc), 1);
+    assert_talk(&rt, alloc, &mut server, &UPLOADS, &UPLOADED, (ONE, true))
 }
 
 /// A request of each kind that makes an entry.
@@ -96,7 +97,7 @@ const SIX: &str = "{\"changes\":[{\"entry\":1,\"kind\":\"open\",\"live\":true},\
 fn enter(
     rt: &impl Abort,
     alloc: Global,
-    house: &mut SoloHouse,
+    server: &mut Server<MemShelf>,
     requests: &[&str],
 ) -> Result<(), Fail> {
     let stream = joined(alloc, requests)?;
@@ -104,24 +105,28 @@ fn enter(
         source: stream.as_bytes(),
         sink: Writing(Vec::new(alloc)),
     };
-    let ended = serve_connection(alloc, &mut duplex, house);
+    let ended = serve_connection(alloc, &mut duplex, server);
     assert_ended(rt, ended, Ok(()));
     Ok(())
 }
 
 /// Asserts that a host of six entries takes these and no other, and still serves what they published.
-fn assert_takes_six(rt: &impl Abort, alloc: Global, house: &mut SoloHouse) -> Result<(), Fail> {
-    enter(rt, alloc, house, &FILLING)?;
-    assert_has(rt, alloc, house, (SIX, true))?;
-    assert_talk(rt, alloc, house, &ENTRIES, &[FULL; 10], (SIX, true))?;
-    assert_answers(rt, alloc, house, &[READ], &[SENT])
+fn assert_takes_six(
+    rt: &impl Abort,
+    alloc: Global,
+    server: &mut Server<MemShelf>,
+) -> Result<(), Fail> {
+    enter(rt, alloc, server, &FILLING)?;
+    assert_has(rt, alloc, server, (SIX, true))?;
+    assert_talk(rt, alloc, server, &ENTRIES, &[FULL; 10], (SIX, true))?;
+    assert_answers(rt, alloc, server, &[READ], &[SENT])
 }
 
 #[test]
 fn a_full_history_takes_no_change_and_no_undo(rt: HostRuntime) -> Result<(), Fail> {
     let alloc = rt.alloc();
-    let mut house = SoloHouse::new(alloc, 6);
-    assert_takes_six(&rt, alloc, &mut house)
+    let mut server = Server::new(alloc, MemShelf::new(alloc), 6);
+    assert_takes_six(&rt, alloc, &mut server)
 }
 
 /// Asserts that of 1,200 entries the last 1,000 are listed.
@@ -135,18 +140,18 @@ fn assert_lists(rt: &impl Abort, listed: &str) {
 fn assert_makes_and_lists(
     rt: &impl Abort,
     alloc: Global,
-    house: &mut SoloHouse,
+    server: &mut Server<MemShelf>,
 ) -> Result<(), Fail> {
     for _ in 0..6u8 {
-        enter(rt, alloc, house, &[OPENING; 100])?;
+        enter(rt, alloc, server, &[OPENING; 100])?;
     }
-    assert_lists(rt, entries(alloc, house)?.as_str());
+    assert_lists(rt, entries(alloc, server)?.as_str());
     Ok(())
 }
 
 #[test]
 fn lists_the_last_thousand_entries(rt: HostRuntime) -> Result<(), Fail> {
     let alloc = rt.alloc();
-    let mut house = new_house(alloc);
-    assert_makes_and_lists(&rt, alloc, &mut house)
+    let mut server = new_server(alloc);
+    assert_makes_and_lists(&rt, alloc, &mut server)
 }

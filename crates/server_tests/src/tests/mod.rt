@@ -3,6 +3,7 @@ mod bodies;
 mod fakes;
 mod faults;
 mod heads;
+mod hostile;
 mod limits;
 mod replies;
 mod statuses;

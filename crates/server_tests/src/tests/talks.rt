@@ -1,10 +1,11 @@
 //! Requests to a host, the replies that they want, and what the host has then.
 
 use super::asserts::assert_text;
+use blob_store::{MemShelf, Shelf};
 use change_undo::GREATEST_LIMIT;
 use host_api::{Told, text};
-use host_names::{Digest, SiteName, Uploads};
-use host_server::{ConnectionFault, SoloHouse, list_changes, serve_connection};
+use host_names::{Digest, SiteName};
+use host_server::{ConnectionFault, Server, list_changes, serve_connection};
 use http_wire::{Pair, Source, Writing};
 use std::alloc::{AllocError, Global};
 use std::process::Abort;
@@ -89,9 +90,9 @@ pub(crate) fn count_whole(messages: &[&str], length: usize) -> usize {
     count
 }
 
-/// A host that may have as many entries as any.
-pub(crate) fn new_house(alloc: Global) -> SoloHouse {
-    SoloHouse::new(alloc, GREATEST_LIMIT)
+/// A server whose host may have as many entries as any.
+pub(crate) fn new_server(alloc: Global) -> Server<MemShelf> {
+    Server::new(alloc, MemShelf::new(alloc), GREATEST_LIMIT)
 }
 
 pub(crate) fn assert_ended(
@@ -103,10 +104,10 @@ pub(crate) fn assert_ended(
 }
 
 /// Asserts what a connection with this source answers, and how it ends.
-pub(crate) fn assert_serves<S: Source + Drop>(
+pub(crate) fn assert_serves<S: Source + Drop, K: Shelf>(
     rt: &impl Abort,
     alloc: Global,
-    house: &mut SoloHouse,
+    server: &mut Server<K>,
     source: S,
     wanted: &str,
     ending: Result<(), ConnectionFault>,
@@ -115,7 +116,7 @@ pub(crate) fn assert_serves<S: Source + Drop>(
         source,
         sink: Writing(Vec::new(alloc)),
     };
-    let ended = serve_connection(alloc, &mut duplex, house);
+    let ended = serve_connection(alloc, &mut duplex, server);
     assert_text(rt, duplex.sink.0.as_slice(), wanted);
     assert_ended(rt, ended, ending);
 }
@@ -124,19 +125,19 @@ pub(crate) fn assert_serves<S: Source + Drop>(
 pub(crate) fn assert_answers(
     rt: &impl Abort,
     alloc: Global,
-    house: &mut SoloHouse,
+    server: &mut Server<MemShelf>,
     requests: &[&str],
     replies: &[&str],
 ) -> Result<(), Fail> {
     let asked = joined(alloc, requests)?;
     let wanted = joined(alloc, replies)?;
-    assert_serves(rt, alloc, house, asked.as_bytes(), wanted.as_str(), Ok(()));
+    assert_serves(rt, alloc, server, asked.as_bytes(), wanted.as_str(), Ok(()));
     Ok(())
 }
 
 /// The entries of the site `one`.
-pub(crate) fn entries(alloc: Global, house: &SoloHouse) -> Result<String, Fail> {
-    let lines = list_changes(alloc, house, &SiteName::new("one")?)?;
+pub(crate) fn entries(alloc: Global, server: &Server<MemShelf>) -> Result<String, Fail> {
+    let lines = list_changes(alloc, server.house(), &SiteName::new("one")?)?;
     Ok(text(alloc, &Told::Changes(lines))?)
 }
 
@@ -144,12 +145,12 @@ pub(crate) fn entries(alloc: Global, house: &SoloHouse) -> Result<String, Fail> 
 pub(crate) fn assert_has(
     rt: &impl Abort,
     alloc: Global,
-    house: &SoloHouse,
+    server: &Server<MemShelf>,
     wanted: (&str, bool),
 ) -> Result<(), Fail> {
     let hello = Digest::of_hex("aaf4c61ddcc5e8a2dabede0f3b482cd9aea9434d")?;
-    assert!(rt; house.uploads().find(&hello).is_some() == wanted.1);
-    let listed = entries(alloc, house)?;
+    assert!(rt; server.house().uploads().find(&hello).is_some() == wanted.1);
+    let listed = entries(alloc, server)?;
     assert_text(rt, listed.as_bytes(), wanted.0);
     Ok(())
 }
@@ -158,9 +159,9 @@ pub(crate) fn assert_has(
 pub(crate) fn assert_history(
     rt: &impl Abort,
     alloc: Global,
-    house: &SoloHouse,
+    server: &Server<MemShelf>,
     requests: usize,
 ) -> Result<(), Fail> {
     let wanted = HISTORIES.get(requests).ok_or("no such history")?;
-    assert_has(rt, alloc, house, *wanted)
+    assert_has(rt, alloc, server, *wanted)
 }

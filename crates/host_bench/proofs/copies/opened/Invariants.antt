@@ -3,4 +3,4 @@ use Rattle.host_bench.proofs.copies.opened.Given as goal
 
 -- the history is what it is over these uploads
 abbrev pub invariant-loop : goal.invariant-loop
-invariant-loop l = IsHistoryOver l.uploads l.history
+invariant-loop l = IsHistoryOver l.uploads.known l.history

@@ -5,5 +5,5 @@ use Rattle.core_tests.proofs.tests.hosts.Host.new.Goals as goal
 
 pub invariant_of-result : goal.invariant_of-result
 invariant_of-result c =
-    let P : Past → Type 0 = IsHistoryOver c.args.uploads in
+    let P : Past → Type 0 = IsHistoryOver c.args.uploads.known in
     subst P (sym c.new.ensures) (record { legal = tt; ran = refl; planned = tt })

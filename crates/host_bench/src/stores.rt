@@ -1,0 +1,109 @@
+//! Uploads to a store in memory, and reads from it.
+ghost use Rattle.std.specs.Prelude.{◌≡◌};
+
+use anyhow::{Result, anyhow};
+use blob_store::{Blobs, MemShelf};
+use byte_view::{BlobInfo, MAX_SIZE, PIECE_SIZE};
+use file_reads::read_body;
+use host_names::Digest;
+use range_spec::Choice;
+use std::alloc::{AllocError, Global};
+use std::sync::Arc;
+use std::time::{Duration, Instant};
+
+/// So many bytes that look random: those of the numbers of a generator (xorshift64) that begins with this one.
+fn random(alloc: Global, bytes: usize, first: u64) -> Result<Vec<u8>, AllocError> {
+    let mut file = Vec::with_capacity(alloc, bytes)?;
+    let mut state = first;
+    for _ in 0..bytes {
+        state ^= state << 13;
+        state ^= state >> 7;
+        state ^= state << 17;
+        file.push((state % 256) as u8)?;
+    }
+    Ok(file)
+}
+
+/// So many bytes, about, in pieces that are all the same.
+fn equal(alloc: Global, bytes: usize) -> Result<Vec<u8>, AllocError> {
+    let piece = random(alloc, PIECE_SIZE, 1)?;
+    let mut file = Vec::with_capacity(alloc, bytes)?;
+    for _ in 0..bytes / PIECE_SIZE {
+        file.extend_from_slice(piece.as_slice())?;
+    }
+    Ok(file)
+}
+
+/// A store in memory without files.
+pub(crate) fn empty_store(alloc: Global) -> Blobs<MemShelf> {
+    Blobs::new(alloc, MemShelf::new(alloc))
+}
+
+/// Uploads a file, and gives what is kept of it, and the time.
+fn upload(
+    rt: &HostRuntime,
+    blobs: &mut Blobs<MemShelf>,
+    file: &[u8],
+) -> Result<(Arc<BlobInfo>, Duration)> {
+    let begun = Instant::now(rt)?;
+    let info = blobs.upload(file)?;
+    Ok((info, begun.elapsed(rt)?))
+}
+
+/// The time of a pass of SHA-1 over so many bytes.
+pub(crate) fn time_digest(rt: &HostRuntime, bytes: usize) -> Result<Duration> {
+    let file = random(rt.alloc(), bytes, 1)?;
+    let begun = Instant::now(rt)?;
+    let digest = Digest::of_bytes(file.as_slice());
+    let took = begun.elapsed(rt)?;
+    if digest == Digest::of_bytes(b"") {
+        return Err(anyhow!("the bytes have the digest of the empty file"));
+    }
+    Ok(took)
+}
+
+/// The time of an upload of so many bytes.
+pub(crate) fn time_upload(rt: &HostRuntime, bytes: usize) -> Result<Duration> {
+    let file = random(rt.alloc(), bytes, 1)?;
+    let mut blobs = empty_store(rt.alloc());
+    let (_, took) = upload(rt, &mut blobs, file.as_slice())?;
+    Ok(took)
+}
+
+/// The same of pieces that are all the same, of which the store keeps one.
+pub(crate) fn time_equal(rt: &HostRuntime, bytes: usize) -> Result<Duration> {
+    let file = equal(rt.alloc(), bytes)?;
+    let mut blobs = empty_store(rt.alloc());
+    let (info, took) = upload(rt, &mut blobs, file.as_slice())?;
+    let first = info.names().first();
+    if info.names().iter().any(|name| Some(name) != first) {
+        return Err(anyhow!("two pieces have different names"));
+    }
+    Ok(took)
+}
+
+/// The time of so many uploads of the largest file to one store, each of other bytes, which are then dropped.
+pub(crate) fn time_uploads(rt: &HostRuntime, files: u64) -> Result<Duration> {
+    let mut blobs = empty_store(rt.alloc());
+    let mut sum = Duration::ZERO;
+    for number in 0..files {
+        let file = random(rt.alloc(), MAX_SIZE, number.saturating_add(1))?;
+        let (_, took) = upload(rt, &mut blobs, file.as_slice())?;
+        sum = sum.saturating_add(took);
+    }
+    Ok(sum)
+}
+
+/// The time of a read of a whole file of so many bytes into one body.
+pub(crate) fn time_read(rt: &HostRuntime, bytes: usize) -> Result<Duration> {
+    let file = random(rt.alloc(), bytes, 1)?;
+    let mut blobs = empty_store(rt.alloc());
+    let (info, _) = upload(rt, &mut blobs, file.as_slice())?;
+    let begun = Instant::now(rt)?;
+    let body = read_body(rt.alloc(), &mut blobs, &info, Choice::Whole, "text/plain")?;
+    let took = begun.elapsed(rt)?;
+    if body.bytes != file {
+        return Err(anyhow!("other bytes were read"));
+    }
+    Ok(took)
+}
