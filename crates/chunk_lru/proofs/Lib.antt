@@ -1,6 +1,7 @@
 mod Sizes
 mod Entries
 mod Evictions
+mod OwnNames
 mod Lookups
 mod Fewest
-mod OwnNames
+mod Kept

@@ -8,8 +8,7 @@ use Rattle.host_names.specs.Blobs.{digest_of}
 use Rattle.chunk_lru.specs.declared.caches.Which.{Which}
 use Rattle.chunk_lru.specs.declared.caches.Which.TheVariants.{Main, Hot}
 use Rattle.chunk_lru.specs.Caches.{Cache}
-use Rattle.chunk_lru.specs.Calls.{Add, Call, Get, after, after_all}
-use Rattle.chunk_lru.specs.Recent.{HaveOwnNames, found, has_name, to_front, without_last}
+use Rattle.chunk_lru.specs.Recent.{HaveOwnNames, found, has_name, inserted, to_front, without_last}
 use Rattle.chunk_lru.specs.Rules.{chunks_in, evicted, shrunk, total, victim, with_chunks, with_one_gone}
 use Rattle.chunk_lru.proofs.Evictions.{count}
 use Rattle.chunk_lru.proofs.Sizes.{found-name, none_from_is_some, same_name}
@@ -59,7 +58,7 @@ none-others name (chunk ∷ chunks) own = by (has_name name chunk) refl (none-ot
     by true passes rest = ap (λ (d : Digest). found d chunks) (sym (same_name name chunk passes)) ∙ own.0
     by false fails rest = ap (λ b. cond b (Some chunk) (found name (remove_key (has_name name) chunks))) fails ∙ rest
 
-own-to_front : (name : Digest) (chunks : List (List ℕ)) → HaveOwnNames chunks → HaveOwnNames (to_front name chunks)
+pub own-to_front : (name : Digest) (chunks : List (List ℕ)) → HaveOwnNames chunks → HaveOwnNames (to_front name chunks)
 own-to_front name chunks own = by (found name chunks) refl
   where
     by : (o : Option (List ℕ)) → found name chunks ≡ o → HaveOwnNames (cons_option o (remove_key (has_name name) chunks))
@@ -69,7 +68,14 @@ own-to_front name chunks own = by (found name chunks) refl
       own-removed (has_name name) chunks own,
     )
 
-abbrev AreOwn : Cache → Type 0
+pub own-inserted : (chunk : List ℕ) (chunks : List (List ℕ)) → HaveOwnNames chunks → HaveOwnNames (inserted chunk chunks)
+own-inserted chunk chunks own = by (is_some (found (digest_of chunk) chunks)) refl
+  where
+    by : (b : Bool) → is_some (found (digest_of chunk) chunks) ≡ b → HaveOwnNames (if b then to_front (digest_of chunk) chunks else chunk ∷ chunks)
+    by true there = own-to_front (digest_of chunk) chunks own
+    by false absent = (none_from_is_some _ absent, own)
+
+abbrev pub AreOwn : Cache → Type 0
 AreOwn cache = HaveOwnNames cache.main × HaveOwnNames cache.hot
 
 own-in : (which : Which) (cache : Cache) → AreOwn cache → HaveOwnNames (chunks_in which cache)
@@ -79,9 +85,6 @@ own-in Hot cache own = own.1
 own-with : (which : Which) (chunks : List (List ℕ)) (cache : Cache) → HaveOwnNames chunks → AreOwn cache → AreOwn (with_chunks which chunks cache)
 own-with Main chunks cache new own = (new, own.1)
 own-with Hot chunks cache new own = (own.0, new)
-
-own-moved : (which : Which) (name : Digest) (cache : Cache) → AreOwn cache → AreOwn (with_chunks which (to_front name (chunks_in which cache)) cache)
-own-moved which name cache own = own-with which (to_front name (chunks_in which cache)) cache (own-to_front name (chunks_in which cache) (own-in which cache own)) own
 
 own-gone : (cache : Cache) → AreOwn cache → AreOwn (with_one_gone cache)
 own-gone cache own =
@@ -96,17 +99,5 @@ own-shrunk (suc n) cache own = by (nat_lt cache.limit (total cache)) (own-shrunk
     by true rest = rest
     by false rest = own
 
-own-after : (call : Call) (cache : Cache) → AreOwn cache → AreOwn (after call cache)
-own-after (Get name) cache own = own-moved (if is_some (found name cache.main) then Main else Hot) name cache own
-own-after (Add which chunk) cache own = by (is_some (found (digest_of chunk) (chunks_in which cache))) refl
-  where
-    by : (b : Bool) → is_some (found (digest_of chunk) (chunks_in which cache)) ≡ b
-        → AreOwn (if b then with_chunks which (to_front (digest_of chunk) (chunks_in which cache)) cache else evicted (with_chunks which (chunk ∷ chunks_in which cache) cache))
-    by true there = own-moved which (digest_of chunk) cache own
-    by false absent =
-        let new : Cache = with_chunks which (chunk ∷ chunks_in which cache) cache in
-        own-shrunk (count new) new (own-with which (chunk ∷ chunks_in which cache) cache (none_from_is_some _ absent, own-in which cache own) own)
-
-pub stay_own : (calls : List Call) (cache : Cache) → AreOwn cache → AreOwn (after_all calls cache)
-stay_own [] cache own = own
-stay_own (call ∷ calls) cache own = stay_own calls (after call cache) (own-after call cache own)
+pub own-evicted : (cache : Cache) → AreOwn cache → AreOwn (evicted cache)
+own-evicted cache own = own-shrunk (count cache) cache own

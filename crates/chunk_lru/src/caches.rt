@@ -2,7 +2,7 @@
 ghost use Rattle.std.specs.Prelude.{◌≡◌, ◌+◌, ◌<◌, ◌≤◌, ◌^◌, IfOk, IfSome, IsOk, IsSome, None, OnErr, OnOk, option_map};
 ghost use Rattle.host_names.specs.Blobs.{digest_of};
 ghost use Rattle.chunk_lru.specs.Caches.{empty, together};
-ghost use Rattle.chunk_lru.specs.Recent.{found, recent, size_of};
+ghost use Rattle.chunk_lru.specs.Recent.{HaveOwnNames, found, recent, size_of};
 ghost use Rattle.chunk_lru.specs.Rules.{added, chunks_in, evicted, held, looked_up, total};
 
 use crate::lists::ChunkList;
@@ -71,10 +71,11 @@ impl ChunkCache {
         })
     }
 
-    /// What the entries of main and those of hot count, in bytes.
+    /// What the entries of main and those of hot count, in bytes. Both are within the limit, and neither has a name twice.
     pub fn sizes(&self) -> (usize, usize)
         ensures counted { result ≡ (size_of self.now.main, size_of self.now.hot) }
         ensures within { total self.now ≤ self.now.limit }
+        ensures once { HaveOwnNames self.now.main × HaveOwnNames self.now.hot }
     {
         (self.main.size() as usize, self.hot.size() as usize)
     }

@@ -3,7 +3,6 @@ ghost use Rattle.std.specs.Prelude.{◌≡◌, ◌≤◌, ℕ, List};
 ghost use Rattle.chunk_lru.specs.Caches.{Cache, empty};
 ghost use Rattle.chunk_lru.specs.Calls.{Call, after_all};
 ghost use Rattle.chunk_lru.specs.Evictions.{EvictsFewest};
-ghost use Rattle.chunk_lru.specs.Recent.{HaveOwnNames};
 ghost use Rattle.chunk_lru.specs.Rules.{total};
 
 /// Where the caches count too much, the fewest chunks go that the rule of the victim names in turn. Else none goes.
@@ -15,10 +14,4 @@ pub fn the_fewest_chunks_are_evicted()
 pub fn caches_stay_within_their_limit()
     ensures limit { (limit : ℕ) (calls : List Call) → (after_all calls (empty limit)).limit ≡ limit }
     ensures within { (limit : ℕ) (calls : List Call) → total (after_all calls (empty limit)) ≤ limit }
-{}
-
-/// After any calls neither cache has a name twice.
-pub fn caches_have_a_name_once()
-    ensures main { (limit : ℕ) (calls : List Call) → HaveOwnNames (after_all calls (empty limit)).main }
-    ensures hot { (limit : ℕ) (calls : List Call) → HaveOwnNames (after_all calls (empty limit)).hot }
 {}

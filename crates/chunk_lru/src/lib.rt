@@ -6,6 +6,4 @@ mod laws;
 mod lists;
 
 pub use caches::{ChunkCache, Which};
-pub use laws::{
-    caches_have_a_name_once, caches_stay_within_their_limit, the_fewest_chunks_are_evicted,
-};
+pub use laws::{caches_stay_within_their_limit, the_fewest_chunks_are_evicted};

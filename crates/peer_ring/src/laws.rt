@@ -4,12 +4,12 @@ ghost use Rattle.std.specs.List.Sorted.{IsPermutation};
 ghost use Rattle.peer_ring.specs.declared.points.Point.{Point};
 ghost use Rattle.peer_ring.specs.Owners.{IsOwner};
 
-/// A key has at most one owner.
-pub fn a_key_has_one_owner()
+/// Among some points a hash has at most one owner.
+pub fn a_hash_has_at_most_one_owner()
     ensures { (points : List Point) (hash p q : ℕ) → IsOwner points hash p → IsOwner points hash q → p ≡ q }
 {}
 
-/// Who owns a key doesn't depend on the order of the points.
+/// Who owns a hash stays so where the points come in another order.
 pub fn owners_ignore_the_order_of_points()
     ensures { (points others : List Point) (hash peer : ℕ) → IsPermutation points others → IsOwner points hash peer → IsOwner others hash peer }
 {}

@@ -5,7 +5,7 @@ use crate::tables::{Begun, FlightTable, Lead, Place};
 use host_names::Digest;
 use std::alloc::{AllocError, Global};
 use std::marker::PhantomData;
-use std::sync::{Mutex, Wait};
+use std::sync::{Arc, Mutex, Wait};
 
 /// Which outcomes a load of a key may have. For clauses alone: nothing calls it.
 pub trait Loads<T: Clone> {
@@ -76,7 +76,7 @@ impl<T: Clone + Drop, L: Loads<T>> Flights<T, L> {
         }
     }
 
-    /// Loads, and shares the outcome with who joins meanwhile.
+    /// Loads, ends the flight, and shares the outcome with who has joined it.
     fn led<R: Wait, F: FnOnce() -> T + Drop>(
         &self,
         rt: &R,
@@ -89,19 +89,25 @@ impl<T: Clone + Drop, L: Loads<T>> Flights<T, L> {
         ensures { IfOk result (λ outcome. L.fits key.now outcome ≡ true) }
     {
         let outcome = load();
+        let place = self.table.lock(rt).finish(lead);
+        // The table has given up the place, so nobody joins any more. Where nobody has, it has no other owner, and
+        // nobody waits for the outcome.
+        let Err(place) = Arc::try_unwrap(place) else {
+            return Ok(outcome);
+        };
         let share: Result<T, AllocError> = outcome.clone();
         let landed = Landed {
             key: *key,
             outcome,
             of: PhantomData,
         };
-        let _ = lead.place().set(rt, landed);
-        self.table.lock(rt).finish(lead);
+        let _ = place.set(rt, landed);
         share
     }
 
     /// Loads a key, or waits for the load of it that is in flight. Leader and joiners share the outcome, its fault
-    /// included; each may lack the memory for its own share. No lock is held during the load.
+    /// included; where somebody joined, each may lack the memory for its own share. No lock is held during the load. Who
+    /// was given an outcome and calls again never joins the flight that it came from.
     pub fn run<R: Wait, F: FnOnce() -> T + Drop>(
         &self,
         rt: &R,

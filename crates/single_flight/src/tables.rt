@@ -12,7 +12,7 @@ use std::sync::{Arc, OnceLock};
 /// Where the outcome of a flight is set, once.
 pub type Place<T> = Arc<OnceLock<T>>;
 
-/// The lead of a flight. It can't be dropped: whoever has it sets the outcome, and spends it by `FlightTable::finish`.
+/// The lead of a flight. It can't be dropped: whoever has it spends it by `FlightTable::finish`, and sets the outcome.
 pub struct Lead<T> {
     key: Digest,
     place: Place<T>,
@@ -89,11 +89,13 @@ impl<T: Drop> FlightTable<T> {
         }
     }
 
-    /// Ends the flight of a lead.
-    pub fn finish(&mut self, lead: Lead<T>)
-        ensures { self.new ≡ map.remove self.old lead.key }
+    /// Ends the flight of a lead, and hands out its place.
+    pub fn finish(&mut self, lead: Lead<T>) -> Place<T>
+        ensures ended { self.new ≡ map.remove self.old lead.key }
+        ensures place { result ≡ lead.place }
     {
-        let Lead { key, place: _ } = lead;
+        let Lead { key, place } = lead;
         self.places.remove(&key);
+        place
     }
 }

@@ -1,6 +1,7 @@
 use Rattle.std.proofs.Common.{option_map, sym, ap, ◌∙◌, arith}
 use Rattle.chunk_lru.specs.Caches.{together}
-use Rattle.chunk_lru.proofs.Lookups.{answers-name, looked-keeps, looked_up-hot, on_err, on_ok}
+use Rattle.chunk_lru.proofs.Lookups.{answers-name, looked-keeps, looked-own, looked_up-hot, on_err, on_ok}
+use Rattle.chunk_lru.proofs.OwnNames.{own-to_front}
 use Rattle.chunk_lru.proofs.Sizes.{found-name, looked-absent, size_of-to_front}
 use Rattle.chunk_lru.proofs.caches.ChunkCache.get.Goals as goal
 
@@ -10,6 +11,7 @@ invariant_of-self-in-Some c = rw c.in_ok-chunk.ensures.ok (record {
   main_room = c.self.invariant.main_room;
   hot_room = c.self.invariant.hot_room;
   within = omega (arith, c.self.invariant.within, size_of-to_front c.args.name.now c.self.inside.main.chunks);
+  own = (own-to_front c.args.name.now c.self.inside.main.chunks c.self.invariant.own.0, c.self.invariant.own.1);
 })
 
 pub invariant_of-self-in-None : goal.invariant_of-self-in-None
@@ -19,6 +21,10 @@ invariant_of-self-in-None c = let hot = looked-keeps c.get-in-None.result c.args
       main_room = c.self.invariant.main_room;
       hot_room = hot.0 ∙ c.self.invariant.hot_room;
       within = omega (arith, c.self.invariant.within, hot.1, size_of-to_front c.args.name.now c.self.inside.main.chunks);
+      own = (
+        own-to_front c.args.name.now c.self.inside.main.chunks c.self.invariant.own.0,
+        looked-own c.get-in-None.result c.args.name.now c.self.inside.hot c.get-in-None.new.self c.get-in-None.ensures.ok c.get-in-None.ensures.err c.self.invariant.own.1,
+      );
     })
 
 pub returns-in-Some-clause-named : goal.returns-in-Some-clause-named
