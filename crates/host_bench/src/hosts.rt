@@ -33,7 +33,7 @@ fn expected(told: Result<Told, Refusal>) -> Result<Told> {
 
 /// Puts a command to the host.
 fn change(server: &mut Server<MemShelf>, command: Command) -> Result<Told> {
-    expected(server.house_mut().change(command))
+    expected(server.house.change(command))
 }
 
 /// Opens a deploy of what is listed, and answers its number.

@@ -7,7 +7,7 @@ use crate::files::Contents;
 use crate::hosts::{
     Upload, empty_server, fill, keep, move_alias, open, plan, rename, serve, upload_all,
 };
-use crate::stores::{time_digest, time_equal, time_read, time_upload, time_uploads};
+use crate::stores::{time_digest, time_distinct, time_equal, time_read, time_upload};
 use anyhow::Result;
 use blob_store::MemShelf;
 use host_server::Server;
@@ -93,7 +93,7 @@ impl Measurement {
             Measurement::Digest(bytes) => Ok(time_digest(rt, *bytes as usize)?.as_nanos()),
             Measurement::Upload(bytes) => Ok(time_upload(rt, *bytes as usize)?.as_nanos()),
             Measurement::Equal(bytes) => Ok(time_equal(rt, *bytes as usize)?.as_nanos()),
-            Measurement::Uploads(files) => Ok(each(time_uploads(rt, *files)?, *files)),
+            Measurement::Uploads(files) => Ok(each(time_distinct(rt, *files)?, *files)),
             Measurement::Read(bytes) => Ok(time_read(rt, *bytes as usize)?.as_nanos()),
         }
     }

@@ -83,7 +83,7 @@ pub(crate) fn time_equal(rt: &HostRuntime, bytes: usize) -> Result<Duration> {
 }
 
 /// The time of so many uploads of the largest file to one store, each of other bytes, which are then dropped.
-pub(crate) fn time_uploads(rt: &HostRuntime, files: u64) -> Result<Duration> {
+pub(crate) fn time_distinct(rt: &HostRuntime, files: u64) -> Result<Duration> {
     let mut blobs = empty_store(rt.alloc());
     let mut sum = Duration::ZERO;
     for number in 0..files {

@@ -17,7 +17,8 @@ use std::alloc::Global;
 /// A host on one thread, and the shelf that its files are on.
 #[derive(Drop)]
 pub struct Server<S> {
-    pub(crate) house: SoloHouse,
+    /// Its host.
+    pub house: SoloHouse,
     pub(crate) files: Files<S>,
 }
 
@@ -44,13 +45,6 @@ impl<S: Shelf> Server<S> {
             house: SoloHouse::new(alloc, limit),
             files: Files::new(alloc, shelf),
         }
-    }
-
-    /// Its host.
-    pub fn house(&self) -> &SoloHouse
-        ensures { result.now ≡ self.now.house }
-    {
-        &self.house
     }
 
     /// Stores the bytes of an upload, and knows them from then on. Of those that are known nothing is stored.

@@ -137,7 +137,7 @@ pub(crate) fn assert_answers(
 
 /// The entries of the site `one`.
 pub(crate) fn entries(alloc: Global, server: &Server<MemShelf>) -> Result<String, Fail> {
-    let lines = list_changes(alloc, server.house(), &SiteName::new("one")?)?;
+    let lines = list_changes(alloc, &server.house, &SiteName::new("one")?)?;
     Ok(text(alloc, &Told::Changes(lines))?)
 }
 
@@ -149,7 +149,7 @@ pub(crate) fn assert_has(
     wanted: (&str, bool),
 ) -> Result<(), Fail> {
     let hello = Digest::of_hex("aaf4c61ddcc5e8a2dabede0f3b482cd9aea9434d")?;
-    assert!(rt; server.house().uploads().find(&hello).is_some() == wanted.1);
+    assert!(rt; server.house.uploads().find(&hello).is_some() == wanted.1);
     let listed = entries(alloc, server)?;
     assert_text(rt, listed.as_bytes(), wanted.0);
     Ok(())
