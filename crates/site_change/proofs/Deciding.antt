@@ -20,8 +20,9 @@ use Rattle.site_state.specs.declared.values.Value.TheVariants as value
 use Rattle.shared_blocks.proofs.Entries.{sorted_from_test}
 use Rattle.site_change.specs.declared.plans.Change.{Change}
 use Rattle.site_change.specs.Changes.{same_cell, with_served, with_published}
-use Rattle.site_change.specs.Differences.{Reading, AreChangesIn, AreLiveChanges, AreSides, in_list, live_cells, change_at}
+use Rattle.site_change.specs.Differences.{Reading, AreChangesIn, AreLiveChanges, AreSides, AreTogether, in_list, live_cells, change_at}
 use Rattle.site_change.specs.Plans.{IsDifference}
+use Rattle.site_change.proofs.Comparing.{live_uploaded}
 use Rattle.site_change.proofs.Composing.{reread, change_in_cell, joined, whole, is_cell}
 use Rattle.site_change.proofs.Effects.{one_cell, same_cell-itself, get-with_cell, get-with_two, live_of, same_paths, get-served, get-published}
 
@@ -68,11 +69,14 @@ unfolding IsStrictlySortedBy
 live_cells_sorted site [] h = tt
 live_cells_sorted site (f ∷ tree) h = (paths_before site f.0 tree h.0, live_cells_sorted site tree h.1)
 
-pub sides_of : (state : State) (site : SiteName) (tree : Paths (List ℕ)) → IsByPath tree → AreSides site (live_entries state site) tree
-sides_of state site tree by_path = record {
+pub sides_of : (state : State) (site : SiteName) (tree : Paths (List ℕ)) → AreTogether state tree → IsByPath tree → AreSides site (live_entries state site) tree
+sides_of state site tree together by_path = record {
   live_sorted = sorted_from_test cell_cmp (live_entries state site) (is_sorted-where_key cell_cmp (is_live_of site) (finmap.entries state) (finmap.entries_sorted state));
   live_only = passing (λ e. is_live_of site e.0) (finmap.entries state);
   tree_sorted = live_cells_sorted site tree by_path;
+  uploads = together.uploads;
+  live_uploaded = live_uploaded together.uploads state site together.served_or_kept;
+  tree_uploaded = together.listed;
 }
 
 -- ---- a publish

@@ -12,6 +12,7 @@ pub mod Fitting
 pub mod NamedAliases
 pub mod SameFiles
 pub mod Uploading
+mod Comparing
 pub mod Deploys
 -- all laws of each command, and what follows of them
 pub mod CommandLaws

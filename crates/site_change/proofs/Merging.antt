@@ -52,7 +52,7 @@ step_removed site e live tree sides later =
     let sorted = sides.live_sorted in
     let above : AllLater e.0 live = sorted_head cell_cmp e.0 _ sorted in record {
       shorter = omega arith;
-      sides = record { live_sorted = sorted_tail cell_cmp e.0 _ sorted; live_only = sides.live_only.1; tree_sorted = sides.tree_sorted };
+      sides = record { live_sorted = sorted_tail cell_cmp e.0 _ sorted; live_only = sides.live_only.1; tree_sorted = sides.tree_sorted; uploads = sides.uploads; live_uploaded = sides.live_uploaded.1; tree_uploaded = sides.tree_uploaded };
       changes = λ rest are. with_first (is_live_of site) (in_list live) (in_list (live_cells site tree)) _ _ e.0 (Some e.1) None sides.live_only.0
           (Sets-cons e live) (Sets-later e.0 _ later) (differ_later e.0 _ _ above later) rest (some_not_none e.1) are;
     }
@@ -64,7 +64,7 @@ step_added site live f tree sides later =
     let sorted = sides.tree_sorted in
     let above : AllLater (cell_at site f) (live_cells site tree) = sorted_head cell_cmp (cell_at site f) _ sorted in record {
       shorter = omega arith;
-      sides = record { live_sorted = sides.live_sorted; live_only = sides.live_only; tree_sorted = sorted_tail cell_cmp (cell_at site f) _ sorted };
+      sides = record { live_sorted = sides.live_sorted; live_only = sides.live_only; tree_sorted = sorted_tail cell_cmp (cell_at site f) _ sorted; uploads = sides.uploads; live_uploaded = sides.live_uploaded; tree_uploaded = sides.tree_uploaded.1 };
       changes = λ rest are. with_first (is_live_of site) (in_list live) (in_list (live_cells site tree)) _ _ (cell_at site f) None (Some (value.Live f.1)) (live_at_site site f)
           (Sets-later (cell_at site f) _ later) (Sets-cons (cell_at site f, value.Live f.1) _) (differ_later (cell_at site f) _ _ later above) rest (λ e. cc e) are;
     }
@@ -87,6 +87,9 @@ module _ (site : SiteName) (e : Cell × Value) (live : Live) (f : List ℕ × Li
     live_sorted = sorted_tail cell_cmp e.0 _ sides.live_sorted;
     live_only = sides.live_only.1;
     tree_sorted = sorted_tail cell_cmp (cell_at site f) _ sides.tree_sorted;
+    uploads = sides.uploads;
+    live_uploaded = sides.live_uploaded.1;
+    tree_uploaded = sides.tree_uploaded.1;
   }
 
   -- another file in its place

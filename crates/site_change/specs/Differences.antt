@@ -12,11 +12,12 @@ use Rattle.host_names.specs.declared.cells.Cell.TheVariants as cell
 use Rattle.host_names.specs.declared.digests.Digest.{Digest}
 use Rattle.site_state.specs.Files.{Paths}
 use Rattle.site_state.specs.States.{State, is_live_of}
-use Rattle.site_state.specs.Values.{same_value}
+use Rattle.site_state.specs.Values.{same_value, are_alike}
 use Rattle.site_state.specs.declared.values.Value.{Value}
 use Rattle.site_state.specs.declared.values.Value.TheVariants as value
 use Rattle.site_change.specs.declared.plans.Change.{Change}
 use Rattle.site_change.specs.Changes.{same_cell, is_listed, with_listed}
+use Rattle.site_change.specs.Uploaded.{HasUploaded, IsUploadedTree, AreUploaded}
 
 -- what is in each cell
 abbrev pub Reading : Type 0
@@ -45,11 +46,14 @@ live_cells site files = map (λ f. (cell.Live site f.0, value.Live f.1)) files
 abbrev pub AreLiveChanges : SiteName → List (Cell × Value) → Paths (List ℕ) → List Change → Type 0
 AreLiveChanges site live tree = AreChangesIn (is_live_of site) (in_list live) (in_list (live_cells site tree))
 
--- Entries of a site's live cells and files of a tree, each in the order of the paths.
+-- Entries of a site's live cells and files of a tree, each in the order of the paths, and all among the same uploads.
 pub record AreSides (site : SiteName) (live : List (Cell × Value)) (tree : Paths (List ℕ)) : Type 0 where
   pub live_sorted : IsStrictlySortedBy cell_cmp (map (λ e. e.0) live)
   pub live_only : AllByRecursion (λ e. is_live_of site e.0 ≡ true) live
   pub tree_sorted : IsStrictlySortedBy cell_cmp (map (λ e. e.0) (live_cells site tree))
+  pub uploads : Contents
+  pub live_uploaded : AllByRecursion (λ e. HasUploaded uploads e.1) live
+  pub tree_uploaded : IsUploadedTree uploads tree
 
 -- A step along both: what it changes, and what is left of each.
 pub record IsStep (site : SiteName) (live : List (Cell × Value)) (tree : Paths (List ℕ)) (change : Option Change) (live_left : List (Cell × Value))
@@ -57,6 +61,20 @@ pub record IsStep (site : SiteName) (live : List (Cell × Value)) (tree : Paths 
   pub shorter : length live_left + length tree_left < length live + length tree
   pub sides : AreSides site live_left tree_left
   pub changes : (rest : List Change) → AreLiveChanges site live_left tree_left rest → AreLiveChanges site live tree (option_to_list change ++ rest)
+
+-- Where digests tell no difference between what is in a cell and the value with files that is to be there, there is none.
+abbrev pub Comparable : Option Value → Option Value → Type 0
+Comparable before (Some (value.Live file)) = are_alike before (Some (value.Live file)) ≡ true → before ≡ Some (value.Live file)
+Comparable before (Some (value.Kept tree)) = are_alike before (Some (value.Kept tree)) ≡ true → before ≡ Some (value.Kept tree)
+Comparable before (Some (value.Alias n)) = Unit {0}
+Comparable before (Some (value.Draft draft)) = Unit {0}
+Comparable before None = Unit {0}
+
+-- The files of the state and those of the tree are all among the same uploads.
+pub record AreTogether (state : State) (tree : Paths (List ℕ)) : Type 0 where
+  pub uploads : Contents
+  pub served_or_kept : AreUploaded uploads state
+  pub listed : IsUploadedTree uploads tree
 
 -- what changes in a cell
 abbrev pub change_at : Cell → Option Value → Option Value → Option Change

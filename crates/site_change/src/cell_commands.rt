@@ -1,5 +1,6 @@
 //! Commands that change one cell, or two.
 ghost use Rattle.std.specs.Prelude.{◌≡◌, ◌||◌, IfOk, Some, None, false};
+ghost use Rattle.std.specs.FinMap as map;
 ghost use Rattle.std.specs.Str.{bytes_eq};
 ghost use Rattle.std.specs.declared.cmp.Ordering.TheVariants.{Less};
 ghost use Rattle.host_names.specs.Cells.{cell_cmp};
@@ -10,6 +11,7 @@ ghost use Rattle.site_state.specs.declared.values.Value.TheVariants as value;
 ghost use Rattle.host_names.specs.declared.refusals.ChangeRefusal.TheVariants as reason;
 ghost use Rattle.site_change.specs.Changes.{needed, removal_refusal, rename_refusal, renamed, same_cell};
 ghost use Rattle.site_change.specs.Decisions.{IsDecision};
+ghost use Rattle.site_change.specs.Differences.{Comparable};
 ghost use Rattle.site_change.specs.Plans.{IsDifference};
 ghost use Rattle.site_change.specs.TouchedCells.{AreTouched, is_among};
 
@@ -30,6 +32,7 @@ fn change_one(
     cell: Cell,
     after: Option<Value>,
 ) -> Result<Vec<Change>, AllocError>
+    requires { Comparable (map.get state.now cell) after }
     ensures { IfOk result (λ changes. IsDifference state.now (with_cell state.now cell after) changes.items) }
 {
     let mut changes = Vec::new(alloc);
@@ -44,7 +47,9 @@ fn change_two(
     first: Write,
     second: Write,
 ) -> Result<Vec<Change>, AllocError>
-    requires { cell_cmp first.0 second.0 ≡ Less }
+    requires apart { cell_cmp first.0 second.0 ≡ Less }
+    requires first { Comparable (map.get state.now first.0) first.1 }
+    requires second { Comparable (map.get state.now second.0) second.1 }
     ensures { IfOk result (λ changes. IsDifference state.now
         (with_cell (with_cell state.now first.0 first.1) second.0 second.1) changes.items) }
 {
@@ -62,6 +67,7 @@ pub(crate) fn plan_one(
     write: Write,
     touched: TouchedCells,
 ) -> Result<Plan, AllocError>
+    requires { Comparable (map.get state.now write.0) write.1 }
     ensures changes { IfOk result (λ plan. IsDifference state.now (with_cell state.now write.0 write.1) plan.changes.items) }
     ensures touched { IfOk result (λ plan. AreTouched site.now (is_among site.now touched) plan.touched) }
 {
@@ -116,7 +122,9 @@ fn change_both(
     one: Write,
     other: Write,
 ) -> Result<Vec<Change>, AllocError>
-    requires { same_cell one.0 other.0 ≡ false }
+    requires apart { same_cell one.0 other.0 ≡ false }
+    requires one { Comparable (map.get state.now one.0) one.1 }
+    requires other { Comparable (map.get state.now other.0) other.1 }
     ensures { IfOk result (λ changes. IsDifference state.now
         (with_cell (with_cell state.now one.0 one.1) other.0 other.1) changes.items) }
 {
@@ -135,7 +143,8 @@ fn change_paths(
     target: &FilePath,
     file: &File,
 ) -> Result<Vec<Change>, AllocError>
-    requires { same_cell (cell.Live site.now source.now) (cell.Live site.now target.now) ≡ false }
+    requires apart { same_cell (cell.Live site.now source.now) (cell.Live site.now target.now) ≡ false }
+    requires free { live_at state.now site.now target.now ≡ None }
     ensures { IfOk result (λ changes. IsDifference state.now
         (renamed site.now source.now target.now state.now (Some file.now)) changes.items) }
 {

@@ -67,6 +67,7 @@ fn decision<U: Uploads>(
     number: u64,
     command: &Command,
 ) -> Result<Plan, ChangeError>
+    requires { AreUploaded (U.contents uploads.now) state.now }
     ensures { IsDecision (refusal command.now number state.now (U.contents uploads.now))
         (site_of_command command.now) (touches command.now number state.now) state.now
         (applied command.now number state.now (U.contents uploads.now))

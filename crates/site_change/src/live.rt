@@ -3,9 +3,9 @@ ghost use Rattle.std.specs.Prelude.{◌≡◌, IfOk, MatchOption, [], true};
 ghost use Rattle.host_names.specs.Cells.{cell_cmp};
 ghost use Rattle.host_names.specs.declared.cells.Cell.TheVariants as cell;
 ghost use Rattle.site_state.specs.States.{is_live_of};
-ghost use Rattle.site_state.specs.Values.{value_eq};
+ghost use Rattle.site_state.specs.Values.{value_alike};
 ghost use Rattle.site_state.specs.declared.values.Value.TheVariants as value;
-ghost use Rattle.site_change.specs.Differences.{AreLiveChanges, AreSides, IsStep, change_at};
+ghost use Rattle.site_change.specs.Differences.{AreLiveChanges, AreSides, Comparable, IsStep, change_at};
 
 use crate::plans::{Change, push_some};
 use host_names::{Cell, CellRef, FilePath, SiteName};
@@ -39,9 +39,9 @@ fn compare_paths(site: &SiteName, entry: &Entry, listed: &Listed) -> Ordering
     }
 }
 
-/// Whether what is in a cell is this file.
+/// Whether what is in a cell is this file, as far as digests tell.
 fn is_file(held: &Value, file: &File) -> bool
-    ensures { result ≡ value_eq held.now (value.Live file.now) }
+    ensures { result ≡ value_alike held.now (value.Live file.now) }
 {
     match held {
         Value::Live(own) => own == file,
@@ -88,6 +88,7 @@ fn replaced(entry: &Entry, file: &File) -> Result<Change, AllocError>
 
 /// What changes where the one file is there and the other is to be.
 fn rewritten(entry: &Entry, file: &File) -> Result<Option<Change>, AllocError>
+    requires { Comparable (Some entry.now.1) (Some (value.Live file.now)) }
     ensures { IfOk result (λ change. change ≡ change_at entry.now.0 (Some entry.now.1) (Some (value.Live file.now))) }
 {
     if is_file(&entry.1, file) {

@@ -1,8 +1,8 @@
 //! What a command changes, cell by cell, and what it touches.
 ghost use Rattle.std.specs.Prelude.{◌≡◌, ◌++◌, IfOk, OnOk, option_copied, option_to_list};
 ghost use Rattle.std.specs.FinMap as map;
-ghost use Rattle.site_state.specs.Values.{same_value};
-ghost use Rattle.site_change.specs.Differences.{change_at};
+ghost use Rattle.site_state.specs.Values.{are_alike};
+ghost use Rattle.site_change.specs.Differences.{Comparable, change_at};
 
 use crate::touched::Touched;
 use host_names::Cell;
@@ -52,9 +52,9 @@ pub fn push_some(changes: &mut Vec<Change>, change: Option<Change>) -> Result<()
     }
 }
 
-/// Whether what is in a cell is what will be there.
+/// Whether what is in a cell is what will be there, as far as digests tell.
 fn is_same(before: Option<&Value>, after: &Option<Value>) -> bool
-    ensures { result ≡ same_value (option_copied before.entry) after.now }
+    ensures { result ≡ are_alike (option_copied before.entry) after.now }
 {
     match (before, after) {
         (None, None) => true,
@@ -78,6 +78,7 @@ pub fn change_in(
     cell: Cell,
     after: Option<Value>,
 ) -> Result<Option<Change>, AllocError>
+    requires { Comparable (map.get state.now cell) after }
     ensures { IfOk result (λ change. change ≡ change_at cell (map.get state.now cell) after) }
 {
     let before = state.value(&cell);
@@ -99,6 +100,7 @@ pub fn push_change(
     cell: Cell,
     after: Option<Value>,
 ) -> Result<(), AllocError>
+    requires { Comparable (map.get state.now cell) after }
     ensures { OnOk result (changes.new.items
         ≡ changes.old.items ++ option_to_list (change_at cell (map.get state.now cell) after)) }
 {

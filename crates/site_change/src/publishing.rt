@@ -1,5 +1,6 @@
 //! Publishing an open deploy: what it changes and touches.
 ghost use Rattle.std.specs.Prelude.{◌≡◌, ◌||◌, IfOk, Some, None, option_map};
+ghost use Rattle.host_names.specs.Blobs.{AreDigested};
 ghost use Rattle.host_names.specs.declared.cells.Cell.TheVariants as cell;
 ghost use Rattle.site_state.specs.Files.{IsByPath};
 ghost use Rattle.site_state.specs.Missing.{if_lacking, least_missing_of};
@@ -10,14 +11,16 @@ ghost use Rattle.site_change.specs.Changes as changes;
 ghost use Rattle.site_change.specs.Changes.{publish_refusal, publish_touches, published, restore_refusal, restored, same_cell, touches, tree_of, with_patch, with_published, with_served};
 ghost use Rattle.host_names.specs.Refusals.{IsRefusedBy};
 ghost use Rattle.site_change.specs.Decisions.{IsDecision};
-ghost use Rattle.site_change.specs.Differences.{AreListedChanges};
+ghost use Rattle.site_change.specs.Differences.{AreListedChanges, AreTogether};
 ghost use Rattle.site_change.specs.Plans.{IsDifference};
 ghost use Rattle.site_change.specs.TouchedCells.{AreTouched, is_of_deploy};
+ghost use Rattle.site_change.specs.Uploaded.{AreUploaded};
 
 use crate::live::live_changes;
 use crate::plans::{Change, Plan, push_change};
 use crate::touched::{Touched, TouchedCells};
 use crate::trees::{file_at, tree_of};
+use crate::uploads::uploads_are_digested;
 use host_names::{Cell, CellRef, ChangeError, ChangeRefusal, Digest, FilePath, SiteName, Uploads};
 use site_state::{Draft, Listing, State, Tree, Value, least_missing};
 use std::alloc::{AllocError, Global};
@@ -30,6 +33,7 @@ fn tree_changes(
     number: u64,
     tree: Tree,
 ) -> Result<Vec<Change>, AllocError>
+    requires { AreTogether state.now tree }
     ensures { IfOk result (λ changes. IsDifference state.now
         (with_published site.now number tree state.now) changes.items) }
 {
@@ -54,7 +58,9 @@ fn full_changes<U: Uploads>(
     number: u64,
     files: &Listing,
 ) -> Result<Vec<Change>, AllocError>
-    requires { least_missing_of (U.contents uploads.now) files.now.1 ≡ None }
+    requires known { AreUploaded (U.contents uploads.now) state.now }
+    requires digested { AreDigested (U.contents uploads.now) }
+    requires complete { least_missing_of (U.contents uploads.now) files.now.1 ≡ None }
     ensures { IfOk result (λ changes. IsDifference state.now
         (with_published site.now number (tree_of (U.contents uploads.now) files.now.1) state.now)
         changes.items) }
@@ -82,6 +88,8 @@ fn listed_changes<U: Uploads>(
     site: &SiteName,
     entries: &[(FilePath, Option<Digest>)],
 ) -> Result<Vec<Change>, AllocError>
+    requires known { AreUploaded (U.contents uploads.now) state.now }
+    requires digested { AreDigested (U.contents uploads.now) }
     requires sorted { IsByPath entries.now }
     requires complete { least_missing_of (U.contents uploads.now) entries.now ≡ None }
     ensures { IfOk result (λ changes. AreListedChanges site.now (U.contents uploads.now) entries.now state.now changes.items) }
@@ -103,7 +111,9 @@ fn patch_changes<U: Uploads>(
     number: u64,
     files: &Listing,
 ) -> Result<Vec<Change>, AllocError>
-    requires { least_missing_of (U.contents uploads.now) files.now.1 ≡ None }
+    requires known { AreUploaded (U.contents uploads.now) state.now }
+    requires digested { AreDigested (U.contents uploads.now) }
+    requires complete { least_missing_of (U.contents uploads.now) files.now.1 ≡ None }
     ensures { IfOk result (λ changes. IsDifference state.now
         (with_patch site.now number (U.contents uploads.now) files.now.1 state.now)
         changes.items) }
@@ -127,6 +137,7 @@ fn open_changes<U: Uploads>(
     number: u64,
     draft: &Draft,
 ) -> Result<Vec<Change>, ChangeError>
+    requires { AreUploaded (U.contents uploads.now) state.now }
     ensures refused { IsRefusedBy (publish_refusal (U.contents uploads.now) (Some draft.now)) result }
     ensures changes { IfOk result (λ changes. IsDifference state.now
         (published site.now number (U.contents uploads.now) state.now (Some draft.now))
@@ -135,6 +146,7 @@ fn open_changes<U: Uploads>(
     if let Some(digest) = least_missing(draft, uploads) {
         return Err(ChangeError::Refused(ChangeRefusal::NotComplete(digest)));
     }
+    uploads_are_digested(uploads);
     if draft.files.is_patch() {
         Ok(patch_changes(alloc, state, uploads, site, number, &draft.files)?)
     } else {
@@ -164,6 +176,7 @@ fn publish_open<U: Uploads>(
     number: u64,
     draft: &Draft,
 ) -> Result<Plan, ChangeError>
+    requires { AreUploaded (U.contents uploads.now) state.now }
     ensures { IsDecision (publish_refusal (U.contents uploads.now) (Some draft.now))
         site.now (λ c. same_cell c (cell.Draft site.now number) || publish_touches site.now number (Some draft.now) c) state.now
         (published site.now number (U.contents uploads.now) state.now (Some draft.now))
@@ -182,6 +195,7 @@ pub(crate) fn publish<U: Uploads>(
     site: &SiteName,
     number: u64,
 ) -> Result<Plan, ChangeError>
+    requires { AreUploaded (U.contents uploads.now) state.now }
     ensures { IsDecision (publish_refusal (U.contents uploads.now) (draft_at state.now site.now number))
         site.now (touches (command_of.Publish site.now number) 0 state.now) state.now
         (published site.now number (U.contents uploads.now) state.now (draft_at state.now site.now number))
@@ -201,6 +215,7 @@ fn serve_kept(
     number: u64,
     tree: &Tree,
 ) -> Result<Plan, AllocError>
+    requires { AreTogether state.now tree.now }
     ensures changes { IfOk result (λ plan. IsDifference state.now (with_served site.now tree.now state.now) plan.changes.items) }
     ensures touched { IfOk result (λ plan. AreTouched site.now (is_of_deploy site.now number) plan.touched) }
 {
@@ -232,6 +247,7 @@ fn restore_open<U: Uploads>(
     number: u64,
     draft: &Draft,
 ) -> Result<Plan, ChangeError>
+    requires { AreUploaded (U.contents uploads.now) state.now }
     ensures { IsDecision (publish_refusal (U.contents uploads.now) (Some draft.now))
         site.now
         (λ c. same_cell c (cell.Draft site.now number)
@@ -253,6 +269,7 @@ pub(crate) fn restore<U: Uploads>(
     site: &SiteName,
     number: u64,
 ) -> Result<Plan, ChangeError>
+    requires { AreUploaded (U.contents uploads.now) state.now }
     ensures { IsDecision (restore_refusal (U.contents uploads.now) (kept_at state.now site.now number) (draft_at state.now site.now number))
         site.now (touches (command_of.Restore site.now number) 0 state.now) state.now
         (restored site.now number (U.contents uploads.now) state.now (kept_at state.now site.now number) (draft_at state.now site.now number))

@@ -1,9 +1,10 @@
 -- Whether two values are the same.
-use Rattle.std.specs.Prelude.{Bool, true, false, ◌&&◌, ◌==◌, Option, Some, None}
+use Rattle.std.specs.Prelude.{ℕ, List, Bool, true, false, ◌&&◌, ◌==◌, Option, Some, None}
 use Rattle.std.specs.Option.{option_eq}
 use Rattle.std.specs.Cmp.Lexicographic.{pointwise}
 use Rattle.std.specs.Str.{bytes_eq}
 use mathlib.Core.Bool.{beq}
+use Rattle.host_names.specs.Blobs.{digest_of}
 use Rattle.host_names.specs.declared.digests.Digest.{Digest}
 use Rattle.site_state.specs.declared.values.Draft.{Draft}
 use Rattle.site_state.specs.declared.values.Value.{Value}
@@ -40,3 +41,21 @@ abbrev pub same_value : Option Value → Option Value → Bool
 same_value None None = true
 same_value (Some a) (Some b) = value_eq a b
 same_value a b = false
+
+-- ---- the same, as far as digests tell
+
+-- files of one digest
+abbrev pub one_digest : List ℕ → List ℕ → Bool
+one_digest a b = digest_eq (digest_of a) (digest_of b)
+
+-- of the same kind, and the same but for their files, of which each has the digest of its counterpart
+abbrev pub value_alike : Value → Value → Bool
+value_alike (value.Live a) (value.Live b) = one_digest a b
+value_alike (value.Kept a) (value.Kept b) = paths_eq one_digest a b
+value_alike (value.Alias m) (value.Alias n) = m == n
+value_alike (value.Draft a) (value.Draft b) = draft_eq a b
+value_alike a b = false
+
+-- of cells' contents: both nothing, or such values
+abbrev pub are_alike : Option Value → Option Value → Bool
+are_alike = option_eq value_alike

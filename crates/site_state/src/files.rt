@@ -1,7 +1,8 @@
 //! A file as the state keeps it.
-ghost use Rattle.std.specs.Prelude.{◌≡◌, nat_eq};
+ghost use Rattle.std.specs.Prelude.{◌≡◌};
 ghost use Rattle.std.specs.Cmp.{partial_equiv_from_equiv};
-ghost use Rattle.std.specs.Cmp.Lexicographic.{pointwise, nat_list_eq_equiv};
+ghost use Rattle.site_state.specs.Values.{one_digest};
+ghost use Rattle.site_state.specs.SameValues.{one_digest-equiv};
 
 use host_names::{BlobInfo, Digest};
 use std::alloc::AllocError;
@@ -56,17 +57,17 @@ impl Clone for File {
     }
 }
 
-/// By their bytes. Files of different digests are told apart without a look at them.
+/// By their digests alone. Files of one place of uploads that have one digest are the same.
 impl PartialEq for File {
-    ghost eq = { pointwise nat_eq };
+    ghost eq = { one_digest };
 
-    ghost laws = { partial_equiv_from_equiv nat_list_eq_equiv };
+    ghost laws = { partial_equiv_from_equiv one_digest-equiv };
 
     fn eq(&self, other: &File) -> bool {
-        self.digest() == other.digest() && self.bytes() == other.bytes()
+        self.digest() == other.digest()
     }
 }
 
 impl Eq for File {
-    ghost laws = { nat_list_eq_equiv };
+    ghost laws = { one_digest-equiv };
 }

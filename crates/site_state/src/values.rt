@@ -77,14 +77,15 @@ impl Clone for Value {
     }
 }
 
+/// Files are compared by their digests.
 impl PartialEq for Value {
     ghost use Rattle.std.specs.Cmp.{partial_equiv_from_equiv};
-    ghost use Rattle.site_state.specs.Values.{value_eq};
-    ghost use Rattle.site_state.specs.SameValues.{value_eq-equiv};
+    ghost use Rattle.site_state.specs.Values.{value_alike};
+    ghost use Rattle.site_state.specs.SameValues.{value_alike-equiv};
 
-    ghost eq = { value_eq };
+    ghost eq = { value_alike };
 
-    ghost laws = { partial_equiv_from_equiv value_eq-equiv };
+    ghost laws = { partial_equiv_from_equiv value_alike-equiv };
 
     fn eq(&self, other: &Value) -> bool {
         match (self, other) {
@@ -98,7 +99,7 @@ impl PartialEq for Value {
 }
 
 impl Eq for Value {
-    ghost use Rattle.site_state.specs.SameValues.{value_eq-equiv};
+    ghost use Rattle.site_state.specs.SameValues.{value_alike-equiv};
 
-    ghost laws = { value_eq-equiv };
+    ghost laws = { value_alike-equiv };
 }

@@ -14,4 +14,4 @@ returns c =
     let other = option_to_list (change_at c.args.second.0 (finmap.get c.args.state.now c.args.second.0) c.args.second.1) in
     let first = c.in_ok-push_change.ensures ∙ ap (λ (l : List Change). l ++ one) c.new-changes.ensures.items in
     subst P (sym (c.in_ok-push_change-2.ensures ∙ ap (λ (l : List Change). l ++ other) first))
-    (two_changes c.args.state.now c.args.first.0 c.args.second.0 c.args.first.1 c.args.second.1 c.requires)
+    (two_changes c.args.state.now c.args.first.0 c.args.second.0 c.args.first.1 c.args.second.1 c.requires.apart)

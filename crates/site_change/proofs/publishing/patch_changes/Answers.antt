@@ -6,7 +6,12 @@ use Rattle.site_change.proofs.Patches.{Listings, patch_plan}
 use Rattle.site_change.proofs.publishing.patch_changes.Goals as goal
 
 pub listed_changes-requires : goal.listed_changes-requires
-listed_changes-requires g c = record { sorted = rw c.entries.ensures.pairs c.entries.ensures.sorted; complete = rw c.entries.ensures.pairs c.requires }
+listed_changes-requires g c = record {
+  known = c.requires.known;
+  digested = c.requires.digested;
+  sorted = rw c.entries.ensures.pairs c.entries.ensures.sorted;
+  complete = rw c.entries.ensures.pairs c.requires.complete;
+}
 
 pub returns : goal.returns
 returns g c =

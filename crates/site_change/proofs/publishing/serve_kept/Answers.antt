@@ -8,7 +8,7 @@ use Rattle.site_change.proofs.Deciding.{sides_of, served_changes}
 use Rattle.site_change.proofs.publishing.serve_kept.Goals as goal
 
 pub live_changes-requires : goal.live_changes-requires
-live_changes-requires c = rw (c.live.ensures, c.entries.ensures.pairs) (sides_of c.args.state.now c.args.site.now c.args.tree.now c.entries.ensures.sorted)
+live_changes-requires c = rw (c.live.ensures, c.entries.ensures.pairs) (sides_of c.args.state.now c.args.site.now c.args.tree.now c.requires c.entries.ensures.sorted)
 
 pub returns-clause-changes : goal.returns-clause-changes
 returns-clause-changes c =

@@ -1,4 +1,5 @@
 use Rattle.std.proofs.Common.{length, sym, ap, ◌∙◌}
+use Rattle.site_change.proofs.Comparing.{heads_comparable}
 use Rattle.site_change.proofs.Merging.{removed_last, added_last, removed_first, added_first, rewritten_first}
 use Rattle.site_change.proofs.live.Step.next.Goals as goal
 use Rattle.site_change.proofs.live.Step.next.Goals.{in-None-Some+in_ok-added-in-None-Some, in-Some-None+in_ok-removed-in-Some-None, in-Some-Some+in-Less+in_ok-removed-in-Less, in-Some-Some+in-Greater+in_ok-added-in-Greater, in-Some-Some+in-Equal+in_ok-rewritten-in-Equal}
@@ -21,3 +22,8 @@ returns c = elim c.match-split_first.branch [
       (rewritten_first c.args.site.now c.args.live c.args.tree.now w.in-Some-Some.entry.now w.in-Some-Some.live_left w.in-Some-Some.listed.now w.in-Some-Some.tree_left.now _ c.requires
       w.in-Some-Some.ensures w.in-Some-Some.ensures'.cases.0 w.in_ok-rewritten-in-Equal.ensures (sym w.compare_paths.ensures ∙ w.in-Equal.is))
 ]
+
+pub rewritten-requires : goal.rewritten-requires
+rewritten-requires c =
+    heads_comparable c.args.site.now c.args.live c.args.tree.now c.in-Some-Some.entry.now c.in-Some-Some.live_left c.in-Some-Some.listed.now c.in-Some-Some.tree_left.now c.requires
+    c.in-Some-Some.ensures c.in-Some-Some.ensures'.cases.0
