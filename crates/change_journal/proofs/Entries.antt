@@ -11,8 +11,8 @@ use Rattle.site_state.specs.Listings.{Listed, is_lawful}
 use Rattle.site_change.specs.declared.commands.Command.TheVariants.{Open, Publish, Cancel, Remove, Rename, MoveAlias, RemoveAlias, Restore, RemoveDeploy}
 use Rattle.change_undo.specs.declared.entries.Entry.{Entry}
 use Rattle.change_undo.specs.declared.entries.Entry.TheVariants.{Change, Undo}
-use Rattle.change_journal.specs.declared.faults.DecodeFault.{DecodeFault}
-use Rattle.change_journal.specs.declared.faults.DecodeFault.TheVariants as faults
+use Rattle.change_journal.specs.declared.decode_faults.DecodeFault.{DecodeFault}
+use Rattle.change_journal.specs.declared.decode_faults.DecodeFault.TheVariants as faults
 use Rattle.change_journal.specs.Spells.{name_text, number_text, path_text, listed_text, flags, listing_text, entry_text, IsName, IsNumber, IsListing, IsWritable, Spells}
 use Rattle.change_journal.specs.Reading.{◌>>=◌, Gives, site_at, alias_at, path_at, flags_at, count_at, whole_number, whole_alias, whole_path, whole_files, moved, unaliased, renamed, removed, listing_of, listing_at, opened, of_kind, numbered_entry, plain_entry, entry_of}
 use Rattle.change_journal.proofs.Taking.{IsBytes, IsBytes-rest, bind_some, some_is, Takes}

@@ -1,7 +1,7 @@
 -- Reading paths one after another, as a loop does.
 use Rattle.std.proofs.Common.{◌≡◌, ℕ, suc, ◌-◌, ◌+◌, ◌≤◌, ◌<◌, List, [], ◌∷◌, ◌++◌, Option, Some, None, refl, sym, ap, ◌∙◌, append_assoc, append-nil, arith}
-use Rattle.change_journal.specs.declared.faults.DecodeFault.{DecodeFault}
-use Rattle.change_journal.specs.declared.faults.DecodeFault.TheVariants as faults
+use Rattle.change_journal.specs.declared.decode_faults.DecodeFault.{DecodeFault}
+use Rattle.change_journal.specs.declared.decode_faults.DecodeFault.TheVariants as faults
 use Rattle.change_journal.specs.Reading.{◌>>=◌, Fails, listed_at, files_at}
 use Rattle.change_journal.proofs.Listed.{Entry}
 

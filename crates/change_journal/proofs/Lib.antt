@@ -7,3 +7,4 @@ pub mod Wholes
 pub mod FileLoop
 pub mod Entries
 pub mod Lengths
+pub mod BeforeMemory

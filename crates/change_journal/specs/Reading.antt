@@ -14,8 +14,8 @@ use Rattle.site_state.specs.Listings.{Listed, is_lawful}
 use Rattle.site_change.specs.declared.commands.Command.TheVariants.{Open, Publish, Cancel, Remove, Rename, MoveAlias, RemoveAlias, Restore, RemoveDeploy}
 use Rattle.change_undo.specs.declared.entries.Entry.{Entry}
 use Rattle.change_undo.specs.declared.entries.Entry.TheVariants.{Change, Undo}
-use Rattle.change_journal.specs.declared.faults.DecodeFault.{DecodeFault}
-use Rattle.change_journal.specs.declared.faults.DecodeFault.TheVariants as faults
+use Rattle.change_journal.specs.declared.decode_faults.DecodeFault.{DecodeFault}
+use Rattle.change_journal.specs.declared.decode_faults.DecodeFault.TheVariants as faults
 
 infixl 10 ◌>>=◌
 abbrev pub ◌>>=◌ : {A B : Type 0} → Option A → (A → Option B) → Option B
@@ -228,3 +228,30 @@ plain_entry kind bytes = if kind == 4 then moved bytes else if kind == 5 then un
 unfoldable pub entry_of : List ℕ → Option Entry
 entry_of [] = None
 entry_of (kind ∷ bytes) = if kind == 1 then opened bytes else if kind == 6 then renamed bytes else if kind == 7 then removed bytes else plain_entry kind bytes
+
+-- ---- what is read before memory is taken
+
+-- what follows the site and the first path
+unfoldable pub after_path : List ℕ → Option (List ℕ)
+after_path bytes = do
+  s ← site_at bytes
+  p ← path_at s.1
+  Some p.1
+
+-- what follows the kind of a listing, and how many paths it has
+unfoldable pub listing_count : List ℕ → Option (List ℕ)
+listing_count bytes = do
+  f ← flags_at bytes
+  n ← count_at f.1
+  Some n.1
+
+-- what follows the site and these
+unfoldable pub after_count : List ℕ → Option (List ℕ)
+after_count bytes = do
+  s ← site_at bytes
+  listing_count s.1
+
+-- what follows that in an entry with paths
+unfoldable pub before_memory : List ℕ → Option (List ℕ)
+before_memory [] = None
+before_memory (kind ∷ bytes) = if kind == 1 then after_count bytes else if kind == 6 then after_path bytes else if kind == 7 then after_path bytes else None

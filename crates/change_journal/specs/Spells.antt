@@ -130,7 +130,17 @@ abbrev pub IsInRange : Entry → Type 0
 IsInRange (Undo site k) = IsNumber k
 IsInRange (Change command) = IsCommandInRange command
 
--- the bytes begin as the text of an entry with paths: the only ones for which reading takes memory
-abbrev pub MayHavePaths : List ℕ → Type 0
-MayHavePaths [] = ⊥
-MayHavePaths (kind ∷ bytes) = (kind ≡ 1) ⊎ ((kind ≡ 6) ⊎ (kind ≡ 7))
+-- ---- which bytes take memory to be read
+
+-- the bytes begin with a path
+abbrev pub BeginsWithPath : List ℕ → Type 0
+BeginsWithPath bytes = (path rest : List ℕ) × IsPath path × (bytes ≡ path_text path ++ rest)
+
+-- the bytes begin with the kind of a listing, and how many paths it has
+abbrev pub BeginsWithCount : List ℕ → Type 0
+BeginsWithCount bytes = (patch auto : Bool) × (n : ℕ) × (rest : List ℕ) × (n ≤ 10000) × (bytes ≡ flags patch auto ∷ (to_be_bytes w32 n ++ rest))
+
+-- the bytes are those of an opening up to its paths, or of a renaming or a removal up to its first path, with any bytes after them
+abbrev pub TakesMemory : List ℕ → Type 0
+TakesMemory bytes = (site rest : List ℕ) × IsName site × (((bytes ≡ 1 ∷ (name_text site ++ rest)) × BeginsWithCount rest)
+    ⊎ (((bytes ≡ 6 ∷ (name_text site ++ rest)) ⊎ (bytes ≡ 7 ∷ (name_text site ++ rest))) × BeginsWithPath rest))

@@ -1,12 +1,12 @@
 //! Entries, read.
-ghost use Rattle.std.specs.Prelude.{◌≡◌, ◌↔◌, IfOk, IfErr, IsErrOf, MatchResult};
+ghost use Rattle.std.specs.Prelude.{◌≡◌, IfOk, IfErr, IsErrOf, IsSome, MatchResult};
 ghost use Rattle.site_state.specs.Files.{IsByPath};
 ghost use Rattle.change_undo.specs.declared.entries.Entry as entries;
 ghost use Rattle.change_journal.specs.Reading;
 ghost use Rattle.change_journal.specs.Reading.{Finds, Gives};
-ghost use Rattle.change_journal.specs.Spells.{MayHavePaths, Spells};
+ghost use Rattle.change_journal.specs.Spells.{Spells, TakesMemory};
 
-use crate::faults::DecodeFault;
+use crate::decode_faults::DecodeFault;
 use crate::fields::{
     alias_at, count_at, flags_at, path_at, site_at, whole_alias, whole_number, whole_path,
 };
@@ -75,9 +75,10 @@ fn plain_entry(kind: u8, bytes: &[u8]) -> Option<Entry>
     }
 }
 
-#[tactic(auto, unfolding(crate::specs::Reading::renamed))]
+#[tactic(auto, unfolding(crate::specs::Reading::renamed, crate::specs::Reading::after_path))]
 fn renaming(alloc: Global, bytes: &[u8]) -> Result<Entry, DecodeFault>
-    ensures { Gives (λ entry. entry) result (Reading.renamed bytes.now) }
+    ensures value { Gives (λ entry. entry) result (Reading.renamed bytes.now) }
+    ensures memory { IsErrOf result DecodeFault.OutOfMemory → IsSome (Reading.after_path bytes.now) }
 {
     let Some((site, rest)) = site_at(bytes) else {
         return Err(DecodeFault::BadEntry);
@@ -91,9 +92,10 @@ fn renaming(alloc: Global, bytes: &[u8]) -> Result<Entry, DecodeFault>
     }))
 }
 
-#[tactic(auto, unfolding(crate::specs::Reading::removed))]
+#[tactic(auto, unfolding(crate::specs::Reading::removed, crate::specs::Reading::after_path))]
 fn removal(alloc: Global, bytes: &[u8]) -> Result<Entry, DecodeFault>
-    ensures { Gives (λ entry. entry) result (Reading.removed bytes.now) }
+    ensures value { Gives (λ entry. entry) result (Reading.removed bytes.now) }
+    ensures memory { IsErrOf result DecodeFault.OutOfMemory → IsSome (Reading.after_path bytes.now) }
 {
     let Some((site, rest)) = site_at(bytes) else {
         return Err(DecodeFault::BadEntry);
@@ -118,9 +120,10 @@ fn listing_of(
     }
 }
 
-#[tactic(auto, unfolding(crate::specs::Reading::listing_at))]
+#[tactic(auto, unfolding(crate::specs::Reading::listing_at, crate::specs::Reading::listing_count))]
 fn listing_at(alloc: Global, bytes: &[u8]) -> Result<(Listing, bool), DecodeFault>
-    ensures { Gives (λ x. x) result (Reading.listing_at bytes.now) }
+    ensures value { Gives (λ x. x) result (Reading.listing_at bytes.now) }
+    ensures memory { IsErrOf result DecodeFault.OutOfMemory → IsSome (Reading.listing_count bytes.now) }
 {
     let Some(((is_patch, auto), rest)) = flags_at(bytes) else {
         return Err(DecodeFault::BadEntry);
@@ -132,9 +135,10 @@ fn listing_at(alloc: Global, bytes: &[u8]) -> Result<(Listing, bool), DecodeFaul
     Ok((listing_of(alloc, is_patch, files)?, auto))
 }
 
-#[tactic(auto, unfolding(crate::specs::Reading::opened))]
+#[tactic(auto, unfolding(crate::specs::Reading::opened, crate::specs::Reading::after_count))]
 fn opening(alloc: Global, bytes: &[u8]) -> Result<Entry, DecodeFault>
-    ensures { Gives (λ entry. entry) result (Reading.opened bytes.now) }
+    ensures value { Gives (λ entry. entry) result (Reading.opened bytes.now) }
+    ensures memory { IsErrOf result DecodeFault.OutOfMemory → IsSome (Reading.after_count bytes.now) }
 {
     let Some((site, rest)) = site_at(bytes) else {
         return Err(DecodeFault::BadEntry);
@@ -154,10 +158,10 @@ fn without_paths(kind: u8, bytes: &[u8]) -> Result<Entry, DecodeFault>
     }
 }
 
-#[tactic(auto, unfolding(crate::specs::Reading::entry_of))]
+#[tactic(auto, unfolding(crate::specs::Reading::entry_of, crate::specs::Reading::before_memory))]
 fn entry_of(alloc: Global, bytes: &[u8]) -> Result<Entry, DecodeFault>
     ensures value { Gives (λ entry. entry) result (Reading.entry_of bytes.now) }
-    ensures memory { IsErrOf result DecodeFault.OutOfMemory → MayHavePaths bytes.now }
+    ensures memory { IsErrOf result DecodeFault.OutOfMemory → IsSome (Reading.before_memory bytes.now) }
 {
     match bytes {
         [] => Err(DecodeFault::BadEntry),
@@ -173,7 +177,7 @@ pub fn decode(alloc: Global, bytes: &[u8]) -> Result<Entry, DecodeFault>
     ensures spelled { IfOk result (λ entry. Spells bytes.now entry) }
     ensures found { (entry : entries.Entry) → Spells bytes.now entry → MatchResult result (λ read. read ≡ entry) (λ fault. fault ≡ DecodeFault.OutOfMemory) }
     ensures bad { IsErrOf result DecodeFault.BadEntry → (entry : entries.Entry) → Spells bytes.now entry → ⊥ }
-    ensures memory { IsErrOf result DecodeFault.OutOfMemory → MayHavePaths bytes.now }
+    ensures memory { IsErrOf result DecodeFault.OutOfMemory → TakesMemory bytes.now }
 {
     entry_of(alloc, bytes)
 }

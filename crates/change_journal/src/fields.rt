@@ -1,9 +1,10 @@
 //! The parts of an entry's text, each read from the front of some bytes.
+ghost use Rattle.std.specs.Prelude.{◌≡◌, IsErrOf, IsSome};
 ghost use Rattle.std.specs.Int.{w16, w32, w64};
 ghost use Rattle.change_journal.specs.Reading;
 ghost use Rattle.change_journal.specs.Reading.{Finds, Gives, big_number_at, digest_at};
 
-use crate::faults::DecodeFault;
+use crate::decode_faults::DecodeFault;
 use host_names::{AliasName, Digest, FilePath, Name, PathError, SiteName};
 use std::alloc::Global;
 use std::str;
@@ -114,7 +115,8 @@ fn text_at(bytes: &[u8]) -> Option<(&str, &[u8])>
 
 /// The path that a text is, with its slash.
 fn path_of(alloc: Global, text: &str) -> Result<FilePath, DecodeFault>
-    ensures { Gives (λ path. path) result (Reading.path_of text.now) }
+    ensures value { Gives (λ path. path) result (Reading.path_of text.now) }
+    ensures memory { IsErrOf result DecodeFault.OutOfMemory → IsSome (Reading.path_of text.now) }
 {
     if !matches!(text.as_bytes(), [b'/', ..]) {
         return Err(DecodeFault::BadEntry);
@@ -129,7 +131,8 @@ fn path_of(alloc: Global, text: &str) -> Result<FilePath, DecodeFault>
 /// A path.
 #[tactic(auto, unfolding(crate::specs::Reading::path_at))]
 pub(crate) fn path_at(alloc: Global, bytes: &[u8]) -> Result<(FilePath, &[u8]), DecodeFault>
-    ensures { Gives (λ x. (x.0, x.1.now)) result (Reading.path_at bytes.now) }
+    ensures value { Gives (λ x. (x.0, x.1.now)) result (Reading.path_at bytes.now) }
+    ensures memory { IsErrOf result DecodeFault.OutOfMemory → IsSome (Reading.path_at bytes.now) }
 {
     let Some((text, rest)) = text_at(bytes) else {
         return Err(DecodeFault::BadEntry);
@@ -203,7 +206,8 @@ pub(crate) fn whole_alias(bytes: &[u8]) -> Option<AliasName>
 /// The path that these bytes are.
 #[tactic(auto, unfolding(crate::specs::Reading::whole_path))]
 pub(crate) fn whole_path(alloc: Global, bytes: &[u8]) -> Result<FilePath, DecodeFault>
-    ensures { Gives (λ path. path) result (Reading.whole_path bytes.now) }
+    ensures value { Gives (λ path. path) result (Reading.whole_path bytes.now) }
+    ensures memory { IsErrOf result DecodeFault.OutOfMemory → IsSome (Reading.path_at bytes.now) }
 {
     let (path, rest) = path_at(alloc, bytes)?;
     if rest.is_empty() {

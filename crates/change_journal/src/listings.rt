@@ -4,7 +4,7 @@ ghost use Rattle.site_state.specs.Files.{IsByPath};
 ghost use Rattle.change_journal.specs.Reading;
 ghost use Rattle.change_journal.specs.Reading.{Gives};
 
-use crate::faults::DecodeFault;
+use crate::decode_faults::DecodeFault;
 use crate::fields::{digest_at, path_at};
 use host_names::{Digest, FilePath};
 use std::alloc::Global;

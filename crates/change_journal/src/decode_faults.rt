@@ -16,7 +16,7 @@ pub enum DecodeFault {
 }
 
 impl From<AllocError> for DecodeFault {
-    ghost use Rattle.change_journal.specs.declared.faults.DecodeFault.TheVariants.{OutOfMemory};
+    ghost use Rattle.change_journal.specs.declared.decode_faults.DecodeFault.TheVariants.{OutOfMemory};
 
     ghost from_gives = { λ _ e. e ≡ OutOfMemory };
 
@@ -26,7 +26,7 @@ impl From<AllocError> for DecodeFault {
 }
 
 impl<T: Drop> From<AllocFailed<T>> for DecodeFault {
-    ghost use Rattle.change_journal.specs.declared.faults.DecodeFault.TheVariants.{OutOfMemory};
+    ghost use Rattle.change_journal.specs.declared.decode_faults.DecodeFault.TheVariants.{OutOfMemory};
 
     ghost from_gives = { λ _ e. e ≡ OutOfMemory };
 
