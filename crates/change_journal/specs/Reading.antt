@@ -1,5 +1,5 @@
 -- Reading from left to right: what the functions that read the parts of a text answer.
-use Rattle.std.specs.Prelude.{◌≡◌, ℕ, zero, suc, List, [], ◌∷◌, length, take, drop, Bool, true, false, ◌&&◌, Option, Some, None, Result, Ok, Err, nat_lt, nat_le, ◌==◌, if◌then◌else◌}
+use Rattle.std.specs.Prelude.{◌≡◌, ℕ, zero, suc, List, [], ◌∷◌, length, take, drop, Bool, true, false, ◌&&◌, ◌||◌, is_some, Option, Some, None, Result, Ok, Err, nat_lt, nat_le, ◌==◌, if◌then◌else◌}
 use Rattle.std.specs.Cmp.Lexicographic.{slice_cmp}
 use Rattle.std.specs.Int.{Width, w16, w32, w64, byte_len, from_be_bytes}
 use Rattle.std.specs.Ordering.{nat_cmp, is_lt}
@@ -238,20 +238,20 @@ after_path bytes = do
   p ← path_at s.1
   Some p.1
 
--- what follows the kind of a listing, and how many paths it has
-unfoldable pub listing_count : List ℕ → Option (List ℕ)
-listing_count bytes = do
+-- what follows the kind of a listing and the number of its paths, where that begins with a path or is all of them
+unfoldable pub listing_front : List ℕ → Option (List ℕ)
+listing_front bytes = do
   f ← flags_at bytes
   n ← count_at f.1
-  Some n.1
+  if is_some (path_at n.1) || is_some (whole_files n.0 n.1) then Some n.1 else None
 
--- what follows the site and these
-unfoldable pub after_count : List ℕ → Option (List ℕ)
-after_count bytes = do
+-- the same after the site
+unfoldable pub after_flags : List ℕ → Option (List ℕ)
+after_flags bytes = do
   s ← site_at bytes
-  listing_count s.1
+  listing_front s.1
 
 -- what follows that in an entry with paths
 unfoldable pub before_memory : List ℕ → Option (List ℕ)
 before_memory [] = None
-before_memory (kind ∷ bytes) = if kind == 1 then after_count bytes else if kind == 6 then after_path bytes else if kind == 7 then after_path bytes else None
+before_memory (kind ∷ bytes) = if kind == 1 then after_flags bytes else if kind == 6 then after_path bytes else if kind == 7 then after_path bytes else None

@@ -136,11 +136,12 @@ IsInRange (Change command) = IsCommandInRange command
 abbrev pub BeginsWithPath : List ℕ → Type 0
 BeginsWithPath bytes = (path rest : List ℕ) × IsPath path × (bytes ≡ path_text path ++ rest)
 
--- the bytes begin with the kind of a listing, and how many paths it has
-abbrev pub BeginsWithCount : List ℕ → Type 0
-BeginsWithCount bytes = (patch auto : Bool) × (n : ℕ) × (rest : List ℕ) × (n ≤ 10000) × (bytes ≡ flags patch auto ∷ (to_be_bytes w32 n ++ rest))
+-- the bytes begin with the kind of a listing and the number of its paths, and then with a path, or have no more where there are none
+abbrev pub BeginsWithListing : List ℕ → Type 0
+BeginsWithListing bytes = (patch auto : Bool) × (n : ℕ) × (rest : List ℕ) × (bytes ≡ flags patch auto ∷ (to_be_bytes w32 n ++ rest)) × (n ≤ 10000)
+    × (BeginsWithPath rest ⊎ ((n ≡ 0) × (rest ≡ [])))
 
--- the bytes are those of an opening up to its paths, or of a renaming or a removal up to its first path, with any bytes after them
+-- the bytes are those of an opening, a renaming or a removal of a file up to its first path, with any bytes after that, or of an opening without paths
 abbrev pub TakesMemory : List ℕ → Type 0
-TakesMemory bytes = (site rest : List ℕ) × IsName site × (((bytes ≡ 1 ∷ (name_text site ++ rest)) × BeginsWithCount rest)
+TakesMemory bytes = (site rest : List ℕ) × IsName site × (((bytes ≡ 1 ∷ (name_text site ++ rest)) × BeginsWithListing rest)
     ⊎ (((bytes ≡ 6 ∷ (name_text site ++ rest)) ⊎ (bytes ≡ 7 ∷ (name_text site ++ rest))) × BeginsWithPath rest))

@@ -120,10 +120,10 @@ fn listing_of(
     }
 }
 
-#[tactic(auto, unfolding(crate::specs::Reading::listing_at, crate::specs::Reading::listing_count))]
+#[tactic(auto, unfolding(crate::specs::Reading::listing_at, crate::specs::Reading::listing_front))]
 fn listing_at(alloc: Global, bytes: &[u8]) -> Result<(Listing, bool), DecodeFault>
     ensures value { Gives (λ x. x) result (Reading.listing_at bytes.now) }
-    ensures memory { IsErrOf result DecodeFault.OutOfMemory → IsSome (Reading.listing_count bytes.now) }
+    ensures memory { IsErrOf result DecodeFault.OutOfMemory → IsSome (Reading.listing_front bytes.now) }
 {
     let Some(((is_patch, auto), rest)) = flags_at(bytes) else {
         return Err(DecodeFault::BadEntry);
@@ -135,10 +135,10 @@ fn listing_at(alloc: Global, bytes: &[u8]) -> Result<(Listing, bool), DecodeFaul
     Ok((listing_of(alloc, is_patch, files)?, auto))
 }
 
-#[tactic(auto, unfolding(crate::specs::Reading::opened, crate::specs::Reading::after_count))]
+#[tactic(auto, unfolding(crate::specs::Reading::opened, crate::specs::Reading::after_flags))]
 fn opening(alloc: Global, bytes: &[u8]) -> Result<Entry, DecodeFault>
     ensures value { Gives (λ entry. entry) result (Reading.opened bytes.now) }
-    ensures memory { IsErrOf result DecodeFault.OutOfMemory → IsSome (Reading.after_count bytes.now) }
+    ensures memory { IsErrOf result DecodeFault.OutOfMemory → IsSome (Reading.after_flags bytes.now) }
 {
     let Some((site, rest)) = site_at(bytes) else {
         return Err(DecodeFault::BadEntry);

@@ -1,5 +1,5 @@
 //! What an opening lists, read from its text.
-ghost use Rattle.std.specs.Prelude.{◌≡◌, IfOk, IsTrue};
+ghost use Rattle.std.specs.Prelude.{◌≡◌, IfOk, IsErrOf, IsSome, IsTrue};
 ghost use Rattle.site_state.specs.Files.{IsByPath};
 ghost use Rattle.change_journal.specs.Reading;
 ghost use Rattle.change_journal.specs.Reading.{Gives};
@@ -15,7 +15,8 @@ fn listed_at(
     alloc: Global,
     bytes: &[u8],
 ) -> Result<((FilePath, Option<Digest>), &[u8]), DecodeFault>
-    ensures { Gives (λ x. (x.0, x.1.now)) result (Reading.listed_at bytes.now) }
+    ensures value { Gives (λ x. (x.0, x.1.now)) result (Reading.listed_at bytes.now) }
+    ensures memory { IsErrOf result DecodeFault.OutOfMemory → IsSome (Reading.path_at bytes.now) }
 {
     let (path, rest) = path_at(alloc, bytes)?;
     let Some((digest, rest)) = digest_at(rest) else {
@@ -30,7 +31,8 @@ fn files_at(
     count: u32,
     bytes: &[u8],
 ) -> Result<(Vec<(FilePath, Option<Digest>)>, &[u8]), DecodeFault>
-    ensures { Gives (λ x. (x.0.items, x.1.now)) result (Reading.files_at count bytes.now) }
+    ensures value { Gives (λ x. (x.0.items, x.1.now)) result (Reading.files_at count bytes.now) }
+    ensures memory { IsErrOf result DecodeFault.OutOfMemory → IsSome (Reading.path_at bytes.now) }
 {
     let mut files = Vec::new(alloc);
     let mut rest = bytes;
@@ -59,6 +61,7 @@ pub(crate) fn whole_files(
 ) -> Result<Vec<(FilePath, Option<Digest>)>, DecodeFault>
     ensures value { Gives (λ files. files.items) result (Reading.whole_files count bytes.now) }
     ensures sorted { IfOk result (λ files. IsByPath files.items) }
+    ensures memory { IsErrOf result DecodeFault.OutOfMemory → IsSome (Reading.path_at bytes.now) }
 {
     let (files, rest) = files_at(alloc, count, bytes)?;
     if rest.is_empty() && is_rising(files.as_slice()) {
