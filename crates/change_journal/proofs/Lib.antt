@@ -1,0 +1,3 @@
+mod AroundGates
+mod Steps
+mod PutSteps

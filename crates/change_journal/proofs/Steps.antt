@@ -1,0 +1,24 @@
+-- What a step of a disk and its sync leave.
+use Rattle.std.proofs.Common.{◌≡◌, ◌⊎◌, ℕ, ◌+◌, ◌≤◌, List, [], ◌∷◌, ◌++◌, length, inl, inr, ⊎_elim, refl, sym, ◌∙◌, ap, subst, arith, Result, Ok, Err, OnOk, false}
+use Rattle.host_disk.specs.Crashes.{Elapses, Follows, LeavesOnly, Only}
+use Rattle.std.specs.Result.{is_err}
+use Rattle.change_journal.specs.Frames.{MayLeave}
+
+module _ {D : Type 0} (moment : D → ℕ) (left_since : D → ℕ → List ℕ → Type 0) where
+  -- less is said of what is left
+  pub weaker : (old new : D) (P Q : List ℕ → Type 0) → ((c : List ℕ) → P c → Q c) → LeavesOnly moment left_since old new P → LeavesOnly moment left_since old new Q
+  weaker old new P Q from run = record {
+    later = run.later;
+    each = λ c left. from c (run.each c left);
+    before = λ t c le left. ⊎_elim (λ was. inl was) (λ p. inr (from c p)) (run.before t c le left);
+  }
+
+-- two facts of an Ok give a third
+pub both_on_ok : {T E : Type 0} (result : Result T E) (P Q R : Type 0) → (P → Q → R) → OnOk result P → OnOk result Q → OnOk result R
+both_on_ok (Ok x) P Q R from p q = from p q
+both_on_ok (Err x) P Q R from p q = tt
+
+-- a fact of an Ok, where there was no error
+pub from_ok : {T E : Type 0} (result : Result T E) (P : Type 0) → false ≡ is_err result → OnOk result P → P
+from_ok (Ok x) P none p = p
+from_ok (Err x) P none p = absurd (cc none)

@@ -1,0 +1,6 @@
+//! The journal of a host: the entries of its history on a disk, each there whole or not at all, whenever the machine stops.
+#![tactic(auto)]
+
+mod places;
+mod records;
+mod synced;
