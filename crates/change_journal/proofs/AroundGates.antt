@@ -1,6 +1,6 @@
 -- What a write or a cut leaves of a file, around one place in it.
-use Rattle.std.proofs.Common.{◌≡◌, ℕ, ◌+◌, ◌-◌, ◌<◌, ◌≤◌, min, List, [], ◌∷◌, ◌++◌, length, get_or, take, drop, slice_index, refl, sym, ◌∙◌, ap, subst, arith, append_assoc, length-append, length-take, get_or-take, take-append-drop}
-use Rattle.std.proofs.lemmas.List.{ext_get_or, take_at, drop_at, drop_more, length-take-le, drop-append-le, drop-drop, drop_all, get_or-drop, length-drop}
+use Rattle.std.proofs.Common.{◌≡◌, ℕ, ◌+◌, ◌-◌, ◌<◌, ◌≤◌, List, [], ◌∷◌, ◌++◌, length, get_or, take, drop, slice_index, refl, sym, ◌∙◌, ap, arith, append_assoc, length-append, get_or-take, take-append-drop}
+use Rattle.std.proofs.lemmas.List.{ext_get_or, take_at, drop_at, drop_more, length-take-le, drop-drop, get_or-drop, length-drop}
 use Rattle.host_disk.specs.Crashes.{Torn, Cut, IsWritten}
 
 -- two files that are the same below a place

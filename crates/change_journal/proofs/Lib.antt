@@ -1,3 +1,6 @@
 mod AroundGates
 mod Steps
 mod PutSteps
+mod ReadParts
+mod NotWhole
+mod WalkSteps

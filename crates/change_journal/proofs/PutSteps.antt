@@ -1,8 +1,8 @@
 -- What a put leaves of a file, and what a crash during it.
-use Rattle.std.proofs.Common.{◌≡◌, ◌⊎◌, ℕ, ◌+◌, ◌≤◌, zero, suc, List, [], ◌∷◌, ◌++◌, length, drop, inl, inr, ⊎_elim, refl, sym, ◌∙◌, ap, subst, arith, append_assoc, length-append}
+use Rattle.std.proofs.Common.{◌≡◌, ℕ, ◌+◌, zero, suc, List, [], ◌∷◌, ◌++◌, length, drop, ⊎_elim, sym, ◌∙◌, ap, subst, arith, append_assoc, length-append}
 use Rattle.std.proofs.lemmas.List.{append-nil}
-use Rattle.host_disk.specs.Crashes.{IsWritten, LeavesOnly, Only, Torn}
-use Rattle.change_journal.specs.Frames.{header, framed, records, opened, IsShut, IsHalfOpen, MayHold, before, between, after, AllShut, MayLeave}
+use Rattle.host_disk.specs.Crashes.{IsWritten, Only, Torn}
+use Rattle.change_journal.specs.Frames.{header, framed, records, opened, IsShut, MayHold, before, between, after, AllShut, MayLeave}
 use Rattle.change_journal.proofs.AroundGates.{torn_behind, torn_at, written_behind, written_at}
 
 records-push : (bodies : List (List ℕ)) (body : List ℕ) → records (bodies ++ body ∷ []) ≡ records bodies ++ 1 ∷ framed body

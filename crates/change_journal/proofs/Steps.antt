@@ -1,8 +1,7 @@
 -- What a step of a disk and its sync leave.
-use Rattle.std.proofs.Common.{◌≡◌, ◌⊎◌, ℕ, ◌+◌, ◌≤◌, List, [], ◌∷◌, ◌++◌, length, inl, inr, ⊎_elim, refl, sym, ◌∙◌, ap, subst, arith, Result, Ok, Err, OnOk, false}
-use Rattle.host_disk.specs.Crashes.{Elapses, Follows, LeavesOnly, Only}
-use Rattle.std.specs.Result.{is_err}
-use Rattle.change_journal.specs.Frames.{MayLeave}
+use Rattle.std.proofs.Common.{◌≡◌, ℕ, List, inl, inr, ⊎_elim, sym, subst, Result, Ok, Err, OnOk, false}
+use Rattle.host_disk.specs.Crashes.{LeavesOnly}
+use Rattle.std.specs.Result.{is_err, IsErrAnd, IfErr}
 
 module _ {D : Type 0} (moment : D → ℕ) (left_since : D → ℕ → List ℕ → Type 0) where
   -- less is said of what is left
@@ -22,3 +21,8 @@ both_on_ok (Err x) P Q R from p q = tt
 pub from_ok : {T E : Type 0} (result : Result T E) (P : Type 0) → false ≡ is_err result → OnOk result P → P
 from_ok (Ok x) P none p = p
 from_ok (Err x) P none p = absurd (cc none)
+
+-- an error that is handed on
+pub same_fault : {T E : Type 0} (result : Result T E) (fault : E) (P : E → Type 0) → IsErrAnd result (λ f. f ≡ fault) → P fault → IfErr result P
+same_fault (Ok x) fault P is p = tt
+same_fault (Err x) fault P is p = subst P (sym is) p

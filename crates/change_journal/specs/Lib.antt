@@ -1,3 +1,4 @@
 -- what public clauses say
 pub mod Frames
 pub mod Settled
+pub mod Walks

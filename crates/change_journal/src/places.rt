@@ -1,5 +1,8 @@
 //! A place between the records of a journal's file.
 ghost use Rattle.std.specs.Prelude.{◌≡◌, ◌+◌, ◌*◌, ◌<◌, ◌≤◌};
+ghost use Rattle.change_journal.specs.declared.faults.OpenFault.TheVariants.{BadRecord};
+
+use crate::faults::OpenFault;
 
 /// The most records of a file.
 pub(crate) const MOST_RECORDS: usize = 1_000_000;
@@ -22,6 +25,13 @@ impl Place {
         ensures { (result.gate ≡ 8) × (result.count ≡ 0) }
     {
         Place { gate: 8, count: 0 }
+    }
+
+    /// The fault that the record behind this place is none.
+    pub(crate) fn bad_record(self) -> OpenFault
+        ensures { result ≡ BadRecord (self.count + 1) }
+    {
+        OpenFault::BadRecord(self.count as u64 + 1)
     }
 
     /// Where the next gate is, behind a record with a body of so many bytes.

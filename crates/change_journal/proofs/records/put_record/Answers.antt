@@ -1,7 +1,6 @@
-use Rattle.std.proofs.Common.{rules, ◌≡◌, ◌+◌, List, [], ◌∷◌, ◌++◌, length, ℕ, subst, sym}
-use Rattle.host_disk.specs.Crashes.{LeavesOnly, Torn}
+use Rattle.std.proofs.Common.{[], ◌∷◌, ◌++◌, subst, sym}
 use Rattle.host_disk.proofs.Runs.{and_then}
-use Rattle.change_journal.specs.Frames.{AllShut, IsShut, MayHold, MayLeave, framed, opened}
+use Rattle.change_journal.specs.Frames.{IsShut, MayHold}
 use Rattle.change_journal.proofs.Steps.{weaker, both_on_ok}
 use Rattle.change_journal.proofs.PutSteps.{IsWhole, written_record, written_gate, leaves_before, leaves_either}
 use Rattle.change_journal.proofs.records.put_record.Goals as goal

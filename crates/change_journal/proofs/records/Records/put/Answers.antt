@@ -1,4 +1,4 @@
-use Rattle.std.proofs.Common.{◌≡◌, ◌+◌, ℕ, [], ◌∷◌, ◌++◌, length, arith, length-append}
+use Rattle.std.proofs.Common.{◌≡◌, ◌+◌, [], ◌∷◌, ◌++◌, length, arith, length-append}
 use Rattle.change_journal.specs.Frames.{opened}
 use Rattle.change_journal.proofs.PutSteps.{next_gate}
 use Rattle.change_journal.proofs.Steps.{from_ok}

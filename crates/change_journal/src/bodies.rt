@@ -1,0 +1,25 @@
+//! What the bodies of a journal's file are handed to.
+ghost use Rattle.std.specs.Prelude.{IsErrOf, List, OnOk, [], ◌∷◌, ◌++◌, ℕ};
+ghost use Rattle.change_journal.specs.declared.bodies.BodyFault.TheVariants.{Bad};
+
+/// Why a body isn't taken.
+#[derive(Clone, Copy, Debug, PartialEq, Eq)]
+pub(crate) enum BodyFault {
+    Bad,
+    OutOfMemory,
+}
+
+/// Takes the bodies of a journal's file, one after another.
+pub(crate) trait Bodies {
+    /// Whether bytes are a body.
+    ghost is_lawful: { List ℕ → Type 0 };
+
+    /// Whether these are the bodies that it has taken.
+    ghost has: { Self → List (List ℕ) → Type 0 };
+
+    /// Takes one more.
+    fn take(&mut self, body: &[u8]) -> Result<(), BodyFault>
+        ensures taken { (bodies : List (List ℕ)) → has self.old bodies → OnOk result (has self.new (bodies ++ body.now ∷ [])) }
+        ensures lawful { OnOk result (is_lawful body.now) }
+        ensures bad { IsErrOf result Bad → is_lawful body.now → ⊥ };
+}
