@@ -4,3 +4,7 @@ mod PutSteps
 mod ReadParts
 mod NotWhole
 mod WalkSteps
+mod MendSteps
+mod StartSteps
+mod OneWalk
+mod LookSteps

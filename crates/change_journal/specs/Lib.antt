@@ -2,3 +2,4 @@
 pub mod Frames
 pub mod Settled
 pub mod Walks
+pub mod Openings

@@ -3,7 +3,9 @@
 
 mod bodies;
 mod faults;
+mod mending;
 mod places;
 mod records;
+mod starts;
 mod synced;
 mod walks;

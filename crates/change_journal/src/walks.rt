@@ -13,7 +13,7 @@ use host_disk::{DeviceFault, Disk};
 use std::alloc::Global;
 
 /// The gate at a place.
-fn read_gate<D: Disk>(disk: &mut D, at: usize) -> Result<u8, DeviceFault>
+pub(crate) fn read_gate<D: Disk>(disk: &mut D, at: usize) -> Result<u8, DeviceFault>
     ensures gate { IsTrue D.is_modelled → IfOk result (λ gate. drop at (D.seen disk.old) ≡ gate ∷ drop (at + 1) (D.seen disk.old)) }
     ensures same { IsTrue D.is_modelled → IsOnlyRead D.seen D.may_leave D.moment D.left_since disk.old disk.new }
     ensures cause { CountsFailure result (D.faults disk.old) (D.faults disk.new) }
