@@ -8,3 +8,4 @@ mod MendSteps
 mod StartSteps
 mod OneWalk
 mod LookSteps
+mod OpenSteps

@@ -1,7 +1,7 @@
 -- What a step of a disk and its sync leave.
 use Rattle.std.proofs.Common.{◌≡◌, ℕ, List, inl, inr, ⊎_elim, sym, subst, Result, Ok, Err, OnOk, false}
 use Rattle.host_disk.specs.Crashes.{LeavesOnly}
-use Rattle.std.specs.Result.{is_err, IsErrAnd, IfErr}
+use Rattle.std.specs.Result.{IfOk, is_err, IsErrAnd, IfErr}
 
 module _ {D : Type 0} (moment : D → ℕ) (left_since : D → ℕ → List ℕ → Type 0) where
   -- less is said of what is left
@@ -26,3 +26,8 @@ from_ok (Err x) P none p = absurd (cc none)
 pub same_fault : {T E : Type 0} (result : Result T E) (fault : E) (P : E → Type 0) → IsErrAnd result (λ f. f ≡ fault) → P fault → IfErr result P
 same_fault (Ok x) fault P is p = tt
 same_fault (Err x) fault P is p = subst P (sym is) p
+
+-- two facts of the value of an Ok give a third
+pub both_if_ok : {T E : Type 0} (result : Result T E) (P Q R : T → Type 0) → ((x : T) → P x → Q x → R x) → IfOk result P → IfOk result Q → IfOk result R
+both_if_ok (Ok x) P Q R from p q = from x p q
+both_if_ok (Err x) P Q R from p q = tt

@@ -22,7 +22,7 @@ module _ {D : Type 0} (seen : D → List ℕ) (may_leave : D → List ℕ → Ty
     time = and_then moment left_since old mid new (may_leave old) first.time (weaker moment left_since mid new (may_leave mid) (may_leave old) first.crash second.time);
   }
 
-length-opened : length (opened []) ≡ 8
+pub length-opened : length (opened []) ≡ 8
 unfolding opened records
 length-opened = refl
 

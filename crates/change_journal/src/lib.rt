@@ -4,6 +4,7 @@
 mod bodies;
 mod faults;
 mod mending;
+mod openings;
 mod places;
 mod records;
 mod starts;

@@ -1,5 +1,5 @@
 //! The file of a journal: records with the bodies of entries, each behind a gate.
-ghost use Rattle.std.specs.Prelude.{◌≡◌, ◌+◌, ◌<◌, ◌≤◌, ◌^◌, Err, IsErrOf, IsTrue, List, OnErr, OnOk, [], ◌∷◌, ◌++◌, length, true, ℕ};
+ghost use Rattle.std.specs.Prelude.{◌≡◌, ◌+◌, ◌<◌, ◌≤◌, ◌^◌, Err, IsErrOf, IsTrue, List, OnErr, OnOk, [], ◌∷◌, ◌++◌, length, false, true, ℕ};
 ghost use Rattle.host_disk.specs.Crashes.{CountsFailure, LeavesOnly};
 ghost use Rattle.change_journal.specs.Frames.{AllShut, MayHold, framed, opened};
 ghost use Rattle.change_journal.specs.Settled.{IsSettled};
@@ -41,6 +41,17 @@ fn put_record<D: Disk>(disk: &mut D, gate: usize, bytes: &[u8]) -> Result<(), De
 }
 
 impl<D: Disk> Records<D> {
+    /// The records of a disk that was opened.
+    pub(crate) fn at(disk: D, place: Place) -> Records<D>
+        ensures { (result.disk ≡ disk) × (result.place ≡ place) × (result.broken ≡ false) }
+    {
+        Records {
+            disk,
+            place,
+            broken: false,
+        }
+    }
+
     /// Puts a body behind the others, by the bytes of its record, which end in the gate of the next one. Once the device has failed
     /// here, each further call answers `Broken` and does nothing.
     pub(crate) fn put(&mut self, bytes: &[u8]) -> Result<(), PutFault>

@@ -3,6 +3,7 @@ ghost use Rattle.std.specs.Prelude.{◌≡◌, ◌≢◌, ◌≤◌, ◌<◌, If
 ghost use Rattle.host_disk.specs.Crashes.{CountsFailure, LeavesOnly, Only};
 ghost use Rattle.change_journal.specs.declared.faults.OpenFault.TheVariants.{BadHeader, BadRecord};
 ghost use Rattle.change_journal.specs.Frames.{IsNew, header, opened};
+ghost use Rattle.change_journal.specs.declared.starts.Start.TheVariants.{Opened};
 ghost use Rattle.change_journal.specs.Openings.{IsExactly, IsNoJournal, IsStart, IsStarting};
 ghost use Rattle.change_journal.specs.Walks.{IsOnlyRead, TellsDevice};
 
@@ -116,6 +117,7 @@ fn look_at_half<D: Disk>(disk: &mut D, size: usize) -> Result<Start, OpenFault>
     requires { 9 ≤ size }
     ensures start { IsTrue D.is_modelled → size ≡ length (D.seen disk.old) → (gate : ℕ) → 2 ≤ gate → D.seen disk.old ≡ gate ∷ (header ++ drop 8 (D.seen disk.old)) → IfOk result (λ start. IsStart start (D.seen disk.old)) }
     ensures bad { IsTrue D.is_modelled → size ≡ length (D.seen disk.old) → (gate : ℕ) → 2 ≤ gate → D.seen disk.old ≡ gate ∷ (header ++ drop 8 (D.seen disk.old)) → IsErrOf result BadHeader → IsNoJournal (D.seen disk.old) }
+    ensures room { IfOk result (λ start. start ≡ Opened → 8 < size) }
     ensures fault { IfErr result (λ fault. (i : ℕ) → fault ≡ BadRecord i → ⊥) }
     ensures same { IsTrue D.is_modelled → IsOnlyRead D.seen D.may_leave D.moment D.left_since disk.old disk.new }
     ensures cause { TellsDevice result (D.faults disk.old) (D.faults disk.new) }
@@ -132,6 +134,7 @@ fn look_behind<D: Disk>(disk: &mut D, size: usize, gate: u8) -> Result<Start, Op
     requires { 1 < size }
     ensures start { IsTrue D.is_modelled → size ≡ length (D.seen disk.old) → gate ≢ 0 → D.seen disk.old ≡ gate ∷ drop 1 (D.seen disk.old) → IfOk result (λ start. IsStart start (D.seen disk.old)) }
     ensures bad { IsTrue D.is_modelled → size ≡ length (D.seen disk.old) → gate ≢ 0 → D.seen disk.old ≡ gate ∷ drop 1 (D.seen disk.old) → IsErrOf result BadHeader → IsNoJournal (D.seen disk.old) }
+    ensures room { IfOk result (λ start. start ≡ Opened → 8 < size) }
     ensures fault { IfErr result (λ fault. (i : ℕ) → fault ≡ BadRecord i → ⊥) }
     ensures same { IsTrue D.is_modelled → IsOnlyRead D.seen D.may_leave D.moment D.left_since disk.old disk.new }
     ensures cause { TellsDevice result (D.faults disk.old) (D.faults disk.new) }
@@ -152,6 +155,7 @@ fn look_behind<D: Disk>(disk: &mut D, size: usize, gate: u8) -> Result<Start, Op
 pub(crate) fn look<D: Disk>(disk: &mut D, size: usize) -> Result<Start, OpenFault>
     ensures start { IsTrue D.is_modelled → size ≡ length (D.seen disk.old) → IfOk result (λ start. IsStart start (D.seen disk.old)) }
     ensures bad { IsTrue D.is_modelled → size ≡ length (D.seen disk.old) → IsErrOf result BadHeader → IsNoJournal (D.seen disk.old) }
+    ensures room { IfOk result (λ start. start ≡ Opened → 8 < size) }
     ensures fault { IfErr result (λ fault. (i : ℕ) → fault ≡ BadRecord i → ⊥) }
     ensures same { IsTrue D.is_modelled → IsOnlyRead D.seen D.may_leave D.moment D.left_since disk.old disk.new }
     ensures cause { TellsDevice result (D.faults disk.old) (D.faults disk.new) }

@@ -1,8 +1,8 @@
 //! The walk from gate to gate.
-ghost use Rattle.std.specs.Prelude.{◌≡◌, ◌≢◌, ◌⊎◌, ◌+◌, ◌<◌, ◌≤◌, ◌^◌, IfErr, IfOk, IfSome, IsNone, IsTrue, List, OnOk, [], ◌∷◌, ◌++◌, drop, length, ℕ};
+ghost use Rattle.std.specs.Prelude.{◌≡◌, ◌≢◌, ◌⊎◌, ◌+◌, ◌<◌, ◌≤◌, ◌^◌, IfErr, IfOk, IfSome, IsErrOf, IsNone, IsTrue, List, OnOk, [], ◌∷◌, ◌++◌, drop, length, ℕ};
 ghost use Rattle.std.specs.Int.{to_be_bytes, w32};
 ghost use Rattle.host_disk.specs.Crashes.{CountsFailure};
-ghost use Rattle.change_journal.specs.declared.faults.OpenFault.TheVariants.{BadRecord, Device};
+ghost use Rattle.change_journal.specs.declared.faults.OpenFault.TheVariants.{BadHeader, BadRecord, Device};
 ghost use Rattle.change_journal.specs.Frames.{framed, opened};
 ghost use Rattle.change_journal.specs.Walks.{IsOnlyRead, HasEnded, HasWalked, IsBadRecord, IsNoRecord, IsNotWhole, IsOpened, IsShort, TellsDevice};
 
@@ -55,6 +55,7 @@ fn read_body<D: Disk>(
     ensures size { OnOk result (length body.new.items ≡ size) }
     ensures fault { IfErr result (λ fault. (i : ℕ) → fault ≡ BadRecord i → ⊥) }
     ensures same { IsTrue D.is_modelled → IsOnlyRead D.seen D.may_leave D.moment D.left_since disk.old disk.new }
+    ensures header { IsErrOf result BadHeader → ⊥ }
     ensures cause { TellsDevice result (D.faults disk.old) (D.faults disk.new) }
 {
     body.resize(size, 0)?;
@@ -71,6 +72,7 @@ fn record_length<D: Disk>(disk: &mut D, size: usize, place: Place) -> Result<usi
     ensures few { IfOk result (λ _. place.count < 1000000) }
     ensures bad { IsTrue D.is_modelled → size ≡ length (D.seen disk.old) → IfErr result (λ fault. (i : ℕ) → fault ≡ BadRecord i → (i ≡ place.count + 1) × (IsNotWhole (drop (place.gate + 1) (D.seen disk.old)) ⊎ (1000000 ≤ place.count))) }
     ensures same { IsTrue D.is_modelled → IsOnlyRead D.seen D.may_leave D.moment D.left_since disk.old disk.new }
+    ensures header { IsErrOf result BadHeader → ⊥ }
     ensures cause { TellsDevice result (D.faults disk.old) (D.faults disk.new) }
 {
     let behind = size - place.gate - 1;
@@ -98,6 +100,7 @@ fn read_record<D: Disk>(
     ensures few { OnOk result (place.count < 1000000) }
     ensures bad { IsTrue D.is_modelled → size ≡ length (D.seen disk.old) → IfErr result (λ fault. (i : ℕ) → fault ≡ BadRecord i → (i ≡ place.count + 1) × (IsNotWhole (drop (place.gate + 1) (D.seen disk.old)) ⊎ (1000000 ≤ place.count))) }
     ensures same { IsTrue D.is_modelled → IsOnlyRead D.seen D.may_leave D.moment D.left_since disk.old disk.new }
+    ensures header { IsErrOf result BadHeader → ⊥ }
     ensures cause { TellsDevice result (D.faults disk.old) (D.faults disk.new) }
 {
     let length = record_length(disk, size, place)?;
@@ -109,6 +112,7 @@ fn take_body<B: Bodies>(bodies: &mut B, body: &[u8], place: Place) -> Result<(),
     ensures taken { (had : List (List ℕ)) → B.has bodies.old had → OnOk result (B.has bodies.new (had ++ body.now ∷ [])) }
     ensures lawful { OnOk result (B.is_lawful body.now) }
     ensures bad { IfErr result (λ fault. (i : ℕ) → fault ≡ BadRecord i → (i ≡ place.count + 1) × (B.is_lawful body.now → ⊥)) }
+    ensures header { IsErrOf result BadHeader → ⊥ }
     ensures device { IfErr result (λ fault. fault ≡ Device → ⊥) }
 {
     bodies.take(body).map_err(|fault| match fault {
@@ -118,6 +122,7 @@ fn take_body<B: Bodies>(bodies: &mut B, body: &[u8], place: Place) -> Result<(),
 }
 
 /// Where a walk ended: a place, and its gate, which isn't open.
+#[derive(Clone, Copy)]
 pub(crate) struct End {
     pub place: Place,
     pub gate: u8,
@@ -141,6 +146,7 @@ fn hand_on<D: Disk, B: Bodies>(
     ensures few { IfOk result (λ gate. IsNone gate → place.count < 1000000) }
     ensures bad { IsTrue D.is_modelled → size ≡ length (D.seen disk.old) → IfErr result (λ fault. (i : ℕ) → fault ≡ BadRecord i → (i ≡ place.count + 1) × (drop place.gate (D.seen disk.old) ≡ 1 ∷ drop (place.gate + 1) (D.seen disk.old)) × (IsNoRecord B.is_lawful (drop (place.gate + 1) (D.seen disk.old)) ⊎ (1000000 ≤ place.count))) }
     ensures same { IsTrue D.is_modelled → IsOnlyRead D.seen D.may_leave D.moment D.left_since disk.old disk.new }
+    ensures header { IsErrOf result BadHeader → ⊥ }
     ensures cause { TellsDevice result (D.faults disk.old) (D.faults disk.new) }
 {
     let gate = read_gate(disk, place.gate)?;
@@ -164,6 +170,7 @@ pub(crate) fn walk_records<D: Disk, B: Bodies>(
     ensures within { IfOk result (λ end. end.place.gate < size) }
     ensures bad { IsTrue D.is_modelled → size ≡ length (D.seen disk.old) → IsOpened (D.seen disk.old) → B.has bodies.old [] → IfErr result (λ fault. (i : ℕ) → fault ≡ BadRecord i → IsBadRecord B.is_lawful i (D.seen disk.old)) }
     ensures same { IsTrue D.is_modelled → IsOnlyRead D.seen D.may_leave D.moment D.left_since disk.old disk.new }
+    ensures header { IsErrOf result BadHeader → ⊥ }
     ensures cause { TellsDevice result (D.faults disk.old) (D.faults disk.new) }
 {
     let mut body = Vec::new(alloc);
