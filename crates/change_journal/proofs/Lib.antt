@@ -8,3 +8,14 @@ pub mod FileLoop
 pub mod Entries
 pub mod Lengths
 pub mod BeforeMemory
+mod AroundGates
+mod Steps
+mod PutSteps
+mod ReadParts
+mod NotWhole
+mod WalkSteps
+mod MendSteps
+mod StartSteps
+mod OneWalk
+mod LookSteps
+mod OpenSteps

@@ -1,2 +1,7 @@
+-- what public clauses say
 pub mod Spells
 pub mod Reading
+pub mod Frames
+pub mod Settled
+pub mod Walks
+pub mod Openings

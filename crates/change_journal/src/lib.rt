@@ -1,12 +1,21 @@
-//! The text of an entry in a journal.
+//! The journal of a host: the entries of its history on a disk, each there whole or not at all, whenever the machine stops.
 #![tactic(auto)]
 
+mod bodies;
 mod decode_faults;
 mod decoding;
 mod encoding;
+mod faults;
 mod fields;
 mod laws;
 mod listings;
+mod mending;
+mod openings;
+mod places;
+mod records;
+mod starts;
+mod synced;
+mod walks;
 
 pub use decode_faults::DecodeFault;
 pub use decoding::decode;
