@@ -1,4 +1,4 @@
-// Measures two packages of groupcache, as crates/group_bench measures ours: a run makes one measurement and prints the
+// Measures three packages of groupcache, as crates/group_bench measures ours: a run makes one measurement and prints the
 // nanoseconds of all its calls and the sum of their answers.
 package main
 
@@ -10,11 +10,18 @@ import (
 	"time"
 
 	"github.com/golang/groupcache/consistenthash"
+	"github.com/golang/groupcache/lru"
 	"github.com/golang/groupcache/singleflight"
 )
 
 // keyCount is how many keys are asked for in turn.
 const keyCount = 1024
+
+// chunkCount is how many chunks a cache of 64 MiB has, of 64 KiB each.
+const (
+	chunkCount = 1024
+	chunkSize  = 65536
+)
 
 // cheap is the hash of both sides.
 func cheap(data []byte) uint32 {
@@ -63,10 +70,40 @@ func runs(keys []string, rounds int) (time.Duration, int) {
 	return time.Since(begun), sum
 }
 
+// full is a cache that is full of chunks, each a number in decimal and zeros after it, and their names.
+func full() (*lru.Cache, []string) {
+	cache := lru.New(chunkCount)
+	var names []string
+	for number := 0; number < chunkCount; number++ {
+		chunk := make([]byte, chunkSize)
+		copy(chunk, strconv.Itoa(number))
+		digest := sha1.Sum(chunk)
+		name := string(digest[:])
+		names = append(names, name)
+		cache.Add(name, chunk)
+	}
+	return cache, names
+}
+
+// hits looks up each chunk of a full cache, and counts their bytes.
+func hits(_ []string, rounds int) (time.Duration, int) {
+	cache, names := full()
+	sum := 0
+	begun := time.Now()
+	for round := 0; round < rounds; round++ {
+		for _, name := range names {
+			if chunk, held := cache.Get(name); held {
+				sum += len(chunk.([]byte))
+			}
+		}
+	}
+	return time.Since(begun), sum
+}
+
 func main() {
-	measurements := map[string]func([]string, int) (time.Duration, int){"owner": owners, "run": runs}
+	measurements := map[string]func([]string, int) (time.Duration, int){"hit": hits, "owner": owners, "run": runs}
 	if len(os.Args) != 3 || measurements[os.Args[1]] == nil {
-		fmt.Fprintln(os.Stderr, "a measurement, owner or run, and its rounds are wanted")
+		fmt.Fprintln(os.Stderr, "a measurement, hit, owner or run, and its rounds are wanted")
 		os.Exit(2)
 	}
 	rounds, err := strconv.Atoi(os.Args[2])

@@ -1,9 +1,10 @@
-//! Measures calls of a ring and of flights, as bench/groupcache.go measures groupcache's: a run makes one measurement, and
+//! Measures calls of a ring, of flights and of a cache, as bench/groupcache.go measures groupcache's: a run makes one measurement, and
 //! prints the nanoseconds of all its calls and the sum of their answers.
 #![tactic(auto)]
 
 ghost use Rattle.std.specs.Prelude.{◌≡◌};
 
+mod caches;
 mod flights;
 mod rings;
 
@@ -43,6 +44,7 @@ fn measure<R: Wait + Clock>(rt: &R, alloc: Global, name: &str, rounds: &str) -> 
         .ok_or(anyhow!("no such number of rounds"))?;
     let keys = keys(alloc)?;
     match name {
+        "hit" => caches::time_hits(rt, alloc, rounds),
         "owner" => rings::time_owners(rt, alloc, keys.as_slice(), rounds),
         "run" => flights::time_runs(rt, alloc, keys.as_slice(), rounds),
         _ => Err(anyhow!("no such measurement")),
@@ -53,6 +55,9 @@ fn measure<R: Wait + Clock>(rt: &R, alloc: Global, name: &str, rounds: &str) -> 
 fn answer<R: Wait + Clock + Print>(rt: &R, alloc: Global, words: &[String]) -> Result<()> {
     match words {
         [word] if word.as_str() == "list" => {
+            println!(rt;
+                "hit ROUNDS    so many look-ups of each of {KEYS} chunks that a cache has"
+            )?;
             println!(rt;
                 "owner ROUNDS  the owners of {KEYS} keys in a ring of 8 peers, so many times"
             )?;

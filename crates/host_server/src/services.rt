@@ -8,8 +8,8 @@ ghost use Rattle.host_server.specs.Asks.{IsAnswer};
 ghost use Rattle.host_server.specs.Replies.{Answer};
 
 use crate::answers::{Request, answer};
-use crate::servers::Server;
 use crate::replies::Reply;
+use crate::servers::Server;
 use blob_store::Shelf;
 use std::alloc::Global;
 

@@ -11,9 +11,9 @@ ghost use Rattle.host_server.specs.Reasons;
 ghost use Rattle.host_server.specs.Reasons.{commit_refusal};
 
 use super::readiness::Readiness;
-use change_undo::{Entry, History};
 use blob_store::Known;
 use byte_view::BlobInfo;
+use change_undo::{Entry, History};
 use host_names::{ChangeError, SiteName};
 use site_change::Command;
 use site_state::State;

@@ -4,9 +4,9 @@ ghost use Rattle.change_undo.specs.Histories.{entry_at, marked_entry};
 ghost use Rattle.host_server.specs.Hosts.{Host, state_of};
 
 use super::houses::SoloHouse;
-use change_undo::Entry;
 use blob_store::Known;
 use byte_view::Uploads;
+use change_undo::Entry;
 use site_state::State;
 
 /// What can be read of a host: what is answered without a change is found by these calls alone.
