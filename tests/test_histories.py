@@ -162,12 +162,12 @@ class Generator:
         """A file of some version, perhaps some ranges of it, and perhaps on a condition."""
         version, files = self.one_of(self.versions())
         path, fields = self.mostly(files, PATHS), ()
-        if self.happens(0.5):
+        if self.happens(0.7):
             fields = (f"Range: bytes={','.join(self.range() for _ in range(self.one_of((1, 1, 1, 2, 2, 3))))}",)
         if self.happens(0.05):
             fields += (self.one_of(("Range: bytes=1-2", "If-Range: x", "range: bytes=0-")),)
-        if self.happens(0.15):
-            fields += (f'If-Range: "{digest_of(self.one_of(CONTENTS[1:4]))}"',)
+        if self.happens(0.3):
+            fields += (f'If-Range: "{digest_of(self.one_of(CONTENTS[1:3]))}"',)
         target = "/" if path == "/index.html" and self.happens(0.3) else self.target(path)
         return Request(self.one_of(READING), f"/{version}{target}", fields)
 
@@ -345,7 +345,7 @@ class Histories(Program):
             "NotComplete PathTaken SamePath DeployInUse NotAChange AlreadyUndone WrongDigest": 400,
             "NotSatisfiable BadName BadPath BadDigest BadBody NoRoute BadMethod": 50,
             "GET-200 GET-206 HEAD-200 HEAD-404 closed": 500,
-            "parts conditions": 100,
+            "parts conditions": 50,
         })
 
     def test_are_as_before_where_a_change_is_undone_at_once(self):
