@@ -163,7 +163,7 @@ class Generator:
         version, files = self.one_of(self.versions())
         path, fields = self.mostly(files, PATHS), ()
         if self.happens(0.7):
-            fields = (f"Range: bytes={','.join(self.range() for _ in range(self.one_of((1, 1, 1, 2, 2, 3))))}",)
+            fields = (f"Range: bytes={','.join(self.positions() for _ in range(self.one_of((1, 1, 1, 2, 2, 3))))}",)
         if self.happens(0.05):
             fields += (self.one_of(("Range: bytes=1-2", "If-Range: x", "range: bytes=0-")),)
         if self.happens(0.3):
@@ -171,7 +171,7 @@ class Generator:
         target = "/" if path == "/index.html" and self.happens(0.3) else self.target(path)
         return Request(self.one_of(READING), f"/{version}{target}", fields)
 
-    def range(self):
+    def positions(self):
         """Some bytes near the front of a file, or at its end."""
         first = self.random.randrange(8)
         last = self.one_of(("", first + self.random.randrange(-1, 8), first + self.random.randrange(2)))
