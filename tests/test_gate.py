@@ -102,13 +102,13 @@ class Gate(unittest.TestCase):
     def test_installs_what_the_tests_need_where_it_is_missing(self):
         tools = self.sandbox.tools
         self.sandbox.write("store/python3", f'#!/usr/bin/env bash\nexec {sys.executable} "$@"\n', 0o755)
-        for name in ("curl", "gcc"):
+        for name in ("curl", "wget", "gcc"):
             self.sandbox.write(f"store/{name}", "#!/usr/bin/env bash\n", 0o755)
         (tools / "cp").symlink_to(shutil.which("cp"))
         for name, text in (("apt-get", FAKE_APT_GET), ("sudo", '#!/usr/bin/env bash\nexec "$@"\n')):
             (tools / name).write_text(text)
             (tools / name).chmod(0o755)
-        for missing in (["python3"], ["curl"], ["gcc"], ["python3", "curl", "gcc"]):
+        for missing in (["python3"], ["curl"], ["wget"], ["gcc"], ["python3", "curl", "wget", "gcc"]):
             with self.subTest(missing):
                 for command in missing:
                     (tools / command).unlink()
@@ -119,7 +119,7 @@ class Gate(unittest.TestCase):
                 self.assertEqual(self.sandbox.calls(), ["repository: ci"])
 
     def test_fails_where_what_the_tests_need_cannot_be_installed(self):
-        for command in ("curl", "gcc", "python3"):
+        for command in ("curl", "wget", "gcc", "python3"):
             with self.subTest(command):
                 (self.sandbox.tools / command).unlink()
                 self.assert_ends(self.gate(), 1, "0 passed, 1 failed")

@@ -159,17 +159,23 @@ class Generator:
         return Request(self.one_of(READING), f"/api/v1/deploys/{self.deploy(DRAFT, KEPT)}")
 
     def read(self):
-        """A file of some version, perhaps a range of it."""
+        """A file of some version, perhaps some ranges of it, and perhaps on a condition."""
         version, files = self.one_of(self.versions())
         path, fields = self.mostly(files, PATHS), ()
-        if self.happens(0.5):
-            first = self.random.randrange(8)
-            last = self.one_of(("", first + self.random.randrange(-1, 8)))
-            fields = (f"Range: bytes={self.one_of(('', first))}-{last}",)
+        if self.happens(0.7):
+            fields = (f"Range: bytes={','.join(self.positions() for _ in range(self.one_of((1, 1, 1, 2, 2, 3))))}",)
         if self.happens(0.05):
             fields += (self.one_of(("Range: bytes=1-2", "If-Range: x", "range: bytes=0-")),)
+        if self.happens(0.3):
+            fields += (f'If-Range: "{digest_of(self.one_of(CONTENTS[1:3]))}"',)
         target = "/" if path == "/index.html" and self.happens(0.3) else self.target(path)
         return Request(self.one_of(READING), f"/{version}{target}", fields)
+
+    def positions(self):
+        """Some bytes near the front of a file, or at its end."""
+        first = self.random.randrange(8)
+        last = self.one_of(("", first + self.random.randrange(-1, 8), first + self.random.randrange(2)))
+        return f"{self.one_of(('', first, first))}-{last}"
 
     def versions(self):
         """Versions of sites, each with the paths of its files. Some are not there."""
@@ -257,6 +263,8 @@ class Run:
         for asked, reply in zip(self.requests, self.wanted):
             name = re.search(rb'"error":"(\w+)"', reply)
             tally[name[1].decode() if name else f"{asked.method}-{reply[9:12].decode()}"] += 1
+            tally["parts"] += b"\r\nContent-Type: multipart/byteranges;" in reply
+            tally["conditions"] += b" 206 " in reply[:20] and any(field.startswith("If-Range") for field in asked.fields)
         tally["requests"] = len(self.requests)
         tally["closed"] = b"\r\nConnection: close\r\n" in self.wanted[-1]
         return tally
@@ -337,6 +345,7 @@ class Histories(Program):
             "NotComplete PathTaken SamePath DeployInUse NotAChange AlreadyUndone WrongDigest": 400,
             "NotSatisfiable BadName BadPath BadDigest BadBody NoRoute BadMethod": 50,
             "GET-200 GET-206 HEAD-200 HEAD-404 closed": 500,
+            "parts conditions": 50,
         })
 
     def test_are_as_before_where_a_change_is_undone_at_once(self):

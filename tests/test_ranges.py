@@ -8,10 +8,10 @@ import concurrent.futures
 import random
 import unittest
 
-from client import LARGEST_FILE, REQUESTS, Program, digest_of, refused, sent
-from plain_model import Request, chosen, specs_of
+from client import REQUESTS, Program, digest_of, refused, reply, sent
+from plain_model import Request, chosen, multipart, specs_of
 from test_histories import Run, in_json
-from test_interface import CHANGES, OTHER, Interface, change, get, publishing, put, row, served, uploading
+from test_interface import CHANGES, OTHER, Interface, change, get, publishing, put, row, served
 
 CONTENT = b"hello world"
 GREATEST = 18_446_744_073_709_551_615
@@ -26,6 +26,12 @@ def part(content, first, last, kind=OTHER):
     return sent(content[first:last + 1], positions, kind=kind, whole=content)
 
 
+def parts(content, *intervals, kind=OTHER):
+    """The reply that sends several such parts, in this order."""
+    tag = f'ETag: "{digest_of(content)}"'
+    return reply("206 Partial Content", *multipart(kind, content, intervals), tag, "Accept-Ranges: bytes")
+
+
 def none_of(content):
     """The reply where no byte of the range is there."""
     return refused("NotSatisfiable", f"Content-Range: bytes */{len(content)}")
@@ -38,11 +44,14 @@ class Ranges(Interface):
     before = [*publishing("one", 1, files), put("/api/v1/sites/one/aliases/next", {"deploy": 1}, {"entry": 3})]
 
     def assert_parts(self, cases, path="/a"):
-        """Each of these values of `Range` gives this part of a file: two positions, or an answer."""
+        """Each of these values of `Range` gives this of a file: two positions, a list of several such pairs, or an answer."""
         content = self.files[path]
         rows = []
         for value, wanted in cases:
-            wanted = part(content, *wanted) if isinstance(wanted, tuple) else wanted
+            if isinstance(wanted, list):
+                wanted = parts(content, *wanted)
+            elif isinstance(wanted, tuple):
+                wanted = part(content, *wanted)
             rows.append(get(f"/s/one{path}", wanted, f"Range: {value}"))
         self.assert_rows(rows, self.before)
 
@@ -113,10 +122,56 @@ class Ranges(Interface):
             (f"bytes={ahead},-0", none_of(CONTENT)),
         ])
 
-    def test_are_not_sent_where_several_are_chosen_so_far(self):
+    def test_are_sent_in_parts_where_there_are_several(self):
+        self.assert_parts([
+            ("bytes=0-4,-5", [(0, 4), (6, 10)]),
+            ("bytes=0-0,2-2", [(0, 0), (2, 2)]),
+            ("bytes=0-4,6-", [(0, 4), (6, 10)]),
+            ("BYTES=\t0-0 , \t-1 ,", [(0, 0), (10, 10)]),
+            (",bytes=0-0,1-1", served("/a", CONTENT)),
+            ("bytes=,,3-3,,\t,1-2 ,,", [(3, 3), (1, 2)]),
+            ("bytes=0-0,20-,-1,-0", [(0, 0), (10, 10)]),
+            (f"bytes=0-0,9-{100 * '9'}", [(0, 0), (9, 10)]),
+            (f"bytes=0-0,9-{GREATEST + 1},{GREATEST}-", [(0, 0), (9, 10)]),
+            (f"bytes={','.join(14 * ['11-'])},1-1,0-0", [(1, 1), (0, 0)]),
+        ])
+        self.assert_parts([("bytes=0-0,-1", [(0, 0), (4, 4)]), ("bytes=0-1,2-3,4-", [(0, 1), (2, 3), (4, 4)])], "/five")
+
+    def test_are_sent_in_the_order_asked_and_neither_joined_nor_left_out(self):
+        self.assert_parts([
+            ("bytes=-5,0-4", [(6, 10), (0, 4)]),
+            ("bytes=10-,5-5,0-0", [(10, 10), (5, 5), (0, 0)]),
+            ("bytes=0-4,5-10", [(0, 4), (5, 10)]),
+            ("bytes=5-10,0-4", [(5, 10), (0, 4)]),
+            ("bytes=0-2,1-3,2-4", [(0, 2), (1, 3), (2, 4)]),
+            ("bytes=1-8,3-3", [(1, 8), (3, 3)]),
+            ("bytes=0-0,0-0", [(0, 0), (0, 0)]),
+            ("bytes=-1,10-10", [(10, 10), (10, 10)]),
+            (f"bytes={','.join(11 * ['4-4'])}", 11 * [(4, 4)]),
+        ])
+        places = [(place, place + 4) for place in range(65_532, 0, -4_369)]
+        self.assertEqual(len(places), 15)
+        asked = [f"{first}-{last}" for first, last in places]
+        self.assert_parts([
+            (f"bytes={','.join([*asked, '-65457'])}", [*places, (80, 65_536)]),
+            (f"bytes={','.join([*asked, '0-0', '0-0'])}", served("/long", self.files["/long"])),
+        ], "/long")
+
+    def test_are_not_sent_where_they_have_more_bytes_together_than_the_file(self):
         whole = served("/a", CONTENT)
-        values = ["bytes=0-4,-5", "bytes=0-0,2-2", "bytes=0-9,0-9", "bytes=0-,0-", ", ".join(["BYTES=0-0", *15 * ["1-1"]])]
-        self.assert_parts([(value, whole) for value in values])
+        self.assert_parts([
+            ("bytes=0-9,0-0", [(0, 9), (0, 0)]),
+            ("bytes=0-9,0-1", whole),
+            ("bytes=0-9,0-9", whole),
+            ("bytes=0-,0-", whole),
+            ("bytes=0-,-1", whole),
+            ("bytes=0-0,0-", whole),
+            ("bytes=0-0,-11", whole),
+            (f"bytes={','.join(12 * ['4-4'])}", whole),
+            (", ".join(["BYTES=0-0", *15 * ["1-1"]]), whole),
+            (f"bytes=0-0,0-{GREATEST},{GREATEST}-", whole),
+        ])
+        self.assert_parts([("bytes=0-0,0-0", served("/one", b"1")), ("bytes=0-0,1-", (0, 0))], "/one")
 
     def test_end_with_the_file(self):
         self.assert_parts([
@@ -163,8 +218,8 @@ class Ranges(Interface):
                   "bytes=\xb2-\xb3", "octets=0-4", "b\xfdtes=0-4", f"bytes={','.join(17 * ['0-0'])}"]
         self.assert_parts([(value, whole) for value in values])
 
-    def test_count_for_get_where_they_come_once_without_a_condition(self):
-        one, two, tag = "Range: bytes=1-3", "Range: bytes=0-0", f'If-Range: "{digest_of(CONTENT)}"'
+    def test_count_for_get_where_they_come_once(self):
+        one, two = "Range: bytes=1-3", "Range: bytes=0-0"
         whole = served("/a", CONTENT)
         self.assert_rows([
             get("/s/one/a", part(CONTENT, 1, 3), one),
@@ -172,20 +227,51 @@ class Ranges(Interface):
             get("/s/one/a", whole, one, two),
             get("/s/one/a", whole, one, one),
             get("/s/one/a", whole, one, "Range: bytes=x"),
-            get("/s/one/a", whole, one, tag),
-            get("/s/one/a", whole, tag, one),
-            get("/s/one/a", whole, one, 'if-range: "other"'),
+            get("/s/one/a", whole, one, "Range:"),
             row("HEAD", "/s/one/a", None, whole, one),
+            row("HEAD", "/s/one/a", None, whole, "Range: bytes=0-4,-5"),
             row("HEAD", "/s/one/a", None, whole, "Range: bytes=11-11"),
             get("/s/one/b", "NoSuchFile", one),
             get("/s/One/a", "BadName", one),
             get(CHANGES, {"changes": [change(1, "open"), change(2, "publish"), change(3, "alias")]}, one),
         ], self.before)
 
+    def test_count_under_a_condition_that_is_the_tag_of_the_file(self):
+        digest, one = digest_of(CONTENT), "Range: bytes=1-3"
+        whole, some = served("/a", CONTENT), part(CONTENT, 1, 3)
+        tag, other = f'If-Range: "{digest}"', f'If-Range: "{digest_of(b"other")}"'
+        self.assert_rows([
+            get("/s/one/a", some, one, tag),
+            get("/s/one/a", some, tag, one),
+            get("/s/one/a", some, one, f'iF-rANGE:\t "{digest}" \t'),
+            get("/s/one/a", parts(CONTENT, (0, 4), (6, 10)), tag, "Range: bytes=0-4,-5"),
+            get("/s/one/a", none_of(CONTENT), tag, "Range: bytes=11-"),
+            get("/s/one/a", whole, tag, "Range: bytes=4-2"),
+            get("/s/one/a", whole, tag, one, one),
+            get("/s/one/none", served("/none", b""), f'If-Range: "{digest_of(b"")}"', "Range: bytes=0-0"),
+            get("/s/one/a", whole, other, one),
+            get("/s/one/a", whole, other, "Range: bytes=0-4,-5"),
+            get("/s/one/a", whole, other, "Range: bytes=11-"),
+            get("/s/one/five", served("/five", b"12345"), tag, one),
+            get("/s/one/a", whole, tag, tag, one),
+            get("/s/one/a", whole, tag, other, one),
+            get("/s/one/a", whole, other, tag, one),
+            *(get("/s/one/a", whole, f"If-Range: {value}", one) for value in (
+                "", digest, f"'{digest}'", f'W/"{digest}"', f'w/"{digest}"', f'"{digest.upper()}"', f'"{digest}', f'{digest}"',
+                f'""{digest}""', f'" {digest}"', f'"{digest}", "{digest}"', f'"{digest}",', f'"{digest}" x', "*", '""',
+                f'"{digest[:-1]}"', f'"{digest}0"', "Sun, 06 Nov 1994 08:49:37 GMT", "Sun, 06 Nov 2044 08:49:37 GMT", "bytes")),
+            get("/s/one/a", whole, tag),
+            get("/s/one/a", whole, other),
+            row("HEAD", "/s/one/a", None, whole, tag, one),
+            row("HEAD", "/s/one/a", None, whole, other, one),
+            get("/s/one/b", "NoSuchFile", one, other),
+        ], self.before)
+
     def test_count_in_each_version_of_a_site(self):
         for target in ("/s/one/a", "/a/one/next/a", "/d/one/1/a"):
             self.assert_rows([
                 get(target, part(CONTENT, 6, 10), "Range: bytes=6-10"),
+                get(target, parts(CONTENT, (6, 10), (0, 3)), "Range: bytes=6-10,0-3", f'If-Range: "{digest_of(CONTENT)}"'),
                 get(target, none_of(CONTENT), "Range: bytes=11-12"),
                 get(target, served("/a", CONTENT), "Range: bytes=2-1"),
             ], self.before)
@@ -195,26 +281,29 @@ class Ranges(Interface):
         self.assert_rows([
             *publishing("one", 1, {"/a.txt": CONTENT}),
             get("/s/one/a.txt", part(CONTENT, 6, 10, text), "Range: bytes=6-10"),
+            get("/s/one/a.txt", parts(CONTENT, (6, 10), (0, 0), kind=text), "Range: bytes=6-10,0-0"),
         ])
 
 
 def drawn_number(draw):
     """A number near the sizes of the files or near the greatest one, perhaps with zeros before it."""
-    near = draw.choice((0, 0, 5, 10, 65_537, GREATEST, 10**30)) + draw.randrange(-2, 6)
+    near = draw.choice((0, 0, 5, 10, 50, 65_536, GREATEST, 10**30)) + draw.randrange(-2, 6)
     return draw.choice(("", "", "", "0", "000")) + str(max(near, 0))
 
 
 def drawn_element(draw):
     first, last = drawn_number(draw), drawn_number(draw)
-    if draw.random() < 0.9:
+    if draw.random() < 0.6:
+        last = str(int(first) + draw.randrange(4))
+    elif draw.random() < 0.9:
         first, last = sorted((first, last), key=int)
-    spec = draw.choices((f"{first}-{last}", f"{first}-", f"-{last}", "", "-", first), (10, 8, 8, 4, 1, 1))[0]
+    spec = draw.choices((f"{first}-{last}", f"{first}-", f"-{last}", "", "-", first), (30, 6, 8, 5, 1, 1))[0]
     return draw.choice(("", "", " ", "\t", " \t ")) + spec + draw.choice(("", "", " ", "\t\t"))
 
 
 def drawn_value(draw):
     """A value that mostly is in the grammar, with few elements or about as many as there may be."""
-    count = draw.choices((1, 2, 3, draw.randrange(12, 22)), (12, 4, 2, 1))[0]
+    count = draw.choices((1, 2, 3, 5, draw.randrange(12, 22)), (8, 7, 5, 3, 1))[0]
     unit = draw.choices(("bytes=", "BYTES=", "bYteS=", "bytes =", "byte=", "lines=", "bytes"), (20, 2, 2, 1, 1, 1, 1))[0]
     value = unit + ",".join(drawn_element(draw) for _ in range(count))
     if draw.random() < 0.2:
@@ -224,15 +313,20 @@ def drawn_value(draw):
 
 
 def kind_of(value, size):
-    """What the plain reading says of a value: that it is ignored, or how many intervals it chooses."""
+    """What the plain reading says of a value: that it is ignored, or how many intervals it chooses, which may be too large."""
     specs = specs_of(value.strip(" \t"))
-    return "ignored" if specs is None else ("none", "one", "several")[min(len(chosen(specs, size)), 2)]
+    if specs is None:
+        return "ignored"
+    intervals = chosen(specs, size)
+    if sum(last - first + 1 for first, last in intervals) > size:
+        return "too large"
+    return ("none", "one", "several")[min(len(intervals), 2)]
 
 
 def tally_of_values(seed):
     """Asks for the files by drawn values, on a few connections. Tells how often each kind was met, or what is wrong."""
     draw, tally = random.Random(seed), collections.Counter()
-    sizes = (0, 1, 10, 65_537)
+    sizes = (0, 1, 10, 60, 65_537)
     files = {size: bytes(place % 251 for place in range(size)) for size in sizes}
     listing = in_json(files={f"/{size}": digest_of(content) for size, content in files.items()})
     before = [Request("POST", "/api/v1/sites/one/deploys", body=listing)]
@@ -241,7 +335,7 @@ def tally_of_values(seed):
         made = Run()
         made.ask(before)
         for _ in range(REQUESTS - len(before)):
-            size, value = draw.choices(sizes, (2, 4, 12, 1))[0], drawn_value(draw)
+            size, value = draw.choices(sizes, (1, 2, 6, 12, 2))[0], drawn_value(draw)
             tally[kind_of(value, size)] += 1
             made.ask([Request("GET", f"/s/one/{size}", (f"Range: {value}",))])
         try:
@@ -261,30 +355,8 @@ class DrawnValues(Program):
             self.fail(fault)
         tally = sum(tallies, collections.Counter())
         self.assertGreaterEqual(tally.total(), VALUES)
-        for kind in ("ignored", "none", "one", "several"):
+        for kind in ("ignored", "none", "one", "several", "too large"):
             self.assertGreater(tally[kind], VALUES // 20, tally)
-
-
-class LargeFiles(Interface):
-    """Files over 1 MiB, and of the largest size, read back whole and by ranges."""
-
-    def test_are_read_whole_and_by_ranges(self):
-        for size in (1_048_576, 1_048_577, 3_000_001, LARGEST_FILE):
-            content = (b"0123456789abcdef" * 15 + b"a pattern of 251 bytes")[:251] * (size // 251 + 1)
-            content = content[:size]
-            middle = (size // 2 - 1, size // 2 + 70_000)
-            with self.subTest(size):
-                self.assert_rows([
-                    *publishing("one", 1, {"/a": content}),
-                    get("/s/one/a", served("/a", content)),
-                    get("/s/one/a", part(content, 0, 0), "Range: bytes=0-0"),
-                    get("/s/one/a", part(content, *middle), f"Range: bytes={middle[0]}-{middle[1]}"),
-                    get("/s/one/a", part(content, 1, size - 1), f"Range: bytes=1-{size}"),
-                    get("/s/one/a", part(content, size - 1, size - 1), f"Range: bytes={size - 1}-{size - 1}"),
-                    get("/s/one/a", none_of(content), f"Range: bytes={size}-{size}"),
-                    row("HEAD", "/s/one/a", None, served("/a", content)),
-                    uploading(1, "/a", content),
-                ])
 
 
 if __name__ == "__main__":

@@ -1,4 +1,4 @@
-"""Files over one connection: how they are read, whole or in one range, with which type, and what is refused.
+"""Files over one connection: how they are read, whole or by ranges, with which type, and what is refused.
 
 What is expected follows from docs/HTTP.md and docs/DECISIONS.md.
 """
@@ -26,6 +26,28 @@ TEXTS = [
     (upload(1, "a.txt", b"hello"), uploaded(b"hello")), (upload(1, "w.txt", b"hello world"), uploaded(b"hello world")),
     (request("PUT", "/api/v1/deploys/1/files/e.txt"), uploaded(b"", 2)),
 ]
+
+
+# The reply with the positions 0 to 4 and 6 to 10 of `hello world`, in parts.
+TWO_PARTS = (
+    b"HTTP/1.1 206 Partial Content\r\n"
+    b"Content-Type: multipart/byteranges; boundary=fh0-2aae6c35c94fcfb415dbe95f408b9ce91ee846ed\r\n"
+    b"Content-Length: 305\r\n"
+    b'ETag: "2aae6c35c94fcfb415dbe95f408b9ce91ee846ed"\r\n'
+    b"Accept-Ranges: bytes\r\n"
+    b"\r\n"
+    b"--fh0-2aae6c35c94fcfb415dbe95f408b9ce91ee846ed\r\n"
+    b"Content-Type: text/plain; charset=utf-8\r\n"
+    b"Content-Range: bytes 0-4/11\r\n"
+    b"\r\n"
+    b"hello\r\n"
+    b"--fh0-2aae6c35c94fcfb415dbe95f408b9ce91ee846ed\r\n"
+    b"Content-Type: text/plain; charset=utf-8\r\n"
+    b"Content-Range: bytes 6-10/11\r\n"
+    b"\r\n"
+    b"world\r\n"
+    b"--fh0-2aae6c35c94fcfb415dbe95f408b9ce91ee846ed--\r\n"
+)
 
 
 def part(whole, first, last, kind="text/plain; charset=utf-8"):
@@ -57,6 +79,34 @@ class Reads(Program):
             ("GET", "w.txt", ["Range: bytes=20-,,0-0"], part(b"hello world", 0, 0)),
         ])
 
+    def test_give_several_ranges_in_one_reply(self):
+        self.assertEqual(len(TWO_PARTS.partition(b"\r\n\r\n")[2]), 305)
+        self.assert_reads([
+            ("GET", "w.txt", ["Range: bytes=0-4,-5"], TWO_PARTS),
+            ("GET", "w.txt?x", ["range:\tBYTES=,0-4 ,\t6-99,11-,-0 "], TWO_PARTS),
+            ("GET", "w.txt", ["Range: bytes=0-9,0-9"], sent(b"hello world")),
+            ("GET", "w.txt", ["Range: bytes=0-4,-5", "Range: bytes=0-4,-5"], sent(b"hello world")),
+            ("HEAD", "w.txt", ["Range: bytes=0-4,-5"], to_head(sent(b"hello world"))),
+            ("GET", "b.txt", ["Range: bytes=0-4,-5"], NO_FILE),
+            ("GET", "e.txt", ["Range: bytes=0-4,-5"], sent(b"")),
+        ])
+
+    def test_give_ranges_under_the_tag_of_the_file_alone(self):
+        tag = f'"{WORLD}"'
+        self.assert_reads([
+            ("GET", "w.txt", ["Range: bytes=0-0", f"If-Range: {tag}"], part(b"hello world", 0, 0)),
+            ("GET", "w.txt", [f"if-range:{tag}", "Range: bytes=0-4,-5"], TWO_PARTS),
+            *(("GET", "w.txt", ["Range: bytes=0-0", *(f"If-Range: {value}" for value in values)], sent(b"hello world"))
+              for values in (["W/" + tag], ["Sun, 06 Nov 2044 08:49:37 GMT"], [f'"{HELLO}"'], [WORLD], [""], ["*"], [tag, tag],
+                             [f"{tag}, {tag}"])),
+            ("GET", "w.txt", ["Range: bytes=11-", f"If-Range: {tag}"], refused("NotSatisfiable", "Content-Range: bytes */11")),
+            ("GET", "w.txt", ["Range: bytes=11-", "If-Range: x"], sent(b"hello world")),
+            ("GET", "w.txt", [f"If-Range: {tag}"], sent(b"hello world")),
+            ("GET", "w.txt", ["If-Range: x"], sent(b"hello world")),
+            ("HEAD", "w.txt", ["Range: bytes=0-0", f"If-Range: {tag}"], to_head(sent(b"hello world"))),
+            ("GET", "b.txt", ["Range: bytes=0-0", f"If-Range: {tag}"], NO_FILE),
+        ])
+
     def test_refuse_a_range_behind_the_end(self):
         refusal = refused("NotSatisfiable", "Content-Range: bytes */5")
         ranges = ("5-9", "5-5", "6-6", "5-18446744073709551616", "18446744073709551615-18446744073709551615",
@@ -66,12 +116,12 @@ class Reads(Program):
     def test_give_the_whole_where_a_range_does_not_count(self):
         others = (
             "bytes=2-1", "lines=1-2", "Byte=1-2", "bytes=-", "bytes=", "bytes", "bytes=1", "",
-            "bytes=1-2,4-4", "bytes=1-2;", "bytes=1 -2", "bytes=1- 2", "bytes =1-2", "bytes=+1-2",
+            "bytes=1-2,0-", "bytes=1-2;", "bytes=1 -2", "bytes=1- 2", "bytes =1-2", "bytes=+1-2",
             "bytes=1-0x2", "bytes=1-2-3", "1-2", "bytes=a-b", "bytes=9-8", "bytes=18446744073709551616-1",
         )
         rows = [[], *([f"Range: {value}"] for value in others)]
         rows += [["Range: bytes=1-2"] * 2, ["Range: bytes=9-9", "Range: bytes=1-2"], ["If-Range:", "Range: bytes=9-9"]]
-        rows += [["Range: bytes=1-2", f'If-Range: "{HELLO}"'], ["If-Range: x", "If-Range: y", "Range: bytes=1-2"]]
+        rows += [["Range: bytes=1-2", f'If-Range: "{ABC}"'], ["If-Range: x", "If-Range: y", "Range: bytes=1-2"]]
         self.assert_reads([("GET", "a.txt", fields, sent(b"hello")) for fields in rows] + [
             ("GET", "b.txt", ["Range: bytes=0-0"], NO_FILE), ("GET", "e.txt", [], sent(b"")),
             ("GET", "e.txt", ["Range: bytes=0-0"], sent(b"")), ("GET", "e.txt", ["Range: bytes=9-9"], sent(b"")),
