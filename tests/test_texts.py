@@ -172,8 +172,8 @@ class Refusals(Interface):
         }
         for name, (status, given) in of_heads.items():
             self.assert_answers(given, told(status, {"error": name}, "Connection: close"), name)
-        # A connection is too short for HistoryFull; test_memory.py meets OutOfMemory.
-        others = {*of_heads, "HistoryFull", "OutOfMemory"}
+        # A connection is too short for HistoryFull; test_memory.py meets OutOfMemory, and server_tests what a wrong shelf leads to.
+        others = {*of_heads, "HistoryFull", "OutOfMemory", "Missing", "Damaged", "Device"}
         self.assertEqual({name for name, _ in met if name} | others, set(STATUS_OF))
 
     def test_name_the_least_alias(self):

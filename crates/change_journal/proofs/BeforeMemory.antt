@@ -1,5 +1,5 @@
 -- What has been read before memory is taken is the front of an entry with paths.
-use Rattle.std.proofs.Common.{◌≡◌, sym, ℕ, Bool, true, false, cond, ◌||◌, eqb, List, [], ◌∷◌, ◌++◌, length, append_assoc, Option, Some, None, refl, ap, ◌∙◌, inl, inr, ◌⊎◌, is_some, ◌≤◌}
+use Rattle.std.proofs.Common.{◌≡◌, sym, ℕ, Bool, true, false, cond, ◌||◌, eqb, List, [], ◌∷◌, ◌++◌, length, append_assoc, Option, Some, None, refl, ap, ◌∙◌, inl, inr, ◌⊎◌, is_some}
 use Rattle.std.specs.Int.{w32, to_be_bytes}
 use Rattle.std.specs.Option.{IsSome}
 use Rattle.std.specs.List.{flat_map, AllByRecursion}
