@@ -27,7 +27,7 @@ pub use fields::{Fields, Values};
 pub use heads::{FIELD_LIMIT, Head};
 pub use laws::a_head_has_its_lines;
 pub use lengths::check_body;
-pub use replies::{ContentRange, ReplyHead, write_interim, write_reply};
+pub use replies::{ContentRange, ReplyHead, decimal_text, range_value, write_interim, write_reply};
 pub use sinks::{Counting, Sink, WriteFailed, Writing, write_all};
 pub use sources::{ReadFailed, Reading, Source};
 pub use wires::Wire;

@@ -43,8 +43,8 @@ pub struct ReplyHead<'a> {
     pub close: bool,
 }
 
-// The digits of a number.
-fn decimal_text(number: u64) -> ArrayString<20>
+/// The decimal digits of a number, without leading zeros. It takes no memory.
+pub fn decimal_text(number: u64) -> ArrayString<20>
     ensures digits { result.bytes ≡ decimal number }
     ensures short { length result.bytes ≤ 20 }
 {
@@ -52,8 +52,9 @@ fn decimal_text(number: u64) -> ArrayString<20>
     ArrayString::from(digits.format(number)).unwrap()
 }
 
-// The value of `Content-Range`.
-fn range_value(range: ContentRange) -> ArrayString<72>
+/// The value of a `Content-Range` field: `bytes 6-10/11`, or `bytes */11` where it has no bytes (RFC 9110, section 14.4). It takes no
+/// memory.
+pub fn range_value(range: ContentRange) -> ArrayString<72>
     ensures { result.bytes ≡ range_text range }
 {
     let mut text = ArrayString::new();

@@ -2,9 +2,9 @@
 ghost use Rattle.std.specs.Prelude.{◌≡◌};
 ghost use Rattle.range_reply.specs.Multipart.{candidate, text_of};
 
-use crate::texts::decimal_text;
 use arrayvec::ArrayString;
 use host_names::Digest;
+use http_wire::decimal_text;
 
 /// A text that may separate the parts of a `multipart/byteranges` body (RFC 2046, section 5.1.1), whether it occurs in them or not.
 #[derive(Clone, Copy, Debug)]

@@ -5,8 +5,9 @@ ghost use Rattle.range_spec.specs.Chosen.{LiesWithin};
 ghost use Rattle.range_reply.specs.Multipart.{multipart_text, part_text, text_of};
 
 use crate::boundaries::Boundary;
-use crate::texts::{head_texts, range_value};
+use crate::texts::head_texts;
 use byte_view::BlobInfo;
+use http_wire::{ContentRange, range_value};
 use range_spec::Intervals;
 
 /// The total with the lengths of these texts added, if that is a `u64`.
@@ -31,7 +32,12 @@ fn with_part(
     ensures { MatchOption result (2 ^ 64 ≤ total + length (part_text (text_of boundary.now) content_type.now info.now interval)) (λ sum. sum ≡ total + length (part_text (text_of boundary.now) content_type.now info.now interval)) }
 {
     let (first, last) = interval;
-    let range = range_value(first, last, info.len() as u64);
+    let length = info.len() as u64;
+    let range = range_value(ContentRange::Of {
+        first,
+        last,
+        length,
+    });
     let head = head_texts(boundary.as_str(), content_type, range.as_str());
     let total = with_texts(total, &head)?;
     with_texts(total.checked_add(last - first + 1)?, &["\r\n"])

@@ -7,8 +7,9 @@ ghost use Rattle.range_reply.specs.Multipart.{text_of};
 ghost use Rattle.range_reply.specs.Slices.{shown};
 
 use crate::boundaries::Boundary;
-use crate::texts::{head_texts, range_value};
+use crate::texts::head_texts;
 use byte_view::{Hold, Pieces};
+use http_wire::{ContentRange, range_value};
 use std::alloc::AllocError;
 
 /// Puts texts into a body.
@@ -53,7 +54,11 @@ fn push_part(
     ensures part { OnOk result (body.new.items ≡ body.old.items ++ shown_part (text_of boundary.now) content_type.now hold.now) }
 {
     let (first, last) = hold.stretch();
-    let range = range_value(first as u64, last as u64, size);
+    let range = range_value(ContentRange::Of {
+        first: first as u64,
+        last: last as u64,
+        length: size,
+    });
     let head = head_texts(boundary.as_str(), content_type, range.as_str());
     push_texts(body, &head)?;
     push_shown(body, hold)?;
