@@ -87,3 +87,11 @@ pub(crate) fn listing(
     let paths = PathMap::from_sorted(alloc, entries)?;
     Ok(Listing::new(is_patch, paths)?)
 }
+
+/// What a deploy lists that has one file, which has this digest.
+pub(crate) fn one_file(alloc: Global, digest: Digest) -> Result<Listing> {
+    let mut entries = no_entries(alloc);
+    push_path(&mut entries, path(alloc, 0)?, Some(digest))?;
+    let paths = PathMap::from_sorted(alloc, entries)?;
+    Ok(Listing::new(false, paths)?)
+}

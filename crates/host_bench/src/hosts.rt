@@ -1,12 +1,12 @@
 //! Hosts that measurements are made on, and what is put to them.
 ghost use Rattle.std.specs.Prelude.{◌≡◌};
 
-use crate::files::{Contents, content, listing, path};
+use crate::files::{Contents, content, listing, one_file, path};
 use anyhow::{Result, anyhow};
 use blob_store::MemShelf;
 use change_undo::GREATEST_LIMIT;
 use host_api::{Refusal, Told};
-use host_names::{AliasName, FilePath, SiteName};
+use host_names::{AliasName, Digest, FilePath, SiteName};
 use host_server::Server;
 use site_change::{Command, MOST_FILES};
 use site_state::Listing;
@@ -67,6 +67,18 @@ pub(crate) fn keep(alloc: Global, server: &mut Server<MemShelf>, file: u64) -> R
     plan(alloc, &mut planned, deploy, file..end)?;
     upload_all(server, planned)?;
     Ok(deploy)
+}
+
+/// Makes the site serve one file of these bytes, the first.
+pub(crate) fn serve_file(
+    alloc: Global,
+    server: &mut Server<MemShelf>,
+    bytes: Vec<u8>,
+) -> Result<()> {
+    let listing = one_file(alloc, Digest::of_bytes(bytes.as_slice()))?;
+    let deploy = open_listing(server, listing)?;
+    let _ = expected(server.upload(deploy, &path(alloc, 0)?, bytes))?;
+    Ok(())
 }
 
 /// Moves an alias of the site to a deploy.

@@ -1,13 +1,13 @@
 //! The measurements: each makes its server or its store, and then takes the time of some calls.
 ghost use Rattle.std.specs.Prelude.{◌≡◌};
 
-use crate::connections::{REQUESTS, time_gets};
+use crate::connections::{REQUESTS, TURNS, time_gets, time_ranges};
 use crate::copies::time_copies;
 use crate::files::Contents;
 use crate::hosts::{
-    Upload, empty_server, fill, keep, move_alias, open, plan, rename, serve, upload_all,
+    Upload, empty_server, fill, keep, move_alias, open, plan, rename, serve, serve_file, upload_all,
 };
-use crate::stores::{time_digest, time_distinct, time_equal, time_read, time_upload};
+use crate::stores::{random, time_digest, time_distinct, time_equal, time_read, time_upload};
 use anyhow::Result;
 use blob_store::MemShelf;
 use host_server::Server;
@@ -17,6 +17,7 @@ use std::time::{Duration, Instant};
 /// What can be measured, a line each.
 pub(crate) const LIST: &str =
     "get FILES        nanoseconds of a GET of a file of 64 bytes in a site that serves so many, in connections of 100
+ranges EACH      nanoseconds of four ranges of 16 KiB of a file, where each request asks for so many of them
 rename FILES     nanoseconds of a renaming in a site that serves so many files
 put FILES        nanoseconds of an upload to an open deploy of so many files that stays open
 deploy FILES     nanoseconds of a deploy of so many files of 64 bytes: its opening and all uploads
@@ -32,6 +33,11 @@ read BYTES       nanoseconds of a read of so many bytes from a store in memory, 
 /// How many connections of GETs are timed in a site.
 const CONNECTIONS: u64 = 1_000;
 
+/// How many connections for ranges are timed, and of how large a file.
+const RANGE_CONNECTIONS: u64 = 20;
+
+const RANGE_FILE: usize = 5 * 65_536;
+
 /// How many renamings are timed in a site.
 const RENAMINGS: u64 = 400;
 
@@ -45,6 +51,7 @@ const FILES: u64 = 10_000;
 #[derive(Clone, Copy)]
 pub(crate) enum Measurement {
     Get(u64),
+    Ranges(u64),
     Rename(u64),
     Put(u64),
     Deploy(u64),
@@ -65,6 +72,7 @@ impl Measurement {
         match name {
             _ if count == 0 => None,
             "get" => Some(Measurement::Get(count)),
+            "ranges" => Some(Measurement::Ranges(count)),
             "rename" => Some(Measurement::Rename(count)),
             "put" => Some(Measurement::Put(count)),
             "deploy" => Some(Measurement::Deploy(count)),
@@ -84,6 +92,7 @@ impl Measurement {
     pub(crate) fn run(&self, rt: &HostRuntime) -> Result<u128> {
         match self {
             Measurement::Get(files) => gets(rt, *files),
+            Measurement::Ranges(of_each) => ranges(rt, *of_each),
             Measurement::Rename(files) => renamings(rt, *files, RENAMINGS),
             Measurement::Put(files) => puts(rt, *files),
             Measurement::Deploy(files) => deploy(rt, *files),
@@ -110,6 +119,14 @@ fn gets(rt: &HostRuntime, files: u64) -> Result<u128> {
     serve(rt.alloc(), &mut server, files)?;
     let took = time_gets(rt, &mut server, CONNECTIONS)?;
     Ok(each(took, CONNECTIONS.saturating_mul(REQUESTS)))
+}
+
+/// The time of the four ranges once, where each request asks for so many of them.
+fn ranges(rt: &HostRuntime, of_each: u64) -> Result<u128> {
+    let mut server = empty_server(rt.alloc());
+    serve_file(rt.alloc(), &mut server, random(rt.alloc(), RANGE_FILE, 1)?)?;
+    let took = time_ranges(rt, &mut server, of_each as usize, RANGE_CONNECTIONS)?;
+    Ok(each(took, RANGE_CONNECTIONS.saturating_mul(TURNS)))
 }
 
 /// The time of so many renamings.

@@ -12,7 +12,7 @@ use std::sync::Arc;
 use std::time::{Duration, Instant};
 
 /// So many bytes that look random: those of the numbers of a generator (xorshift64) that begins with this one.
-fn random(alloc: Global, bytes: usize, first: u64) -> Result<Vec<u8>, AllocError> {
+pub(crate) fn random(alloc: Global, bytes: usize, first: u64) -> Result<Vec<u8>, AllocError> {
     let mut file = Vec::with_capacity(alloc, bytes)?;
     let mut state = first;
     for _ in 0..bytes {
