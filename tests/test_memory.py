@@ -14,6 +14,7 @@ import unittest
 from client import (
     EXAMPLES, HERE, LARGEST_FILE, PROGRAM, SECONDS, Program, content_length, cut_after, refused, request, run, upload,
 )
+from test_reading import TEXTS, TWO_PARTS
 from wire import (
     BAD_HEAD, BODY_TOO_LARGE, CODING_REFUSED, FILE, HEAD_LIMIT, HEAD_TOO_LARGE, INTERIM, LENGTH_BAD, NO_FILE, expecting, long_head,
 )
@@ -110,6 +111,17 @@ class RefusedAllocations(Program):
         without_memory = refused("OutOfMemory", "Connection: close")
         self.assert_gives(expecting(request("GET", FILE, body=b"hello")), INTERIM + NO_FILE,
                           without_memory, INTERIM + without_memory, INTERIM + refused("OutOfMemory"))
+
+    def test_give_no_wrong_answer_to_a_request_for_several_ranges(self):
+        asked, before = (b"".join(texts) for texts in zip(*TEXTS))
+        asked += request("GET", "/s/one/w.txt", "Range: bytes=0-4,-5")
+        whole, count = self.run_refusing(0, asked)
+        self.assertEqual(whole, (0, before + TWO_PARTS, b""))
+        seen = {self.run_refusing(place, asked)[0] for place in range(1, count + 1)}
+        # Where the requests before it were answered as ever, so that it alone may lack memory.
+        after = {(status, out.removeprefix(before), errors) for status, out, errors in seen if out.startswith(before)}
+        without_memory = refused("OutOfMemory"), refused("OutOfMemory", "Connection: close")
+        self.assertEqual(after, {(0, reply, b"") for reply in (TWO_PARTS, *without_memory)})
 
     def test_give_no_wrong_answer_to_a_refused_head(self):
         without_memory = refused("OutOfMemory", "Connection: close")
