@@ -1,3 +1,3 @@
 mod HeldInTurn
 mod Joined
-mod Stored
+pub mod Stored

@@ -2,9 +2,9 @@
 ghost use Rattle.std.specs.Prelude.{◌≡◌, ◌<◌, ◌≤◌, ℕ, IfErr, IfOk, List, length};
 ghost use Rattle.byte_view.specs.Holds.{Held};
 ghost use Rattle.blob_store.specs.declared.reading.ReadFault.{ReadFault as Fault};
-ghost use Rattle.file_reads.specs.Stores.{FailedOfFiles, GaveOfFiles, StoreFailed, StoreGave};
+ghost use Rattle.file_reads.specs.Stores.{FailedOfFiles, GaveOfFiles};
 
-use blob_store::{Blobs, Files, ReadFault, Shelf};
+use blob_store::{Files, ReadFault, Shelf};
 use byte_view::{BlobInfo, Hold};
 use std::sync::Arc;
 
@@ -23,17 +23,6 @@ pub trait Holder {
         ensures stretch { IfOk result (λ hold. (hold.file ≡ info.value) × (hold.first ≡ first) × (hold.last ≡ last)) }
         ensures gave { IfOk result (λ hold. gave self.old hold self.new) }
         ensures failed { IfErr result (λ fault. failed self.old info.value first last fault self.new) };
-}
-
-/// Each chunk is read from the shelf, and what is known stays.
-impl<S: Shelf> Holder for Blobs<S> {
-    ghost gave = { λ old hold new. StoreGave S.did S.failures old hold new };
-
-    ghost failed = { λ old file first last fault new. StoreFailed S.did S.failures old file first last fault new };
-
-    fn hold(&mut self, info: Arc<BlobInfo>, first: usize, last: usize) -> Result<Hold, ReadFault> {
-        self.hold(info, first, last)
-    }
 }
 
 /// Each chunk is read from the shelf.

@@ -39,6 +39,8 @@ pub enum Refusal {
     NotListed,
     /// The deploy lists another digest at the path.
     WrongDigest,
+    /// The file has more bytes than one may have.
+    TooLarge,
     /// The store doesn't have all chunks of the file.
     Missing,
     /// What the store has of the file isn't the file.
@@ -113,6 +115,7 @@ impl Refusal {
             Refusal::BadBody => ("BadBody", StatusCode::BAD_REQUEST),
             Refusal::NotListed => ("NotListed", StatusCode::NOT_FOUND),
             Refusal::WrongDigest => ("WrongDigest", StatusCode::UNPROCESSABLE_ENTITY),
+            Refusal::TooLarge => ("TooLarge", StatusCode::PAYLOAD_TOO_LARGE),
             Refusal::Missing => ("Missing", StatusCode::SERVICE_UNAVAILABLE),
             Refusal::Damaged => ("Damaged", StatusCode::SERVICE_UNAVAILABLE),
             Refusal::Device => ("Device", StatusCode::SERVICE_UNAVAILABLE),

@@ -1,49 +1,17 @@
 -- The bytes of an upload are stored, known and published.
-use Rattle.std.proofs.Common.{◌≡◌, ◌≢◌, ◌⊎◌, inl, inr, ℕ, true, false, cond, List, Option, Some, None, is_some, option_map, Result, Ok, Err, IsErrOf, IsSome, IsTrue, OnErr, refl, sym, ap, subst, ◌∙◌}
-use Rattle.std.specs.FinMap as map
-use Rattle.host_names.specs.Blobs.{Contents, digest_of}
+use Rattle.std.proofs.Common.{◌≡◌, inl, inr, ℕ, List, Option, Result, Ok, Err, IsErrOf, IsTrue, OnErr, refl, sym, ap, subst, ◌∙◌}
 use Rattle.host_names.specs.declared.digests.Digest.{Digest}
 use Rattle.host_names.specs.declared.names.SiteName.{SiteName}
 use Rattle.blob_store.specs.Calls.{Call}
 use Rattle.host_api.specs.declared.refusals.Refusal.{Refusal}
 use Rattle.host_api.specs.declared.refusals.Refusal.TheVariants as reason
 use Rattle.host_api.specs.declared.texts.Told.{Told}
-use Rattle.host_api.specs.declared.texts.Told.TheVariants.{Refused, Uploaded}
+use Rattle.host_api.specs.declared.texts.Told.TheVariants.{Uploaded}
 use Rattle.host_server.specs.Hosts.{Host, with_upload}
 use Rattle.host_server.specs.Memory.{is_published}
 use Rattle.host_server.specs.Outcomes.{Publishes, judge_upload, published_if_ready, told_by, told_of, uploaded}
 use Rattle.host_server.specs.Storing.{DoesUpload, IsStored, IsStoredIf}
 use Rattle.host_server.specs.declared.servers.Server.{Server}
-
--- ---- what is known
-
-found_at : {R : Type 0} (value : R → List ℕ) (uploads : Contents) (digest : Digest) (bytes : List ℕ) (found : Option R) → digest ≡ digest_of bytes
-    → option_map value found ≡ map.get uploads digest → option_map value found ≡ map.get uploads (digest_of bytes)
-found_at value uploads digest bytes found is at = at ∙ ap (map.get uploads) is
-
-some_there : {R : Type 0} (value : R → List ℕ) (found : Option R) (there : Option (List ℕ)) → is_some found ≡ true → option_map value found ≡ there → is_some there ≡ true
-some_there value None there some is = absurd (cc some)
-some_there value (Some x) there some is = ap is_some (sym is)
-
--- a file that is known changes nothing
-with_known : (host : Host) (bytes : List ℕ) → is_some (map.get host.uploads (digest_of bytes)) ≡ true → host ≡ with_upload host bytes
-with_known host bytes some =
-    ap (λ t. record { limit = host.limit; entries = host.entries; uploads = cond t host.uploads (map.insert host.uploads (digest_of bytes) bytes) }) (sym some)
-
-pub known_already : {S R : Type 0} (did : S → Call → S → Type 0) (value : R → List ℕ) (host : Host) (shelf : S) (digest : Digest) (bytes : List ℕ) (found : Option R)
-    → digest ≡ digest_of bytes → option_map value found ≡ map.get host.uploads digest → is_some found ≡ true
-    → IsStored did host.uploads shelf bytes shelf × (host ≡ with_upload host bytes)
-known_already did value host shelf digest bytes found is at some =
-    let there = some_there value found (map.get host.uploads (digest_of bytes)) some (found_at value host.uploads digest bytes found is at) in
-    (inl (there, refl), with_known host bytes there)
-
-none_there : {R : Type 0} (value : R → List ℕ) (found : Option R) (there : Option (List ℕ)) → is_some found ≡ false → option_map value found ≡ there → there ≡ None
-none_there value None there none is = sym is
-none_there value (Some x) there none is = absurd (cc none)
-
-pub unknown_yet : {R : Type 0} (value : R → List ℕ) (uploads : Contents) (digest : Digest) (bytes : List ℕ) (found : Option R)
-    → digest ≡ digest_of bytes → option_map value found ≡ map.get uploads digest → is_some found ≡ false → map.get uploads (digest_of bytes) ≡ None
-unknown_yet value uploads digest bytes found is at none = none_there value found (map.get uploads (digest_of bytes)) none (found_at value uploads digest bytes found is at)
 
 -- ---- what an upload does
 

@@ -2,6 +2,8 @@ pub mod FieldTexts
 pub mod Telling
 pub mod Reading
 pub mod Keeping
+pub mod KnownFiles
+pub mod ExactReads
 mod Memory
 pub mod Kept
 pub mod Reached

@@ -17,7 +17,7 @@ use Rattle.blob_store.specs.declared.blobs.UploadFault.TheVariants as fault
 use Rattle.host_server.specs.Answers.{Reads, ReadsFile, Tells}
 use Rattle.host_server.specs.Asks.{AnswersAsk, AnswersHost, IsAnswer, IsTold, asked_for}
 use Rattle.host_server.specs.Files.{IsReadReply, ReadRunsOut}
-use Rattle.host_server.specs.Storing.{DoesUpload, IsRefusedByStore, IsUploaded, IsUploadReply, UploadRunsOut, refusal_of_upload}
+use Rattle.host_server.specs.Storing.{DoesUpload, IsRefusedByStore, IsUploadReply, UploadRunsOut, refusal_of_upload}
 use Rattle.host_server.specs.declared.servers.Server.{Server}
 use Rattle.host_server.specs.Bodies.{answer_of}
 use Rattle.host_server.specs.Hosts.{Host, state_of}

@@ -1,5 +1,5 @@
 -- What is answered to the reading of a file.
-use Rattle.std.specs.Prelude.{◌≡◌, ◌≢◌, ◌⊎◌, ℕ, ◌<◌, List, [], ◌∷◌, ◌++◌, Bool, true, false, Option, Some, None, Result, Ok, Err, IsTrue, length, codes}
+use Rattle.std.specs.Prelude.{◌≡◌, ◌≢◌, ◌⊎◌, ℕ, List, [], ◌∷◌, Bool, true, false, Option, Some, None, Result, Ok, Err, IsTrue, length, codes}
 use Rattle.std.specs.Str.{bytes_eq}
 use Rattle.host_names.specs.Blobs.{digest_of}
 use Rattle.host_names.specs.declared.digests.Digest.{Digest}

@@ -13,6 +13,7 @@ pub mod PartsTypes
 pub mod Files
 pub mod Storing
 pub mod Asks
+pub mod ReadBack
 pub mod Serving
 pub mod Timing
 pub mod Solo

@@ -1,8 +1,5 @@
 -- Where memory may run out, and what a host has by then.
 use Rattle.std.specs.Prelude.{◌≡◌, ◌⊎◌, ℕ, List, Bool, true, false, ◌&&◌, ◌||◌, Option, Some, None, Result, Ok, Err, is_none, IsTrue}
-use Rattle.std.specs.FinMap as map
-use Rattle.host_names.specs.Blobs.{digest_of}
-use Rattle.host_names.specs.declared.digests.Digest.{Digest}
 use Rattle.host_names.specs.declared.names.SiteName.{SiteName}
 use Rattle.host_names.specs.declared.refusals.ChangeRefusal.{ChangeRefusal}
 use Rattle.host_names.specs.declared.refusals.ChangeRefusal.TheVariants.{NoSuchDeploy}
@@ -18,8 +15,8 @@ use Rattle.host_api.specs.declared.refusals.Refusal.{Refusal}
 use Rattle.host_api.specs.declared.routes.Route.{Route}
 use Rattle.host_api.specs.declared.texts.Told.{Told}
 use Rattle.host_api.specs.declared.texts.Told.TheVariants.{Refused}
-use Rattle.host_server.specs.Hosts.{Host, next_number, with_entry, with_upload}
-use Rattle.host_server.specs.Outcomes.{Outcome, is_ready, judge_upload, site_of_deploy}
+use Rattle.host_server.specs.Hosts.{Host, next_number, with_entry}
+use Rattle.host_server.specs.Outcomes.{Outcome, is_ready, site_of_deploy}
 use Rattle.host_server.specs.Reasons.{commit_refusal, undo_refusal}
 
 -- whether a deploy would be published now: it is ready, and its publishing would not be refused

@@ -1,5 +1,5 @@
 -- What is answered to an upload.
-use Rattle.std.specs.Prelude.{◌≡◌, ◌≢◌, ◌⊎◌, ℕ, ◌<◌, ◌≤◌, List, Option, Some, None, Result, Ok, Err, IsSome, IsTrue, length}
+use Rattle.std.specs.Prelude.{◌≡◌, ◌≢◌, ◌⊎◌, ◌↔◌, ℕ, ◌<◌, ◌≤◌, List, None, Result, Ok, Err, IsSome, IsTrue, length}
 use Rattle.std.specs.FinMap as map
 use Rattle.host_names.specs.Blobs.{Contents, digest_of}
 use Rattle.host_names.specs.declared.digests.Digest.{Digest}
@@ -8,32 +8,32 @@ use Rattle.blob_store.specs.Calls.{Call, PutsInTurn, things_of}
 use Rattle.blob_store.specs.Faults.{HasPutSome}
 use Rattle.blob_store.specs.declared.blobs.UploadFault.{UploadFault}
 use Rattle.blob_store.specs.declared.blobs.UploadFault.TheVariants as fault
-use Rattle.host_api.specs.declared.refusals.HeadRefusal.TheVariants.{BodyTooLarge}
 use Rattle.host_api.specs.declared.refusals.Refusal.{Refusal}
 use Rattle.host_api.specs.declared.refusals.Refusal.TheVariants as reason
 use Rattle.host_api.specs.declared.texts.Told.{Told}
-use Rattle.host_server.specs.Hosts.{Host, with_upload}
+use Rattle.host_server.specs.Hosts.{with_upload}
 use Rattle.host_server.specs.Memory.{is_published, TextRunsOut}
-use Rattle.host_server.specs.Outcomes.{Outcome, judge_upload, told_by, upload_outcome}
+use Rattle.host_server.specs.Outcomes.{judge_upload, told_by, upload_outcome}
 use Rattle.host_server.specs.Replies.{Answer, refused_answer, told_answer}
 use Rattle.host_server.specs.declared.servers.Server.{Server}
 
--- the bytes are on the shelf: nothing is put of those that are known, and of others each piece, and then the table
+-- the bytes aren't too many, and are on the shelf: nothing is put of those that are known, and of others each piece, and then the table
 abbrev pub IsStored : {S : Type 0} → (did : S → Call → S → Type 0) → Contents → S → List ℕ → S → Type 0
 IsStored did uploads old bytes new =
-    (IsSome (map.get uploads (digest_of bytes)) × (new ≡ old))
-    ⊎ ((map.get uploads (digest_of bytes) ≡ None) × (length bytes ≤ 16777216) × PutsInTurn did old (things_of bytes) None new)
+    (length bytes ≤ 16777216)
+    × ((IsSome (map.get uploads (digest_of bytes)) × (new ≡ old))
+    ⊎ ((map.get uploads (digest_of bytes) ≡ None) × PutsInTurn did old (things_of bytes) None new))
 
--- why they can't be: they aren't known, and are too many, or the device failed, or there was no memory
+-- why they can't be: where they are too many, that; else they aren't known, and the device failed, or there was no memory
 pub record IsNotStored {S : Type 0} (did : S → Call → S → Type 0) (failures : S → ℕ) (uploads : Contents) (old : S) (bytes : List ℕ) (why : UploadFault) (new : S) : Type 0 where
-  pub unknown : map.get uploads (digest_of bytes) ≡ None
-  pub large : why ≡ fault.TooLarge → 16777216 < length bytes
+  pub large : (why ≡ fault.TooLarge) ↔ (16777216 < length bytes)
+  pub unknown : length bytes ≤ 16777216 → map.get uploads (digest_of bytes) ≡ None
   pub failed : why ≡ fault.Device → failures old < failures new
   pub put : HasPutSome did old (things_of bytes) why new
 
 -- the reason, as it is told
 abbrev pub refusal_of_upload : UploadFault → Refusal
-refusal_of_upload fault.TooLarge = reason.Head BodyTooLarge
+refusal_of_upload fault.TooLarge = reason.TooLarge
 refusal_of_upload fault.Device = reason.Device
 refusal_of_upload fault.OutOfMemory = reason.OutOfMemory
 

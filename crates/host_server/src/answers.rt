@@ -1,5 +1,5 @@
 //! What a request is answered.
-ghost use Rattle.std.specs.Prelude.{◌≡◌, ◌⊎◌, ℕ, ◌+◌, List, [], ◌∷◌, ◌++◌, Ok, Err, IsTrue, IfOk, IfErr, length};
+ghost use Rattle.std.specs.Prelude.{◌≡◌, ◌⊎◌, ℕ, ◌+◌, ◌≤◌, List, [], ◌∷◌, ◌++◌, Ok, Err, IsTrue, IfOk, IfErr, length};
 ghost use Rattle.change_undo.specs.declared.entries.Entry.{Entry as Line};
 ghost use Rattle.change_undo.specs.declared.entries.Entry.TheVariants as entry;
 ghost use Rattle.host_names.specs.declared.names.SiteName.{SiteName as Site};
@@ -55,6 +55,7 @@ fn read<S: Shelf>(
 ) -> Reply
     ensures replied { (body : List ℕ) → AnswersAsk S.did S.failures server.old head.now body (Ok (Ask.Read site.now version.now path.now)) (answer_of result) server.new }
     ensures house { server.new.house ≡ server.old.house }
+    ensures count { S.failures server.old.files.shelf ≤ S.failures server.new.files.shelf }
 {
     match read_file(alloc, server, head, site, version, path) {
         Ok(reply) => reply,
@@ -99,6 +100,7 @@ fn respond<S: Shelf>(
 ) -> Reply
     ensures replied { AnswersAsk S.did S.failures server.old head.now body.items (Ok ask) (answer_of result) server.new }
     ensures grows { Grows server.old.house server.new.house }
+    ensures count { S.failures server.old.files.shelf ≤ S.failures server.new.files.shelf }
 {
     match ask {
         Ask::Read {
@@ -121,6 +123,7 @@ fn respond<S: Shelf>(
 pub fn answer<S: Shelf>(alloc: Global, request: Request, server: &mut Server<S>) -> Reply
     ensures replied { IsAnswer S.did S.failures server.old request.head request.body.items (answer_of result) server.new }
     ensures grows { Grows server.old.house server.new.house }
+    ensures count { S.failures server.old.files.shelf ≤ S.failures server.new.files.shelf }
     // Where an accepted change is undone next, the state is the one before it.
     ensures undone { (before : List Line) (command : Change) (site : Site)
         → server.old.house.entries ≡ before ++ entry.Change command ∷ []

@@ -1,5 +1,5 @@
 //! The reading of files.
-ghost use Rattle.std.specs.Prelude.{◌≡◌, ◌≢◌, ◌⊎◌, All, false, codes, IfErr, IfOk, IsTrue, length};
+ghost use Rattle.std.specs.Prelude.{◌≡◌, ◌≢◌, ◌⊎◌, ◌≤◌, All, false, codes, IfErr, IfOk, IsTrue, length};
 ghost use Rattle.blob_store.specs.declared.reading.ReadFault.{ReadFault as Fault};
 ghost use Rattle.range_spec.specs.Chosen.{LiesWithin, intervals_in};
 ghost use Rattle.range_spec.specs.declared.grammar.Asked.{Asked as Range};
@@ -104,6 +104,7 @@ fn send<S: Shelf>(
     ensures refused { IfErr result (λ reason. (why : Fault)
         × IsNotRead (GaveOfFiles S.did S.failures) (FailedOfFiles S.did S.failures) files.old info.now.value plan why files.new
         × (reason ≡ spec.refusal_of_read why)) }
+    ensures count { S.failures files.old.shelf ≤ S.failures files.new.shelf }
 {
     match read_body(alloc, files, info, plan, content_type(path)) {
         Ok(body) => Ok(Reply::of_file(path, info, body)),
@@ -123,6 +124,7 @@ pub(crate) fn read_file<S: Shelf>(
     ensures reads { Reads S.did S.failures server.old head.now site.now version.now path.now result server.new }
     ensures plain { IfErr result (λ reason. has_cell reason ≡ false) }
     ensures house { server.new.house ≡ server.old.house }
+    ensures count { S.failures server.old.files.shelf ≤ S.failures server.new.files.shelf }
 {
     let file = file(&server.house, site, version, path)?;
     let plan = plan_asked(head, file.info());

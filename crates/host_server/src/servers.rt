@@ -10,7 +10,8 @@ ghost use Rattle.host_server.specs.Storing.{DoesUpload, IsNotStored, IsStored};
 
 use crate::host::{SoloHouse, judge_upload};
 use blob_store::{Files, Shelf, UploadFault};
-use host_api::{HeadRefusal, Refusal, Told};
+use byte_view::MAX_SIZE;
+use host_api::{Refusal, Told};
 use host_names::{Digest, FilePath};
 use std::alloc::Global;
 
@@ -27,7 +28,7 @@ fn refusal_of_upload(why: UploadFault) -> Refusal
     ensures { result ≡ spec.refusal_of_upload why }
 {
     match why {
-        UploadFault::TooLarge => Refusal::Head(HeadRefusal::BodyTooLarge),
+        UploadFault::TooLarge => Refusal::TooLarge,
         UploadFault::Device => Refusal::Device,
         UploadFault::OutOfMemory => Refusal::OutOfMemory,
     }
@@ -57,8 +58,9 @@ impl<S: Shelf> Server<S> {
             × (reason ≡ spec.refusal_of_upload why)) }
         ensures err { OnErr result (self.new.house ≡ self.old.house) }
         ensures grows { Grows self.old.house self.new.house }
+        ensures count { S.failures self.old.files.shelf ≤ S.failures self.new.files.shelf }
     {
-        if self.house.uploads().find(&digest).is_some() {
+        if bytes.len() <= MAX_SIZE && self.house.uploads().find(&digest).is_some() {
             return Ok(());
         }
         let info = match self.files.put(digest, bytes) {
@@ -75,6 +77,7 @@ impl<S: Shelf> Server<S> {
         ensures done { DoesUpload S.did S.failures self.old number path.now bytes.items result self.new }
         ensures told { IfOk result (λ told. Outcomes.is_refusal told ≡ false) }
         ensures grows { Grows self.old.house self.new.house }
+        ensures count { S.failures self.old.files.shelf ≤ S.failures self.new.files.shelf }
     {
         let (site, digest) = judge_upload(&self.house, number, path, bytes.as_slice())?;
         self.keep(digest, bytes.as_slice())?;

@@ -4,4 +4,3 @@ mod hostile;
 mod openings;
 mod reads;
 mod uploads;
-mod wrong_shelves;

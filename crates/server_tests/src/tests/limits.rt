@@ -1,12 +1,14 @@
 //! Histories that are full, and long ones.
 
-use super::asserts::assert_number;
+use super::asserts::{assert_number, assert_text};
 use super::talks::{
     ONE, OPEN, OPENED, READ, SENT, UPLOAD, assert_answers, assert_ended, assert_has, entries,
     joined, new_server,
 };
 use blob_store::MemShelf;
+use host_names::FilePath;
 use host_server::{Server, serve_connection};
+use http::StatusCode;
 use http_wire::{Pair, Writing};
 use std::alloc::Global;
 use std::process::Abort;
@@ -60,6 +62,35 @@ fn an_upload_stands_whose_publishing_finds_the_history_full(rt: HostRuntime) -> 
     let alloc = rt.alloc();
     let mut server = Server::new(alloc, MemShelf::new(alloc), 1);
     assert_talk(&rt, alloc, &mut server, &UPLOADS, &UPLOADED, (ONE, true))
+}
+
+/// An opening that lists a file of 16,777,217 zero bytes.
+const OPEN_LARGE: &str = "POST /api/v1/sites/one/deploys HTTP/1.1\r\nContent-Length: 63\r\n\r\n\
+    {\"files\":{\"/a.txt\":\"4ec99add603bb162675fa8b96d0b3856b3ec2593\"}}";
+
+/// Asserts that its upload is refused as too large. A connection refuses the body before, by its length.
+fn assert_too_large(
+    rt: &impl Abort,
+    alloc: Global,
+    server: &mut Server<MemShelf>,
+) -> Result<(), Fail> {
+    let path = FilePath::read(alloc, "/a.txt")?;
+    let bytes = vec![in alloc; 0; 16_777_217]?;
+    let Err(reason) = server.upload(1, &path, bytes) else {
+        return Err(Fail::from("a byte too many is taken"));
+    };
+    assert_text(rt, reason.name().as_bytes(), "TooLarge");
+    assert!(rt; reason.status() == StatusCode::PAYLOAD_TOO_LARGE);
+    Ok(())
+}
+
+#[test]
+fn a_file_of_a_byte_too_many_is_not_taken(rt: HostRuntime) -> Result<(), Fail> {
+    let alloc = rt.alloc();
+    let mut server = new_server(alloc);
+    enter(&rt, alloc, &mut server, &[OPEN_LARGE])?;
+    assert_too_large(&rt, alloc, &mut server)?;
+    assert_has(&rt, alloc, &server, (ONE, false))
 }
 
 /// A request of each kind that makes an entry.

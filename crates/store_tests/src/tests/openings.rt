@@ -1,5 +1,6 @@
-//! Which files must be there where a store is opened.
-use super::fixtures::{assert_text, opened, put};
+//! Which files must be there where a store is opened, and openings of which each call is answered wrong.
+use super::fixtures::{assert_text, file_of, opened, put};
+use crate::hostile_shelf::{HostileShelf, Wrong};
 use blob_store::{MemShelf, ShelfName, Wanted};
 use host_names::Digest;
 use std::alloc::Global;
@@ -55,6 +56,40 @@ world !hello -> damaged aaf4c61ddcc5e8a2dabede0f3b482cd9aea9434d
     for row in rows.lines() {
         let (wanted, told) = row.split_once(" -> ").ok_or("a row has two halves")?;
         assert_opened(&rt, rt.alloc(), wanted, told)?;
+    }
+    Ok(())
+}
+
+/// What is told of openings that want a file of three pieces: where the table is answered wrong, each piece in turn, and nothing.
+fn told(alloc: Global, file: &[u8], wrong: Wrong) -> Result<String, Fail> {
+    let mut text = String::new(alloc);
+    for call in 0..5usize {
+        let mut shelf = MemShelf::new(alloc);
+        let digest = put(alloc, &mut shelf, file)?;
+        put(alloc, &mut shelf, b"other")?;
+        let shelf = HostileShelf::new(alloc, shelf, wrong, call);
+        let one = opened(alloc, shelf, &[Wanted { digest, must: true }])?;
+        let (word, _) = one.as_str().split_once(' ').unwrap_or((one.as_str(), ""));
+        text.push_str(word)?;
+        text.push(' ')?;
+    }
+    Ok(text)
+}
+
+#[test]
+fn each_wrong_answer_is_found_out(rt: HostRuntime) -> Result<(), Fail> {
+    let file = file_of(rt.alloc(), 131_073)?;
+    let rows = [
+        (Wrong::Lost, "missing damaged damaged damaged knows "),
+        (Wrong::Changed, "damaged damaged damaged damaged knows "),
+        (Wrong::Cut, "damaged damaged damaged damaged knows "),
+        (Wrong::Lengthened, "damaged damaged damaged damaged knows "),
+        (Wrong::Swapped, "damaged damaged damaged damaged knows "),
+        (Wrong::Failing, "device device device device knows "),
+    ];
+    for (wrong, wanted) in rows {
+        let text = told(rt.alloc(), file.as_slice(), wrong)?;
+        assert_text(&rt, "a wrong answer", text.as_str(), wanted);
     }
     Ok(())
 }

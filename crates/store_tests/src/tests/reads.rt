@@ -1,6 +1,6 @@
 //! Stretches and bodies that are read of a store.
 use super::fixtures::{assert_text, file_of};
-use super::wrong_shelves::{Wrong, WrongShelf};
+use crate::hostile_shelf::{HostileShelf, Wrong};
 use blob_store::{Blobs, MemShelf, ReadFault, Shelf};
 use byte_view::BlobInfo;
 use file_reads::{FileBody, read_body};
@@ -49,7 +49,8 @@ fn a_stretch_is_held_across_the_edge_of_a_chunk(rt: HostRuntime) -> Result<(), F
 #[test]
 fn a_stretch_is_missing_where_a_chunk_of_it_is_lost(rt: HostRuntime) -> Result<(), Fail> {
     let file = file_of(rt.alloc(), 65_537)?;
-    let shelf = WrongShelf::new(MemShelf::new(rt.alloc()), Wrong::Lost, 1);
+    // The upload puts two pieces and a table, so the call 4 gives the second piece.
+    let shelf = HostileShelf::new(rt.alloc(), MemShelf::new(rt.alloc()), Wrong::Lost, 4);
     let mut blobs = Blobs::new(rt.alloc(), shelf);
     let info = blobs.upload(file.as_slice())?;
     let text = held(rt.alloc(), &mut blobs, &info, 65_535, 65_536)?;
@@ -80,8 +81,9 @@ fn assert_sent(
 ) -> Result<(), Fail> {
     let mut blobs = Blobs::new(alloc, MemShelf::new(alloc));
     let info = blobs.upload(file.as_bytes())?;
+    let (_, mut files) = blobs.into_parts();
     let planned = plan(&info, &parse(value.as_bytes()), IfRange::Absent);
-    let body = read_body(alloc, &mut blobs, &info, planned, "text/plain")?;
+    let body = read_body(alloc, &mut files, &info, planned, "text/plain")?;
     let text = told(alloc, &body)?;
     assert_text(rt, value, text.as_str(), wanted);
     Ok(())

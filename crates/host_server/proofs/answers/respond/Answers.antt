@@ -1,4 +1,4 @@
-use Rattle.std.proofs.Common.{◌≡◌, Ok, refl, subst, sym}
+use Rattle.std.proofs.Common.{◌≡◌, Ok, arith, refl, subst, sym}
 use Rattle.host_api.specs.declared.bodies.Ask.{Ask}
 use Rattle.host_server.specs.Asks.{AnswersAsk}
 use Rattle.host_server.specs.Bodies.{answer_of}
@@ -19,6 +19,7 @@ returns-in-Read g c =
     record {
       replied = subst A (sym c.in-Read.is) (c.read.ensures.replied c.args.body.items);
       grows = grows_same server.house c.read.new.server.house c.read.ensures.house;
+      count = c.read.ensures.count;
     }
 
 pub returns-in-Command : goal.returns-in-Command
@@ -31,6 +32,7 @@ returns-in-Command g c =
       replied = subst A (sym c.in-Command.is) (on_server (server.files ≡ server.files) (told_command server.house next c.in-Command.command c.change.result
           (answer_of c.tell.result) c.change.ensures.done c.change.ensures.memory c.tell.ensures) refl);
       grows = c.change.ensures.grows;
+      count = omega arith;
     }
 
 pub returns-in-Undo : goal.returns-in-Undo
@@ -47,6 +49,7 @@ returns-in-Undo g c =
           c.take_back.result (answer_of c.tell-in-Undo.result) next c.take_back.ensures.done
           (λ none. (left_by c.take_back.result c.take_back.ensures.err none, c.take_back.ensures.memory none)) c.tell-in-Undo.ensures) refl);
       grows = c.take_back.ensures.grows;
+      count = omega arith;
     }
 
 pub returns-in-Changes : goal.returns-in-Changes
@@ -57,6 +60,7 @@ returns-in-Changes g c =
       replied = subst A (sym c.in-Changes.is) (on_server (server.files ≡ server.files) (told_changes server.house c.in-Changes.site c.told_changes.result
           (answer_of c.tell-in-Changes.result) c.told_changes.ensures c.tell-in-Changes.ensures) refl);
       grows = itself server.house;
+      count = omega arith;
     }
 
 pub returns-in-Deploy : goal.returns-in-Deploy
@@ -67,6 +71,7 @@ returns-in-Deploy g c =
       replied = subst A (sym c.in-Deploy.is) (on_server (server.files ≡ server.files) (told_deploy server.house c.in-Deploy.deploy c.show_deploy.result
           (answer_of c.tell-in-Deploy.result) c.show_deploy.ensures.shown c.show_deploy.ensures.memory c.tell-in-Deploy.ensures) refl);
       grows = itself server.house;
+      count = omega arith;
     }
 
 pub returns-in-RemoveDeploy : goal.returns-in-RemoveDeploy
@@ -82,6 +87,7 @@ returns-in-RemoveDeploy g c =
           (deploy_outcome host n (λ site. command.RemoveDeploy site n)) c.remove_deploy.result (answer_of c.tell-in-RemoveDeploy.result) next c.remove_deploy.ensures.done
           (λ none. (left_by c.remove_deploy.result c.remove_deploy.ensures.err none, c.remove_deploy.ensures.memory none)) c.tell-in-RemoveDeploy.ensures) refl);
       grows = c.remove_deploy.ensures.grows;
+      count = omega arith;
     }
 
 pub returns-in-Cancel : goal.returns-in-Cancel
@@ -97,6 +103,7 @@ returns-in-Cancel g c =
           (deploy_outcome host n (λ site. command.Cancel site n)) c.cancel.result (answer_of c.tell-in-Cancel.result) next c.cancel.ensures.done
           (λ none. (left_by c.cancel.result c.cancel.ensures.err none, c.cancel.ensures.memory none)) c.tell-in-Cancel.ensures) refl);
       grows = c.cancel.ensures.grows;
+      count = omega arith;
     }
 
 pub returns-in-Upload : goal.returns-in-Upload
@@ -109,4 +116,5 @@ returns-in-Upload g c =
       replied = subst A (sym c.in-Upload.is) (told_upload g.S.Shelf.did g.S.Shelf.failures server next c.in-Upload.deploy c.in-Upload.path body c.upload.result
           (answer_of c.tell-in-Upload.result) c.upload.ensures.done c.tell-in-Upload.ensures);
       grows = c.upload.ensures.grows;
+      count = c.upload.ensures.count;
     }

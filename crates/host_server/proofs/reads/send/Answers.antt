@@ -1,6 +1,7 @@
 use Rattle.std.proofs.Common.{ap, subst, ◌∙◌, List, ℕ}
 use Rattle.file_reads.specs.Sending.{IsRead}
 use Rattle.file_reads.specs.Stores.{GaveOfFiles}
+use Rattle.file_reads.proofs.Stored.{fault_goes_on, read_goes_on}
 use Rattle.host_server.specs.Files.{sent_answer}
 use Rattle.host_server.proofs.reads.send.Goals as goal
 
@@ -11,3 +12,11 @@ returns-in-Ok-clause-sent g c = (
       c.content_type.ensures c.in-Ok.ensures.read,
   c.of_file.ensures ∙ ap (λ (f : List ℕ). sent_answer c.args.path.now f c.in-Ok.body) c.deref.ensures,
 )
+
+pub returns-in-Ok-clause-count : goal.returns-in-Ok-clause-count
+returns-in-Ok-clause-count g c =
+    read_goes_on g.S.Shelf.did g.S.Shelf.failures c.args.files.now c.read_body.new.holder c.args.info.now.value c.content_type.result.now c.args.plan c.in-Ok.body c.in-Ok.ensures.read
+
+pub returns-in-Err-clause-count : goal.returns-in-Err-clause-count
+returns-in-Err-clause-count g c =
+    fault_goes_on g.S.Shelf.did g.S.Shelf.failures c.args.files.now c.read_body.new.holder c.args.info.now.value c.args.plan c.in-Err.why c.in-Err.ensures.fault

@@ -17,8 +17,8 @@ returns-in_err-keep-clause-refused g c =
     subst P (sym is) (
       fault.OutOfMemory,
       record {
-        unknown = sym (ap (λ bytes. map.get uploads (digest_of bytes)) c.in-Ok.ensures.info) ∙ c.in_err-keep.ensures.unknown;
-        large = λ e. absurd (cc e);
+        large = (λ e. absurd (cc e), λ long. absurd (cc (c.in-Ok.ensures.large.1 long)));
+        unknown = λ small. sym (ap (λ bytes. map.get uploads (digest_of bytes)) c.in-Ok.ensures.info) ∙ c.in_err-keep.ensures.unknown;
         failed = λ e. absurd (cc e);
         put = inr (inr c.in-Ok.ensures.put);
       },

@@ -1,5 +1,5 @@
 use Rattle.file_reads.proofs.Stored.{fault_counts, fault_goes_on, read_goes_on}
-use Rattle.file_reads.proofs.laws.reads_from_stores_count_failures.Goals as goal
+use Rattle.file_reads.proofs.laws.reads_count_failures.Goals as goal
 
 pub returns-clause-read : goal.returns-clause-read
 returns-clause-read g c = λ old new file content_type plan body is. read_goes_on g.S.Shelf.did g.S.Shelf.failures old new file content_type plan body is

@@ -1,0 +1,20 @@
+use Rattle.std.proofs.Common.{◌≡◌, None, Some, ap, sym, ◌∙◌}
+use Rattle.std.specs.FinMap as map
+use Rattle.host_names.specs.Blobs.{Contents}
+use Rattle.host_names.specs.Digests.{digest_cmp}
+use Rattle.host_server.proofs.ExactReads.{answered_back}
+use Rattle.host_server.proofs.KnownFiles.{answered_known}
+use Rattle.host_server.proofs.laws.uploads_are_read_back.Goals as goal
+
+pub returns-clause-empty : goal.returns-clause-empty
+returns-clause-empty g c = λ has server empty digest file at.
+    let wrong : None ≡ Some file = sym (map.get-empty digest_cmp digest) ∙ ap (λ (u : Contents). map.get u digest) (sym empty) ∙ at in
+    absurd (cc wrong)
+
+pub returns-clause-kept : goal.returns-clause-kept
+returns-clause-kept g c = λ has old new parts body answer keeps agrees known is.
+    answered_known g.S.Shelf.did g.S.Shelf.failures has keeps old new parts body answer agrees known is
+
+pub returns-clause-read : goal.returns-clause-read
+returns-clause-read g c = λ has old new parts body answer site version path file keeps digested lawful known asks there is.
+    answered_back g.S.Shelf.did g.S.Shelf.failures has keeps old new parts body answer site version path file digested lawful known asks there is

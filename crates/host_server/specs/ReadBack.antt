@@ -1,0 +1,47 @@
+-- Files that were uploaded are read back.
+use Rattle.std.specs.Prelude.{◌≡◌, ◌⊎◌, ℕ, List, Option, Some, Ok, length}
+use Rattle.std.specs.FinMap as map
+use Rattle.host_names.specs.Blobs.{Contents}
+use Rattle.host_names.specs.declared.digests.Digest.{Digest}
+use Rattle.blob_store.specs.Calls.{things_of}
+use Rattle.blob_store.specs.Keeping.{Agree, HasFile}
+use Rattle.blob_store.specs.declared.shelves.ShelfName.{ShelfName}
+use Rattle.range_spec.specs.declared.grammar.Asked.{Asked}
+use Rattle.range_spec.specs.declared.selection.Choice.{Choice}
+use Rattle.range_spec.specs.declared.selection.Choice.TheVariants.{None416}
+use Rattle.file_reads.specs.Sending.{IsExact}
+use Rattle.file_reads.specs.declared.bodies.FileBody.{FileBody}
+use Rattle.http_wire.specs.Requests.{RequestParts}
+use Rattle.host_api.specs.Types.{type_of}
+use Rattle.host_api.specs.declared.bodies.Ask.TheVariants.{Upload}
+use Rattle.host_api.specs.declared.refusals.Refusal.TheVariants as reason
+use Rattle.host_server.specs.Asks.{asked_for}
+use Rattle.host_server.specs.Files.{AsksRange, plan_of, sent_answer}
+use Rattle.host_server.specs.Replies.{Answer, refused_answer}
+use Rattle.host_server.specs.declared.servers.Server.{Server}
+
+-- the shelf of a server has each file that its host knows
+abbrev pub HasKnown : {S : Type 0} → (has : S → ShelfName → Option (List ℕ)) → Server S → Type 0
+HasKnown has server = (digest : Digest) (file : List ℕ) → map.get server.house.uploads digest ≡ Some file → HasFile has server.files.shelf file
+
+-- of these bytes and the files that are known, no two pieces, nor two files, share a digest and differ
+pub record AgreesWith (uploads : Contents) (bytes : List ℕ) : Type 0 where
+  pub itself : Agree (things_of bytes) (things_of bytes)
+  pub known : (digest : Digest) (file : List ℕ) → map.get uploads digest ≡ Some file → Agree (things_of file) (things_of bytes)
+
+-- that holds of the body of a request, where it is an upload
+abbrev pub UploadAgrees : Contents → RequestParts → List ℕ → Type 0
+UploadAgrees uploads parts body = (deploy : ℕ) (path : List ℕ) → asked_for parts body ≡ Ok (Upload deploy path) → AgreesWith uploads body
+
+-- the answer to a plan of the file at a path: that it has no byte of what is asked for, or what the plan sends of the file itself
+abbrev pub IsSentExactly : List ℕ → List ℕ → Choice → Answer → Type 0
+IsSentExactly path file plan answer =
+    ((plan ≡ None416) × (answer ≡ refused_answer (reason.NotSatisfiable (length file))))
+    ⊎ ((body : FileBody) × IsExact file plan (type_of path) body × (answer ≡ sent_answer path file body))
+
+-- the answer to the reading of the file: that there was no memory, or that the device failed; or what the request asks for, of the file itself
+abbrev pub IsReadBack : RequestParts → List ℕ → List ℕ → Answer → Type 0
+IsReadBack parts path file answer =
+    (answer ≡ refused_answer reason.OutOfMemory)
+    ⊎ (answer ≡ refused_answer reason.Device)
+    ⊎ ((range : Asked) × AsksRange parts range × IsSentExactly path file (plan_of parts range file) answer)
