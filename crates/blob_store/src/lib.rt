@@ -2,9 +2,12 @@
 #![tactic(auto)]
 
 mod blobs;
+mod dir_shelf;
+mod failures;
 mod files;
 mod known;
 mod laws;
+mod lent_shelf;
 mod mem_shelf;
 mod openings;
 mod reading;
@@ -14,12 +17,14 @@ mod stretches;
 mod tables;
 
 pub use blobs::{Blobs, NotOpened, UploadFault};
+pub use dir_shelf::DirShelf;
 pub use files::read_file;
 pub use known::Known;
 pub use laws::{
     files_have_tables, kept_files_are_known, kept_files_are_read, kept_stretches_are_held,
     shelves_in_memory_keep, uploads_are_kept,
 };
+pub use lent_shelf::LentShelf;
 pub use mem_shelf::MemShelf;
 pub use openings::{OpenFault, Wanted};
 pub use reading::ReadFault;

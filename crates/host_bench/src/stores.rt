@@ -99,8 +99,9 @@ pub(crate) fn time_read(rt: &HostRuntime, bytes: usize) -> Result<Duration> {
     let file = random(rt.alloc(), bytes, 1)?;
     let mut blobs = empty_store(rt.alloc());
     let (info, _) = upload(rt, &mut blobs, file.as_slice())?;
+    let (_, mut files) = blobs.into_parts();
     let begun = Instant::now(rt)?;
-    let body = read_body(rt.alloc(), &mut blobs, &info, Choice::Whole, "text/plain")?;
+    let body = read_body(rt.alloc(), &mut files, &info, Choice::Whole, "text/plain")?;
     let took = begun.elapsed(rt)?;
     if body.bytes != file {
         return Err(anyhow!("other bytes were read"));

@@ -1,0 +1,143 @@
+//! A shelf in a folder.
+ghost use Rattle.std.specs.Prelude.{◌≡◌, IfOk};
+ghost use Rattle.blob_store.specs.Failures.{count_of};
+
+use crate::failures::{Failures, counted};
+use crate::shelves::{Shelf, ShelfFault, ShelfName};
+use byte_view::PIECE_SIZE;
+use std::alloc::{AllocError, Global};
+use std::fs::{self, File, OpenFile};
+use std::io::{self, Read, Write};
+use std::path::{Path, PathBuf};
+use std::rt::Files;
+
+/// The bytes of the longest table: that of a file of 256 pieces.
+const MAX_TABLE: usize = 8 + 256 * 20;
+
+/// The name that everything is written under first.
+const TEMPORARY: &str = "blob.tmp";
+
+/// A folder with a file for each piece and each table. That it has what was put there is a premise, and is not proved: no contract
+/// can say what a file gives or takes, nor what a crash leaves of it.
+#[derive(Drop)]
+pub struct DirShelf<'a, R> {
+    rt: &'a R,
+    alloc: Global,
+    folder: PathBuf,
+    temporary: PathBuf,
+    failures: Failures,
+}
+
+/// The bytes of the file of a path; none where nothing is there. What is no file, or has more bytes than the most, is not read, and told
+/// as no bytes, which neither a piece nor a table has.
+fn read_file<R: Files>(
+    rt: &R,
+    alloc: Global,
+    path: &str,
+    most: usize,
+) -> Result<Option<Vec<u8>>, ShelfFault> {
+    let found = match fs::metadata(rt, path) {
+        Ok(found) => found,
+        Err(error) if error.kind() == io::ErrorKind::NotFound => return Ok(None),
+        Err(_) => return Err(ShelfFault::Device),
+    };
+    if !found.is_file() || found.len() > most as u64 {
+        return Ok(Some(Vec::new(alloc)));
+    }
+    let mut bytes = vec![in alloc; 0; found.len() as usize].map_err(|_| ShelfFault::OutOfMemory)?;
+    let mut file = File::open(rt, path).map_err(|_| ShelfFault::Device)?;
+    file.read_exact(bytes.as_mut_slice())
+        .map_err(|_| ShelfFault::Device)?;
+    Ok(Some(bytes))
+}
+
+/// Makes the names in a folder last.
+fn sync_folder<R: Files>(rt: &R, folder: &str) -> io::Result<()> {
+    File::open(rt, folder)?.sync_all()
+}
+
+/// Writes bytes under a temporary name, syncs them, and gives them their own name, from which they replace what was there.
+fn write_file<R: Files>(rt: &R, temporary: &str, path: &str, bytes: &[u8]) -> io::Result<()> {
+    let mut file = File::create(rt, temporary)?;
+    file.write_all(bytes)?;
+    file.sync_all()?;
+    fs::rename(rt, temporary, path)
+}
+
+impl<'a, R: Files> DirShelf<'a, R> {
+    /// The shelf of a folder. It asks the system for nothing yet. No one else may write in the folder.
+    pub fn new(rt: &'a R, alloc: Global, folder: &str) -> Result<DirShelf<'a, R>, AllocError>
+        ensures { IfOk result (λ shelf. count_of shelf.failures ≡ 0) }
+    {
+        let folder = PathBuf::from_str(alloc, folder)?;
+        let temporary = folder.join(alloc, TEMPORARY)?;
+        Ok(DirShelf {
+            rt,
+            alloc,
+            folder,
+            temporary,
+            failures: Failures::Zero,
+        })
+    }
+
+    /// The path of the file under a name: `c-` or `t-`, and the 40 digits of its digest.
+    fn path_of(&self, name: ShelfName) -> Result<PathBuf, ShelfFault> {
+        let text = match name {
+            ShelfName::Part(digest) => format!(in self.alloc; "c-{}", digest.to_hex().as_str()),
+            ShelfName::Table(digest) => format!(in self.alloc; "t-{}", digest.to_hex().as_str()),
+        };
+        let text = text.map_err(|_| ShelfFault::OutOfMemory)?;
+        self.folder
+            .join(self.alloc, text.as_str())
+            .map_err(|_| ShelfFault::OutOfMemory)
+    }
+
+    /// Writes the file of a name. A table's name is given only once those of the pieces last, and lasts then.
+    fn write(&self, name: ShelfName, bytes: &[u8]) -> Result<(), ShelfFault> {
+        let path = self.path_of(name)?;
+        let written = match name {
+            ShelfName::Part(_) => self.write_under(&path, bytes),
+            ShelfName::Table(_) => self.write_table(&path, bytes),
+        };
+        written.map_err(|_| ShelfFault::Device)
+    }
+
+    fn write_under(&self, path: &PathBuf, bytes: &[u8]) -> io::Result<()> {
+        write_file(self.rt, self.temporary.as_str(), path.as_str(), bytes)
+    }
+
+    fn write_table(&self, path: &PathBuf, bytes: &[u8]) -> io::Result<()> {
+        sync_folder(self.rt, self.folder.as_str())?;
+        self.write_under(path, bytes)?;
+        sync_folder(self.rt, self.folder.as_str())
+    }
+
+    /// Reads the file of a name.
+    fn read(&self, name: ShelfName) -> Result<Option<Vec<u8>>, ShelfFault> {
+        let path = self.path_of(name)?;
+        let most = match name {
+            ShelfName::Part(_) => PIECE_SIZE,
+            ShelfName::Table(_) => MAX_TABLE,
+        };
+        read_file(self.rt, self.alloc, path.as_str(), most)
+    }
+}
+
+impl<R: Files> Shelf for DirShelf<'_, R> {
+    ghost use Rattle.std.specs.Prelude.{⊤};
+    ghost use Rattle.blob_store.specs.Failures.{count_of};
+
+    ghost failures = { λ shelf. count_of shelf.failures };
+
+    ghost did = { λ old call new. ⊤ };
+
+    fn put(&mut self, name: ShelfName, bytes: &[u8]) -> Result<(), ShelfFault> {
+        let outcome = self.write(name, bytes);
+        counted(&mut self.failures, outcome)
+    }
+
+    fn get(&mut self, name: ShelfName) -> Result<Option<Vec<u8>>, ShelfFault> {
+        let outcome = self.read(name);
+        counted(&mut self.failures, outcome)
+    }
+}
