@@ -19,3 +19,7 @@ mod StartSteps
 mod OneWalk
 mod LookSteps
 mod OpenSteps
+mod OneAnswer
+mod Entrywise
+mod JournalSteps
+mod OpenedJournals

@@ -5,25 +5,25 @@ use Rattle.change_journal.specs.Walks.{IsShort}
 use Rattle.change_journal.proofs.NotWhole.{same_frame}
 
 -- the first record and what follows
-first_record : (body : List ℕ) (bodies : List (List ℕ)) (rest : List ℕ) → records (body ∷ bodies) ++ rest ≡ 1 ∷ (framed body ++ (records bodies ++ rest))
+pub first_record : (body : List ℕ) (bodies : List (List ℕ)) (rest : List ℕ) → records (body ∷ bodies) ++ rest ≡ 1 ∷ (framed body ++ (records bodies ++ rest))
 unfolding records
 first_record body bodies rest = ap (λ (l : List ℕ). 1 ∷ l) (append_assoc (framed body) (records bodies) rest)
 
-no_record : (rest : List ℕ) → records [] ++ rest ≡ rest
+pub no_record : (rest : List ℕ) → records [] ++ rest ≡ rest
 unfolding records
 no_record rest = refl
 
-opened_with : (bodies : List (List ℕ)) (rest : List ℕ) → opened bodies ++ rest ≡ 1 ∷ (header ++ (records bodies ++ rest))
+pub opened_with : (bodies : List (List ℕ)) (rest : List ℕ) → opened bodies ++ rest ≡ 1 ∷ (header ++ (records bodies ++ rest))
 unfolding opened
 opened_with bodies rest = refl
 
-same_head : (x y : ℕ) (xs ys : List ℕ) → x ∷ xs ≡ y ∷ ys → x ≡ y
+pub same_head : (x y : ℕ) (xs ys : List ℕ) → x ∷ xs ≡ y ∷ ys → x ≡ y
 same_head x y xs ys e = ap (λ (l : List ℕ). get_or l 0 0) e
 
-first_lawful : (P : List ℕ → Type 0) (b : List ℕ) (bs : List (List ℕ)) → All P (b ∷ bs) → P b
+pub first_lawful : (P : List ℕ → Type 0) (b : List ℕ) (bs : List (List ℕ)) → All P (b ∷ bs) → P b
 first_lawful P b bs all = all 0 b (omega arith)
 
-rest_lawful : (P : List ℕ → Type 0) (b : List ℕ) (bs : List (List ℕ)) → All P (b ∷ bs) → All P bs
+pub rest_lawful : (P : List ℕ → Type 0) (b : List ℕ) (bs : List (List ℕ)) → All P (b ∷ bs) → All P bs
 rest_lawful P b bs all = λ k d low. all (suc k) d (omega (arith, low))
 
 -- the bodies and what follows them are the same

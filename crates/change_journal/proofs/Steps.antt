@@ -27,6 +27,11 @@ pub same_fault : {T E : Type 0} (result : Result T E) (fault : E) (P : E → Typ
 same_fault (Ok x) fault P is p = tt
 same_fault (Err x) fault P is p = subst P (sym is) p
 
+-- a fact of the value of an Ok gives another
+pub if_ok : {T E : Type 0} (result : Result T E) (P Q : T → Type 0) → ((x : T) → P x → Q x) → IfOk result P → IfOk result Q
+if_ok (Ok x) P Q from p = from x p
+if_ok (Err x) P Q from p = tt
+
 -- two facts of the value of an Ok give a third
 pub both_if_ok : {T E : Type 0} (result : Result T E) (P Q R : T → Type 0) → ((x : T) → P x → Q x → R x) → IfOk result P → IfOk result Q → IfOk result R
 both_if_ok (Ok x) P Q R from p q = from x p q

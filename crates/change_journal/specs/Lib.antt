@@ -5,3 +5,5 @@ pub mod Frames
 pub mod Settled
 pub mod Walks
 pub mod Openings
+pub mod Texts
+pub mod Held

@@ -11,9 +11,13 @@ pub record IsOnlyRead {D : Type 0} (seen : D → List ℕ) (may_leave : D → Li
   pub crash : (c : List ℕ) → may_leave new c → may_leave old c
   pub time : LeavesOnly moment left_since old new (may_leave old)
 
--- the count of failed calls stays at Ok, and rises where a failure of the device is told, unless it is at the top of a u64
+-- the count of failed calls rises where a failure of the device is told, unless it is at the top of a u64
+abbrev pub TellsStop : OpenFault → ℕ → ℕ → Type 0
+TellsStop fault old new = fault ≡ Device → min (old + 1) (2 ^ 64 - 1) ≤ new
+
+-- the same, and it stays at Ok
 abbrev pub TellsDevice : {T : Type 0} → Result T OpenFault → ℕ → ℕ → Type 0
-TellsDevice result old new = MatchResult result (λ _. new ≡ old) (λ fault. fault ≡ Device → min (old + 1) (2 ^ 64 - 1) ≤ new)
+TellsDevice result old new = MatchResult result (λ _. new ≡ old) (λ fault. TellsStop fault old new)
 
 -- as long as a body may be
 abbrev pub IsShort : List ℕ → Type 0
@@ -56,6 +60,12 @@ pub record HasWalked (Has : List (List ℕ) → Type 0) (IsLawful : List ℕ →
   pub gate_is : gate ≡ length (opened taken)
   pub count_is : count ≡ length taken
   pub is : file ≡ opened taken ++ drop gate file
+
+-- so many bodies were handed on
+pub record HasCounted (Has : List (List ℕ) → Type 0) (count : ℕ) : Type 0 where
+  pub taken : List (List ℕ)
+  pub has : Has taken
+  pub count_is : count ≡ length taken
 
 -- where a walk ended: the gate there isn't open
 pub record HasEnded (Has : List (List ℕ) → Type 0) (IsLawful : List ℕ → Type 0) (place count gate : ℕ) (file : List ℕ) : Type 0 where

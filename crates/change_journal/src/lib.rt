@@ -2,16 +2,20 @@
 #![tactic(auto)]
 
 mod bodies;
+mod collecting;
 mod decode_faults;
 mod decoding;
 mod encoding;
 mod faults;
 mod fields;
+mod held;
+mod journals;
 mod laws;
 mod listings;
 mod mending;
 mod openings;
 mod places;
+mod prepared;
 mod records;
 mod starts;
 mod synced;
@@ -20,4 +24,8 @@ mod walks;
 pub use decode_faults::DecodeFault;
 pub use decoding::decode;
 pub use encoding::{GREATEST_LENGTH, encode};
+pub use faults::OpenFault;
+pub use journals::{Journal, NotOpened};
 pub use laws::{an_entry_has_one_spelling, no_bytes_spell_two_entries};
+pub use prepared::{Prepared, prepare};
+pub use records::PutFault;

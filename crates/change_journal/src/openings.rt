@@ -5,7 +5,7 @@ ghost use Rattle.change_journal.specs.declared.faults.OpenFault.TheVariants.{Bad
 ghost use Rattle.change_journal.specs.declared.starts.Start.TheVariants.{Opened};
 ghost use Rattle.change_journal.specs.Frames.{IsNew, opened};
 ghost use Rattle.change_journal.specs.Openings.{HasOpened, IsExactly, IsNoJournal, IsStart, IsStarting, MayBePut, MayFind};
-ghost use Rattle.change_journal.specs.Walks.{IsBadRecord, IsOnlyRead, IsOpened, TellsDevice};
+ghost use Rattle.change_journal.specs.Walks.{HasCounted, IsBadRecord, IsOnlyRead, IsOpened, TellsDevice};
 
 use crate::bodies::Bodies;
 use crate::faults::OpenFault;
@@ -25,6 +25,7 @@ fn open_records<D: Disk, B: Bodies>(
 ) -> Result<Place, OpenFault>
     requires { 8 < size }
     ensures opened { IsTrue D.is_modelled → size ≡ length (D.seen disk.old) → IsOpened (D.seen disk.old) → Only (D.seen disk.old) (D.may_leave disk.old) → B.has bodies.old [] → IfOk result (λ place. HasOpened (B.has bodies.new) B.is_lawful place.gate place.count (D.seen disk.old) (D.seen disk.new) (D.may_leave disk.new)) }
+    ensures count { B.has bodies.old [] → IfOk result (λ place. HasCounted (B.has bodies.new) place.count) }
     ensures bad { IsTrue D.is_modelled → size ≡ length (D.seen disk.old) → IsOpened (D.seen disk.old) → B.has bodies.old [] → IfErr result (λ fault. (i : ℕ) → fault ≡ BadRecord i → IsBadRecord B.is_lawful i (D.seen disk.old)) }
     ensures unwritten { IsTrue D.is_modelled → IfErr result (λ fault. (fault ≡ Device → ⊥) → IsOnlyRead D.seen D.may_leave D.moment D.left_since disk.old disk.new) }
     ensures header { IsErrOf result BadHeader → ⊥ }
@@ -58,6 +59,7 @@ fn open_started<D: Disk, B: Bodies>(
 ) -> Result<Place, OpenFault>
     requires { start ≡ Opened → 8 < size }
     ensures opened { IsTrue D.is_modelled → size ≡ length (D.seen disk.old) → IsStart start (D.seen disk.old) → Only (D.seen disk.old) (D.may_leave disk.old) → B.has bodies.old [] → IfOk result (λ place. HasOpened (B.has bodies.new) B.is_lawful place.gate place.count (D.seen disk.old) (D.seen disk.new) (D.may_leave disk.new)) }
+    ensures count { B.has bodies.old [] → IfOk result (λ place. HasCounted (B.has bodies.new) place.count) }
     ensures bad { IsTrue D.is_modelled → size ≡ length (D.seen disk.old) → IsStart start (D.seen disk.old) → B.has bodies.old [] → IfErr result (λ fault. (i : ℕ) → fault ≡ BadRecord i → IsBadRecord B.is_lawful i (D.seen disk.old)) }
     ensures unwritten { IsTrue D.is_modelled → IfErr result (λ fault. (fault ≡ Device → ⊥) → IsOnlyRead D.seen D.may_leave D.moment D.left_since disk.old disk.new) }
     ensures header { IsErrOf result BadHeader → ⊥ }
@@ -89,6 +91,7 @@ fn open_measured<D: Disk, B: Bodies>(
     bodies: &mut B,
 ) -> Result<Place, OpenFault>
     ensures opened { IsTrue D.is_modelled → size ≡ length (D.seen disk.old) → Only (D.seen disk.old) (D.may_leave disk.old) → B.has bodies.old [] → IfOk result (λ place. HasOpened (B.has bodies.new) B.is_lawful place.gate place.count (D.seen disk.old) (D.seen disk.new) (D.may_leave disk.new)) }
+    ensures count { B.has bodies.old [] → IfOk result (λ place. HasCounted (B.has bodies.new) place.count) }
     ensures bad_header { IsTrue D.is_modelled → size ≡ length (D.seen disk.old) → IsErrOf result BadHeader → IsNoJournal (D.seen disk.old) }
     ensures bad_record { IsTrue D.is_modelled → size ≡ length (D.seen disk.old) → B.has bodies.old [] → IfErr result (λ fault. (i : ℕ) → fault ≡ BadRecord i → IsBadRecord B.is_lawful i (D.seen disk.old)) }
     ensures unwritten { IsTrue D.is_modelled → IfErr result (λ fault. (fault ≡ Device → ⊥) → IsOnlyRead D.seen D.may_leave D.moment D.left_since disk.old disk.new) }
@@ -107,6 +110,7 @@ pub(crate) fn open_file<D: Disk, B: Bodies>(
     bodies: &mut B,
 ) -> Result<Place, OpenFault>
     ensures opened { IsTrue D.is_modelled → B.has bodies.old [] → IfOk result (λ place. HasOpened (B.has bodies.new) B.is_lawful place.gate place.count (D.seen disk.old) (D.seen disk.new) (D.may_leave disk.new)) }
+    ensures count { B.has bodies.old [] → IfOk result (λ place. HasCounted (B.has bodies.new) place.count) }
     ensures bad_header { IsTrue D.is_modelled → IsErrOf result BadHeader → IsNoJournal (D.seen disk.old) }
     ensures bad_record { IsTrue D.is_modelled → B.has bodies.old [] → IfErr result (λ fault. (i : ℕ) → fault ≡ BadRecord i → IsBadRecord B.is_lawful i (D.seen disk.old)) }
     ensures unwritten { IsTrue D.is_modelled → IfErr result (λ fault. (fault ≡ Device → ⊥) → IsOnlyRead D.seen D.may_leave D.moment D.left_since disk.old disk.new) }

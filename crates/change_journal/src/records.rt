@@ -1,9 +1,9 @@
 //! The file of a journal: records with the bodies of entries, each behind a gate.
-ghost use Rattle.std.specs.Prelude.{◌≡◌, ◌+◌, ◌<◌, ◌≤◌, ◌^◌, Err, IsErrOf, IsTrue, List, OnErr, OnOk, [], ◌∷◌, ◌++◌, length, false, true, ℕ};
+ghost use Rattle.std.specs.Prelude.{◌≡◌, ◌+◌, ◌<◌, ◌≤◌, ◌^◌, Err, IsErrOf, IsTrue, List, MatchResult, OnOk, [], ◌∷◌, ◌++◌, length, false, true, ℕ};
 ghost use Rattle.host_disk.specs.Crashes.{CountsFailure, LeavesOnly};
 ghost use Rattle.change_journal.specs.Frames.{AllShut, MayHold, framed, opened};
-ghost use Rattle.change_journal.specs.Settled.{IsSettled};
-ghost use Rattle.change_journal.specs.declared.records.PutFault.TheVariants.{Broken, Device};
+ghost use Rattle.change_journal.specs.Settled.{IsSettled, TellsBreak};
+ghost use Rattle.change_journal.specs.declared.records.PutFault.TheVariants.{Broken};
 
 use crate::places::Place;
 use crate::synced::write_synced;
@@ -52,6 +52,20 @@ impl<D: Disk> Records<D> {
         }
     }
 
+    /// Whether the device has failed here.
+    pub(crate) fn is_broken(&self) -> bool
+        ensures { result ≡ self.now.broken }
+    {
+        self.broken
+    }
+
+    /// Hands out the disk.
+    pub(crate) fn into_disk(self) -> D
+        ensures { result ≡ self.disk }
+    {
+        self.disk
+    }
+
     /// Puts a body behind the others, by the bytes of its record, which end in the gate of the next one. Once the device has failed
     /// here, each further call answers `Broken` and does nothing.
     pub(crate) fn put(&mut self, bytes: &[u8]) -> Result<(), PutFault>
@@ -62,10 +76,9 @@ impl<D: Disk> Records<D> {
         ensures any_moment { IsTrue D.is_modelled → (bodies : List (List ℕ)) (body : List ℕ) → bytes.now ≡ framed body ++ 0 ∷ [] → IsSettled D.may_leave self.old bodies → LeavesOnly D.moment D.left_since self.old.disk self.new.disk (MayHold bodies body) }
         ensures refused { IsTrue self.old.broken → (result ≡ Err Broken) × (self.new ≡ self.old) }
         ensures broken { IsErrOf result Broken → IsTrue self.old.broken }
-        ensures breaks { IsErrOf result Device → IsTrue self.new.broken }
-        ensures counted { OnOk result (self.new.place.count ≡ self.old.place.count + 1) }
-        ensures no_failure { OnOk result (D.faults self.new.disk ≡ D.faults self.old.disk) }
-        ensures cause { IsErrOf result Device → CountsFailure result (D.faults self.old.disk) (D.faults self.new.disk) }
+        ensures breaks { MatchResult result (λ _. self.new.broken ≡ false) (λ _. self.new.broken ≡ true) }
+        ensures place { MatchResult result (λ _. self.new.place.count ≡ self.old.place.count + 1) (λ _. self.new.place ≡ self.old.place) }
+        ensures cause { MatchResult result (λ _. D.faults self.new.disk ≡ D.faults self.old.disk) (λ fault. TellsBreak fault (D.faults self.old.disk) (D.faults self.new.disk)) }
     {
         if self.broken {
             return Err(PutFault::Broken);

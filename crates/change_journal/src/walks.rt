@@ -4,7 +4,7 @@ ghost use Rattle.std.specs.Int.{to_be_bytes, w32};
 ghost use Rattle.host_disk.specs.Crashes.{CountsFailure};
 ghost use Rattle.change_journal.specs.declared.faults.OpenFault.TheVariants.{BadHeader, BadRecord, Device};
 ghost use Rattle.change_journal.specs.Frames.{framed, opened};
-ghost use Rattle.change_journal.specs.Walks.{IsOnlyRead, HasEnded, HasWalked, IsBadRecord, IsNoRecord, IsNotWhole, IsOpened, IsShort, TellsDevice};
+ghost use Rattle.change_journal.specs.Walks.{IsOnlyRead, HasCounted, HasEnded, HasWalked, IsBadRecord, IsNoRecord, IsNotWhole, IsOpened, IsShort, TellsDevice};
 
 use crate::bodies::{Bodies, BodyFault};
 use crate::faults::OpenFault;
@@ -167,6 +167,7 @@ pub(crate) fn walk_records<D: Disk, B: Bodies>(
 ) -> Result<End, OpenFault>
     requires { 8 < size }
     ensures end { IsTrue D.is_modelled → size ≡ length (D.seen disk.old) → IsOpened (D.seen disk.old) → B.has bodies.old [] → IfOk result (λ end. HasEnded (B.has bodies.new) B.is_lawful end.place.gate end.place.count end.gate (D.seen disk.old)) }
+    ensures count { B.has bodies.old [] → IfOk result (λ end. HasCounted (B.has bodies.new) end.place.count) }
     ensures within { IfOk result (λ end. end.place.gate < size) }
     ensures bad { IsTrue D.is_modelled → size ≡ length (D.seen disk.old) → IsOpened (D.seen disk.old) → B.has bodies.old [] → IfErr result (λ fault. (i : ℕ) → fault ≡ BadRecord i → IsBadRecord B.is_lawful i (D.seen disk.old)) }
     ensures same { IsTrue D.is_modelled → IsOnlyRead D.seen D.may_leave D.moment D.left_since disk.old disk.new }

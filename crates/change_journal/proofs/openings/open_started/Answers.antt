@@ -1,6 +1,6 @@
 use Rattle.std.proofs.Common.{[], ◌∷◌, inr, refl, sym, ◌∙◌, arith}
 use Rattle.change_journal.specs.Openings.{IsStarting, MayFind}
-use Rattle.change_journal.proofs.Steps.{weaker, both_if_ok}
+use Rattle.change_journal.proofs.Steps.{weaker, if_ok, both_if_ok}
 use Rattle.change_journal.proofs.OpenSteps.{new_start, starting_holds}
 use Rattle.change_journal.proofs.WalkSteps.{length-opened}
 use Rattle.change_journal.proofs.openings.open_started.Goals as goal
@@ -22,6 +22,10 @@ returns-in_default-clause-opened g c modelled size start only has =
       count_is = at.1;
       exactly = made;
     }) c.open_new.ensures.place (c.open_new.ensures.made modelled size start new only)
+
+pub returns-in_default-clause-count : goal.returns-in_default-clause-count
+returns-in_default-clause-count g c has =
+    if_ok c.open_new.result _ _ (λ place at. record { taken = []; has = has; count_is = at.1 }) c.open_new.ensures.place
 
 pub returns-in_default-clause-any_moment : goal.returns-in_default-clause-any_moment
 returns-in_default-clause-any_moment g c modelled size start only has had body put find =

@@ -1,6 +1,6 @@
-use Rattle.std.proofs.Common.{rules, IsNone, ◌≡◌, ◌⊎◌, ◌+◌, ◌≤◌, ◌∷◌, ◌++◌, drop, length, refl, sym, ◌∙◌, ap, subst, arith}
+use Rattle.std.proofs.Common.{rules, IsNone, ◌≡◌, ◌⊎◌, ◌+◌, ◌≤◌, [], ◌∷◌, ◌++◌, drop, length, length-append, refl, sym, ◌∙◌, ap, subst, arith}
 use Rattle.change_journal.specs.Frames.{framed}
-use Rattle.change_journal.specs.Walks.{HasWalked, IsNoRecord}
+use Rattle.change_journal.specs.Walks.{HasCounted, HasWalked, IsNoRecord}
 use Rattle.change_journal.proofs.Steps.{same_fault}
 use Rattle.change_journal.proofs.WalkSteps.{nothing_read, read_on, walk_starts, walk_goes, walk_breaks}
 use Rattle.change_journal.proofs.walks.walk_records.Goals as goal
@@ -10,6 +10,7 @@ loop-body-init g c = record {
   within = omega (arith, c.first-place.ensures.0, c.requires);
   same = λ modelled. nothing_read g.D.Disk.seen g.D.Disk.may_leave g.D.Disk.moment g.D.Disk.left_since c.args.disk.now (λ f left. g.met.D.Disk.only_now c.args.disk.now f modelled left);
   counted = refl;
+  taken = λ has. record { taken = []; has = has; count_is = c.first-place.ensures.1 };
   walked = λ modelled opens has. walk_starts (g.B.Bodies.has c.args.bodies.now) g.B.Bodies.is_lawful c.first-place.result.gate c.first-place.result.count (g.D.Disk.seen c.args.disk.now) c.first-place.ensures.0 c.first-place.ensures.1 opens has;
 }
 
@@ -39,6 +40,11 @@ returns-in-Some-clause-end g c modelled size opens has =
       is = subst (λ f. drop at f ≡ c.in-Some.gate ∷ drop (at + 1) f) same end.1;
     }
 
+pub returns-in-Some-clause-count : goal.returns-in-Some-clause-count
+returns-in-Some-clause-count g c has =
+    let stays : c.hand_on.new.bodies ≡ c.loop-body.bodies = rw c.in-Some.is at c.in_ok-gate.ensures.stays in
+    subst (λ b. HasCounted (g.B.Bodies.has b) c.loop-body.place.count) (sym stays) (c.loop-body.invariant.taken has)
+
 pub returns-in-Some-clause-same : goal.returns-in-Some-clause-same
 returns-in-Some-clause-same g c modelled =
     read_on g.D.Disk.seen g.D.Disk.may_leave g.D.Disk.moment g.D.Disk.left_since c.args.disk.now c.loop-body.disk c.hand_on.new.disk (c.loop-body.invariant.same modelled) (c.hand_on.ensures.same modelled)
@@ -55,6 +61,13 @@ loop-body-preserved g c =
       within = omega (arith, next, c.in_ok-gate.ensures.within none);
       same = λ modelled. read_on g.D.Disk.seen g.D.Disk.may_leave g.D.Disk.moment g.D.Disk.left_since c.args.disk.now c.loop-body.disk c.hand_on.new.disk (inv.same modelled) (c.hand_on.ensures.same modelled);
       counted = c.in_ok-gate.ensures.cause ∙ inv.counted;
+      taken = λ has.
+          let so_far = inv.taken has in
+          record {
+            taken = so_far.taken ++ body ∷ [];
+            has = c.in_ok-gate.ensures.taken so_far.taken so_far.has none;
+            count_is = omega (arith, c.after-place.ensures.count, so_far.count_is, length-append so_far.taken (body ∷ []));
+          };
       walked = λ modelled opens has.
           let same = (inv.same modelled).same in
           let walked = inv.walked modelled opens has in
