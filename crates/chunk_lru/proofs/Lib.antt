@@ -1,4 +1,4 @@
-mod Sizes
+pub mod Sizes
 mod Entries
 mod Evictions
 mod OwnNames

@@ -1,0 +1,2 @@
+mod Misses
+mod Outcomes

@@ -1,0 +1,7 @@
+-- what public clauses say
+pub mod Faults
+pub mod Owners
+pub mod Loads
+pub mod Kept
+pub mod Fills
+pub mod Outcomes

@@ -1,0 +1,98 @@
+//! The group of a node that threads share.
+ghost use Rattle.std.specs.Prelude.{◌≡◌, ◌<◌, ◌≤◌, true, IfErr, IfOk, IfSome, length};
+ghost use Rattle.host_names.specs.Blobs.{digest_of};
+ghost use Rattle.blob_store.specs.declared.reading.ReadFault.TheVariants.{OutOfMemory};
+ghost use Rattle.chunk_group.specs.Faults.{may_answer};
+
+use crate::caches::Caches;
+use crate::coins::Coin;
+use crate::loads::{Given, Suppliers};
+use crate::places::RingPlace;
+use crate::sources::{Outcome, Source};
+use blob_store::ReadFault;
+use byte_view::Chunk;
+use chunk_lru::ChunkCache;
+use host_names::Digest;
+use peer_link::PeerLink;
+use peer_ring::{Ring, RingHash};
+use single_flight::Flights;
+use std::alloc::{AllocError, Global};
+use std::sync::{Arc, Mutex, Wait};
+
+/// A node of a group, for threads: what they read chunks through. Each call works with a copy of the source and of the link.
+#[derive(Drop)]
+pub struct Group<H: RingHash + Drop, S: Source, L, C> {
+    alloc: Global,
+    place: RingPlace<H>,
+    suppliers: Suppliers<S, L>,
+    caches: Mutex<Caches<C>>,
+    flights: Flights<Outcome, S>,
+}
+
+impl<H: RingHash + Copy + Drop, S: Source + Copy, L: PeerLink + Copy, C: Coin + Drop> Group<
+    H,
+    S,
+    L,
+    C,
+> {
+    /// The node at a place in a ring. Nothing is in its caches yet, which count at most the limit together, in bytes.
+    pub fn new(
+        alloc: Global,
+        limit: usize,
+        ring: Ring<H>,
+        me: usize,
+        source: S,
+        link: L,
+        coin: C,
+    ) -> Result<Group<H, S, L, C>, AllocError>
+        requires { me < length ring.names }
+    {
+        Ok(Group {
+            alloc,
+            place: RingPlace::new(ring, me),
+            suppliers: Suppliers { source, link },
+            caches: Mutex::new(Caches::new(ChunkCache::new(alloc, limit)?, coin)),
+            flights: Flights::new(alloc),
+        })
+    }
+
+    /// A share of a chunk that is in the caches.
+    fn look<R: Wait>(&self, rt: &R, key: &Digest) -> Result<Option<Arc<Chunk>>, ReadFault>
+        ensures named { IfOk result (λ share. IfSome share (λ chunk. digest_of chunk.value ≡ key.now)) }
+        ensures fault { IfErr result (λ fault. fault ≡ OutOfMemory) }
+    {
+        let looked = self.caches.lock(rt).get(key);
+        looked.map_err(|_| ReadFault::OutOfMemory)
+    }
+
+    /// What a leader does: it looks once more, and then loads. It holds no lock while it loads.
+    fn fill<R: Wait>(&self, rt: &R, key: &Digest) -> Outcome
+        ensures named { IfOk result (λ chunk. digest_of chunk.value ≡ key.now) }
+        ensures fault { IfErr result (λ fault. may_answer S.allows key.now fault ≡ true) }
+    {
+        if let Some(chunk) = self.look(rt, key)? {
+            return Ok(chunk);
+        }
+        let mut suppliers = self.suppliers;
+        let Given { chunk, giver } = suppliers.ask(&self.place, key)?;
+        let chunk = Arc::new(self.alloc, chunk).map_err(|_| ReadFault::OutOfMemory)?;
+        self.caches.lock(rt).keep(giver, &chunk);
+        Ok(chunk)
+    }
+
+    /// A share of the chunk of a key: from the caches, or else from the load of it that is in flight, or else loaded: from the peer that
+    /// owns it, or else from the source. No lock is held during a load.
+    pub fn get<R: Wait>(&self, rt: &R, key: &Digest) -> Result<Arc<Chunk>, ReadFault>
+        ensures named { IfOk result (λ chunk. digest_of chunk.value ≡ key.now) }
+        ensures fault { IfErr result (λ fault. may_answer S.allows key.now fault ≡ true) }
+    {
+        if let Some(chunk) = self.look(rt, key)? {
+            return Ok(chunk);
+        }
+        let run: Result<Outcome, AllocError> = self.flights.run(rt, key, || self.fill(rt, key));
+        match run {
+            Ok(outcome) => outcome,
+            Err(_) => Err(ReadFault::OutOfMemory),
+        }
+    }
+}

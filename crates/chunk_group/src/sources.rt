@@ -1,0 +1,37 @@
+//! Sources of chunks.
+ghost use Rattle.std.specs.Prelude.{◌≡◌, ◌≢◌, true, Err, IfErr, IfOk, MatchResult, Ok};
+ghost use Rattle.host_names.specs.Blobs.{digest_of};
+ghost use Rattle.blob_store.specs.declared.reading.ReadFault.TheVariants.{Damaged};
+ghost use Rattle.chunk_group.specs.Faults.{may_answer};
+
+use blob_store::ReadFault;
+use byte_view::Chunk;
+use host_names::Digest;
+use single_flight::Loads;
+use std::sync::Arc;
+
+/// What a read of a chunk comes to.
+pub type Outcome = Result<Arc<Chunk>, ReadFault>;
+
+/// Where a node that owns a key has its chunk from. It is not trusted: what it gives may be the bytes of another name.
+pub trait Source: Loads<Outcome> {
+    ghost use Rattle.std.specs.Prelude.{Bool, List, Result, ℕ};
+    ghost use Rattle.host_names.specs.declared.digests.Digest.{Digest};
+    ghost use Rattle.blob_store.specs.declared.reading.ReadFault.{ReadFault};
+    ghost use Rattle.chunk_group.specs.Outcomes.{is_outcome};
+
+    /// Which faults a source of this type may answer for a key, want of memory left out.
+    ghost allows: { Digest → ReadFault → Bool };
+
+    /// What a load of a key, with its answer, leads from and to.
+    ghost loaded: { Self → Digest → Result (List ℕ) ReadFault → Self → Type 0 };
+
+    /// The bytes that it has for a key. Those of another name count as damaged.
+    fn load(&mut self, key: &Digest) -> Result<Vec<u8>, ReadFault>
+        ensures loaded { MatchResult result (λ bytes. loaded self.old key.now (Ok bytes.items) self.new) (λ fault. loaded self.old key.now (Err fault) self.new) }
+        ensures fault { IfErr result (λ fault. may_answer allows key.now fault ≡ true) }
+        ensures other { IfOk result (λ bytes. digest_of bytes.items ≢ key.now → allows key.now Damaged ≡ true) };
+
+    // The outcomes of its flights are those.
+    ghost agrees: { (key : Digest) (outcome : _) → Self.fits key outcome ≡ is_outcome (λ share. share.value) allows key outcome };
+}
