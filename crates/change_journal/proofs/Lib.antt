@@ -21,5 +21,6 @@ mod LookSteps
 mod OpenSteps
 mod OneAnswer
 mod Entrywise
+mod HeldLists
 mod JournalSteps
 mod OpenedJournals

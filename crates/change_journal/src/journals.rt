@@ -80,6 +80,14 @@ impl<D: Disk> Journal<D> {
         }
     }
 
+    /// The number of its entries, of which there are at most 1,000,000.
+    pub fn len(&self) -> usize
+        ensures value { result ≡ length self.now.entries }
+        ensures most { result ≤ 1000000 }
+    {
+        self.records.count()
+    }
+
     /// Whether the device failed while an entry was put. Then nothing more is put, and the journal has to be opened again.
     pub fn is_broken(&self) -> bool
         ensures value { result ≡ self.now.broken }
