@@ -1,9 +1,9 @@
 -- Which entries a file holds, by the gate of the last record.
-use Rattle.std.proofs.Common.{◌≡◌, ◌≢◌, ℕ, zero, suc, List, [], ◌∷◌, ◌++◌, sym, ◌∙◌, ap, subst, refl, arith, All}
+use Rattle.std.proofs.Common.{◌≢◌, ℕ, zero, suc, List, [], ◌∷◌, ◌++◌, sym, subst, refl, arith, All}
 use Rattle.change_undo.specs.declared.entries.Entry.{Entry}
 use Rattle.change_undo.specs.declared.entries.Entry.TheVariants.{Change, Undo}
 use Rattle.site_change.specs.declared.commands.Command.TheVariants.{Open, Publish, Cancel, Remove, Rename, MoveAlias, RemoveAlias, Restore, RemoveDeploy}
-use Rattle.change_journal.specs.Frames.{Holds, IsShut, framed, half_open, opened, shut}
+use Rattle.change_journal.specs.Frames.{Holds, framed, half_open, opened, shut}
 use Rattle.change_journal.specs.Spells.{IsInRange, IsWritable, entry_text}
 use Rattle.change_journal.specs.Texts.{HoldsEntries, texts}
 use Rattle.change_journal.proofs.Entrywise.{texts-push}

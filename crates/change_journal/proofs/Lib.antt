@@ -14,6 +14,7 @@ mod PutSteps
 mod ReadParts
 mod NotWhole
 mod WalkSteps
+mod ReadsAhead
 mod MendSteps
 mod StartSteps
 mod OneWalk

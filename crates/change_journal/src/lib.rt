@@ -16,6 +16,7 @@ mod mending;
 mod openings;
 mod places;
 mod prepared;
+mod read_ahead;
 mod records;
 mod starts;
 mod synced;
