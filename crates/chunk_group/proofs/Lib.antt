@@ -1,2 +1,3 @@
 mod Misses
 mod Outcomes
+mod ReadInTurn
