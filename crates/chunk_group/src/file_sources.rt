@@ -1,6 +1,6 @@
 //! The source of a node that has files on a shelf.
 ghost use Rattle.std.specs.Prelude.{◌≡◌, true};
-ghost use Rattle.chunk_group.specs.Outcomes.{is_outcome};
+ghost use Rattle.chunk_group.specs.Outcomes.{clones_of_outcomes, is_outcome};
 ghost use Rattle.chunk_group.specs.Stores.{LoadedOfFiles};
 
 use crate::sources::{Outcome, Source};
@@ -27,7 +27,7 @@ impl<S: Shelf> FileSource<S> {
 impl<S: Shelf> Loads<Outcome> for FileSource<S> {
     ghost fits = { is_outcome (λ share. share.value) (λ _ _. true) };
 
-    ghost clones_fit = { ? };
+    ghost clones_fit = { clones_of_outcomes (λ share. share.value) (λ _ _. true) _ (λ _ _ same. same) (λ _ _ wrong. wrong) (λ _ _ wrong. wrong) (λ _ _ same. same) };
 }
 
 impl<S: Shelf> Source for FileSource<S> {

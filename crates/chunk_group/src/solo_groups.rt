@@ -127,12 +127,8 @@ impl<H: RingHash + Copy + Drop, S: Source + Drop, L: PeerLink + Drop, C: Coin + 
     }
 }
 
-impl<
-    H: RingHash + Copy + Drop,
-    S: Source + Drop,
-    L: PeerLink + Drop,
-    C: Coin + Drop,
-> ChunkReader for SoloGroup<H, S, L, C> {
+impl<H: RingHash + Copy + Drop, S: Source + Drop, L: PeerLink + Drop, C: Coin + Drop> ChunkReader
+    for SoloGroup<H, S, L, C> {
     ghost reads = { ReadsOf S.loaded L.fetched C.drew H.hashed };
 
     fn read(&mut self, name: &Digest) -> Result<Arc<Chunk>, ReadFault> {
@@ -142,7 +138,7 @@ impl<
 
 /// Files are read through the caches, and from who is asked else.
 impl<H: RingHash + Copy + Drop, S: Source + Drop, L: PeerLink + Drop, C: Coin + Drop> Holder
-for SoloGroup<H, S, L, C> {
+    for SoloGroup<H, S, L, C> {
     ghost gave = { λ old hold new. ReadsInTurn (ReadsOf S.loaded L.fetched C.drew H.hashed) old hold.chunks new };
 
     ghost failed = { IsNotHeld (ReadsOf S.loaded L.fetched C.drew H.hashed) };

@@ -1,3 +1,8 @@
-//! One file of tests for each library.
+//! One file of tests for each library, and what several need.
+mod fixtures;
 mod flights;
+mod gates;
+mod held;
+mod lone_nodes;
 mod rings;
+mod shared_nodes;
