@@ -1,6 +1,7 @@
 //! One file of tests for each library, and what several need.
 mod fixtures;
 mod flights;
+mod gated_nodes;
 mod gates;
 mod held;
 mod lone_nodes;
