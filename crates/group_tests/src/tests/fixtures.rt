@@ -76,13 +76,27 @@ fn given(alloc: Global, number: usize, gift: Gift) -> Result<Option<Vec<u8>>, Al
 /// A peer, or a source, that gives these things in turn, and counts its calls.
 #[derive(Clone, Copy)]
 pub(super) struct Giver<'a> {
-    pub(super) alloc: Global,
-    pub(super) names: &'a [Digest],
-    pub(super) gifts: &'a [Gift],
-    pub(super) calls: &'a AtomicU64,
+    alloc: Global,
+    names: &'a [Digest],
+    gifts: &'a [Gift],
+    calls: &'a AtomicU64,
 }
 
-impl Giver<'_> {
+impl<'a> Giver<'a> {
+    pub(super) fn new(
+        alloc: Global,
+        names: &'a [Digest],
+        gifts: &'a [Gift],
+        calls: &'a AtomicU64,
+    ) -> Giver<'a> {
+        Giver {
+            alloc,
+            names,
+            gifts,
+            calls,
+        }
+    }
+
     fn next_gift(&self) -> Gift {
         gift_at(self.gifts, self.calls.fetch_add(1, Ordering::SeqCst))
     }

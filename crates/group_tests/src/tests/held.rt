@@ -75,12 +75,7 @@ fn a_stretch_of_a_stored_file_is_held_across_the_edge_of_a_chunk(
 fn assert_held<R: Abort + Wait>(rt: &R, alloc: Global) -> Result<(), Fail> {
     let names = names(alloc, 8)?;
     let calls = AtomicU64::new(0);
-    let source = Giver {
-        alloc,
-        names: names.as_slice(),
-        gifts: &[],
-        calls: &calls,
-    };
+    let source = Giver::new(alloc, names.as_slice(), &[], &calls);
     let ring = Ring::new(alloc, &["node0"], &DigestHash)?;
     let node = Group::new(alloc, 10_000, ring, 0, source, NoLink, Counter::new())?;
     let file = bytes_of(alloc, 7)?;

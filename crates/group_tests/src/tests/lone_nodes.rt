@@ -11,6 +11,8 @@ use std::process::Abort;
 use std::sync::atomic::{AtomicU64, Ordering};
 use std::test::Fail;
 
+const PEERS: [&str; 3] = ["node0", "node1", "node2"];
+
 type Node<'a> = SoloGroup<DigestHash, Giver<'a>, Giver<'a>, Counter>;
 
 /// The first of three nodes.
@@ -23,8 +25,6 @@ fn node<'a>(
     let ring = Ring::new(alloc, &PEERS, &DigestHash)?;
     Ok(SoloGroup::new(alloc, limit, ring, 0, source, link, Counter::new())?)
 }
-
-const PEERS: [&str; 3] = ["node0", "node1", "node2"];
 
 /// The first number from one on whose chunk another node owns.
 fn number_of_others(ring: &Ring<DigestHash>, names: &[Digest]) -> usize {
@@ -51,18 +51,8 @@ fn a_read_falls_back_where_the_peer_lies(rt: HostRuntime) -> Result<(), Fail> {
     let loads = AtomicU64::new(0);
     for (gift, wanted) in LIES {
         let fetches = AtomicU64::new(0);
-        let source = Giver {
-            alloc: rt.alloc(),
-            names: names.as_slice(),
-            gifts: &[],
-            calls: &loads,
-        };
-        let link = Giver {
-            alloc: rt.alloc(),
-            names: names.as_slice(),
-            gifts: &[gift],
-            calls: &fetches,
-        };
+        let source = Giver::new(rt.alloc(), names.as_slice(), &[], &loads);
+        let link = Giver::new(rt.alloc(), names.as_slice(), &[gift], &fetches);
         let mut node = node(rt.alloc(), 0, source, link)?;
         assert_read(&rt, rt.alloc(), &mut node, &names, number)?;
         assert_eq!(rt;
@@ -146,6 +136,17 @@ fn touch(numbers: &mut Vec<usize>, number: usize) -> Result<bool, AllocError> {
 }
 
 impl PlainNode {
+    fn new(alloc: Global, limit: usize) -> PlainNode {
+        PlainNode {
+            limit,
+            main: Vec::new(alloc),
+            hot: Vec::new(alloc),
+            fetches: 0,
+            loads: 0,
+            draws: 0,
+        }
+    }
+
     fn evict(&mut self) {
         for _ in 0..100 {
             let main = plain_size(self.main.as_slice());
@@ -241,27 +242,10 @@ fn assert_same_reads(
     let ring = Ring::new(alloc, &PEERS, &DigestHash)?;
     let fetches = AtomicU64::new(0);
     let loads = AtomicU64::new(0);
-    let source = Giver {
-        alloc,
-        names: names.as_slice(),
-        gifts: &LOADS,
-        calls: &loads,
-    };
-    let link = Giver {
-        alloc,
-        names: names.as_slice(),
-        gifts: &FETCHES,
-        calls: &fetches,
-    };
+    let source = Giver::new(alloc, names.as_slice(), &LOADS, &loads);
+    let link = Giver::new(alloc, names.as_slice(), &FETCHES, &fetches);
     let mut node = node(alloc, limit, source, link)?;
-    let mut plain = PlainNode {
-        limit,
-        main: Vec::new(alloc),
-        hot: Vec::new(alloc),
-        fetches: 0,
-        loads: 0,
-        draws: 0,
-    };
+    let mut plain = PlainNode::new(alloc, limit);
     let mut state: u32 = 1;
     for place in 0..5000u32 {
         state = state.wrapping_mul(1_664_525).wrapping_add(1_013_904_223);

@@ -219,12 +219,7 @@ fn each_read_is_right_or_fails_as_the_source_did(rt: HostRuntime) -> Result<(), 
         stock: &stock,
     };
     let calls = AtomicU64::new(0);
-    let link = Giver {
-        alloc: rt.alloc(),
-        names: stock.names.as_slice(),
-        gifts: &FETCHES,
-        calls: &calls,
-    };
+    let link = Giver::new(rt.alloc(), stock.names.as_slice(), &FETCHES, &calls);
     let ring = Ring::new(rt.alloc(), &["node0", "node1"], &DigestHash)?;
     let node = Group::new(rt.alloc(), 2000, ring, 0, source, link, Counter::new())?;
     visit_all(&rt, &node, source);
