@@ -50,9 +50,10 @@ fn a_read_falls_back_where_the_peer_lies(rt: HostRuntime) -> Result<(), Fail> {
     let number = number_of_others(&ring, names.as_slice());
     let loads = AtomicU64::new(0);
     for (gift, wanted) in LIES {
+        let gifts = [gift];
         let fetches = AtomicU64::new(0);
         let source = Giver::new(rt.alloc(), names.as_slice(), &[], &loads);
-        let link = Giver::new(rt.alloc(), names.as_slice(), &[gift], &fetches);
+        let link = Giver::new(rt.alloc(), names.as_slice(), &gifts, &fetches);
         let mut node = node(rt.alloc(), 0, source, link)?;
         assert_read(&rt, rt.alloc(), &mut node, &names, number)?;
         assert_eq!(rt;
