@@ -19,11 +19,14 @@ use std::test::Fail;
 use std::thread;
 use std::thread::Threads;
 
-/// How many chunks the threads read.
-const CHUNKS: usize = 64;
+/// How many chunks the threads read in turn, all in one order, so that they often come to one at a time.
+const CHUNKS: usize = 1000;
 
-/// How many reads each of them makes.
-const READS: u32 = 2000;
+/// How many chunks they read that are drawn.
+const DRAWN_CHUNKS: usize = 64;
+
+/// How many reads of those each of them makes.
+const READS: usize = 2000;
 
 /// What a source has and has done. It may fail at one in four calls.
 #[derive(Drop)]
@@ -70,12 +73,12 @@ fn fault_of(number: usize) -> ReadFault {
 }
 
 impl Stock {
-    fn new(alloc: Global, fails: bool) -> Result<Stock, AllocError> {
+    fn new(alloc: Global, count: usize, fails: bool) -> Result<Stock, AllocError> {
         Ok(Stock {
-            names: names(alloc, CHUNKS)?,
+            names: names(alloc, count)?,
             fails,
-            loading: counts(alloc, CHUNKS)?,
-            failed: counts(alloc, CHUNKS)?,
+            loading: counts(alloc, count)?,
+            failed: counts(alloc, count)?,
             loads: AtomicU64::new(0),
             overlaps: AtomicU64::new(0),
             wrong: AtomicU64::new(0),
@@ -150,7 +153,9 @@ impl Source for StockSource<'_> {
         if add(self.stock.loading.as_slice(), number, 1) > 0 {
             self.stock.overlaps.fetch_add(1, Ordering::SeqCst);
         }
-        thread::yield_now();
+        if self.stock.fails {
+            thread::yield_now();
+        }
         let given = self.stock.give(self.alloc, number);
         add(self.stock.loading.as_slice(), number, u64::MAX);
         given
@@ -159,21 +164,36 @@ impl Source for StockSource<'_> {
 
 type StockNode<'a, L> = Group<DigestHash, StockSource<'a>, L, Counter>;
 
-/// Reads chunks, each drawn from a seed.
+/// Reads the chunk of a number.
 fn visit<R: Wait, L: PeerLink + Copy + Drop>(
+    rt: &R,
+    node: &StockNode<'_, L>,
+    source: StockSource<'_>,
+    number: usize,
+) {
+    if let Some(name) = source.stock.names.get(number) {
+        let given = node.get(rt, name);
+        source.stock.note(source.alloc, &given, number);
+    }
+}
+
+/// Reads each chunk once, in order; or where the source may fail, chunks that are drawn from a seed.
+fn visit_some<R: Wait, L: PeerLink + Copy + Drop>(
     rt: &R,
     node: &StockNode<'_, L>,
     source: StockSource<'_>,
     seed: u32,
 ) {
+    if !source.stock.fails {
+        for number in 0..CHUNKS {
+            visit(rt, node, source, number);
+        }
+        return;
+    }
     let mut state = seed;
     for _ in 0..READS {
         state = drawn(state);
-        let number = (state >> 16) as usize % CHUNKS;
-        if let Some(name) = source.stock.names.get(number) {
-            let given = node.get(rt, name);
-            source.stock.note(source.alloc, &given, number);
-        }
+        visit(rt, node, source, (state >> 16) as usize % DRAWN_CHUNKS);
     }
 }
 
@@ -185,7 +205,10 @@ fn visit_all<R: Threads + Wait + Sync, L: PeerLink + Copy + Drop + Sync>(
 ) {
     thread::scope(thread::scope_env(), rt, |scope| {
         for seed in 0..8u32 {
-            if scope.spawn(move || visit(rt, node, source, seed)).is_err() {
+            if scope
+                .spawn(move || visit_some(rt, node, source, seed))
+                .is_err()
+            {
                 source.stock.refused.fetch_add(1, Ordering::SeqCst);
             }
         }
@@ -194,13 +217,21 @@ fn visit_all<R: Threads + Wait + Sync, L: PeerLink + Copy + Drop + Sync>(
 
 #[test]
 fn a_chunk_that_is_kept_is_loaded_once(rt: HostRuntime) -> Result<(), Fail> {
-    let stock = Stock::new(rt.alloc(), false)?;
+    let stock = Stock::new(rt.alloc(), CHUNKS, false)?;
     let source = StockSource {
         alloc: rt.alloc(),
         stock: &stock,
     };
     let ring = Ring::new(rt.alloc(), &["node0"], &DigestHash)?;
-    let node = Group::new(rt.alloc(), 100_000, ring, 0, source, NoLink, Counter::new())?;
+    let node = Group::new(
+        rt.alloc(),
+        1_000_000,
+        ring,
+        0,
+        source,
+        NoLink,
+        Counter::new(),
+    )?;
     visit_all(&rt, &node, source);
     stock.assert_right(&rt)?;
     assert_count(&rt, &stock.loads, CHUNKS as u64, "loads");
@@ -213,7 +244,7 @@ const FETCHES: [Gift; 4] = [Gift::Right, Gift::Other, Gift::Short, Gift::Nothing
 
 #[test]
 fn each_read_is_right_or_fails_as_the_source_did(rt: HostRuntime) -> Result<(), Fail> {
-    let stock = Stock::new(rt.alloc(), true)?;
+    let stock = Stock::new(rt.alloc(), DRAWN_CHUNKS, true)?;
     let source = StockSource {
         alloc: rt.alloc(),
         stock: &stock,
