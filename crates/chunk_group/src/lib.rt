@@ -3,13 +3,16 @@
 
 mod caches;
 mod coins;
+mod file_sources;
 mod groups;
+mod holds;
 mod loads;
 mod places;
 mod solo_groups;
 mod sources;
 
 pub use coins::{Coin, Counter};
+pub use file_sources::FileSource;
 pub use groups::Group;
 pub use solo_groups::SoloGroup;
 pub use sources::{Outcome, Source};
