@@ -1,7 +1,9 @@
 //! Laws of the texts of entries and of the files that hold them, each the contract of a function that does nothing.
-ghost use Rattle.std.specs.Prelude.{◌≡◌, ◌≢◌, ◌⊎◌, ◌≤◌, ◌++◌, ◌∷◌, [], ℕ, All, List, length};
+ghost use Rattle.std.specs.Prelude.{◌≡◌, ◌≢◌, ◌⊎◌, ◌≤◌, ◌+◌, ◌++◌, ◌∷◌, [], ℕ, All, List, length};
 ghost use Rattle.change_undo.specs.declared.entries.Entry.{Entry};
+ghost use Rattle.host_disk.specs.Crashes.{Torn};
 ghost use Rattle.change_journal.specs.Frames.{framed, opened};
+ghost use Rattle.change_journal.specs.Openings.{IsFound};
 ghost use Rattle.change_journal.specs.Spells.{IsInRange, IsWritable, Spells, entry_text};
 ghost use Rattle.change_journal.specs.Texts.{HoldsEntries, MayHoldNext, texts};
 
@@ -36,4 +38,20 @@ pub fn a_file_holds_an_entry_whose_gate_is_open()
         → HoldsEntries entries (opened (texts entries) ++ gate ∷ (framed (entry_text entry) ++ 0 ∷ rest)) }
     ensures left { (entries : List Entry) (entry : Entry) (file : List ℕ) → MayHoldNext entries entry file
         → HoldsEntries entries file ⊎ HoldsEntries (entries ++ entry ∷ []) file }
+{}
+
+/// An opening finds the entries before the first gate that isn't open, whatever stands behind it.
+pub fn an_opening_ends_at_a_gate_that_is_not_open()
+    ensures { (found entries : List Entry) (gate : ℕ) (rest : List ℕ) → All IsWritable found → All IsWritable entries → gate ≢ 1
+        → IsFound (texts found) (opened (texts entries) ++ gate ∷ rest) → found ≡ entries }
+{}
+
+/// While an entry is put, its gate is open only where its record stands whole behind it, with a gate of 0. Where the gate is written
+/// before the record is synced, a crash may leave it open with no record.
+pub fn an_open_gate_has_its_record()
+    ensures whole { (entries : List Entry) (entry : Entry) (rest : List ℕ) → MayHoldNext entries entry (opened (texts entries) ++ 1 ∷ rest)
+        → (behind : List ℕ) × (rest ≡ framed (entry_text entry) ++ 0 ∷ behind) }
+    ensures unsynced { (entries : List Entry) (entry : Entry) (n : ℕ) → (d : List ℕ) × (c : List ℕ)
+        × Torn (length (opened (texts entries)) + 1) n (opened (texts entries) ++ 0 ∷ []) d × Torn (length (opened (texts entries))) 1 d c
+        × (MayHoldNext entries entry c → ⊥) }
 {}
