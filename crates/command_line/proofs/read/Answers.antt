@@ -20,5 +20,5 @@ returns g c =
     let known = c.in_ok-command.ensures in
     let words = map g.S.AsStr.text c.args.words.now in
     let kinds : HasKind (fault_of filehost words) c.in-Err.error =
-        subst (λ (a : App). HasKind (fault_of a words) c.in-Err.error) known (c.in-Err.ensures.kinds (ap is_simple_and_free known ∙ is_exact)) in
+    subst (λ (a : App). HasKind (fault_of a words) c.in-Err.error) known (c.in-Err.ensures.kinds (ap is_simple_and_free known ∙ is_exact)) in
     refused words c.make_refusal.result (λ store asked. c.make_refusal.ensures.memory (only_memory words c.in-Err.error kinds asked.0)) c.make_refusal.ensures.told
