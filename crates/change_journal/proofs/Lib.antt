@@ -14,6 +14,7 @@ mod PutSteps
 mod ReadParts
 mod NotWhole
 mod WalkSteps
+mod ReadsAhead
 mod MendSteps
 mod StartSteps
 mod OneWalk
@@ -21,5 +22,6 @@ mod LookSteps
 mod OpenSteps
 mod OneAnswer
 mod Entrywise
+mod HeldLists
 mod JournalSteps
 mod OpenedJournals

@@ -14,7 +14,7 @@ ghost use Rattle.change_journal.specs.Walks.{IsBadRecord, IsOnlyRead, TellsStop}
 use crate::collecting::Collected;
 use crate::faults::OpenFault;
 use crate::held::Held;
-use crate::openings::open_file;
+use crate::openings::open_ahead;
 use crate::prepared::Prepared;
 use crate::records::{PutFault, Records};
 use change_undo::Log;
@@ -66,9 +66,9 @@ impl<D: Disk> Journal<D> {
         ensures any_moment { IsTrue D.is_modelled → (had : List entries.Entry) (next : entries.Entry) → length had < 1000000 → ((c : List ℕ) → D.may_leave disk c → MayHoldNext had next c) → MatchResult result (λ answer. LeavesOnly D.moment D.left_since disk answer.0.disk (MayHoldNext had next)) (λ stop. LeavesOnly D.moment D.left_since disk stop.disk (MayHoldNext had next)) }
         ensures cause { MatchResult result (λ answer. D.faults answer.0.disk ≡ D.faults disk) (λ stop. TellsStop stop.fault (D.faults disk) (D.faults stop.disk)) }
     {
-        let mut disk = disk;
         let mut collected = Collected::new(alloc);
-        match open_file(alloc, &mut disk, &mut collected) {
+        let (disk, opened) = open_ahead(alloc, disk, &mut collected);
+        match opened {
             Ok(place) => Ok((
                 Journal {
                     records: Records::at(disk, place),
@@ -78,6 +78,14 @@ impl<D: Disk> Journal<D> {
             )),
             Err(fault) => Err(NotOpened { fault, disk }),
         }
+    }
+
+    /// The number of its entries, of which there are at most 1,000,000.
+    pub fn len(&self) -> usize
+        ensures value { result ≡ length self.now.entries }
+        ensures most { result ≤ 1000000 }
+    {
+        self.records.count()
     }
 
     /// Whether the device failed while an entry was put. Then nothing more is put, and the journal has to be opened again.

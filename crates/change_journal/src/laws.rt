@@ -1,7 +1,11 @@
-//! Laws of the texts of entries, each the contract of a function that does nothing.
-ghost use Rattle.std.specs.Prelude.{◌≡◌, ◌≤◌, ℕ, List, length};
+//! Laws of the texts of entries and of the files that hold them, each the contract of a function that does nothing.
+ghost use Rattle.std.specs.Prelude.{◌≡◌, ◌≢◌, ◌⊎◌, ◌≤◌, ◌+◌, ◌++◌, ◌∷◌, [], ℕ, All, List, length};
 ghost use Rattle.change_undo.specs.declared.entries.Entry.{Entry};
-ghost use Rattle.change_journal.specs.Spells.{IsWritable, Spells};
+ghost use Rattle.host_disk.specs.Crashes.{Torn};
+ghost use Rattle.change_journal.specs.Frames.{framed, opened};
+ghost use Rattle.change_journal.specs.Openings.{IsFound};
+ghost use Rattle.change_journal.specs.Spells.{IsInRange, IsWritable, Spells, entry_text};
+ghost use Rattle.change_journal.specs.Texts.{HoldsEntries, MayHoldNext, texts};
 
 /// An entry has a text exactly where each part of it is valid and in its range, and then it has one.
 pub fn an_entry_has_one_spelling()
@@ -13,4 +17,41 @@ pub fn an_entry_has_one_spelling()
 /// No bytes are the text of two entries.
 pub fn no_bytes_spell_two_entries()
     ensures { (bytes : List ℕ) (a b : Entry) → Spells bytes a → Spells bytes b → a ≡ b }
+{}
+
+/// An entry that has a text can be made ready to be put: its numbers and its paths are within what `prepare` takes.
+pub fn an_entry_with_a_text_is_in_range()
+    ensures { (entry : Entry) → IsWritable entry → IsInRange entry }
+{}
+
+/// A file holds one list of entries at most.
+pub fn a_file_holds_one_list()
+    ensures { (file : List ℕ) (a b : List Entry) → HoldsEntries a file → HoldsEntries b file → a ≡ b }
+{}
+
+/// While an entry is put after others, the gate of its record decides which entries the file holds: those, or those and that entry
+/// where the gate is open. So whatever a stop leaves holds the one list or the other.
+pub fn a_file_holds_an_entry_whose_gate_is_open()
+    ensures open_gate { (entries : List Entry) (entry : Entry) (rest : List ℕ) → All IsWritable (entries ++ entry ∷ [])
+        → HoldsEntries (entries ++ entry ∷ []) (opened (texts entries) ++ 1 ∷ (framed (entry_text entry) ++ 0 ∷ rest)) }
+    ensures other_gate { (entries : List Entry) (entry : Entry) (gate : ℕ) (rest : List ℕ) → All IsWritable entries → gate ≢ 1
+        → HoldsEntries entries (opened (texts entries) ++ gate ∷ (framed (entry_text entry) ++ 0 ∷ rest)) }
+    ensures left { (entries : List Entry) (entry : Entry) (file : List ℕ) → MayHoldNext entries entry file
+        → HoldsEntries entries file ⊎ HoldsEntries (entries ++ entry ∷ []) file }
+{}
+
+/// An opening finds the entries before the first gate that isn't open, whatever stands behind it.
+pub fn an_opening_ends_at_a_gate_that_is_not_open()
+    ensures { (found entries : List Entry) (gate : ℕ) (rest : List ℕ) → All IsWritable found → All IsWritable entries → gate ≢ 1
+        → IsFound (texts found) (opened (texts entries) ++ gate ∷ rest) → found ≡ entries }
+{}
+
+/// While an entry is put, its gate is open only where its record stands whole behind it, with a gate of 0. Where the gate is written
+/// before the record is synced, a crash may leave it open with no record.
+pub fn an_open_gate_has_its_record()
+    ensures whole { (entries : List Entry) (entry : Entry) (rest : List ℕ) → MayHoldNext entries entry (opened (texts entries) ++ 1 ∷ rest)
+        → (behind : List ℕ) × (rest ≡ framed (entry_text entry) ++ 0 ∷ behind) }
+    ensures unsynced { (entries : List Entry) (entry : Entry) (n : ℕ) → (d : List ℕ) × (c : List ℕ)
+        × Torn (length (opened (texts entries)) + 1) n (opened (texts entries) ++ 0 ∷ []) d × Torn (length (opened (texts entries))) 1 d c
+        × (MayHoldNext entries entry c → ⊥) }
 {}

@@ -11,6 +11,7 @@ use crate::bodies::Bodies;
 use crate::faults::OpenFault;
 use crate::mending::mend;
 use crate::places::Place;
+use crate::read_ahead::ReadAhead;
 use crate::starts::{Start, begin, look};
 use crate::walks::walk_records;
 use host_disk::{DeviceFault, Disk};
@@ -119,4 +120,23 @@ pub(crate) fn open_file<D: Disk, B: Bodies>(
 {
     let size = measure(disk)?;
     open_measured(alloc, disk, size, bodies)
+}
+
+/// Opens a file as `open_file` does, with reads ahead, and hands the disk back.
+pub(crate) fn open_ahead<D: Disk, B: Bodies>(
+    alloc: Global,
+    disk: D,
+    bodies: &mut B,
+) -> (D, Result<Place, OpenFault>)
+    ensures opened { IsTrue D.is_modelled → B.has bodies.old [] → IfOk result.1 (λ place. HasOpened (B.has bodies.new) B.is_lawful place.gate place.count (D.seen disk) (D.seen result.0) (D.may_leave result.0)) }
+    ensures count { B.has bodies.old [] → IfOk result.1 (λ place. HasCounted (B.has bodies.new) place.count) }
+    ensures bad_header { IsTrue D.is_modelled → IsErrOf result.1 BadHeader → IsNoJournal (D.seen disk) }
+    ensures bad_record { IsTrue D.is_modelled → B.has bodies.old [] → IfErr result.1 (λ fault. (i : ℕ) → fault ≡ BadRecord i → IsBadRecord B.is_lawful i (D.seen disk)) }
+    ensures unwritten { IsTrue D.is_modelled → IfErr result.1 (λ fault. (fault ≡ Device → ⊥) → IsOnlyRead D.seen D.may_leave D.moment D.left_since disk result.0) }
+    ensures any_moment { IsTrue D.is_modelled → B.has bodies.old [] → (had : List (List ℕ)) (body : List ℕ) → MayBePut B.is_lawful had body → ((c : List ℕ) → D.may_leave disk c → MayFind had body c) → LeavesOnly D.moment D.left_since disk result.0 (MayFind had body) }
+    ensures cause { TellsDevice result.1 (D.faults disk) (D.faults result.0) }
+{
+    let mut ahead = ReadAhead::new(alloc, disk);
+    let opened = open_file(alloc, &mut ahead, bodies);
+    (ahead.into_disk(), opened)
 }

@@ -52,6 +52,14 @@ impl<D: Disk> Records<D> {
         }
     }
 
+    /// The number of its records.
+    pub(crate) fn count(&self) -> usize
+        ensures value { result ≡ self.now.place.count }
+        ensures most { result ≤ 1000000 }
+    {
+        self.place.count
+    }
+
     /// Whether the device has failed here.
     pub(crate) fn is_broken(&self) -> bool
         ensures { result ≡ self.now.broken }

@@ -1,4 +1,4 @@
-use Rattle.std.proofs.Common.{Err, ap, sym, subst}
+use Rattle.std.proofs.Common.{Err, ap, sym, ◌∙◌, subst}
 use Rattle.host_disk.specs.Crashes.{LeavesOnly}
 use Rattle.change_journal.specs.Spells.{entry_text}
 use Rattle.change_journal.specs.Texts.{MayHoldNext, texts}
@@ -8,33 +8,34 @@ use Rattle.change_journal.proofs.journals.Journal.open.Goals as goal
 pub invariant_of-result : goal.invariant_of-result
 invariant_of-result g c =
     let begun = none_taken c.new-collected.result.log c.new-collected.ensures in
-    opened_sound g.D.Disk.is_modelled g.D.Disk.may_leave c.at.result c.open_file.new.disk c.in-Ok.place c.of.result.value c.open_file.new.bodies.log (g.D.Disk.seen c.args.disk) (g.D.Disk.seen c.open_file.new.disk) c.of.ensures c.at.ensures.0 c.at.ensures.1
-    (c.in-Ok.ensures.count begun) (λ modelled. c.in-Ok.ensures.opened modelled begun)
+    let disk = c.open_ahead-disk.result.0 in
+    opened_sound g.D.Disk.is_modelled g.D.Disk.may_leave c.at.result disk c.in-Ok.place c.of.result.value c.open_ahead-disk.new.bodies.log (g.D.Disk.seen c.args.disk) (g.D.Disk.seen disk) c.of.ensures c.at.ensures.0 c.at.ensures.1
+    (rw c.in-Ok.is at c.open_ahead-disk.ensures.count begun) (λ modelled. rw c.in-Ok.is at c.open_ahead-disk.ensures.opened modelled begun)
 
 pub returns-in-Ok-clause-found : goal.returns-in-Ok-clause-found
 returns-in-Ok-clause-found g c modelled =
     let begun = none_taken c.new-collected.result.log c.new-collected.ensures in
-    found_texts (g.D.Disk.may_leave c.open_file.new.disk) c.open_file.new.bodies.log _ _ (g.D.Disk.seen c.args.disk) _ (c.in-Ok.ensures.opened modelled begun)
+    found_texts (g.D.Disk.may_leave c.open_ahead-disk.result.0) c.open_ahead-disk.new.bodies.log _ _ (g.D.Disk.seen c.args.disk) _ (rw c.in-Ok.is at c.open_ahead-disk.ensures.opened modelled begun)
 
 pub returns-in-Ok-clause-kept : goal.returns-in-Ok-clause-kept
 returns-in-Ok-clause-kept g c modelled had few held =
     let begun = none_taken c.new-collected.result.log c.new-collected.ensures in
-    found_had (g.D.Disk.may_leave c.open_file.new.disk) c.open_file.new.bodies.log _ _ (g.D.Disk.seen c.args.disk) _ (c.in-Ok.ensures.opened modelled begun) had held
+    found_had (g.D.Disk.may_leave c.open_ahead-disk.result.0) c.open_ahead-disk.new.bodies.log _ _ (g.D.Disk.seen c.args.disk) _ (rw c.in-Ok.is at c.open_ahead-disk.ensures.opened modelled begun) had held
 
 pub returns-in-Ok-clause-any_moment : goal.returns-in-Ok-clause-any_moment
 returns-in-Ok-clause-any_moment g c modelled had next few left =
     let begun = none_taken c.new-collected.result.log c.new-collected.ensures in
     subst (λ d. LeavesOnly g.D.Disk.moment g.D.Disk.left_since c.args.disk d (MayHoldNext had next)) (sym c.at.ensures.0)
-    (opening_moments g.D.Disk.moment g.D.Disk.left_since g.D.Disk.may_leave c.args.disk c.open_file.new.disk (g.D.Disk.seen c.args.disk) had next (g.met.D.Disk.may_stay c.args.disk modelled) few left
-    (λ put finds. c.open_file.ensures.any_moment modelled begun (texts had) (entry_text next) put finds))
+    (opening_moments g.D.Disk.moment g.D.Disk.left_since g.D.Disk.may_leave c.args.disk c.open_ahead-disk.result.0 (g.D.Disk.seen c.args.disk) had next (g.met.D.Disk.may_stay c.args.disk modelled) few left
+    (λ put finds. c.open_ahead-disk.ensures.any_moment modelled begun (texts had) (entry_text next) put finds))
 
 pub returns-in-Err-clause-kept : goal.returns-in-Err-clause-kept
 returns-in-Err-clause-kept g c modelled had few held =
     let begun = none_taken c.new-collected.result.log c.new-collected.ensures in
-    stops_only c.in-Err.fault had (g.D.Disk.seen c.args.disk) few held (λ e. c.in-Err.ensures.bad_header modelled (ap Err e)) (c.in-Err.ensures.bad_record modelled begun)
+    stops_only c.in-Err.fault had (g.D.Disk.seen c.args.disk) few held (λ e. c.open_ahead-disk.ensures.bad_header modelled (c.in-Err.is ∙ ap Err e)) (rw c.in-Err.is at c.open_ahead-disk.ensures.bad_record modelled begun)
 
 pub returns-in-Err-clause-any_moment : goal.returns-in-Err-clause-any_moment
 returns-in-Err-clause-any_moment g c modelled had next few left =
     let begun = none_taken c.new-collected.result.log c.new-collected.ensures in
-    opening_moments g.D.Disk.moment g.D.Disk.left_since g.D.Disk.may_leave c.args.disk c.open_file.new.disk (g.D.Disk.seen c.args.disk) had next (g.met.D.Disk.may_stay c.args.disk modelled) few left
-    (λ put finds. c.open_file.ensures.any_moment modelled begun (texts had) (entry_text next) put finds)
+    opening_moments g.D.Disk.moment g.D.Disk.left_since g.D.Disk.may_leave c.args.disk c.open_ahead-disk.result.0 (g.D.Disk.seen c.args.disk) had next (g.met.D.Disk.may_stay c.args.disk modelled) few left
+    (λ put finds. c.open_ahead-disk.ensures.any_moment modelled begun (texts had) (entry_text next) put finds)
