@@ -1,6 +1,6 @@
 -- What a run of the program does: one connection to an empty server, where its words ask for that. Where its status isn't 0, it
 -- says why.
-use Rattle.std.specs.Prelude.{◌≡◌, ◌≢◌, ◌⊎◌, ℕ, List, [], Option, None, Result, Ok, Err, codes}
+use Rattle.std.specs.Prelude.{◌≡◌, ◌≢◌, ◌⊎◌, ℕ, List, [], None, Result, Ok, Err, codes}
 use Rattle.std.specs.FinMap as map
 use Rattle.std.specs.Io.KnownBytes.{Appends}
 use Rattle.command_line.specs.CommandLine.{AskForSolo}
@@ -50,7 +50,7 @@ SaysEnd says_fail (Err fault) said new_said = IsSaid says_fail (fault_line fault
 -- the words ask for nothing that the program does, and some text is said
 abbrev pub IsRefused : (says_fail : Type 0) → List (List ℕ) → ℕ → (said new_said : Stream) → Type 0
 IsRefused says_fail words status said new_said =
-    ((store : Option (List ℕ)) → ¬ (AskForSolo words store)) × (status ≡ 1) × ((text : List ℕ) × (text ≢ []) × IsSaid says_fail text said new_said)
+    (¬ (AskForSolo words)) × (status ≡ 1) × ((text : List ℕ) × (text ≢ []) × IsSaid says_fail text said new_said)
 
 -- memory ran out while the words were read, and that is said
 abbrev pub IsNotRead : (says_fail : Type 0) → ℕ → (said new_said : Stream) → Type 0
@@ -68,8 +68,7 @@ pub record IsEmpty (server : Server MemShelf) : Type 0 where
 -- the words ask for a connection to such a server, and the status says how it ended
 pub record IsServed (read_fails write_fails says_fail : Type 0) (words : List (List ℕ)) (status : ℕ) (stream held new_held said new_said : Stream)
     : Type 0 where
-  pub store : Option (List ℕ)
-  pub asked : AskForSolo words store
+  pub asked : AskForSolo words
   pub ended : Result (Unit {0}) ConnectionFault
   pub says : status ≡ status_of ended
   pub start : Server MemShelf

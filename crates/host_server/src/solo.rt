@@ -1,6 +1,6 @@
 //! The program's run: its words are read, and one connection is served.
 
-ghost use Rattle.std.specs.Prelude.{◌≡◌, ℕ, IfErr, IfOk, List, Option, map};
+ghost use Rattle.std.specs.Prelude.{◌≡◌, IfErr, IfOk, map};
 ghost use Rattle.command_line.specs.CommandLine.{AskForSolo};
 ghost use Rattle.host_server.specs.Solo.{IsNotServed, IsSaid, Runs, SaysEnd, status_of};
 
@@ -35,7 +35,7 @@ fn fail<E: Sink>(errors: &mut E, status: u8, why: &str) -> u8
 
 /// What the words ask for, or else the exit status; the reason is said.
 fn wanted<S: AsStr, E: Sink>(alloc: Global, words: &[S], errors: &mut E) -> Result<Wanted, u8>
-    ensures asked { IfOk result (λ wanted. ((store : Option (List ℕ)) × AskForSolo (map S.text words.now) store) × (E.held errors.new ≡ E.held errors.old)) }
+    ensures asked { IfOk result (λ wanted. AskForSolo (map S.text words.now) × (E.held errors.new ≡ E.held errors.old)) }
     ensures refused { IfErr result (λ status. IsNotServed E.may_fail (map S.text words.now) status (E.held errors.old) (E.held errors.new)) }
 {
     match read(alloc, words) {
@@ -72,7 +72,7 @@ pub fn run_solo<S: AsStr, D: Duplex, E: Sink>(
         (D.left duplex.old) (D.held duplex.old) (D.held duplex.new) (E.held errors.old) (E.held errors.new) }
 {
     match wanted(alloc, words, errors) {
-        Ok(Wanted::Solo { .. }) => {
+        Ok(Wanted::Solo) => {
             let mut server = Server::new(alloc, MemShelf::new(alloc), GREATEST_LIMIT);
             let ended = serve_connection(alloc, duplex, &mut server);
             status_after(errors, ended)

@@ -8,8 +8,7 @@ returns-in-Ok-Solo g c =
     let fails = g.E.Sink.may_fail in
     let unsaid : g.E.Sink.held c.wanted.new.errors ≡ g.E.Sink.held c.args.errors.now = search rules in
     inr (record {
-      store = c.in-Ok-Solo.ensures.asked.0.0;
-      asked = c.in-Ok-Solo.ensures.asked.0.1;
+      asked = search rules;
       ended = c.serve_connection-ended.result;
       says = search rules;
       start = c.new-server.result;
