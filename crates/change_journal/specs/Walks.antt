@@ -11,9 +11,9 @@ pub record IsOnlyRead {D : Type 0} (seen : D → List ℕ) (may_leave : D → Li
   pub crash : (c : List ℕ) → may_leave new c → may_leave old c
   pub time : LeavesOnly moment left_since old new (may_leave old)
 
--- the count of failed calls rises where a failure of the device is told, unless it is at the top of a u64
+-- the count of failed calls rises by one where a failure of the device is told, unless it is at the top of a u64; else it stays
 abbrev pub TellsStop : OpenFault → ℕ → ℕ → Type 0
-TellsStop fault old new = fault ≡ Device → min (old + 1) (2 ^ 64 - 1) ≤ new
+TellsStop fault old new = (fault ≡ Device → new ≡ min (old + 1) (2 ^ 64 - 1)) × ((fault ≡ Device → ⊥) → new ≡ old)
 
 -- the same, and it stays at Ok
 abbrev pub TellsDevice : {T : Type 0} → Result T OpenFault → ℕ → ℕ → Type 0
