@@ -9,6 +9,7 @@ mod histories;
 mod hosts;
 mod logs;
 mod names;
+mod openings;
 mod ranges;
 mod states;
 mod values;
