@@ -1,2 +1,4 @@
 mod Misses
 mod Outcomes
+mod ReadInTurn
+mod SharedHolds

@@ -5,3 +5,6 @@ pub mod Loads
 pub mod Kept
 pub mod Fills
 pub mod Outcomes
+pub mod Holding
+pub mod Nodes
+pub mod Stores

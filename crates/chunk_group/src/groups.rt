@@ -1,16 +1,18 @@
 //! The group of a node that threads share.
-ghost use Rattle.std.specs.Prelude.{◌≡◌, ◌<◌, ◌≤◌, true, IfErr, IfOk, IfSome, length};
+ghost use Rattle.std.specs.Prelude.{◌≡◌, ◌<◌, ◌≤◌, true, IfErr, IfOk, IfSome, MatchResult, length};
 ghost use Rattle.host_names.specs.Blobs.{digest_of};
 ghost use Rattle.blob_store.specs.declared.reading.ReadFault.TheVariants.{OutOfMemory};
 ghost use Rattle.chunk_group.specs.Faults.{may_answer};
+ghost use Rattle.chunk_group.specs.Holding.{MayNotHold};
 
 use crate::caches::Caches;
 use crate::coins::Coin;
+use crate::holds::{ChunkReader, hold_stretch};
 use crate::loads::{Given, Suppliers};
 use crate::places::RingPlace;
 use crate::sources::{Outcome, Source};
 use blob_store::ReadFault;
-use byte_view::Chunk;
+use byte_view::{BlobInfo, Chunk, Hold};
 use chunk_lru::ChunkCache;
 use host_names::Digest;
 use peer_link::PeerLink;
@@ -46,6 +48,8 @@ impl<H: RingHash + Copy + Drop, S: Source + Copy, L: PeerLink + Copy, C: Coin + 
         coin: C,
     ) -> Result<Group<H, S, L, C>, AllocError>
         requires { me < length ring.names }
+        ensures place { IfOk result (λ group. (group.place.ring ≡ ring) × (group.place.me ≡ me)) }
+        ensures suppliers { IfOk result (λ group. (group.suppliers.source ≡ source) × (group.suppliers.link ≡ link)) }
     {
         Ok(Group {
             alloc,
@@ -94,5 +98,43 @@ impl<H: RingHash + Copy + Drop, S: Source + Copy, L: PeerLink + Copy, C: Coin + 
             Ok(outcome) => outcome,
             Err(_) => Err(ReadFault::OutOfMemory),
         }
+    }
+    /// A stretch of a file, from its first to its last byte, with the chunks that it meets. Each is read once, and has the name and
+    /// the length of its piece.
+    pub fn hold<R: Wait>(
+        &self,
+        rt: &R,
+        info: Arc<BlobInfo>,
+        first: usize,
+        last: usize,
+    ) -> Result<Hold, ReadFault>
+        requires ordered { first ≤ last }
+        requires within { last < length info.value }
+        ensures stretch { IfOk result (λ hold. (hold.file ≡ info.value) × (hold.first ≡ first) × (hold.last ≡ last)) }
+        ensures fault { IfErr result (λ fault. MayNotHold S.allows info.value first last fault) }
+    {
+        let mut reading = Reading { rt, group: self };
+        hold_stretch(self.alloc, &mut reading, info, first, last)
+    }
+}
+
+/// A group that is read through by one thread, which may wait.
+#[derive(Drop)]
+struct Reading<'a, R, H: RingHash + Drop, S: Source, L, C> {
+    rt: &'a R,
+    group: &'a Group<H, S, L, C>,
+}
+
+impl<
+    R: Wait,
+    H: RingHash + Copy + Drop,
+    S: Source + Copy,
+    L: PeerLink + Copy,
+    C: Coin + Drop,
+> ChunkReader for Reading<'_, R, H, S, L, C> {
+    ghost reads = { λ _ name answer _. MatchResult answer (λ chunk. digest_of chunk ≡ name) (λ fault. may_answer S.allows name fault ≡ true) };
+
+    fn read(&mut self, name: &Digest) -> Result<Arc<Chunk>, ReadFault> {
+        self.group.get(self.rt, name)
     }
 }

@@ -49,8 +49,11 @@ fn from_source<S: Source>(source: &mut S, key: &Digest) -> Result<Chunk, ReadFau
     ensures fault { IfErr result (λ fault. IsGivenFault S.loaded source.old key.now fault source.new) }
     ensures allowed { IfErr result (λ fault. may_answer S.allows key.now fault ≡ true) }
 {
-    let bytes = source.load(key)?;
-    Chunk::check(*key, bytes).map_err(|_| ReadFault::Damaged)
+    let chunk = source.load(key)?;
+    if chunk.name() != *key {
+        return Err(ReadFault::Damaged);
+    }
+    Ok(chunk)
 }
 
 impl<S: Source, L: PeerLink> Suppliers<S, L> {

@@ -1,5 +1,5 @@
 //! The group of a node on one thread.
-ghost use Rattle.std.specs.Prelude.{◌≡◌, ◌<◌, ◌≢◌, Err, IfErr, IfOk, None, Ok, length};
+ghost use Rattle.std.specs.Prelude.{◌≡◌, ◌<◌, ◌≤◌, ◌≢◌, Err, IfErr, IfOk, None, Ok, length};
 ghost use Rattle.host_names.specs.Blobs.{digest_of};
 ghost use Rattle.blob_store.specs.declared.reading.ReadFault.TheVariants.{OutOfMemory};
 ghost use Rattle.chunk_lru.specs.Caches.{empty};
@@ -7,15 +7,19 @@ ghost use Rattle.chunk_lru.specs.Rules.{held};
 ghost use Rattle.chunk_group.specs.Fills.{Fills, IsMiss};
 ghost use Rattle.chunk_group.specs.Loads.{IsGivenFault};
 ghost use Rattle.chunk_group.specs.Owners.{Owns};
+ghost use Rattle.chunk_group.specs.Holding.{IsNotHeld, ReadsInTurn};
+ghost use Rattle.chunk_group.specs.Nodes.{ReadsOf};
 
 use crate::caches::Caches;
 use crate::coins::Coin;
+use crate::holds::{ChunkReader, hold_stretch};
 use crate::loads::{Given, Suppliers};
 use crate::places::RingPlace;
 use crate::sources::Source;
 use blob_store::ReadFault;
-use byte_view::Chunk;
+use byte_view::{BlobInfo, Chunk, Hold};
 use chunk_lru::ChunkCache;
+use file_reads::Holder;
 use host_names::Digest;
 use peer_link::PeerLink;
 use peer_ring::{Ring, RingHash};
@@ -103,5 +107,43 @@ impl<H: RingHash + Copy + Drop, S: Source + Drop, L: PeerLink + Drop, C: Coin + 
             Ok(None) => self.node.fill(self.alloc, &self.place, key),
             Err(_) => Err(ReadFault::OutOfMemory),
         }
+    }
+
+    /// A stretch of a file, from its first to its last byte, with the chunks that it meets. Each is read once, and has the name and
+    /// the length of its piece.
+    pub fn hold(
+        &mut self,
+        info: Arc<BlobInfo>,
+        first: usize,
+        last: usize,
+    ) -> Result<Hold, ReadFault>
+        requires ordered { first ≤ last }
+        requires within { last < length info.value }
+        ensures stretch { IfOk result (λ hold. (hold.file ≡ info.value) × (hold.first ≡ first) × (hold.last ≡ last)) }
+        ensures read { IfOk result (λ hold. ReadsInTurn (ReadsOf S.loaded L.fetched C.drew H.hashed) self.old hold.chunks self.new) }
+        ensures fault { IfErr result (λ fault. IsNotHeld (ReadsOf S.loaded L.fetched C.drew H.hashed) self.old info.value first last fault self.new) }
+    {
+        hold_stretch(self.alloc, self, info, first, last)
+    }
+}
+
+impl<H: RingHash + Copy + Drop, S: Source + Drop, L: PeerLink + Drop, C: Coin + Drop> ChunkReader
+    for SoloGroup<H, S, L, C> {
+    ghost reads = { ReadsOf S.loaded L.fetched C.drew H.hashed };
+
+    fn read(&mut self, name: &Digest) -> Result<Arc<Chunk>, ReadFault> {
+        self.get(name)
+    }
+}
+
+/// Files are read through the caches, and from who is asked else.
+impl<H: RingHash + Copy + Drop, S: Source + Drop, L: PeerLink + Drop, C: Coin + Drop> Holder
+    for SoloGroup<H, S, L, C> {
+    ghost gave = { λ old hold new. ReadsInTurn (ReadsOf S.loaded L.fetched C.drew H.hashed) old hold.chunks new };
+
+    ghost failed = { IsNotHeld (ReadsOf S.loaded L.fetched C.drew H.hashed) };
+
+    fn hold(&mut self, info: Arc<BlobInfo>, first: usize, last: usize) -> Result<Hold, ReadFault> {
+        self.hold(info, first, last)
     }
 }

@@ -13,7 +13,7 @@ use std::sync::Arc;
 /// What a read of a chunk comes to.
 pub type Outcome = Result<Arc<Chunk>, ReadFault>;
 
-/// Where a node that owns a key has its chunk from. It is not trusted: what it gives may be the bytes of another name.
+/// Where a node that owns a key has its chunk from. It is not trusted: what it gives may be the chunk of another name.
 pub trait Source: Loads<Outcome> {
     ghost use Rattle.std.specs.Prelude.{Bool, List, Result, ℕ};
     ghost use Rattle.host_names.specs.declared.digests.Digest.{Digest};
@@ -26,11 +26,11 @@ pub trait Source: Loads<Outcome> {
     /// What a load of a key, with its answer, leads from and to.
     ghost loaded: { Self → Digest → Result (List ℕ) ReadFault → Self → Type 0 };
 
-    /// The bytes that it has for a key. Those of another name count as damaged.
-    fn load(&mut self, key: &Digest) -> Result<Vec<u8>, ReadFault>
-        ensures loaded { MatchResult result (λ bytes. loaded self.old key.now (Ok bytes.items) self.new) (λ fault. loaded self.old key.now (Err fault) self.new) }
+    /// The chunk that it has for a key. One of another name counts as damaged.
+    fn load(&mut self, key: &Digest) -> Result<Chunk, ReadFault>
+        ensures loaded { MatchResult result (λ chunk. loaded self.old key.now (Ok chunk) self.new) (λ fault. loaded self.old key.now (Err fault) self.new) }
         ensures fault { IfErr result (λ fault. may_answer allows key.now fault ≡ true) }
-        ensures other { IfOk result (λ bytes. digest_of bytes.items ≢ key.now → allows key.now Damaged ≡ true) };
+        ensures other { IfOk result (λ chunk. digest_of chunk ≢ key.now → allows key.now Damaged ≡ true) };
 
     // The outcomes of its flights are those.
     ghost agrees: { (key : Digest) (outcome : _) → Self.fits key outcome ≡ is_outcome (λ share. share.value) allows key outcome };

@@ -3,6 +3,7 @@ mod Elements
 mod Fronts
 mod OneReading
 mod Positions
+mod Runs
 mod Selecting
 mod Separators
 mod SpecTexts

@@ -1,8 +1,9 @@
 -- What the functions that read a value say of the text that they are given and of what follows.
-use Rattle.std.specs.Prelude.{◌≡◌, ◌⊎◌, ℕ, ◌<◌, List, [], ◌∷◌, ◌++◌, Option, Some, None, codes}
-use Rattle.std.specs.List.{join_with_byte}
+use Rattle.std.specs.Prelude.{◌≡◌, ◌⊎◌, ℕ, ◌<◌, List, [], ◌∷◌, ◌++◌, Option, Some, None, codes, length}
+use Rattle.std.specs.List.{AllByRecursion, join_with_byte}
 use Rattle.std.specs.Char.{digit_value}
 use Rattle.std.specs.Str.{str_to_ascii_lowercase}
+use Rattle.std.specs.Str.Parse.{AllDigits, digits_value}
 use Rattle.range_spec.specs.declared.grammar.Spec.{Spec}
 use Rattle.range_spec.specs.Asks.{AreElements, IsBlank, IsBlankByte, IsPosition, IsSpecText}
 
@@ -39,6 +40,14 @@ pub record IsDigitBefore (text : List ℕ) (value : ℕ) (rest : List ℕ) : Typ
   pub value_is : digit_value byte ≡ value
   pub small : value < 10
 
+-- the text is eight digits with this value, and then the rest
+pub record AreDigitsBefore (text : List ℕ) (value : ℕ) (rest : List ℕ) : Type 0 where
+  pub digits : List ℕ
+  pub parts : text ≡ digits ++ rest
+  pub eight : length digits ≡ 8
+  pub decimal : AllDigits 10 digits
+  pub value_is : digits_value 10 digits ≡ value
+
 -- the digits of this position, or none where there is no position
 abbrev pub IsPositionIfAny : List ℕ → Option ℕ → Type 0
 IsPositionIfAny digits (Some position) = IsPosition digits position
@@ -55,6 +64,12 @@ pub record IsSpecBefore (text : List ℕ) (spec : Spec) (rest : List ℕ) : Type
   pub own : List ℕ
   pub parts : text ≡ own ++ rest
   pub spec_is : IsSpecText own spec
+
+-- the text is commas and blanks, and then the rest
+pub record AreSeparatorsBefore (text rest : List ℕ) : Type 0 where
+  pub separators : List ℕ
+  pub parts : text ≡ separators ++ rest
+  pub all : AllByRecursion IsSeparator separators
 
 -- the text is blanks, and then the rest
 pub record AreBlanksBefore (text rest : List ℕ) : Type 0 where

@@ -2,6 +2,7 @@
 //! chooses. No call allocates.
 #![tactic(auto)]
 
+mod blocks;
 mod grammar;
 mod laws;
 mod reading;

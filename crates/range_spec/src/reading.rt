@@ -4,6 +4,7 @@ ghost use Rattle.range_spec.specs.Asks.{IsBlankByte};
 ghost use Rattle.range_spec.specs.Reading.{AreBlanksBefore, BeginsNo, BeginsOther, EndsElement, IsDigit, IsDigitBefore, IsPositionBefore, IsReadTo, IsSeparator, IsSpecBefore, IsValueOf, SetAsksFor};
 
 use crate::Spec;
+use crate::blocks::{after_sixteen_separators, eight_digits, with_eight_digits};
 use arrayvec::ArrayVec;
 
 /// What follows the unit and the equals sign, where the unit is `bytes`.
@@ -39,6 +40,9 @@ fn after_separators(text: &[u8]) -> &[u8]
     ensures ended { BeginsNo IsSeparator result.now }
 {
     let mut rest = text;
+    while let Some(after) = after_sixteen_separators(rest) {
+        rest = after;
+    }
     while let Some((byte, after)) = rest.split_first()
         && is_separator(*byte)
     {
@@ -82,11 +86,11 @@ fn after_blanks(text: &[u8]) -> &[u8]
     rest
 }
 
-/// Whether a byte may stand between two specs.
-fn is_separator(byte: u8) -> bool
+/// Whether a byte may stand between two specs. It takes no branch, so that many bytes are looked at together.
+pub(crate) fn is_separator(byte: u8) -> bool
     ensures { IsTrue result ↔ IsSeparator byte }
 {
-    matches!(byte, b',' | b' ' | b'\t')
+    (byte == b',') | (byte == b' ') | (byte == b'\t')
 }
 
 /// Whether a byte may stand around a spec.
@@ -118,6 +122,10 @@ fn leading_position(text: &[u8]) -> (Option<u64>, &[u8])
 {
     let mut position = None;
     let mut rest = text;
+    while let Some((value, after)) = eight_digits(rest) {
+        position = Some(with_eight_digits(position.unwrap_or(0), value));
+        rest = after;
+    }
     while let Some((digit, after)) = leading_digit(rest) {
         position = Some(with_digit(position.unwrap_or(0), digit));
         rest = after;

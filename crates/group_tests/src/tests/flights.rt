@@ -1,12 +1,12 @@
 //! Flights in a table and in threads. Where threads fly, loads are held back for each other, but end by themselves.
 ghost use Rattle.std.specs.Prelude.{◌≡◌, true, refl};
 
+use super::gates::{CALLERS, Gate};
 use host_names::Digest;
 use single_flight::{Begun, FlightTable, Flights, Loads};
 use std::alloc::{AllocError, Global};
 use std::process::Abort;
 use std::sync::Wait;
-use std::sync::atomic::{AtomicU64, Ordering};
 use std::test::Fail;
 use std::thread;
 use std::thread::Threads;
@@ -35,85 +35,36 @@ const SHARED: Digest = Digest([1; 20]);
 /// The key that one thread calls.
 const OTHER: Digest = Digest([2; 20]);
 
-/// How many threads call the shared key.
-const CALLERS: u64 = 8;
-
-/// How often a load looks whether what it waits for has come.
-const TURNS: u64 = 1_000_000;
-
-/// How often the other key's load looks whether the shared key is loaded twice, which doesn't happen.
-const TURNS_IN_VAIN: u64 = 100_000;
-
-/// What the threads have done so far.
-#[derive(Drop)]
-struct Gate {
-    callers: AtomicU64,
-    loads: AtomicU64,
-    other_loads: AtomicU64,
-    overlaps: AtomicU64,
-    answered: AtomicU64,
-    refused: AtomicU64,
+/// The load of the shared key.
+fn load_shared(gate: &Gate, answer: Answer) -> Answer {
+    gate.load_shared();
+    answer
 }
 
-/// Whether a count comes to a number before so many turns are over.
-fn comes_to(count: &AtomicU64, wanted: u64, turns: u64) -> bool {
-    for _ in 0..turns {
-        if count.load(Ordering::SeqCst) >= wanted {
-            return true;
-        }
-        thread::yield_now();
-    }
-    false
+/// The load of the other key, which lets that of the shared one pass.
+fn load_other(gate: &Gate) -> Answer {
+    gate.load_other();
+    gate.pass_other();
+    Answer::Loaded(0)
 }
 
-impl Gate {
-    fn new() -> Gate {
-        Gate {
-            callers: AtomicU64::new(0),
-            loads: AtomicU64::new(0),
-            other_loads: AtomicU64::new(0),
-            overlaps: AtomicU64::new(0),
-            answered: AtomicU64::new(0),
-            refused: AtomicU64::new(0),
-        }
-    }
-
-    /// The load of the shared key, which is held back until the other key is loaded.
-    fn load_shared(&self, answer: Answer) -> Answer {
-        self.loads.fetch_add(1, Ordering::SeqCst);
-        if comes_to(&self.other_loads, 1, TURNS) {
-            self.overlaps.fetch_add(1, Ordering::SeqCst);
-        }
-        answer
-    }
-
-    /// The load of the other key, which gives each caller of the shared one the time to load that, too.
-    fn load_other(&self) -> Answer {
-        let _ = comes_to(&self.callers, CALLERS, TURNS);
-        let _ = comes_to(&self.loads, 2, TURNS_IN_VAIN);
-        self.other_loads.fetch_add(1, Ordering::SeqCst);
-        Answer::Loaded(0)
-    }
-
-    /// Counts a caller by what it was given.
-    fn note(&self, given: Result<Answer, AllocError>, wanted: Answer) {
-        match given {
-            Ok(answer) if answer == wanted => self.answered.fetch_add(1, Ordering::SeqCst),
-            Ok(_) => 0,
-            Err(_) => self.refused.fetch_add(1, Ordering::SeqCst),
-        };
+/// Counts a caller by what it was given.
+fn note(gate: &Gate, given: Result<Answer, AllocError>, wanted: Answer) {
+    match given {
+        Ok(answer) => gate.note(answer == wanted),
+        Err(_) => gate.refuse(),
     }
 }
 
 fn call_shared<R: Wait>(rt: &R, flights: &Flights<Answer, AnyAnswer>, gate: &Gate, answer: Answer) {
-    gate.callers.fetch_add(1, Ordering::SeqCst);
-    let given = flights.run(rt, &SHARED, || gate.load_shared(answer));
-    gate.note(given, answer);
+    gate.call_shared();
+    let given = flights.run(rt, &SHARED, || load_shared(gate, answer));
+    note(gate, given, answer);
 }
 
 fn call_other<R: Wait>(rt: &R, flights: &Flights<Answer, AnyAnswer>, gate: &Gate) {
-    let given = flights.run(rt, &OTHER, || gate.load_other());
-    gate.note(given, Answer::Loaded(0));
+    let given = flights.run(rt, &OTHER, || load_other(gate));
+    note(gate, given, Answer::Loaded(0));
 }
 
 /// All callers, each in a thread of its own. A thread that can't be made counts as refused.
@@ -129,17 +80,13 @@ fn fly<R: Threads + Wait + Sync>(
                 .spawn(move || call_shared(rt, flights, gate, answer))
                 .is_err()
             {
-                gate.refused.fetch_add(1, Ordering::SeqCst);
+                gate.refuse();
             }
         }
         if scope.spawn(move || call_other(rt, flights, gate)).is_err() {
-            gate.refused.fetch_add(1, Ordering::SeqCst);
+            gate.refuse();
         }
     });
-}
-
-fn assert_count(rt: &impl Abort, count: &AtomicU64, wanted: u64, what: &str) {
-    assert_eq!(rt; count.load(Ordering::SeqCst), wanted, "{what}");
 }
 
 /// That all callers of one key share the answer of one load, which another key's load overlaps.
@@ -150,13 +97,7 @@ fn assert_shared<R: Threads + Wait + Abort + Sync>(
 ) -> Result<(), Fail> {
     let gate = Gate::new();
     fly(rt, flights, &gate, answer);
-    if gate.refused.load(Ordering::SeqCst) > 0 {
-        return Err(Fail::from("OutOfMemory"));
-    }
-    assert_count(rt, &gate.loads, 1, "loads of one key");
-    assert_count(rt, &gate.overlaps, 1, "loads that overlap another key's");
-    assert_count(rt, &gate.answered, CALLERS + 1, "callers with the answer");
-    Ok(())
+    gate.assert_shared(rt)
 }
 
 #[test]

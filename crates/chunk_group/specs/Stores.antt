@@ -1,0 +1,21 @@
+-- What a load from a store does.
+use Rattle.std.specs.Prelude.{◌≡◌, ℕ, ◌<◌, ◌≤◌, List, Some, Result, Ok, Err}
+use Rattle.host_names.specs.declared.digests.Digest.{Digest}
+use Rattle.host_names.specs.Blobs.{digest_of}
+use Rattle.blob_store.specs.declared.reading.ReadFault.{ReadFault}
+use Rattle.blob_store.specs.declared.reading.ReadFault.TheVariants.{Device}
+use Rattle.blob_store.specs.declared.shelves.ShelfName.TheVariants.{Part}
+use Rattle.blob_store.specs.Calls.{Call, Got}
+use Rattle.blob_store.specs.Faults.{IsChunkFault}
+use Rattle.chunk_group.specs.declared.blob_sources.BlobSource.{BlobSource}
+
+-- the shelf gives the piece of this name, or what it answers is a fault
+abbrev pub IsPiece : {S : Type 0} → (did : S → Call → S → Type 0) → S → Digest → Result (List ℕ) ReadFault → S → Type 0
+IsPiece did old name (Ok piece) new = (digest_of piece ≡ name) × did old (Got (Part name) (Some piece)) new
+IsPiece did old name (Err fault) new = IsChunkFault did old name fault new
+
+-- a load of a key is one call of the shelf, and what is known of the files stays; a device is blamed only where it failed
+abbrev pub LoadedOfBlobs : {S : Type 0} → (did : S → Call → S → Type 0) → (failures : S → ℕ) → BlobSource S → Digest → Result (List ℕ) ReadFault → BlobSource S → Type 0
+LoadedOfBlobs did failures old key answer new =
+    IsPiece did old.blobs.shelf key answer new.blobs.shelf × (answer ≡ Err Device → failures old.blobs.shelf < failures new.blobs.shelf)
+    × (failures old.blobs.shelf ≤ failures new.blobs.shelf) × (new.blobs.known ≡ old.blobs.known)

@@ -1,0 +1,135 @@
+//! Reads through a node that threads share, whose loads are held back for each other.
+ghost use Rattle.std.specs.Prelude.{◌≡◌, true, refl};
+ghost use Rattle.chunk_group.specs.Outcomes.{clones_of_outcomes, is_outcome};
+
+use super::fixtures::{chunk_of, is_chunk_of, names};
+use super::gates::{CALLERS, Gate};
+use blob_store::ReadFault;
+use byte_view::Chunk;
+use chunk_group::{Counter, Group, Outcome, Source};
+use host_names::Digest;
+use peer_link::NoLink;
+use peer_ring::{DigestHash, Ring};
+use single_flight::Loads;
+use std::alloc::Global;
+use std::process::Abort;
+use std::sync::Wait;
+use std::test::Fail;
+use std::thread;
+use std::thread::Threads;
+
+/// A source whose load of the first chunk is held back. It may not have that.
+#[derive(Clone, Copy)]
+struct GatedSource<'a> {
+    alloc: Global,
+    gate: &'a Gate,
+    shared: Digest,
+    is_missing: bool,
+}
+
+impl Loads<Outcome> for GatedSource<'_> {
+    ghost fits = { is_outcome (λ share. share.value) (λ _ _. true) };
+
+    ghost clones_fit = { clones_of_outcomes (λ share. share.value) (λ _ _. true) _ (λ _ _ same. same) (λ _ _ wrong. wrong) (λ _ _ wrong. wrong) (λ _ _ same. same) };
+}
+
+impl Source for GatedSource<'_> {
+    ghost allows = { λ _ _. true };
+
+    ghost loaded = { λ _ _ _ _. Unit {0} };
+
+    ghost agrees = { λ _ _. refl };
+
+    fn load(&mut self, key: &Digest) -> Result<Chunk, ReadFault> {
+        if *key != self.shared {
+            self.gate.load_other();
+            return chunk_of(self.alloc, 1);
+        }
+        self.gate.load_shared();
+        if self.is_missing {
+            return Err(ReadFault::Missing);
+        }
+        chunk_of(self.alloc, 0)
+    }
+}
+
+type GatedNode<'a> = Group<DigestHash, GatedSource<'a>, NoLink, Counter>;
+
+/// Counts a caller by what it was given.
+fn note(alloc: Global, gate: &Gate, given: &Outcome, number: usize, is_missing: bool) {
+    match given {
+        Err(ReadFault::OutOfMemory) => gate.refuse(),
+        Err(fault) => gate.note(is_missing && *fault == ReadFault::Missing),
+        Ok(_) => match is_chunk_of(alloc, given, number) {
+            Ok(is_right) => gate.note(is_right && !is_missing),
+            Err(_) => gate.refuse(),
+        },
+    }
+}
+
+fn call_shared<R: Wait>(rt: &R, node: &GatedNode<'_>, source: GatedSource<'_>) {
+    source.gate.call_shared();
+    let given = node.get(rt, &source.shared);
+    note(source.alloc, source.gate, &given, 0, source.is_missing);
+}
+
+/// Calls the other key, and lets the load of the shared one pass once that was answered.
+fn call_other<R: Wait>(rt: &R, node: &GatedNode<'_>, source: GatedSource<'_>, other: &Digest) {
+    let given = node.get(rt, other);
+    source.gate.pass_other();
+    note(source.alloc, source.gate, &given, 1, false);
+}
+
+/// All callers, each in a thread of its own. A thread that can't be made counts as refused.
+fn call_all<R: Threads + Wait + Sync>(
+    rt: &R,
+    node: &GatedNode<'_>,
+    source: GatedSource<'_>,
+    other: &Digest,
+) {
+    thread::scope(thread::scope_env(), rt, |scope| {
+        for _ in 0..CALLERS {
+            if scope.spawn(move || call_shared(rt, node, source)).is_err() {
+                source.gate.refuse();
+            }
+        }
+        if scope
+            .spawn(move || call_other(rt, node, source, other))
+            .is_err()
+        {
+            source.gate.refuse();
+        }
+    });
+}
+
+/// That callers of one key share its load, which is held until another key's call was answered.
+fn assert_gated<R: Threads + Wait + Abort + Sync>(
+    rt: &R,
+    alloc: Global,
+    is_missing: bool,
+) -> Result<(), Fail> {
+    let gate = Gate::new();
+    let names = names(alloc, 2)?;
+    let shared = *names.get(0).ok_or("no chunk")?;
+    let other = *names.get(1).ok_or("no chunk")?;
+    let source = GatedSource {
+        alloc,
+        gate: &gate,
+        shared,
+        is_missing,
+    };
+    let ring = Ring::new(alloc, &["node0"], &DigestHash)?;
+    let node = Group::new(alloc, 10_000, ring, 0, source, NoLink, Counter::new())?;
+    call_all(rt, &node, source, &other);
+    gate.assert_shared(rt)
+}
+
+#[test]
+fn a_load_waits_for_another_that_is_answered(rt: HostRuntime) -> Result<(), Fail> {
+    assert_gated(&rt, rt.alloc(), false)
+}
+
+#[test]
+fn who_joins_is_told_that_a_chunk_is_missing(rt: HostRuntime) -> Result<(), Fail> {
+    assert_gated(&rt, rt.alloc(), true)
+}

@@ -1,0 +1,99 @@
+//! Stretches of files that are held through a node.
+use super::fixtures::{Giver, bytes_of, names};
+use super::gates::assert_count;
+use blob_store::{Blobs, MemShelf, ReadFault};
+use byte_view::{BlobInfo, Hold};
+use chunk_group::{BlobSource, Counter, Group, SoloGroup};
+use file_reads::Holder;
+use peer_link::NoLink;
+use peer_ring::{DigestHash, Ring};
+use std::alloc::{AllocError, Global};
+use std::process::Abort;
+use std::sync::atomic::AtomicU64;
+use std::sync::{Arc, Wait};
+use std::test::Fail;
+
+/// The bytes of all that is held.
+fn held(alloc: Global, hold: &Hold) -> Result<Vec<u8>, AllocError> {
+    let (first, last) = hold.stretch();
+    let mut bytes: Vec<u8> = Vec::new(alloc);
+    for piece in hold.pieces(first, last) {
+        bytes.extend_from_slice(piece)?;
+    }
+    Ok(bytes)
+}
+
+/// What is held of a file, from its first to its last byte.
+fn hold<H: Holder>(
+    holder: &mut H,
+    info: &Arc<BlobInfo>,
+    first: usize,
+    last: usize,
+) -> Result<Hold, ReadFault> {
+    if first > last || last >= info.len() {
+        return Err(ReadFault::Missing);
+    }
+    let info = Arc::try_clone(info).map_err(|_| ReadFault::OutOfMemory)?;
+    holder.hold(info, first, last)
+}
+
+/// A file of so many bytes, no two pieces of which are the same.
+fn file_of(alloc: Global, size: u32) -> Result<Vec<u8>, AllocError> {
+    let mut file = Vec::new(alloc);
+    for place in 0..size {
+        file.push((place % 251) as u8)?;
+    }
+    Ok(file)
+}
+
+fn assert_bytes(rt: &impl Abort, bytes: &Vec<u8>, wanted: &[u8]) {
+    assert_eq!(rt; bytes.as_slice(), wanted);
+}
+
+#[test]
+fn a_stretch_of_a_stored_file_is_held_across_the_edge_of_a_chunk(
+    rt: HostRuntime,
+) -> Result<(), Fail> {
+    let file = file_of(rt.alloc(), 65_537)?;
+    let mut blobs = Blobs::new(rt.alloc(), MemShelf::new(rt.alloc()));
+    let info = blobs.upload(file.as_slice())?;
+    let ring = Ring::new(rt.alloc(), &["node0", "node1"], &DigestHash)?;
+    let source = BlobSource::new(blobs);
+    let mut node = SoloGroup::new(rt.alloc(), 100_000, ring, 0, source, NoLink, Counter::new())?;
+    // From the shelf, and then from the cache.
+    for _ in 0..2 {
+        let bytes = held(rt.alloc(), &hold(&mut node, &info, 65_535, 65_536)?)?;
+        assert_bytes(&rt, &bytes, &[24, 25]);
+    }
+    let other = Arc::new(rt.alloc(), BlobInfo::of(rt.alloc(), b"not there")?)?;
+    assert_eq!(rt;
+        hold(&mut node, &other, 0, 8).err(),
+        Some(ReadFault::Missing)
+    );
+    Ok(())
+}
+
+/// Asserts that two holds of one stretch of a file of one chunk give its bytes, and load it once.
+fn assert_held<R: Abort + Wait>(rt: &R, alloc: Global) -> Result<(), Fail> {
+    let names = names(alloc, 8)?;
+    let calls = AtomicU64::new(0);
+    let source = Giver::new(alloc, names.as_slice(), &[], &calls);
+    let ring = Ring::new(alloc, &["node0"], &DigestHash)?;
+    let node = Group::new(alloc, 10_000, ring, 0, source, NoLink, Counter::new())?;
+    let file = bytes_of(alloc, 7)?;
+    for _ in 0..2 {
+        let info = Arc::new(alloc, BlobInfo::of(alloc, file.as_slice())?)?;
+        if info.len() < 9 {
+            return Err(Fail::from("the file has no such stretch"));
+        }
+        let bytes = held(alloc, &node.hold(rt, info, 5, 8)?)?;
+        assert_bytes(rt, &bytes, &[7, 7, 7, 7]);
+    }
+    assert_count(rt, &calls, 1, "loads");
+    Ok(())
+}
+
+#[test]
+fn a_stretch_is_held_through_a_node_that_threads_share(rt: HostRuntime) -> Result<(), Fail> {
+    assert_held(&rt, rt.alloc())
+}

@@ -1,0 +1,5 @@
+use Rattle.host_opening.specs.Needs.{HasNeeds, need_up_to}
+use Rattle.host_opening.proofs.wanted_files.needs_of.Given as goal
+
+abbrev pub invariant-loop-place : goal.invariant-loop-place
+invariant-loop-place l = HasNeeds (need_up_to l.log l.place) l.needs

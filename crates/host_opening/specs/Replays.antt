@@ -1,0 +1,53 @@
+-- Entries taken in turn.
+use Rattle.std.specs.Prelude.{◌≡◌, ℕ, ◌+◌, ◌≤◌, List, [], ◌∷◌, ◌++◌, length, Some}
+use Rattle.host_names.specs.Blobs.{Contents}
+use Rattle.host_names.specs.declared.refusals.ChangeRefusal.{ChangeRefusal}
+use Rattle.host_names.specs.declared.refusals.ChangeError.{ChangeError}
+use Rattle.host_names.specs.declared.refusals.ChangeError.TheVariants as error
+use Rattle.site_state.specs.States.{State}
+use Rattle.change_undo.specs.declared.entries.Entry.{Entry}
+use Rattle.change_undo.specs.declared.entries.Entry.TheVariants.{Change, Undo}
+use Rattle.change_undo.specs.Histories.{IsLegal, Past, commit_refusal, run, undo_refusal}
+use Rattle.change_undo.specs.Plans.{IsHistoryOver}
+use Rattle.host_opening.specs.declared.replays.ReplayFault.{ReplayFault}
+use Rattle.host_opening.specs.declared.replays.ReplayFault.TheVariants as fault
+
+-- a history of these entries over these uploads, which may have as many as the limit says
+pub record IsReplayed (uploads : Contents) (limit : ℕ) (entries : List Entry) (past : Past) : Type 0 where
+  pub entries_are : past.entries ≡ entries
+  pub limit_is : past.limit ≡ limit
+  pub over : IsHistoryOver uploads past
+
+-- why the entry isn't accepted as the one after these, in a history of this limit
+abbrev pub IsRefusedAfter : Contents → ℕ → List Entry → Entry → ChangeRefusal → Type 0
+IsRefusedAfter uploads limit before (Change command) reason =
+    (state : State) × (run uploads before ≡ Some state) × (commit_refusal uploads limit before state command ≡ Some reason)
+IsRefusedAfter uploads limit before (Undo site k) reason = undo_refusal uploads limit before site k ≡ Some reason
+
+-- why the entry after these wasn't taken: there is a reason to refuse it, or there was no memory
+abbrev pub IsStoppedBy : Contents → ℕ → List Entry → Entry → ReplayFault → Type 0
+IsStoppedBy uploads limit before entry (fault.NotLegal n) =
+    (n ≡ length before + 1) × ((reason : ChangeRefusal) × IsRefusedAfter uploads limit before entry reason)
+IsStoppedBy uploads limit before entry fault.OutOfMemory = Unit {0}
+
+-- the first ones are accepted in turn, within the limit, and the next one wasn't taken
+pub record StopsAt (uploads : Contents) (limit : ℕ) (entries : List Entry) (stop : ReplayFault) : Type 0 where
+  pub before : List Entry
+  pub entry : Entry
+  pub after : List Entry
+  pub parts : entries ≡ before ++ entry ∷ after
+  pub legal : IsLegal uploads before
+  pub within : length before ≤ limit
+  pub stopped : IsStoppedBy uploads limit before entry stop
+
+-- ---- what private functions say
+
+-- why one entry was not appended to a history: it is refused after those of the history, or there was no memory
+abbrev pub IsAppendFault : Contents → Past → Entry → ChangeError → Type 0
+IsAppendFault uploads past entry (error.Refused reason) = IsRefusedAfter uploads past.limit past.entries entry reason
+IsAppendFault uploads past entry error.OutOfMemory = Unit {0}
+
+-- what is told of it, where the entry has this number
+abbrev pub fault_at : ℕ → ChangeError → ReplayFault
+fault_at n (error.Refused reason) = fault.NotLegal n
+fault_at n error.OutOfMemory = fault.OutOfMemory

@@ -1,0 +1,19 @@
+//! Laws of openings, each the contract of a function that does nothing.
+ghost use Rattle.std.specs.Prelude.{◌≡◌, ◌≤◌, ℕ, List, length};
+ghost use Rattle.host_names.specs.Blobs.{Contents};
+ghost use Rattle.change_undo.specs.Histories.{IsLegal, Past};
+ghost use Rattle.change_undo.specs.Plans.{IsHistoryOver};
+ghost use Rattle.change_undo.specs.declared.entries.Entry.{Entry as Line};
+ghost use Rattle.host_opening.specs.Replays.{IsReplayed, StopsAt};
+ghost use Rattle.host_opening.specs.declared.replays.ReplayFault.TheVariants.{NotLegal};
+
+/// Where each entry is accepted in turn and there are no more than the limit says, none is told that isn't legal.
+pub fn a_legal_log_is_replayed()
+    ensures { (uploads : Contents) (limit : ℕ) (entries : List Line) (n : ℕ) → IsLegal uploads entries → length entries ≤ limit → ¬ (StopsAt uploads limit entries (NotLegal n)) }
+{}
+
+/// The history of the entries of a history is that history again, over the same uploads: its entries, its limit and its state.
+pub fn a_replayed_history_is_the_same()
+    ensures { (uploads : Contents) (past opened : Past) → IsHistoryOver uploads past → IsReplayed uploads past.limit past.entries opened
+        → (opened.entries ≡ past.entries) × (opened.limit ≡ past.limit) × (opened.state ≡ past.state) }
+{}

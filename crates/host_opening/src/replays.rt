@@ -1,0 +1,79 @@
+//! The history of some entries.
+ghost use Rattle.std.specs.Prelude.{◌≡◌, ◌≢◌, ◌++◌, ◌∷◌, [], ◌≤◌, IfErr, IfOk, OnOk};
+ghost use Rattle.change_undo.specs.Plans.{IsHistoryOver};
+ghost use Rattle.host_opening.specs.Replays.{IsAppendFault, IsReplayed, StopsAt};
+ghost use Rattle.host_opening.specs.declared.replays.ReplayFault.TheVariants as replay_fault;
+
+use crate::copies::copy_of;
+use crate::places::entry_of;
+use byte_view::Uploads;
+use change_undo::{Entry, History, Log};
+use host_names::ChangeError;
+use std::alloc::Global;
+use thiserror::Error;
+
+/// Why there is no history of some entries.
+#[derive(Clone, Copy, Debug, PartialEq, Eq, Error)]
+pub enum ReplayFault {
+    /// The entry of this number is not accepted after those before it.
+    #[error("entry {0} is not legal")]
+    NotLegal(u64),
+    #[error("out of memory")]
+    OutOfMemory,
+}
+
+/// What is told where an entry of a number was not appended.
+fn fault_at(number: u64, error: ChangeError) -> ReplayFault
+    ensures { result ≡ Rattle.host_opening.specs.Replays.fault_at number error }
+{
+    match error {
+        ChangeError::Refused(_) => ReplayFault::NotLegal(number),
+        ChangeError::OutOfMemory => ReplayFault::OutOfMemory,
+    }
+}
+
+/// Appends a copy of an entry to a history, with these uploads, over which the history is what it is.
+fn append<U: Uploads>(history: &mut History, entry: &Entry, uploads: &U) -> Result<(), ChangeError>
+    requires over { IsHistoryOver (U.contents uploads.now) history.old }
+    ensures entries { OnOk result (history.new.entries ≡ history.old.entries ++ entry.now ∷ []) }
+    ensures over { OnOk result (IsHistoryOver (U.contents uploads.now) history.new) }
+    ensures limit { history.new.limit ≡ history.old.limit }
+    ensures fault { IfErr result (λ error. IsAppendFault (U.contents uploads.now) history.old entry.now error) }
+{
+    match entry {
+        Entry::Change(command) => {
+            let copy = copy_of(command)?;
+            match history.commit(uploads, copy) {
+                Ok(_) => Ok(()),
+                Err(error) => Err(error),
+            }
+        }
+        Entry::Undo { site, change } => {
+            history.undo(site, *change)?;
+            Ok(())
+        }
+    }
+}
+
+/// The history of these entries over these uploads, which may have as many as the limit says: each entry is accepted in
+/// turn. Else the number of the first one that isn't, whether it is refused or the history is full before it.
+pub fn replay<U: Uploads>(
+    alloc: Global,
+    log: &Log,
+    limit: u64,
+    uploads: &U,
+) -> Result<History, ReplayFault>
+    requires some { 1 ≤ limit }
+    requires bounded { limit ≤ 1000000 }
+    ensures replayed { IfOk result (λ history. IsReplayed (U.contents uploads.now) limit log.now history) }
+    ensures fault { IfErr result (λ fault. StopsAt (U.contents uploads.now) limit log.now fault) }
+{
+    let mut history = History::new(alloc, limit);
+    for place in 0..log.len() {
+        let number = history.len() + 1;
+        if let Err(error) = append(&mut history, entry_of(log, place + 1), uploads) {
+            return Err(fault_at(number, error));
+        }
+    }
+    Ok(history)
+}

@@ -1,0 +1,219 @@
+"""Journals in files: what the crates write is what docs/STORAGE.md says, and what is opened of a file; and which calls of the system a
+put and an opening make.
+
+The program is journal_bench, which opens a journal at a path. The reader and the writer are in journal.py.
+"""
+
+import fcntl
+import hashlib
+import pathlib
+import random
+import subprocess
+import tempfile
+import unittest
+
+import journal
+from client import HERE, SECONDS, TOP
+
+CRATE = TOP / "crates/journal_bench"
+PROGRAM = CRATE / "out/journal_bench"
+SOURCE = HERE / "trace_files.c"
+CANCEL = ("cancel", "one", 2)
+
+
+def is_built():
+    """Whether the program is there, and no older than the code of any crate."""
+    if not PROGRAM.exists():
+        return False
+    sources = (file for folder in ("src", "specs", "proofs") for file in TOP.glob(f"crates/*/{folder}/**/*") if file.is_file())
+    return PROGRAM.stat().st_mtime >= max(file.stat().st_mtime for file in sources)
+
+
+def build():
+    """Proves and builds the program. What is built already keeps its time, so that it is set here."""
+    subprocess.run(["rt", "run", "--", "list"], cwd=CRATE, stdin=subprocess.DEVNULL, capture_output=True, check=True)
+    PROGRAM.touch()
+
+
+def numbered(number):
+    """The entry that the program makes of a number."""
+    site, n = f"site-{number}", number % 1_000_000 + 1
+    one, other, named = (f"/{letter}/{number}.txt" for letter in "abc")
+    is_patch = number % 4 == 1
+    flags = ("patch",) * is_patch + ("auto",) * (number % 3 == 0)
+    digest = None if is_patch else hashlib.sha1(named.encode()).hexdigest()
+    kinds = [
+        ("undo", site, n), ("open", site, flags, ((one, digest),)), ("publish", site, n), ("cancel", site, n),
+        ("alias", site, "next", n), ("no-alias", site, "next"), ("rename", site, one, other), ("remove", site, one),
+        ("restore", site, n), ("no-deploy", site, n),
+    ]
+    return kinds[number % 10]
+
+
+ENTRIES = [numbered(number) for number in range(1, 201)]
+
+
+def told(file):
+    """What the program says of a file that it opens, and what the file then is."""
+    try:
+        entries, after = journal.opened(file)
+        return f"{len(entries)} entries", after
+    except journal.BadHeader:
+        return "BadHeader", file
+    except journal.BadRecord as fault:
+        return f"BadRecord {fault.args[0]}", file
+
+
+def changed(draw, file):
+    """The file with some bytes changed, added or cut, more often at its gates and its end."""
+    file = bytearray(file)
+    gates = [0, 8, len(file) - 1]
+    for _ in range(draw.randrange(1, 3)):
+        place = draw.choice([*gates, draw.randrange(len(file)), draw.randrange(len(file))]) if file else 0
+        how = draw.randrange(4)
+        if how == 0:
+            file[place:place + 1] = bytes([draw.choice([0, 1, 2, 255, draw.randrange(256)])])
+        elif how == 1:
+            file[place:place] = draw.randbytes(draw.randrange(1, 4))
+        elif how == 2:
+            del file[place:]
+        else:
+            file += draw.randbytes(draw.randrange(1, 30))
+    return bytes(file)
+
+
+class Journals(unittest.TestCase):
+    @classmethod
+    def setUpClass(cls):
+        if not is_built():
+            build()
+
+    def setUp(self):
+        folder = tempfile.TemporaryDirectory()
+        self.addCleanup(folder.cleanup)
+        self.folder = pathlib.Path(folder.name).resolve()
+        self.file = self.folder / "journal"
+
+    def run_program(self, *words, **how):
+        ran = subprocess.run([PROGRAM, *words], check=True, capture_output=True, text=True, timeout=SECONDS, **how)
+        return ran.stdout.strip()
+
+    def open(self, path=None):
+        """What the program says of the file that it opens, after the time that it took."""
+        return self.run_program("open", path or self.file, "1").partition(" ")[2]
+
+
+class Files(Journals):
+    def test_writes_what_the_format_says(self):
+        self.assertEqual(self.run_program("write", self.file, str(len(ENTRIES))), f"{len(ENTRIES)} entries")
+        file = self.file.read_bytes()
+        self.assertEqual(journal.read(file), ENTRIES)
+        self.assertEqual(file, journal.write(ENTRIES))
+
+    def test_puts_after_what_is_there(self):
+        file = journal.write(ENTRIES[:50])
+        self.file.write_bytes(file + b"the end of an entry that was being put")
+        self.run_program("put", self.file, "3")
+        self.assertEqual(self.file.read_bytes(), journal.write([*ENTRIES[:50], CANCEL, CANCEL, CANCEL]))
+
+    def test_opens_what_the_format_says(self):
+        entry = journal.write([("cancel", "one", 1)])
+        for file in [journal.EMPTY, journal.write(ENTRIES), b"", *(entry[:size] for size in range(len(entry)))]:
+            self.assert_opened(file)
+
+    def test_opens_files_that_were_changed_by_chance(self):
+        draw = random.Random(8)
+        for _ in range(400):
+            first = draw.randrange(len(ENTRIES))
+            self.assert_opened(changed(draw, journal.write(ENTRIES[first:first + draw.randrange(4)])))
+
+    def test_opens_the_most_records_and_no_more(self):
+        most = 1_000_000
+        record = journal.record(journal.encode(CANCEL))
+        for records, answer in ((most, f"{most} entries"), (most + 1, f"BadRecord {most + 1}")):
+            self.file.write_bytes(journal.HEADER + record * records + journal.SHUT)
+            self.assertEqual(self.open(), answer)
+
+    def assert_opened(self, file):
+        self.file.write_bytes(file)
+        self.assertEqual((self.open(), self.file.read_bytes()), told(file), file)
+
+    def test_leaves_a_file_that_another_process_has_open(self):
+        self.file.write_bytes(journal.EMPTY)
+        with self.file.open("rb") as file:
+            fcntl.flock(file, fcntl.LOCK_EX)
+            self.assertEqual(self.open(), "Device")
+        self.assertEqual(self.open(), "0 entries")
+
+    def test_tells_of_a_device_that_is_no_file(self):
+        self.assertEqual(self.open(self.folder), "Device")
+        self.assertEqual(self.open(self.folder / "nothing/journal"), "Device")
+
+
+class Calls(Journals):
+    """Which calls change or sync the file and its folder, in their order, as a library in C tells them (trace_files.c)."""
+
+    def setUp(self):
+        super().setUp()
+        self.library = self.folder / "trace_files.so"
+        subprocess.run(["gcc", "-O1", "-shared", "-fPIC", "-o", self.library, SOURCE, "-ldl"], check=True, timeout=SECONDS)
+
+    def trace(self, *words):
+        told_in = self.folder / "calls"
+        told_in.unlink(missing_ok=True)
+        self.run_program(*words, env={"LD_PRELOAD": str(self.library), "TRACE_FILE": str(told_in)})
+        lines = told_in.read_text().replace(f" {self.file}", " file").replace(f" {self.folder}", " folder").splitlines()
+        return [line for line in lines if line.split(" ")[1] in ("file", "folder")]
+
+    def test_a_put_is_two_writes_each_with_a_sync(self):
+        file = journal.write(ENTRIES[:7])
+        self.file.write_bytes(file)
+        body = journal.encode(CANCEL)
+        gate = len(file) - 1
+        record = (len(body).to_bytes(4, "big") + body + b"\x00").hex()
+        opening = ["fdatasync file"]
+        put = [f"pwrite file {gate + 1} {record}", "fdatasync file", f"pwrite file {gate} 01", "fdatasync file"]
+        self.assertEqual(self.trace("put", self.file, "1"), opening + put)
+
+    def test_a_new_file_is_synced_with_its_folder(self):
+        made = [
+            "fsync folder", "fdatasync file",
+            "pwrite file 0 00", "fdatasync file",
+            "pwrite file 1 46484a524e4c0100", "fdatasync file",
+            "pwrite file 0 01", "fdatasync file",
+        ]
+        self.assertEqual(self.trace("open", self.file, "1"), made)
+        self.assertEqual(self.trace("open", self.file, "1"), ["fdatasync file"])
+
+    def test_what_a_stop_left_is_shut_and_cut(self):
+        file = journal.write(ENTRIES[:2])
+        self.file.write_bytes(file[:-1] + b"\x07tail")
+        gate = len(file) - 1
+        mended = [f"pwrite file {gate} 00", "fdatasync file", f"ftruncate file {gate + 1}", "fdatasync file"]
+        self.assertEqual(self.trace("open", self.file, "1"), ["fdatasync file", *mended])
+
+    def test_nothing_is_written_to_what_is_no_journal(self):
+        for file in (b"a file of another kind", journal.write(ENTRIES)[:100]):
+            self.file.write_bytes(file)
+            self.assertEqual(self.trace("open", self.file, "1"), ["fdatasync file"])
+
+
+class Reader(unittest.TestCase):
+    """The reader and the writer themselves."""
+
+    def test_the_documented_entry(self):
+        body = bytes.fromhex("06 03 6f6e65 0006 2f612e747874 0006 2f632e747874")
+        self.assertEqual(journal.decode(body), ("rename", "one", "/a.txt", "/c.txt"))
+        self.assertEqual(journal.encode(("rename", "one", "/a.txt", "/c.txt")), body)
+        for wrong in (body[:-1], body + b"\x00"):
+            self.assertRaises(journal.BadEntry, journal.decode, wrong)
+
+    def test_three_entries(self):
+        file = journal.write([("cancel", "one", 1)] * 3)
+        self.assertEqual(len(file), 63)
+        self.assertEqual([place for place in (8, 26, 44, 62) if file[place] == (place < 62)], [8, 26, 44, 62])
+        self.assertEqual(len(journal.read(file[:44] + b"\x07" + file[45:])), 2)
+
+
+if __name__ == "__main__":
+    unittest.main()
