@@ -1,3 +1,6 @@
+pub mod Journaling
+pub mod HoldingUp
+pub mod InRange
 pub mod FieldTexts
 pub mod Telling
 pub mod Reading

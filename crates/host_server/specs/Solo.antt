@@ -10,6 +10,7 @@ use Rattle.host_server.specs.declared.connections.ConnectionFault.TheVariants as
 use Rattle.blob_store.specs.Shelves.{Does, found_in}
 use Rattle.blob_store.specs.declared.mem_shelf.MemShelf.{MemShelf}
 use Rattle.blob_store.specs.declared.shelves.ShelfName.{ShelfName}
+use Rattle.host_disk.specs.declared.mem_disk.MemDisk.{MemDisk}
 use Rattle.host_server.specs.Asks.{IsAnswer}
 use Rattle.host_server.specs.Hosts.{Host}
 use Rattle.host_server.specs.declared.servers.Server.{Server}
@@ -60,9 +61,10 @@ IsNotRead says_fail status said new_said = (status ≡ 2) × IsSaid says_fail me
 abbrev pub IsNotServed : (says_fail : Type 0) → List (List ℕ) → ℕ → (said new_said : Stream) → Type 0
 IsNotServed says_fail words status said new_said = IsRefused says_fail words status said new_said ⊎ IsNotRead says_fail status said new_said
 
--- a server without entries and files, whose shelf is in memory
-pub record IsEmpty (server : Server MemShelf) : Type 0 where
+-- a server without entries, files and a journal, whose shelf is in memory
+pub record IsEmpty (server : Server MemShelf MemDisk) : Type 0 where
   pub host : server.house ≡ empty_host
+  pub journal : server.journal ≡ None
   pub shelf : (name : ShelfName) → found_in server.files.shelf name ≡ None
 
 -- the words ask for a connection to such a server, and the status says how it ended
@@ -71,10 +73,10 @@ pub record IsServed (read_fails write_fails says_fail : Type 0) (words : List (L
   pub asked : AskForSolo words
   pub ended : Result (Unit {0}) ConnectionFault
   pub says : status ≡ status_of ended
-  pub start : Server MemShelf
+  pub start : Server MemShelf MemDisk
   pub empty : IsEmpty start
-  pub next : Server MemShelf
-  pub serves : Serves (IsAnswer Does (λ shelf. 0)) read_fails write_fails ended start next stream held new_held
+  pub next : Server MemShelf MemDisk
+  pub serves : Serves (IsAnswer Does (λ shelf. 0) (λ (disk : MemDisk). disk.failures)) read_fails write_fails ended start next stream held new_held
   pub end_said : SaysEnd says_fail ended said new_said
 
 -- A run: no connection is served, and nothing is answered; or one is. So the status is 1 exactly where the words ask for nothing

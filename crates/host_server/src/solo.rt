@@ -9,6 +9,7 @@ use crate::servers::Server;
 use blob_store::MemShelf;
 use change_undo::GREATEST_LIMIT;
 use command_line::{Refusal, Wanted, read};
+use host_disk::MemDisk;
 use http_wire::{Duplex, Sink, write_all};
 use std::alloc::Global;
 use std::convert::AsStr;
@@ -73,7 +74,8 @@ pub fn run_solo<S: AsStr, D: Duplex, E: Sink>(
 {
     match wanted(alloc, words, errors) {
         Ok(Wanted::Solo) => {
-            let mut server = Server::new(alloc, MemShelf::new(alloc), GREATEST_LIMIT);
+            let mut server: Server<MemShelf, MemDisk> =
+                Server::new(alloc, MemShelf::new(alloc), GREATEST_LIMIT);
             let ended = serve_connection(alloc, duplex, &mut server);
             status_after(errors, ended)
         }
