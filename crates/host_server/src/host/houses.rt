@@ -2,7 +2,8 @@
 ghost use Rattle.std.specs.Prelude.{◌≡◌, ◌≤◌, Option, [], ◌∷◌, Some, None, IfOk, OnOk, OnErr, false, length, nat_le, option_copied, option_map};
 ghost use Rattle.std.specs.FinMap as map;
 ghost use Rattle.host_names.specs.Blobs.{digest_of};
-ghost use Rattle.change_undo.specs.Histories.{run, entry_at, marked_entry};
+ghost use Rattle.host_names.specs.Refusals.{IsRefusedBy};
+ghost use Rattle.change_undo.specs.Histories.{IsUndoRefusedBy, run, entry_at, marked_entry};
 ghost use Rattle.change_undo.specs.declared.entries.Entry.TheVariants as entry;
 ghost use Rattle.host_server.specs.Entries.{IsEntered, IsRefusedAs, IsUndoRefusedAs};
 ghost use Rattle.host_server.specs.Hosts.{Grows, Host, state_of, next_number, with_entry, with_upload, IsLawful};
@@ -19,7 +20,7 @@ use byte_view::BlobInfo;
 use change_journal::Journal;
 use change_undo::{Entry, History};
 use host_disk::Disk;
-use host_names::SiteName;
+use host_names::{ChangeError, SiteName};
 use site_change::Command;
 use site_state::State;
 use std::alloc::{AllocError, Global};
@@ -136,8 +137,19 @@ impl SoloHouse {
     {
         match journal {
             Some(journal) => self.commit_into(journal, command),
-            None => Ok(self.history.commit(&self.uploads, command)?),
+            None => Ok(self.commit_alone(command)?),
         }
+    }
+
+    /// The same without a journal. On an error nothing changes.
+    fn commit_alone(&mut self, command: Command) -> Result<u64, ChangeError>
+        ensures number { IfOk result (λ number. number ≡ next_number self.old) }
+        ensures entries { OnOk result (self.new ≡ with_entry self.old (entry.Change command)) }
+        ensures refused { IsRefusedBy (commit_refusal self.old command) result }
+        ensures err { OnErr result (self.new ≡ self.old) }
+        ensures grows { Grows self.old self.new }
+    {
+        self.history.commit(&self.uploads, command)
     }
 
     /// The same with a journal. All that takes memory comes before the entry is put.
@@ -180,8 +192,19 @@ impl SoloHouse {
     {
         match journal {
             Some(journal) => self.undo_into(journal, site, change),
-            None => Ok(self.history.undo(site, change)?),
+            None => Ok(self.undo_alone(site, change)?),
         }
+    }
+
+    /// The same without a journal. On an error nothing changes.
+    fn undo_alone(&mut self, site: &SiteName, change: u64) -> Result<u64, ChangeError>
+        ensures number { IfOk result (λ number. number ≡ next_number self.old) }
+        ensures entries { OnOk result (self.new ≡ with_entry self.old (entry.Undo site.now change)) }
+        ensures refused { IsUndoRefusedBy (Reasons.undo_refusal self.old site.now change) result }
+        ensures err { OnErr result (self.new ≡ self.old) }
+        ensures grows { Grows self.old self.new }
+    {
+        self.history.undo(site, change)
     }
 
     /// The same with a journal. All that takes memory comes before the entry is put.
