@@ -1,5 +1,5 @@
 -- A journal keeps up with its host, call by call.
-use Rattle.std.proofs.Common.{◌≡◌, ◌≢◌, ◌⊎◌, inl, inr, ℕ, List, [], ◌∷◌, ◌++◌, false, Option, Some, None, Result, Ok, Err, refl, sym, ap, subst, ◌∙◌}
+use Rattle.std.proofs.Common.{◌≡◌, ◌≢◌, ◌⊎◌, inl, inr, ℕ, List, [], ◌∷◌, ◌++◌, length, false, Option, Some, None, Result, Ok, Err, refl, sym, ap, subst, ◌∙◌}
 use Rattle.std.proofs.lemmas.List.{append-nil, append_assoc}
 use Rattle.change_journal.specs.Held.{Keeps}
 use Rattle.change_undo.specs.declared.entries.Entry.{Entry}
@@ -10,6 +10,10 @@ use Rattle.host_server.specs.declared.host.entry_errors.EntryError.TheVariants a
 use Rattle.host_server.specs.Entries.{IsEntered, told_error}
 use Rattle.host_server.specs.Hosts.{Host, with_entry}
 use Rattle.host_server.specs.Journals.{Agrees, BreaksOff, IsJournaled, KeepsUp, Puts, is_broken}
+
+pub no_entries : (entries : List Entry) → length entries ≡ 0 → entries ≡ []
+no_entries [] none = refl
+no_entries (entry ∷ entries) none = absurd (cc none)
 
 module _ {D : Type 0} (faults : D → ℕ) where
   -- ---- puts

@@ -1,4 +1,5 @@
 pub mod Journaling
+pub mod Committing
 pub mod HoldingUp
 pub mod InRange
 pub mod FieldTexts

@@ -1,5 +1,5 @@
 //! A host, its journal, and the shelf that its files are on.
-ghost use Rattle.std.specs.Prelude.{◌≡◌, ◌≤◌, [], None};
+ghost use Rattle.std.specs.Prelude.{◌≡◌, ◌≤◌, [], Some, None, length};
 ghost use Rattle.std.specs.FinMap as map;
 ghost use Rattle.host_server.specs.Journals.{Agrees};
 
@@ -32,6 +32,34 @@ impl<S: Shelf, D: Disk> Server<S, D> {
             journal: None,
             files: Files::new(alloc, shelf),
         }
+    }
+
+    /// A server with an empty journal, and without entries and known files, over a shelf.
+    pub fn with_journal(
+        alloc: Global,
+        shelf: S,
+        limit: u64,
+        journal: Journal<D>,
+    ) -> Server<S, D>
+        requires some { 1 ≤ limit }
+        requires bounded { limit ≤ 1000000 }
+        requires empty { length journal.entries ≡ 0 }
+        ensures house { result.house ≡ record { limit = limit; entries = []; uploads = map.empty } }
+        ensures journal { result.journal ≡ Some journal }
+        ensures shelf { result.files.shelf ≡ shelf }
+    {
+        Server {
+            house: SoloHouse::new(alloc, limit),
+            journal: Some(journal),
+            files: Files::new(alloc, shelf),
+        }
+    }
+
+    /// Hands out its journal, if it has one.
+    pub fn into_journal(self) -> Option<Journal<D>>
+        ensures { result ≡ self.journal }
+    {
+        self.journal
     }
 
     /// Its host.

@@ -1,11 +1,12 @@
 //! Histories with one entry more, beside the old one, and the journal that gets that entry.
-ghost use Rattle.std.specs.Prelude.{◌≡◌, ◌⊎◌, ◌++◌, ◌∷◌, [], None, Err, Result, ℕ, IfOk, IfErr, IsErrOf, OnOk, false};
+ghost use Rattle.std.specs.Prelude.{◌≡◌, ◌⊎◌, ◌++◌, ◌∷◌, [], None, Err, ℕ, IfOk, IfErr, OnOk, false, option_map};
 ghost use Rattle.host_names.specs.Blobs.{Contents};
 ghost use Rattle.host_names.specs.Refusals.{IsRefusedBy};
 ghost use Rattle.host_names.specs.declared.names.SiteName.{SiteName as Site};
-ghost use Rattle.host_names.specs.declared.refusals.ChangeError.{ChangeError as Error};
+ghost use Rattle.host_names.specs.declared.refusals.ChangeRefusal.TheVariants as reason;
 ghost use Rattle.site_change.specs.declared.commands.Command.{Command as Change};
 ghost use Rattle.change_journal.specs.Spells.{IsInRange};
+ghost use Rattle.change_undo.specs.Clashes;
 ghost use Rattle.change_undo.specs.Histories;
 ghost use Rattle.change_undo.specs.Histories.{IsUndoRefusedBy};
 ghost use Rattle.change_undo.specs.Plans.{IsHistoryOver};
@@ -17,7 +18,7 @@ ghost use Rattle.host_server.specs.Journals.{IsPutInVain};
 use super::entry_errors::EntryError;
 use blob_store::Known;
 use change_journal::{Journal, prepare};
-use change_undo::History;
+use change_undo::{Entry, History};
 use host_disk::Disk;
 use host_names::{ChangeError, ChangeRefusal, SiteName};
 use site_change::{Command, decide};
@@ -27,8 +28,7 @@ use std::alloc::Global;
 /// first reason against the command, or else that.
 fn without_copy(alloc: Global, history: &History, uploads: &Known, command: &Command) -> ChangeError
     requires { IsHistoryOver uploads.now history.now }
-    ensures { let answer : Result ℕ Error = Err result in
-        IsRefusedBy (Histories.commit_refusal uploads.now history.now.limit history.now.entries history.now.state command.now) answer }
+    ensures { IsRefusedBy {A = ℕ} (Histories.commit_refusal uploads.now history.now.limit history.now.entries history.now.state command.now) (Err result) }
 {
     if history.is_full() {
         return ChangeError::Refused(ChangeRefusal::HistoryFull);
@@ -40,15 +40,39 @@ fn without_copy(alloc: Global, history: &History, uploads: &Known, command: &Com
     }
 }
 
-/// The same of an undo.
-fn without_copy_to_undo(history: &History, site: &SiteName, change: u64) -> ChangeError
-    ensures { let answer : Result ℕ Error = Err result in (uploads : Contents) → IsHistoryOver uploads history.now
-        → IsUndoRefusedBy (Histories.undo_refusal uploads history.now.limit history.now.entries site.now change) answer }
+/// The clash of a change as a reason to refuse its undo, or that there is no memory: for an undo without a clash, or for the
+/// clash's path.
+fn without_copy_or_clash(history: &History, change: u64) -> ChangeError
+    ensures { (uploads : Contents) → IsHistoryOver uploads history.now
+        → IsUndoRefusedBy {A = ℕ} (option_map (λ later. reason.Clash later.0 later.1) (Clashes.clash uploads history.now.entries change)) (Err result) }
 {
-    match history.undo_refusal(site, change) {
-        Ok(Some(reason)) => ChangeError::Refused(reason),
-        Ok(None) => ChangeError::OutOfMemory,
+    let Some((change, cell)) = history.clash(change) else {
+        return ChangeError::OutOfMemory;
+    };
+    match cell.clone() {
+        Ok(cell) => ChangeError::Refused(ChangeRefusal::Clash { change, cell }),
         Err(_) => ChangeError::OutOfMemory,
+    }
+}
+
+/// The same of the undo of a change of this site.
+fn without_copy_to_undo(history: &History, site: &SiteName, change: u64) -> ChangeError
+    ensures { (uploads : Contents) → IsHistoryOver uploads history.now
+        → IsUndoRefusedBy {A = ℕ} (Histories.undo_refusal uploads history.now.limit history.now.entries site.now change) (Err result) }
+{
+    if history.is_full() {
+        return ChangeError::Refused(ChangeRefusal::HistoryFull);
+    }
+    let Some((entry, is_undone)) = history.marked_entry(change) else {
+        return ChangeError::Refused(ChangeRefusal::NoSuchChange);
+    };
+    if entry.site() != site {
+        return ChangeError::Refused(ChangeRefusal::NoSuchChange);
+    }
+    match entry {
+        Entry::Undo { .. } => ChangeError::Refused(ChangeRefusal::NotAChange),
+        Entry::Change(_) if is_undone => ChangeError::Refused(ChangeRefusal::AlreadyUndone),
+        Entry::Change(_) => without_copy_or_clash(history, change),
     }
 }
 
