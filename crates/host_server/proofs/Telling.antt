@@ -161,16 +161,18 @@ module _ {S D : Type 0} (did : S → Call → S → Type 0) (failures : S → �
       keeps_same faults server.house next.house server.journal next.journal (ap (λ (s : Server S D). s.house) is) (ap (λ (s : Server S D). s.journal) is)
 
   -- the answer to what is asked for is that to the request
+  of_asked : (server next : Server S D) (parts : RequestParts) (body : List ℕ) (answer : Answer) → AnswersAsk did failures faults server parts body (asked_for parts body) answer next
+      → IsAnswer did failures faults server parts body answer next
+  of_asked server next parts body answer (inl (held, says, same)) = inl (inl (held, says, same), stays server next same)
+  of_asked server next parts body answer (inr (free, inl (reply, kept))) = inl (inr (free, reply), kept)
+  of_asked server next parts body answer (inr (free, inr (inl ((says, out), kept)))) = inr (inl ((says, inr (free, out)), kept))
+  of_asked server next parts body answer (inr (free, inr (inr ((says, stops), broken)))) = inr (inr ((says, stops), broken))
+
   pub answered : (server next : Server S D) (parts : RequestParts) (lent body : List ℕ) (asking : Result Ask Refusal) (answer : Answer) → lent ≡ body
       → asked_for parts lent ≡ asking → AnswersAsk did failures faults server parts body asking answer next → IsAnswer did failures faults server parts body answer next
   answered server next parts lent body asking answer same is answers =
       let there : asking ≡ asked_for parts body = sym is ∙ ap (asked_for parts) same in
-      elim (subst (λ a. AnswersAsk did failures faults server parts body a answer next) there answers) as (λ _. IsAnswer did failures faults server parts body answer next) [
-        | inl (held, says, as_it_was) ↦ inl (inl (held, says, as_it_was), stays server next as_it_was)
-        | inr (free, inl (reply, kept)) ↦ inl (inr (free, reply), kept)
-        | inr (free, inr (inl (none, kept))) ↦ inr (inl ((none.0, inr (free, none.1)), kept))
-        | inr (free, inr (inr (none, broken))) ↦ inr (inr (none, broken))
-      ]
+      of_asked server next parts body answer (subst (λ a. AnswersAsk did failures faults server parts body a answer next) there answers)
 
   pub unasked : (server : Server S D) (parts : RequestParts) (lent body : List ℕ) (reason : Refusal) (answer : Answer) → lent ≡ body
       → IsUnasked parts lent reason → Tells (tells.Refused reason) answer → IsAnswer did failures faults server parts body answer server

@@ -55,17 +55,19 @@ impl<S: Shelf, D: Disk> Server<S, D> {
         }
     }
 
-    /// Hands out its journal, if it has one.
-    pub fn into_journal(self) -> Option<Journal<D>>
-        ensures { result ≡ self.journal }
-    {
-        self.journal
-    }
-
     /// Its host.
     pub fn house(&self) -> &SoloHouse
         ensures { result.now ≡ self.now.house }
     {
         &self.house
+    }
+}
+
+impl<S: Shelf + Drop, D: Disk> Server<S, D> {
+    /// Hands out its journal, if it has one.
+    pub fn into_journal(self) -> Option<Journal<D>>
+        ensures { result ≡ self.journal }
+    {
+        self.journal
     }
 }

@@ -63,9 +63,8 @@ impl<S: Shelf, D: Disk> Server<S, D> {
     {
         let (site, digest) = judge_upload(&self.house, number, path, bytes.as_slice())?;
         self.keep(digest, bytes.as_slice())?;
-        let published = self
-            .house
-            .publish_if_ready(&mut self.journal, &site, number)?;
+        let journal = &mut self.journal;
+        let published = self.house.publish_if_ready(journal, &site, number)?;
         Ok(Told::Uploaded { published, digest })
     }
 }
