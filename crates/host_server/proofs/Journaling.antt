@@ -23,9 +23,9 @@ module _ {D : Type 0} (faults : D → ℕ) where
   puts_none (entry ∷ more) new is = is
 
   puts_then : (old : Option (Keeps D)) (first more : List Entry) (mid new : Option (Keeps D)) → Puts faults old first mid → Puts faults mid more new → Puts faults old (first ++ more) new
-  puts_then old [] more mid new put then = subst (λ (j : Option (Keeps D)). Puts faults j more new) put then
-  puts_then None (entry ∷ first) more mid new put then = puts_none more new (subst (λ (j : Option (Keeps D)). Puts faults j more new) put then)
-  puts_then (Some old) (entry ∷ first) more mid new (next, put, rest) then = (next, put, puts_then (Some next) first more mid new rest then)
+  puts_then old [] more mid new put after = subst (λ (j : Option (Keeps D)). Puts faults j more new) put after
+  puts_then None (entry ∷ first) more mid new put after = puts_none more new (subst (λ (j : Option (Keeps D)). Puts faults j more new) put after)
+  puts_then (Some old) (entry ∷ first) more mid new (next, put, rest) after = (next, put, puts_then (Some next) first more mid new rest after)
 
   puts_entries : (old : Option (Keeps D)) (more : List Entry) (new : Option (Keeps D)) (entries : List Entry) → Agrees old entries → Puts faults old more new → Agrees new (entries ++ more)
   puts_entries old [] new entries agrees is =
@@ -82,6 +82,17 @@ module _ {D : Type 0} (faults : D → ℕ) where
   journaled_then (Err reason.Device) a b c j k l ab bc = breaks_then a b c j k l ab bc
   journaled_then (Err other) a b c j k l ab bc = keeps_then a b c j k l ab bc
 
+  same_error : (A B : Type 0) (why : Refusal) (old new : Host) (journal next : Option (Keeps D)) → IsJournaled {A = A} faults (Err why) old journal new next
+      → IsJournaled {A = B} faults (Err why) old journal new next
+  same_error A B reason.Device old new journal next is = is
+  same_error A B other old new journal next is = is
+
+  pub journaled_err : {A B : Type 0} (result : Result A Refusal) (told : Result B Refusal) (why : Refusal) (old new : Host) (journal next : Option (Keeps D))
+      → IsJournaled faults result old journal new next → result ≡ Err why → told ≡ Err why → IsJournaled faults told old journal new next
+  journaled_err {A = A} {B = B} result told why old new journal next journaled is tells =
+      subst (λ (r : Result B Refusal). IsJournaled faults r old journal new next) (sym tells)
+      (same_error A B why old new journal next (subst (λ (r : Result A Refusal). IsJournaled faults r old journal new next) is journaled))
+
   -- it has the host's entries
 
   pub agrees_after : (old new : Host) (journal next : Option (Keeps D)) → Agrees journal old.entries → KeepsUp faults old journal new next → Agrees next new.entries
@@ -105,14 +116,14 @@ module _ {D : Type 0} (faults : D → ℕ) where
       → KeepsUp faults old journal new next
   entered_ok entry old new journal next put is = record { more = entry ∷ []; longer = ap (λ (h : Host). h.entries) is; put = put }
 
-  of_error : {A B : Type 0} (e : EntryError) (entry : Entry) (old new : Host) (journal next : Option (Keeps D)) → new ≡ old → IsEntered {A = A} faults (Err e) entry journal next
+  of_error : (A B : Type 0) (e : EntryError) (entry : Entry) (old new : Host) (journal next : Option (Keeps D)) → new ≡ old → IsEntered {A = A} faults (Err e) entry journal next
       → IsJournaled {A = B} faults (Err (told_error e)) old journal new next
-  of_error (error.Refused why) entry old new journal next same put = keeps_same old new journal next same put
-  of_error error.OutOfMemory entry old new journal next same put = keeps_same old new journal next same put
-  of_error error.Device entry old new journal next same put = record { more = []; longer = ap (λ (h : Host). h.entries) same ∙ sym (append-nil old.entries); put = put }
+  of_error A B (error.Refused why) entry old new journal next same put = keeps_same old new journal next same put
+  of_error A B error.OutOfMemory entry old new journal next same put = keeps_same old new journal next same put
+  of_error A B error.Device entry old new journal next same put = record { more = []; longer = ap (λ (h : Host). h.entries) same ∙ sym (append-nil old.entries); put = put }
 
   pub entered_err : {A B : Type 0} (result : Result A EntryError) (told : Result B Refusal) (why : EntryError) (entry : Entry) (old new : Host) (journal next : Option (Keeps D))
       → IsEntered faults result entry journal next → result ≡ Err why → told ≡ Err (told_error why) → new ≡ old → IsJournaled faults told old journal new next
   entered_err {A = A} {B = B} result told why entry old new journal next put is tells same =
       let there : IsEntered {A = A} faults (Err why) entry journal next = subst (λ (r : Result A EntryError). IsEntered faults r entry journal next) is put in
-      subst (λ (r : Result B Refusal). IsJournaled faults r old journal new next) (sym tells) (of_error {A = A} {B = B} why entry old new journal next same there)
+      subst (λ (r : Result B Refusal). IsJournaled faults r old journal new next) (sym tells) (of_error A B why entry old new journal next same there)
