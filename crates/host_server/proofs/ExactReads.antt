@@ -27,6 +27,7 @@ use Rattle.host_api.specs.declared.refusals.Refusal.{Refusal}
 use Rattle.host_api.specs.declared.refusals.Refusal.TheVariants as reason
 use Rattle.host_api.specs.declared.versions.Version.{Version}
 use Rattle.host_api.specs.declared.versions.Version.TheVariants as version
+use Rattle.host_disk.specs.declared.disks.Disk.{Ghosts}
 use Rattle.host_server.specs.Asks.{IsAnswer, IsReplyToAsk, asked_for, holds_up}
 use Rattle.host_server.specs.Journals.{is_broken}
 use Rattle.host_server.proofs.HoldingUp.{no_and}
@@ -79,7 +80,7 @@ file_known host site version path file digested lawful is =
 
 -- ---- it is read as it is
 
-module _ {S D : Type 0} (did : S → Call → S → Type 0) (failures : S → ℕ) (faults : D → ℕ) (has : S → ShelfName → Option (List ℕ)) (keeps : Keeps did has) where
+module _ {S D : Type 0} {disk : Ghosts D} (did : S → Call → S → Type 0) (failures : S → ℕ) (faults : D → ℕ) (has : S → ShelfName → Option (List ℕ)) (keeps : Keeps did has) where
   sent_back : (old new : Files S) (parts : RequestParts) (path file : List ℕ) (plan : Choice) (answer : Answer) → HasFile has old.shelf file
       → IsFileSent did failures old path file plan answer new
       → (answer ≡ refused_answer reason.OutOfMemory) ⊎ (answer ≡ refused_answer reason.Device) ⊎ IsSentExactly path file plan answer
@@ -92,7 +93,7 @@ module _ {S D : Type 0} (did : S → Call → S → Type 0) (failures : S → �
         | inr is ↦ inl (says ∙ ap (λ w. refused_answer (refusal_of_read w)) is)
       ]
 
-  reply_back : (server next : Server S D) (parts : RequestParts) (path : List ℕ) (found : Result (List ℕ) Refusal) (file : List ℕ) (answer : Answer) → found ≡ Ok file
+  reply_back : (server next : Server S D disk) (parts : RequestParts) (path : List ℕ) (found : Result (List ℕ) Refusal) (file : List ℕ) (answer : Answer) → found ≡ Ok file
       → HasFile has server.files.shelf file → IsReadReply did failures server parts path found answer next → IsReadBack parts path file answer
   reply_back server next parts path found file answer is there reply =
       let (range, asks, sent, same) = subst (λ (f : Result (List ℕ) Refusal). IsReadReply did failures server parts path f answer next) is reply in
@@ -102,7 +103,7 @@ module _ {S D : Type 0} (did : S → Call → S → Type 0) (failures : S → �
         | inr (inr exact) ↦ inr (inr (range, asks, exact))
       ]
 
-  pub answered_back : (server next : Server S D) (parts : RequestParts) (body : List ℕ) (answer : Answer) (site : SiteName) (version : Version) (path file : List ℕ)
+  pub answered_back : (server next : Server S D disk) (parts : RequestParts) (body : List ℕ) (answer : Answer) (site : SiteName) (version : Version) (path file : List ℕ)
       → AreDigested server.house.uploads → IsLawful server.house → HasKnown has server → asked_for parts body ≡ Ok (ask.Read site version path)
       → file_of (state_of server.house) site version path ≡ Ok file → IsAnswer did failures faults server parts body answer next → IsReadBack parts path file answer
   answered_back server next parts body answer site version path file digested lawful known asks is (inl (inl (held, says, same), kept)) =

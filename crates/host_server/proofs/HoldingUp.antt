@@ -1,11 +1,12 @@
 -- What is held up, and what isn't.
-use Rattle.std.proofs.Common.{◌≡◌, Bool, true, false, ◌&&◌, ℕ, List, Option, Some, None, Result, Ok, Err, is_some, refl, sym, ap, ◌∙◌}
+use Rattle.std.proofs.Common.{◌≡◌, Bool, true, false, ◌&&◌, ℕ, List, Option, Some, None, Result, Ok, Err, is_some, refl, ap, subst}
 use Rattle.host_names.specs.declared.digests.Digest.{Digest}
 use Rattle.host_names.specs.declared.names.SiteName.{SiteName}
 use Rattle.change_journal.specs.Held.{Keeps}
 use Rattle.change_undo.specs.Histories.{entry_at}
 use Rattle.host_api.specs.declared.refusals.Refusal.{Refusal}
-use Rattle.host_server.specs.HeldUp.{IsWholeFor}
+use Rattle.host_api.specs.declared.bodies.Ask.{Ask}
+use Rattle.host_server.specs.HeldUp.{IsWholeFor, is_held_up, may_change}
 use Rattle.host_server.specs.Hosts.{Host}
 use Rattle.host_server.specs.Journals.{is_broken}
 use Rattle.host_server.specs.Outcomes.{judge_at, judge_upload, site_of_deploy}
@@ -33,3 +34,8 @@ pub whole_to_upload : {D : Type 0} (journal : Option (Keeps D)) (host : Host) (n
     → judge_upload host n path bytes ≡ Ok at → is_broken journal ≡ false
 whole_to_upload journal host n path bytes at free is =
     whole_of (is_broken journal) (is_some (site_of_deploy (entry_at host.entries n))) free (opened_at host (site_of_deploy (entry_at host.entries n)) n path bytes at is)
+
+-- what isn't held up, by what it is
+pub free_as : {D : Type 0} (host : Host) (journal : Option (Keeps D)) (asking as_it_is : Ask) → is_held_up host journal (Ok asking) ≡ false → asking ≡ as_it_is
+    → (is_broken journal && may_change host as_it_is) ≡ false
+free_as host journal asking as_it_is free is = subst (λ (a : Ask). (is_broken journal && may_change host a) ≡ false) is free

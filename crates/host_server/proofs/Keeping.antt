@@ -7,6 +7,7 @@ use Rattle.host_api.specs.declared.refusals.Refusal.{Refusal}
 use Rattle.host_api.specs.declared.refusals.Refusal.TheVariants as reason
 use Rattle.host_api.specs.declared.texts.Told.{Told}
 use Rattle.host_api.specs.declared.texts.Told.TheVariants.{Uploaded}
+use Rattle.host_disk.specs.declared.disks.Disk.{Ghosts}
 use Rattle.host_server.specs.Hosts.{Host, with_upload}
 use Rattle.host_server.specs.Journals.{IsJournaled, IsStopped, KeepsUp}
 use Rattle.host_server.specs.Memory.{is_published}
@@ -18,8 +19,8 @@ use Rattle.host_server.proofs.Journaling.{journaled_as, journaled_then, keeps_en
 
 -- ---- what an upload does
 
-module _ {S D : Type 0} (did : S → Call → S → Type 0) (failures : S → ℕ) (faults : D → ℕ) where
-  pub not_judged : (server : Server S D) (n : ℕ) (path bytes : List ℕ) (why : Refusal) → judge_upload server.house n path bytes ≡ Err why
+module _ {S D : Type 0} {disk : Ghosts D} (did : S → Call → S → Type 0) (failures : S → ℕ) (faults : D → ℕ) where
+  pub not_judged : (server : Server S D disk) (n : ℕ) (path bytes : List ℕ) (why : Refusal) → judge_upload server.house n path bytes ≡ Err why
       → DoesUpload did failures faults server n path bytes (Err why) server
   not_judged server n path bytes why is = inl (record {
     stored = subst (λ j. IsStoredIf did j server.house.uploads server.files.shelf bytes server.files.shelf) (sym is) refl;
@@ -32,7 +33,7 @@ module _ {S D : Type 0} (did : S → Call → S → Type 0) (failures : S → �
   left_at L (Err e) why is left = left
 
   -- the entry that would publish the deploy isn't made, for this reason
-  unpublished : (server next : Server S D) (mid : Host) (n : ℕ) (path bytes : List ℕ) (at : SiteName × Digest) (entry : Result (Option ℕ) Refusal) (why : Refusal)
+  unpublished : (server next : Server S D disk) (mid : Host) (n : ℕ) (path bytes : List ℕ) (at : SiteName × Digest) (entry : Result (Option ℕ) Refusal) (why : Refusal)
       → judge_upload server.house n path bytes ≡ Ok at → mid ≡ with_upload server.house bytes
       → IsStored did server.house.uploads server.files.shelf bytes next.files.shelf → IsTrue (is_published mid at.0 n) → OnErr entry (next.house ≡ mid) → entry ≡ Err why
       → IsUnpublished did server n path bytes next
@@ -44,7 +45,7 @@ module _ {S D : Type 0} (did : S → Call → S → Type 0) (failures : S → �
     published = subst (λ h. IsTrue (is_published h at.0 n)) known published;
   }
 
-  done_so : (server next : Server S D) (mid : Host) (n : ℕ) (path bytes : List ℕ) (at : SiteName × Digest) (entry : Result (Option ℕ) Refusal) (told : Result Told Refusal)
+  done_so : (server next : Server S D disk) (mid : Host) (n : ℕ) (path bytes : List ℕ) (at : SiteName × Digest) (entry : Result (Option ℕ) Refusal) (told : Result Told Refusal)
       → judge_upload server.house n path bytes ≡ Ok at → mid ≡ with_upload server.house bytes
       → IsStored did server.house.uploads server.files.shelf bytes next.files.shelf
       → Publishes entry next.house (published_if_ready mid at.0 n) → (IsStopped entry → IsTrue (is_published mid at.0 n)) → OnErr entry (next.house ≡ mid)
@@ -67,7 +68,7 @@ module _ {S D : Type 0} (did : S → Call → S → Type 0) (failures : S → �
     kept,
   )
 
-  pub upload_done : (server next : Server S D) (mid : Host) (n : ℕ) (path bytes : List ℕ) (at : SiteName × Digest) (entry : Result (Option ℕ) Refusal) (told : Result Told Refusal)
+  pub upload_done : (server next : Server S D disk) (mid : Host) (n : ℕ) (path bytes : List ℕ) (at : SiteName × Digest) (entry : Result (Option ℕ) Refusal) (told : Result Told Refusal)
       → judge_upload server.house n path bytes ≡ Ok at → mid ≡ with_upload server.house bytes
       → IsStored did server.house.uploads server.files.shelf bytes next.files.shelf
       → Publishes entry next.house (published_if_ready mid at.0 n) → (IsStopped entry → IsTrue (is_published mid at.0 n)) → OnErr entry (next.house ≡ mid)

@@ -14,6 +14,7 @@ use Rattle.host_names.specs.declared.names.SiteName.{SiteName}
 use Rattle.blob_store.specs.Calls.{Call}
 use Rattle.blob_store.specs.declared.blobs.UploadFault.{UploadFault}
 use Rattle.blob_store.specs.declared.blobs.UploadFault.TheVariants as fault
+use Rattle.host_disk.specs.declared.disks.Disk.{Ghosts}
 use Rattle.host_server.specs.Answers.{Reads, ReadsFile, Tells}
 use Rattle.host_server.specs.Asks.{AnswersAsk, AnswersHost, AnswersRead, CarriesOut, HostRunsOut, HostStops, IsAnswer, IsHostReply, IsTold, asked_for}
 use Rattle.host_server.specs.Files.{IsReadReply, ReadRunsOut}
@@ -108,10 +109,10 @@ on_server F (inl (done, kept)) same = inl ((done, same), kept)
 on_server F (inr (inl (none, kept))) same = inr (inl ((none.0, (none.1, same)), kept))
 on_server F (inr (inr (none, broken))) same = inr (inr ((none.0, (none.1, same)), broken))
 
-module _ {S D : Type 0} (did : S → Call → S → Type 0) (failures : S → ℕ) (faults : D → ℕ) where
+module _ {S D : Type 0} {disk : Ghosts D} (did : S → Call → S → Type 0) (failures : S → ℕ) (faults : D → ℕ) where
   -- ---- an upload
 
-  store_tells : (server next : Server S D) (n : ℕ) (path bytes : List ℕ) (why : UploadFault) (told : Result Told Refusal) (answer : Answer)
+  store_tells : (server next : Server S D disk) (n : ℕ) (path bytes : List ℕ) (why : UploadFault) (told : Result Told Refusal) (answer : Answer)
       → IsRefusedByStore did failures server n path bytes why next → told ≡ Err (refusal_of_upload why) → Tells (told_by told) answer
       → IsUploadReply did failures server n path bytes answer next ⊎ ((answer ≡ refused_answer OutOfMemory) × UploadRunsOut did failures server n path bytes next)
   store_tells server next n path bytes fault.OutOfMemory told answer refused is says = inr (without told answer is says, inl refused)
@@ -122,7 +123,7 @@ module _ {S D : Type 0} (did : S → Call → S → Type 0) (failures : S → �
       inl (inr (fault.Device, (λ e. cc e), refused, says ∙ ap (λ t. told_answer (told_by t)) is))
   store_tells server next n path bytes fault.Device told answer refused is (inr ran_out) = absurd (cc (ap (λ t. takes_text (told_by t)) (sym is) ∙ ran_out.1))
 
-  pub told_upload : (server next : Server S D) (parts : RequestParts) (n : ℕ) (path bytes : List ℕ) (told : Result Told Refusal) (answer : Answer)
+  pub told_upload : (server next : Server S D disk) (parts : RequestParts) (n : ℕ) (path bytes : List ℕ) (told : Result Told Refusal) (answer : Answer)
       → DoesUpload did failures faults server n path bytes told next → Tells (told_by told) answer
       → CarriesOut did failures faults server parts bytes (Ok (ask.Upload n path)) answer next
   told_upload server next parts n path bytes told answer (inl (done, kept)) (inl says) = inl (inl (told_by told, done, says), kept)
@@ -135,12 +136,12 @@ module _ {S D : Type 0} (did : S → Call → S → Type 0) (failures : S → �
 
   -- ---- the reading of a file
 
-  pub file_given : (server next : Server S D) (parts : RequestParts) (site : SiteName) (version : Version) (path : List ℕ) (reply : Reply)
+  pub file_given : (server next : Server S D disk) (parts : RequestParts) (site : SiteName) (version : Version) (path : List ℕ) (reply : Reply)
       → Reads did failures server parts site version path (Ok reply) next → AnswersRead did failures server parts path (file_of (state_of server.house) site version path) (answer_of reply) next
   file_given server next parts site version path reply (inl is) = inl is
   file_given server next parts site version path reply (inr none) = absurd (cc none.0)
 
-  refusal_told : (server next : Server S D) (parts : RequestParts) (path : List ℕ) (file : Result (List ℕ) Refusal) (reason : Refusal) (answer : Answer) → has_cell reason ≡ false
+  refusal_told : (server next : Server S D disk) (parts : RequestParts) (path : List ℕ) (file : Result (List ℕ) Refusal) (reason : Refusal) (answer : Answer) → has_cell reason ≡ false
       → ReadsFile did failures server parts path file (Err reason) next → Tells (tells.Refused reason) answer
       → IsReadReply did failures server parts path file answer next ⊎ ((answer ≡ refused_answer OutOfMemory) × ReadRunsOut did failures server parts file next)
   refusal_told server next parts path file reason answer plain gives (inr ran_out) = absurd (cc (sym plain ∙ ran_out.1))
@@ -148,7 +149,7 @@ module _ {S D : Type 0} (did : S → Call → S → Type 0) (failures : S → �
       inl (subst (λ (a : Answer). IsReadReply did failures server parts path file a next) (sym says) is)
   refusal_told server next parts path file reason answer plain (inr none) (inl says) = inr (says ∙ ap (λ r. refused_answer (reason_of r)) none.0, none.1)
 
-  pub no_file_given : (server next : Server S D) (parts : RequestParts) (site : SiteName) (version : Version) (path : List ℕ) (reason : Refusal) (answer : Answer)
+  pub no_file_given : (server next : Server S D disk) (parts : RequestParts) (site : SiteName) (version : Version) (path : List ℕ) (reason : Refusal) (answer : Answer)
       → has_cell reason ≡ false → Reads did failures server parts site version path (Err reason) next → Tells (tells.Refused reason) answer
       → AnswersRead did failures server parts path (file_of (state_of server.house) site version path) answer next
   no_file_given server next parts site version path reason answer plain reads says =
@@ -156,25 +157,25 @@ module _ {S D : Type 0} (did : S → Call → S → Type 0) (failures : S → �
 
   -- ---- any request
 
-  stays : (server next : Server S D) → next ≡ server → GoesOn faults server next
+  stays : (server next : Server S D disk) → next ≡ server → GoesOn faults server next
   stays server next is =
-      keeps_same faults server.house next.house server.journal next.journal (ap (λ (s : Server S D). s.house) is) (ap (λ (s : Server S D). s.journal) is)
+      keeps_same faults server.house next.house server.journal next.journal (ap (λ (s : Server S D disk). s.house) is) (ap (λ (s : Server S D disk). s.journal) is)
 
   -- the answer to what is asked for is that to the request
-  of_asked : (server next : Server S D) (parts : RequestParts) (body : List ℕ) (answer : Answer) → AnswersAsk did failures faults server parts body (asked_for parts body) answer next
+  of_asked : (server next : Server S D disk) (parts : RequestParts) (body : List ℕ) (answer : Answer) → AnswersAsk did failures faults server parts body (asked_for parts body) answer next
       → IsAnswer did failures faults server parts body answer next
   of_asked server next parts body answer (inl (held, says, same)) = inl (inl (held, says, same), stays server next same)
   of_asked server next parts body answer (inr (free, inl (reply, kept))) = inl (inr (free, reply), kept)
   of_asked server next parts body answer (inr (free, inr (inl ((says, out), kept)))) = inr (inl ((says, inr (free, out)), kept))
   of_asked server next parts body answer (inr (free, inr (inr ((says, stops), broken)))) = inr (inr ((says, stops), broken))
 
-  pub answered : (server next : Server S D) (parts : RequestParts) (lent body : List ℕ) (asking : Result Ask Refusal) (answer : Answer) → lent ≡ body
+  pub answered : (server next : Server S D disk) (parts : RequestParts) (lent body : List ℕ) (asking : Result Ask Refusal) (answer : Answer) → lent ≡ body
       → asked_for parts lent ≡ asking → AnswersAsk did failures faults server parts body asking answer next → IsAnswer did failures faults server parts body answer next
   answered server next parts lent body asking answer same is answers =
       let there : asking ≡ asked_for parts body = sym is ∙ ap (asked_for parts) same in
       of_asked server next parts body answer (subst (λ a. AnswersAsk did failures faults server parts body a answer next) there answers)
 
-  pub unasked : (server : Server S D) (parts : RequestParts) (lent body : List ℕ) (reason : Refusal) (answer : Answer) → lent ≡ body
+  pub unasked : (server : Server S D disk) (parts : RequestParts) (lent body : List ℕ) (reason : Refusal) (answer : Answer) → lent ≡ body
       → IsUnasked parts lent reason → Tells (tells.Refused reason) answer → IsAnswer did failures faults server parts body answer server
   unasked server parts lent body reason answer same (inl none) (inl says) =
       inr (inl ((says ∙ ap refused_answer none.0, inl (refl, sym (ap (asking_takes parts) same) ∙ none.1)), stays server server refl))

@@ -15,6 +15,7 @@ use Rattle.host_api.specs.declared.refusals.Refusal.{Refusal}
 use Rattle.host_api.specs.declared.refusals.Refusal.TheVariants.{Broken, Device, OutOfMemory}
 use Rattle.host_api.specs.declared.texts.Told.{Told}
 use Rattle.host_api.specs.declared.texts.Told.TheVariants.{Changes}
+use Rattle.host_disk.specs.declared.disks.Disk.{Ghosts}
 use Rattle.host_server.specs.Files.{IsReadReply, ReadRunsOut}
 use Rattle.host_server.specs.HeldUp.{is_held_up}
 use Rattle.host_server.specs.Hosts.{Host, state_of}
@@ -92,58 +93,58 @@ HostStops host asking next = ⊥
 -- ---- with them
 
 -- the reply to what a request asks for, and what the server has then: only a read and an upload call the shelf
-abbrev pub IsReplyToAsk : {S D : Type 0} → (did : S → Call → S → Type 0) → (failures : S → ℕ) → Server S D → RequestParts → List ℕ → Result Ask Refusal → Answer → Server S D → Type 0
+abbrev pub IsReplyToAsk : {S D : Type 0} {disk : Ghosts D} → (did : S → Call → S → Type 0) → (failures : S → ℕ) → Server S D disk → RequestParts → List ℕ → Result Ask Refusal → Answer → Server S D disk → Type 0
 IsReplyToAsk did failures server parts body (Ok (ask.Read site version path)) answer next =
     IsReadReply did failures server parts path (file_of (state_of server.house) site version path) answer next
 IsReplyToAsk did failures server parts body (Ok (ask.Upload deploy path)) answer next = IsUploadReply did failures server deploy path body answer next
 IsReplyToAsk did failures server parts body asking answer next = IsHostReply server.house asking answer next.house × (next.files ≡ server.files)
 
 -- what the server has where the carrying out of that runs out of memory, or the text that tells it
-abbrev pub AskRunsOut : {S D : Type 0} → (did : S → Call → S → Type 0) → (failures : S → ℕ) → Server S D → RequestParts → List ℕ → Result Ask Refusal → Server S D → Type 0
+abbrev pub AskRunsOut : {S D : Type 0} {disk : Ghosts D} → (did : S → Call → S → Type 0) → (failures : S → ℕ) → Server S D disk → RequestParts → List ℕ → Result Ask Refusal → Server S D disk → Type 0
 AskRunsOut did failures server parts body (Ok (ask.Read site version path)) next =
     ReadRunsOut did failures server parts (file_of (state_of server.house) site version path) next
 AskRunsOut did failures server parts body (Ok (ask.Upload deploy path)) next = UploadRunsOut did failures server deploy path body next
 AskRunsOut did failures server parts body asking next = HostRunsOut server.house asking next.house × (next.files ≡ server.files)
 
 -- what the server has where the device fails while an entry is put into the journal
-abbrev pub AskStops : {S D : Type 0} → (did : S → Call → S → Type 0) → Server S D → List ℕ → Result Ask Refusal → Server S D → Type 0
+abbrev pub AskStops : {S D : Type 0} {disk : Ghosts D} → (did : S → Call → S → Type 0) → Server S D disk → List ℕ → Result Ask Refusal → Server S D disk → Type 0
 AskStops did server body (Ok (ask.Upload deploy path)) next = IsUnpublished did server deploy path body next
 AskStops did server body asking next = HostStops server.house asking next.house × (next.files ≡ server.files)
 
 -- ---- a request
 
 -- whether what a request asks for is held up, since the journal's device has failed
-abbrev pub holds_up : {S D : Type 0} → Server S D → Result Ask Refusal → Bool
+abbrev pub holds_up : {S D : Type 0} {disk : Ghosts D} → Server S D disk → Result Ask Refusal → Bool
 holds_up server asking = is_held_up server.house server.journal asking
 
 -- the reply to what is asked for, where that is held up or not, and what the server has then
-abbrev pub IsReplyOr : {S D : Type 0} → (did : S → Call → S → Type 0) → (failures : S → ℕ) → Server S D → RequestParts → List ℕ → Result Ask Refusal → Answer → Server S D → Type 0
+abbrev pub IsReplyOr : {S D : Type 0} {disk : Ghosts D} → (did : S → Call → S → Type 0) → (failures : S → ℕ) → Server S D disk → RequestParts → List ℕ → Result Ask Refusal → Answer → Server S D disk → Type 0
 IsReplyOr did failures server parts body asking answer next =
     ((holds_up server asking ≡ true) × (answer ≡ refused_answer Broken) × (next ≡ server))
     ⊎ ((holds_up server asking ≡ false) × IsReplyToAsk did failures server parts body asking answer next)
 
 -- the reply to a request of these parts and this body, and what the server has then
-abbrev pub IsReply : {S D : Type 0} → (did : S → Call → S → Type 0) → (failures : S → ℕ) → Server S D → RequestParts → List ℕ → Answer → Server S D → Type 0
+abbrev pub IsReply : {S D : Type 0} {disk : Ghosts D} → (did : S → Call → S → Type 0) → (failures : S → ℕ) → Server S D disk → RequestParts → List ℕ → Answer → Server S D disk → Type 0
 IsReply did failures server parts body answer next = IsReplyOr did failures server parts body (asked_for parts body) answer next
 
 -- What the server has where a request runs out of memory: what was there, where it takes memory to find what is asked for;
 -- or what the carrying out leaves, where that isn't held up.
-abbrev pub RunsOut : {S D : Type 0} → (did : S → Call → S → Type 0) → (failures : S → ℕ) → Server S D → RequestParts → List ℕ → Server S D → Type 0
+abbrev pub RunsOut : {S D : Type 0} {disk : Ghosts D} → (did : S → Call → S → Type 0) → (failures : S → ℕ) → Server S D disk → RequestParts → List ℕ → Server S D disk → Type 0
 RunsOut did failures server parts body next =
     ((next ≡ server) × IsTrue (asking_takes parts body))
     ⊎ ((holds_up server (asked_for parts body) ≡ false) × AskRunsOut did failures server parts body (asked_for parts body) next)
 
 -- the reply that there is no memory, and what the server has then
-abbrev pub IsWithoutMemory : {S D : Type 0} → (did : S → Call → S → Type 0) → (failures : S → ℕ) → Server S D → RequestParts → List ℕ → Answer → Server S D → Type 0
+abbrev pub IsWithoutMemory : {S D : Type 0} {disk : Ghosts D} → (did : S → Call → S → Type 0) → (failures : S → ℕ) → Server S D disk → RequestParts → List ℕ → Answer → Server S D disk → Type 0
 IsWithoutMemory did failures server parts body answer next = (answer ≡ refused_answer OutOfMemory) × RunsOut did failures server parts body next
 
 -- the reply that the device failed while an entry was put into the journal, and what the server has then
-abbrev pub IsBrokenOff : {S D : Type 0} → (did : S → Call → S → Type 0) → Server S D → RequestParts → List ℕ → Answer → Server S D → Type 0
+abbrev pub IsBrokenOff : {S D : Type 0} {disk : Ghosts D} → (did : S → Call → S → Type 0) → Server S D disk → RequestParts → List ℕ → Answer → Server S D disk → Type 0
 IsBrokenOff did server parts body answer next = (answer ≡ refused_answer Device) × AskStops did server body (asked_for parts body) next
 
 -- The answer to a request: the reply to it, or that there is no memory, and the journal then has what the host got; or that the journal's
 -- device failed.
-abbrev pub IsAnswer : {S D : Type 0} → (did : S → Call → S → Type 0) → (failures : S → ℕ) → (faults : D → ℕ) → Server S D → RequestParts → List ℕ → Answer → Server S D → Type 0
+abbrev pub IsAnswer : {S D : Type 0} {disk : Ghosts D} → (did : S → Call → S → Type 0) → (failures : S → ℕ) → (faults : D → ℕ) → Server S D disk → RequestParts → List ℕ → Answer → Server S D disk → Type 0
 IsAnswer did failures faults server parts body answer next =
     (IsReply did failures server parts body answer next × GoesOn faults server next)
     ⊎ (IsWithoutMemory did failures server parts body answer next × GoesOn faults server next)
@@ -159,20 +160,20 @@ AnswersHost faults host journal asking answer next new_journal =
     ⊎ (((answer ≡ refused_answer Device) × HostStops host asking next) × BreaksOff faults host journal next new_journal)
 
 -- the answer to what a request asks for that isn't held up
-abbrev pub CarriesOut : {S D : Type 0} → (did : S → Call → S → Type 0) → (failures : S → ℕ) → (faults : D → ℕ) → Server S D → RequestParts → List ℕ → Result Ask Refusal → Answer → Server S D → Type 0
+abbrev pub CarriesOut : {S D : Type 0} {disk : Ghosts D} → (did : S → Call → S → Type 0) → (failures : S → ℕ) → (faults : D → ℕ) → Server S D disk → RequestParts → List ℕ → Result Ask Refusal → Answer → Server S D disk → Type 0
 CarriesOut did failures faults server parts body asking answer next =
     (IsReplyToAsk did failures server parts body asking answer next × GoesOn faults server next)
     ⊎ (((answer ≡ refused_answer OutOfMemory) × AskRunsOut did failures server parts body asking next) × GoesOn faults server next)
     ⊎ (((answer ≡ refused_answer Device) × AskStops did server body asking next) × Breaks faults server next)
 
 -- the answer to what a request asks for
-abbrev pub AnswersAsk : {S D : Type 0} → (did : S → Call → S → Type 0) → (failures : S → ℕ) → (faults : D → ℕ) → Server S D → RequestParts → List ℕ → Result Ask Refusal → Answer → Server S D → Type 0
+abbrev pub AnswersAsk : {S D : Type 0} {disk : Ghosts D} → (did : S → Call → S → Type 0) → (failures : S → ℕ) → (faults : D → ℕ) → Server S D disk → RequestParts → List ℕ → Result Ask Refusal → Answer → Server S D disk → Type 0
 AnswersAsk did failures faults server parts body asking answer next =
     ((holds_up server asking ≡ true) × (answer ≡ refused_answer Broken) × (next ≡ server))
     ⊎ ((holds_up server asking ≡ false) × CarriesOut did failures faults server parts body asking answer next)
 
 -- the answer to the reading of a file
-abbrev pub AnswersRead : {S D : Type 0} → (did : S → Call → S → Type 0) → (failures : S → ℕ) → Server S D → RequestParts → List ℕ → Result (List ℕ) Refusal → Answer → Server S D → Type 0
+abbrev pub AnswersRead : {S D : Type 0} {disk : Ghosts D} → (did : S → Call → S → Type 0) → (failures : S → ℕ) → Server S D disk → RequestParts → List ℕ → Result (List ℕ) Refusal → Answer → Server S D disk → Type 0
 AnswersRead did failures server parts path file answer next =
     IsReadReply did failures server parts path file answer next
     ⊎ ((answer ≡ refused_answer OutOfMemory) × ReadRunsOut did failures server parts file next)

@@ -10,6 +10,7 @@ use Rattle.host_server.specs.declared.connections.ConnectionFault.TheVariants as
 use Rattle.blob_store.specs.Shelves.{Does, found_in}
 use Rattle.blob_store.specs.declared.mem_shelf.MemShelf.{MemShelf}
 use Rattle.blob_store.specs.declared.shelves.ShelfName.{ShelfName}
+use Rattle.host_disk.specs.declared.disks.Disk.{Ghosts}
 use Rattle.host_disk.specs.declared.mem_disk.MemDisk.{MemDisk}
 use Rattle.host_server.specs.Asks.{IsAnswer}
 use Rattle.host_server.specs.Hosts.{Host}
@@ -62,7 +63,7 @@ abbrev pub IsNotServed : (says_fail : Type 0) → List (List ℕ) → ℕ → (s
 IsNotServed says_fail words status said new_said = IsRefused says_fail words status said new_said ⊎ IsNotRead says_fail status said new_said
 
 -- a server without entries, files and a journal, whose shelf is in memory
-pub record IsEmpty (server : Server MemShelf MemDisk) : Type 0 where
+pub record IsEmpty {disk : Ghosts MemDisk} (server : Server MemShelf MemDisk disk) : Type 0 where
   pub host : server.house ≡ empty_host
   pub journal : server.journal ≡ None
   pub shelf : (name : ShelfName) → found_in server.files.shelf name ≡ None
@@ -73,9 +74,10 @@ pub record IsServed (read_fails write_fails says_fail : Type 0) (words : List (L
   pub asked : AskForSolo words
   pub ended : Result (Unit {0}) ConnectionFault
   pub says : status ≡ status_of ended
-  pub start : Server MemShelf MemDisk
+  pub disk : Ghosts MemDisk
+  pub start : Server MemShelf MemDisk disk
   pub empty : IsEmpty start
-  pub next : Server MemShelf MemDisk
+  pub next : Server MemShelf MemDisk disk
   pub serves : Serves (IsAnswer Does (λ shelf. 0) (λ (disk : MemDisk). disk.failures)) read_fails write_fails ended start next stream held new_held
   pub end_said : SaysEnd says_fail ended said new_said
 
