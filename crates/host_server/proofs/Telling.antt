@@ -34,10 +34,10 @@ use Rattle.host_server.specs.declared.replies.Reply.{Reply}
 use Rattle.host_server.proofs.Journaling.{journaled_as, keeps_same}
 use Rattle.host_server.proofs.Memory.{IsUnasked}
 
--- what an error left, where memory ran out
-pub left_by : {L : Type 0} (told : Result Told Refusal) → OnErr told L → told ≡ Err OutOfMemory → L
-left_by (Ok t) left none = absurd (cc none)
-left_by (Err reason) left none = left
+-- what an error left
+pub left_by : {L : Type 0} (why : Refusal) (told : Result Told Refusal) → OnErr told L → told ≡ Err why → L
+left_by why (Ok t) left is = absurd (cc is)
+left_by why (Err reason) left is = left
 
 -- where a call ran out of memory the answer says so
 without : (told : Result Told Refusal) (answer : Answer) → told ≡ Err OutOfMemory → Tells (told_by told) answer → answer ≡ refused_answer OutOfMemory
