@@ -21,7 +21,7 @@ module _ {D : Type 0} (faults : D → ℕ) where
   put_missed {A = A} e told entry old new error tells =
       subst (λ (r : Result A EntryError). IsEntered faults r entry (Some old) (Some new)) (sym tells) (error_put A e entry old new error)
 
-  pub put_whole : {A : Type 0} (answer : A) (entry : Entry) (entries next : List Entry) (old new : Keeps D) → old.broken ≡ false → old.entries ≡ entries → next ≡ entries ++ entry ∷ []
+  pub put_whole : (A : Type 0) (answer : A) (entry : Entry) (entries next : List Entry) (old new : Keeps D) → old.broken ≡ false → old.entries ≡ entries → next ≡ entries ++ entry ∷ []
       → new.entries ≡ next → new.broken ≡ false → faults new.disk ≡ faults old.disk → IsEntered {A = A} faults (Ok answer) entry (Some old) (Some new)
-  put_whole answer entry entries next old new was agrees longer is whole cause =
+  put_whole A answer entry entries next old new was agrees longer is whole cause =
       (new, record { was_whole = was; entries = is ∙ longer ∙ ap (λ (es : List Entry). es ++ entry ∷ []) (sym agrees); whole = whole; cause = cause }, refl)

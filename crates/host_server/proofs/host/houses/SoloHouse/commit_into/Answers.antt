@@ -1,4 +1,4 @@
-use Rattle.std.proofs.Common.{◌++◌, ◌∷◌, [], List, rules, sym, ap, subst, ◌∙◌}
+use Rattle.std.proofs.Common.{ℕ, ◌++◌, ◌∷◌, [], List, rules, sym, ap, subst, ◌∙◌}
 use Rattle.change_undo.specs.declared.entries.Entry.{Entry}
 use Rattle.change_undo.specs.declared.entries.Entry.TheVariants.{Change}
 use Rattle.host_server.specs.Hosts.{Host}
@@ -20,7 +20,7 @@ returns-in_err-put_last-clause-journal g c =
 pub returns-clause-journal : goal.returns-clause-journal
 returns-clause-journal g c =
     let longer = c.in_ok-next.ensures.entries ∙ ap (λ (h : Host). h.entries ++ (Change c.args.command) ∷ []) c.self.view_is in
-    put_whole g.D.Disk.faults 0 (Change c.args.command) c.args.self.now.entries c.in_ok-next.next.entries c.args.journal.now c.put_last.new.journal c.requires.whole c.requires.agrees longer
+    put_whole g.D.Disk.faults ℕ 0 (Change c.args.command) c.args.self.now.entries c.in_ok-next.next.entries c.args.journal.now c.put_last.new.journal c.requires.whole c.requires.agrees longer
     c.in_ok-put_last.ensures.entries c.in_ok-put_last.ensures.whole c.in_ok-put_last.ensures.cause
 
 pub invariant_of-self : goal.invariant_of-self
