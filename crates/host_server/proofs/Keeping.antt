@@ -19,6 +19,10 @@ use Rattle.host_server.proofs.Journaling.{journaled_as, journaled_then, keeps_en
 
 -- ---- what an upload does
 
+left_at : {A E : Type 0} (L : Type 0) (r : Result A E) (why : E) → r ≡ Err why → OnErr r L → L
+left_at L (Ok x) why is left = absurd (cc is)
+left_at L (Err e) why is left = left
+
 module _ {S D : Type 0} {disk : Ghosts D} (did : S → Call → S → Type 0) (failures : S → ℕ) (faults : D → ℕ) where
   pub not_judged : (server : Server S D disk) (n : ℕ) (path bytes : List ℕ) (why : Refusal) → judge_upload server.house n path bytes ≡ Err why
       → DoesUpload did failures faults server n path bytes (Err why) server
@@ -27,10 +31,6 @@ module _ {S D : Type 0} {disk : Ghosts D} (did : S → Call → S → Type 0) (f
     told_is = ap (λ j. (uploaded server.house n bytes j).told) (sym is);
     host_is = ap (λ j. (uploaded server.house n bytes j).host) (sym is);
   }, keeps_same faults server.house server.house server.journal server.journal refl refl)
-
-  left_at : {A E : Type 0} (L : Type 0) (r : Result A E) (why : E) → r ≡ Err why → OnErr r L → L
-  left_at L (Ok x) why is left = absurd (cc is)
-  left_at L (Err e) why is left = left
 
   -- the entry that would publish the deploy isn't made, for this reason
   unpublished : (server next : Server S D disk) (mid : Host) (n : ℕ) (path bytes : List ℕ) (at : SiteName × Digest) (entry : Result (Option ℕ) Refusal) (why : Refusal)

@@ -37,4 +37,4 @@ returns-in_err-published-clause-done g c =
     (subst (λ bytes. IsStored did server.house.uploads server.files.shelf bytes c.keep.new.self.files.shelf) c.as_slice-2.ensures.value c.in_ok-keep.ensures.stored)
     c.in_err-published.ensures.done c.in_err-published.ensures.stops c.in_err-published.ensures.err
     (subst (λ j. IsJournaled faults (Err why) c.keep.new.self.house j new_house new_journal) c.keep.ensures.journal c.in_err-published.ensures.journal)
-    (ap told_by is) (λ reason told. is ∙ told)
+    (ap told_by is) (λ (reason : Refusal) told. let same : why ≡ reason = cc told in is ∙ ap Err same)
