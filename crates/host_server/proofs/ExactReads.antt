@@ -80,7 +80,7 @@ file_known host site version path file digested lawful is =
 
 -- ---- it is read as it is
 
-module _ {S D : Type 0} {disk : Ghosts D} (did : S → Call → S → Type 0) (failures : S → ℕ) (faults : D → ℕ) (has : S → ShelfName → Option (List ℕ)) (keeps : Keeps did has) where
+module _ {S : Type 0} (did : S → Call → S → Type 0) (failures : S → ℕ) (has : S → ShelfName → Option (List ℕ)) (keeps : Keeps did has) where
   sent_back : (old new : Files S) (parts : RequestParts) (path file : List ℕ) (plan : Choice) (answer : Answer) → HasFile has old.shelf file
       → IsFileSent did failures old path file plan answer new
       → (answer ≡ refused_answer reason.OutOfMemory) ⊎ (answer ≡ refused_answer reason.Device) ⊎ IsSentExactly path file plan answer
@@ -93,11 +93,12 @@ module _ {S D : Type 0} {disk : Ghosts D} (did : S → Call → S → Type 0) (f
         | inr is ↦ inl (says ∙ ap (λ w. refused_answer (refusal_of_read w)) is)
       ]
 
+module _ {S D : Type 0} {disk : Ghosts D} (did : S → Call → S → Type 0) (failures : S → ℕ) (faults : D → ℕ) (has : S → ShelfName → Option (List ℕ)) (keeps : Keeps did has) where
   reply_back : (server next : Server S D disk) (parts : RequestParts) (path : List ℕ) (found : Result (List ℕ) Refusal) (file : List ℕ) (answer : Answer) → found ≡ Ok file
       → HasFile has server.files.shelf file → IsReadReply did failures server parts path found answer next → IsReadBack parts path file answer
   reply_back server next parts path found file answer is there reply =
       let (range, asks, sent, same) = subst (λ (f : Result (List ℕ) Refusal). IsReadReply did failures server parts path f answer next) is reply in
-      elim (sent_back server.files next.files parts path file (plan_of parts range file) answer there sent) [
+      elim (sent_back did failures has keeps server.files next.files parts path file (plan_of parts range file) answer there sent) [
         | inl none ↦ inl none
         | inr (inl failed) ↦ inr (inl failed)
         | inr (inr exact) ↦ inr (inr (range, asks, exact))

@@ -132,6 +132,24 @@ stops_same host next (Ok (ask.Cancel n)) is = uploads_of next host is.0
 stops_same host next (Ok (ask.Read site version path)) is = absurd is
 stops_same host next (Ok (ask.Upload n path)) is = absurd is
 
+module _ {S : Type 0} (did : S → Call → S → Type 0) (failures : S → ℕ) (has : S → ShelfName → Option (List ℕ)) (keeps : Keeps did has) where
+  stored_known : (uploads : Contents) (old new : S) (bytes : List ℕ) → AgreesWith uploads bytes
+      → ((digest : Digest) (file : List ℕ) → map.get uploads digest ≡ Some file → HasFile has old file) → IsStored did uploads old bytes new
+      → (digest : Digest) (file : List ℕ) → map.get (with_file uploads bytes) digest ≡ Some file → HasFile has new file
+  stored_known uploads old new bytes agrees known (small, inl (there, same)) digest file at =
+      let is : with_file uploads bytes ≡ uploads = ap (λ t. cond t uploads (map.insert uploads (digest_of bytes) bytes)) there in
+      subst (λ (s : S). HasFile has s file) (sym same) (known digest file (ap (λ (u : Contents). map.get u digest) (sym is) ∙ at))
+  stored_known uploads old new bytes agrees known (small, inr (none, puts)) digest file at = elim (known_or_added uploads bytes digest file none at) [
+    | inl had ↦ still_there did has keeps old new (things_of file) (things_of bytes) None (agrees.known digest file had) puts (known digest file had)
+    | inr is ↦ subst (HasFile has new) (sym is) (all_there did has keeps old new (things_of bytes) agrees.itself puts)
+  ]
+
+  sent_stays : (old new : Files S) (path file : List ℕ) (plan : Choice) (answer : Answer) → IsFileSent did failures old path file plan answer new
+      → (name : ShelfName) → has new.shelf name ≡ has old.shelf name
+  sent_stays old new path file plan answer (inl (none, says, same)) name = ap (λ (f : Files S). has f.shelf name) same
+  sent_stays old new path file plan answer (inr (inl (body, read, says))) name = read_stays did failures has keeps old new file (type_of path) plan body read name
+  sent_stays old new path file plan answer (inr (inr (why, other, failed, says))) name = fault_stays did failures has keeps old new file plan why failed name
+
 module _ {S D : Type 0} {disk : Ghosts D} (did : S → Call → S → Type 0) (failures : S → ℕ) (faults : D → ℕ) (has : S → ShelfName → Option (List ℕ)) (keeps : Keeps did has) where
   -- ---- where no more is known
 
@@ -148,22 +166,11 @@ module _ {S D : Type 0} {disk : Ghosts D} (did : S → Call → S → Type 0) (f
 
   -- ---- an upload
 
-  stored_known : (uploads : Contents) (old new : S) (bytes : List ℕ) → AgreesWith uploads bytes
-      → ((digest : Digest) (file : List ℕ) → map.get uploads digest ≡ Some file → HasFile has old file) → IsStored did uploads old bytes new
-      → (digest : Digest) (file : List ℕ) → map.get (with_file uploads bytes) digest ≡ Some file → HasFile has new file
-  stored_known uploads old new bytes agrees known (small, inl (there, same)) digest file at =
-      let is : with_file uploads bytes ≡ uploads = ap (λ t. cond t uploads (map.insert uploads (digest_of bytes) bytes)) there in
-      subst (λ (s : S). HasFile has s file) (sym same) (known digest file (ap (λ (u : Contents). map.get u digest) (sym is) ∙ at))
-  stored_known uploads old new bytes agrees known (small, inr (none, puts)) digest file at = elim (known_or_added uploads bytes digest file none at) [
-    | inl had ↦ still_there did has keeps old new (things_of file) (things_of bytes) None (agrees.known digest file had) puts (known digest file had)
-    | inr is ↦ subst (HasFile has new) (sym is) (all_there did has keeps old new (things_of bytes) agrees.itself puts)
-  ]
-
   uploaded_known : (server next : Server S D disk) (n : ℕ) (bytes : List ℕ) (judged : Result (SiteName × Digest) Refusal) → AgreesWith server.house.uploads bytes → HasKnown has server
       → IsStoredIf did judged server.house.uploads server.files.shelf bytes next.files.shelf → next.house ≡ (uploaded server.house n bytes judged).host → HasKnown has next
   uploaded_known server next n bytes (Ok at) agrees known stored is = λ digest file found.
       let same : next.house.uploads ≡ with_file server.house.uploads bytes = uploads_of next.house _ is ∙ published_same (with_upload server.house bytes) at.0 n in
-      stored_known server.house.uploads server.files.shelf next.files.shelf bytes agrees known stored digest file (ap (λ (u : Contents). map.get u digest) (sym same) ∙ found)
+      stored_known did failures has keeps server.house.uploads server.files.shelf next.files.shelf bytes agrees known stored digest file (ap (λ (u : Contents). map.get u digest) (sym same) ∙ found)
   uploaded_known server next n bytes (Err why) agrees known stored is =
       goes_over server next (uploads_of next.house server.house is) (λ name. ap (λ (s : S). has s name) stored) known
 
@@ -184,24 +191,18 @@ module _ {S D : Type 0} {disk : Ghosts D} (did : S → Call → S → Type 0) (f
       → UploadRunsOut did failures server n path bytes next → HasKnown has next
   upload_out_known server next n path bytes agrees known (inl refused) = refused_known server next n path bytes fault.OutOfMemory agrees known refused
   upload_out_known server next n path bytes agrees known (inr (inl left)) = λ digest file found.
-      stored_known server.house.uploads server.files.shelf next.files.shelf bytes agrees known left.stored digest file
+      stored_known did failures has keeps server.house.uploads server.files.shelf next.files.shelf bytes agrees known left.stored digest file
       (ap (λ (h : Host). map.get h.uploads digest) (sym left.known) ∙ found)
   upload_out_known server next n path bytes agrees known (inr (inr (told, done, text))) =
       uploaded_known server next n bytes (judge_upload server.house n path bytes) agrees known done.stored done.host_is
 
   -- ---- a read
 
-  sent_stays : (old new : Files S) (path file : List ℕ) (plan : Choice) (answer : Answer) → IsFileSent did failures old path file plan answer new
-      → (name : ShelfName) → has new.shelf name ≡ has old.shelf name
-  sent_stays old new path file plan answer (inl (none, says, same)) name = ap (λ (f : Files S). has f.shelf name) same
-  sent_stays old new path file plan answer (inr (inl (body, read, says))) name = read_stays did failures has keeps old new file (type_of path) plan body read name
-  sent_stays old new path file plan answer (inr (inr (why, other, failed, says))) name = fault_stays did failures has keeps old new file plan why failed name
-
   read_known : (server next : Server S D disk) (parts : RequestParts) (path : List ℕ) (file : Result (List ℕ) Refusal) (answer : Answer) → HasKnown has server
       → IsReadReply did failures server parts path file answer next → HasKnown has next
   read_known server next parts path (Err why) answer known is = as_it_was server next is.1 known
   read_known server next parts path (Ok file) answer known (range, asks, sent, same) =
-      goes_over server next (uploads_of next.house server.house same) (sent_stays server.files next.files path file (plan_of parts range file) answer sent) known
+      goes_over server next (uploads_of next.house server.house same) (sent_stays did failures has keeps server.files next.files path file (plan_of parts range file) answer sent) known
 
   read_out_known : (server next : Server S D disk) (parts : RequestParts) (file : Result (List ℕ) Refusal) → HasKnown has server
       → ReadRunsOut did failures server parts file next → HasKnown has next

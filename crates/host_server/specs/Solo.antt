@@ -69,21 +69,20 @@ pub record IsEmpty {disk : Ghosts MemDisk} (server : Server MemShelf MemDisk dis
   pub shelf : (name : ShelfName) → found_in server.files.shelf name ≡ None
 
 -- the words ask for a connection to such a server, and the status says how it ended
-pub record IsServed (read_fails write_fails says_fail : Type 0) (words : List (List ℕ)) (status : ℕ) (stream held new_held said new_said : Stream)
+pub record IsServed (disk : Ghosts MemDisk) (read_fails write_fails says_fail : Type 0) (words : List (List ℕ)) (status : ℕ) (stream held new_held said new_said : Stream)
     : Type 0 where
   pub asked : AskForSolo words
   pub ended : Result (Unit {0}) ConnectionFault
   pub says : status ≡ status_of ended
-  pub disk : Ghosts MemDisk
   pub start : Server MemShelf MemDisk disk
   pub empty : IsEmpty start
   pub next : Server MemShelf MemDisk disk
-  pub serves : Serves (IsAnswer Does (λ shelf. 0) (λ (disk : MemDisk). disk.failures)) read_fails write_fails ended start next stream held new_held
+  pub serves : Serves (IsAnswer Does (λ shelf. 0) disk.faults) read_fails write_fails ended start next stream held new_held
   pub end_said : SaysEnd says_fail ended said new_said
 
 -- A run: no connection is served, and nothing is answered; or one is. So the status is 1 exactly where the words ask for nothing
 -- that the program does, unless memory ran out while they were read; this and a fault of the connection are 2.
-abbrev pub Runs : (read_fails write_fails says_fail : Type 0) → List (List ℕ) → ℕ → (stream held new_held said new_said : Stream) → Type 0
-Runs read_fails write_fails says_fail words status stream held new_held said new_said =
+abbrev pub Runs : (disk : Ghosts MemDisk) → (read_fails write_fails says_fail : Type 0) → List (List ℕ) → ℕ → (stream held new_held said new_said : Stream) → Type 0
+Runs disk read_fails write_fails says_fail words status stream held new_held said new_said =
     (IsNotServed says_fail words status said new_said × (new_held ≡ held))
-    ⊎ IsServed read_fails write_fails says_fail words status stream held new_held said new_said
+    ⊎ IsServed disk read_fails write_fails says_fail words status stream held new_held said new_said

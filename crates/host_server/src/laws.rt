@@ -5,7 +5,6 @@ ghost use Rattle.host_names.specs.Blobs.{AreDigested};
 ghost use Rattle.host_names.specs.declared.names.SiteName.{SiteName as Site};
 ghost use Rattle.blob_store.specs.Keeping.{Keeps};
 ghost use Rattle.blob_store.specs.declared.shelves.ShelfName.{ShelfName};
-ghost use Rattle.host_disk.specs.declared.disks.Disk.{Ghosts};
 ghost use Rattle.http_wire.specs.Requests.{RequestParts};
 ghost use Rattle.host_api.specs.declared.bodies.Ask.TheVariants.{Read};
 ghost use Rattle.host_api.specs.declared.versions.Version.{Version};
@@ -23,10 +22,10 @@ use host_disk::Disk;
 /// piece or a digest that other bytes of it or of a known file have too. What is then read of a file is of the file itself, and is refused only for
 /// the device and for want of memory: it is neither missing nor damaged.
 pub fn uploads_are_read_back<S: Shelf, D: Disk>()
-    ensures empty { (has : S → ShelfName → Option (List ℕ)) (disk : Ghosts D) (server : Server S D disk) → server.house.uploads ≡ map.empty → HasKnown has server }
-    ensures kept { (has : S → ShelfName → Option (List ℕ)) (disk : Ghosts D) (old new : Server S D disk) (parts : RequestParts) (body : List ℕ) (answer : Answer) → Keeps S.did has
+    ensures empty { (has : S → ShelfName → Option (List ℕ)) (server : Server S D D.Disk) → server.house.uploads ≡ map.empty → HasKnown has server }
+    ensures kept { (has : S → ShelfName → Option (List ℕ)) (old new : Server S D D.Disk) (parts : RequestParts) (body : List ℕ) (answer : Answer) → Keeps S.did has
         → UploadAgrees old.house.uploads parts body → HasKnown has old → IsAnswer S.did S.failures D.faults old parts body answer new → HasKnown has new }
-    ensures read { (has : S → ShelfName → Option (List ℕ)) (disk : Ghosts D) (old new : Server S D disk) (parts : RequestParts) (body : List ℕ) (answer : Answer) (site : Site) (version : Version)
+    ensures read { (has : S → ShelfName → Option (List ℕ)) (old new : Server S D D.Disk) (parts : RequestParts) (body : List ℕ) (answer : Answer) (site : Site) (version : Version)
         (path file : List ℕ) → Keeps S.did has → AreDigested old.house.uploads → IsLawful old.house → HasKnown has old
         → asked_for parts body ≡ Ok (Read site version path) → file_of (state_of old.house) site version path ≡ Ok file
         → IsAnswer S.did S.failures D.faults old parts body answer new → IsReadBack parts path file answer }

@@ -7,14 +7,14 @@ use Rattle.host_server.proofs.KnownFiles.{answered_known}
 use Rattle.host_server.proofs.laws.uploads_are_read_back.Goals as goal
 
 pub returns-clause-empty : goal.returns-clause-empty
-returns-clause-empty g c = λ has disk server empty digest file at.
+returns-clause-empty g c = λ has server empty digest file at.
     let wrong : None ≡ Some file = sym (map.get-empty digest_cmp digest) ∙ ap (λ (u : Contents). map.get u digest) (sym empty) ∙ at in
     absurd (cc wrong)
 
 pub returns-clause-kept : goal.returns-clause-kept
-returns-clause-kept g c = λ has disk old new parts body answer keeps agrees known is.
+returns-clause-kept g c = λ has old new parts body answer keeps agrees known is.
     answered_known g.S.Shelf.did g.S.Shelf.failures g.D.Disk.faults has keeps old new parts body answer agrees known is
 
 pub returns-clause-read : goal.returns-clause-read
-returns-clause-read g c = λ has disk old new parts body answer site version path file keeps digested lawful known asks there is.
+returns-clause-read g c = λ has old new parts body answer site version path file keeps digested lawful known asks there is.
     answered_back g.S.Shelf.did g.S.Shelf.failures g.D.Disk.faults has keeps old new parts body answer site version path file digested lawful known asks there is

@@ -11,7 +11,6 @@ returns-in-Ok-Solo g c =
       asked = search rules;
       ended = c.serve_connection-ended.result;
       says = search rules;
-      disk = _;
       start = c.new-server.result;
       empty = record { host = c.new-server.ensures.house; journal = c.new-server.ensures.journal; shelf = λ name. subst (λ shelf. found_in shelf name ≡ None) (sym c.new-server.ensures.shelf) (c.new.ensures name) };
       next = c.serve_connection-ended.new.service;

@@ -1,4 +1,4 @@
-use Rattle.std.proofs.Common.{rules, ◌≡◌, Err, sym, ap, subst, ◌∙◌}
+use Rattle.std.proofs.Common.{rules, ◌≡◌, ℕ, Option, Err, sym, ap, subst, ◌∙◌}
 use Rattle.host_api.specs.declared.refusals.Refusal.{Refusal}
 use Rattle.host_server.specs.Growth.{grows_then}
 use Rattle.host_server.specs.Hosts.{with_upload}
@@ -36,5 +36,5 @@ returns-in_err-published-clause-done g c =
     (c.in_ok-keep.ensures.known ∙ ap (with_upload server.house) c.as_slice-2.ensures.value)
     (subst (λ bytes. IsStored did server.house.uploads server.files.shelf bytes c.keep.new.self.files.shelf) c.as_slice-2.ensures.value c.in_ok-keep.ensures.stored)
     c.in_err-published.ensures.done c.in_err-published.ensures.stops c.in_err-published.ensures.err
-    (subst (λ j. IsJournaled faults (Err why) c.keep.new.self.house j new_house new_journal) c.keep.ensures.journal c.in_err-published.ensures.journal)
+    (subst (λ j. IsJournaled {A = Option ℕ} faults (Err why) c.keep.new.self.house j new_house new_journal) c.keep.ensures.journal c.in_err-published.ensures.journal)
     (ap told_by is) (λ (reason : Refusal) told. let same : why ≡ reason = cc told in is ∙ ap Err same)
