@@ -28,8 +28,8 @@ returns-in_err-published-clause-done g c =
     let why = c.in_err-published.field-0.0 in
     let new_house = c.publish_if_ready.new.self in
     let new_journal = c.publish_if_ready.new.journal in
-    let next : Server g.row.S.Denot g.row.D.Denot g.D.Disk = record { house = new_house; journal = new_journal; files = c.keep.new.self.files; agrees = _ } in
     let is : c.from_residual-in_err-published.result ≡ Err why = search rules in
+    let next : Server g.row.S.Denot g.row.D.Denot g.D.Disk = record { house = new_house; journal = new_journal; files = c.keep.new.self.files; agrees = _ } in
     upload_done did g.S.Shelf.failures faults server next c.keep.new.self.house c.args.number c.args.path.now
     c.args.bytes.items (c.in_ok-site.site, c.in_ok-site.digest) (Err why) c.from_residual-in_err-published.result
     (sym (ap (λ bytes. judge_upload server.house c.args.number c.args.path.now bytes) c.as_slice.ensures.value) ∙ c.in_ok-site.ensures.ok)
