@@ -26,11 +26,14 @@ left_at L (Err e) why is left = left
 module _ {S D : Type 0} {disk : Ghosts D} (did : S → Call → S → Type 0) (failures : S → ℕ) (faults : D → ℕ) where
   pub not_judged : (server : Server S D disk) (n : ℕ) (path bytes : List ℕ) (why : Refusal) → judge_upload server.house n path bytes ≡ Err why
       → DoesUpload did failures faults server n path bytes (Err why) server
-  not_judged server n path bytes why is = inl (record {
-    stored = subst (λ j. IsStoredIf did j server.house.uploads server.files.shelf bytes server.files.shelf) (sym is) refl;
-    told_is = ap (λ j. (uploaded server.house n bytes j).told) (sym is);
-    host_is = ap (λ j. (uploaded server.house n bytes j).host) (sym is);
-  }, keeps_same faults server.house server.house server.journal server.journal refl refl)
+  not_judged server n path bytes why is = inl (
+    record {
+      stored = subst (λ j. IsStoredIf did j server.house.uploads server.files.shelf bytes server.files.shelf) (sym is) refl;
+      told_is = ap (λ j. (uploaded server.house n bytes j).told) (sym is);
+      host_is = ap (λ j. (uploaded server.house n bytes j).host) (sym is);
+    },
+    keeps_same faults server.house server.house server.journal server.journal refl refl,
+  )
 
   -- the entry that would publish the deploy isn't made, for this reason
   unpublished : (server next : Server S D disk) (mid : Host) (n : ℕ) (path bytes : List ℕ) (at : SiteName × Digest) (entry : Result (Option ℕ) Refusal) (why : Refusal)

@@ -1,5 +1,5 @@
 -- How a host gets an entry.
-use Rattle.std.specs.Prelude.{◌≡◌, ℕ, List, [], ◌∷◌, true, Option, Some, None, Result, Ok, Err}
+use Rattle.std.specs.Prelude.{◌≡◌, ℕ, [], ◌∷◌, true, Option, Some, None, Result, Ok, Err}
 use Rattle.host_names.specs.declared.refusals.ChangeError.{ChangeError}
 use Rattle.host_names.specs.declared.refusals.ChangeError.TheVariants as change
 use Rattle.host_names.specs.declared.refusals.ChangeRefusal.{ChangeRefusal}

@@ -1,5 +1,5 @@
 -- What becomes of a journal where a host gets more entries.
-use Rattle.std.specs.Prelude.{◌≡◌, ◌⊎◌, ℕ, List, [], ◌∷◌, ◌++◌, Bool, true, false, Option, Some, None, Result, Ok, Err}
+use Rattle.std.specs.Prelude.{◌≡◌, ◌⊎◌, ℕ, List, [], ◌∷◌, ◌++◌, Bool, true, false, Option, Some, None, Result, Err}
 use Rattle.change_journal.specs.Held.{Keeps}
 use Rattle.change_journal.specs.Settled.{TellsBreak}
 use Rattle.change_journal.specs.declared.records.PutFault.TheVariants as put_fault

@@ -150,7 +150,11 @@ fn respond<S: Shelf, D: Disk>(
 /// The reply to a request, and what it does to the host. Where there is no memory the reply says so; then the request
 /// may have done nothing, or what it does first (an Open without its publish, an upload), or all that it does. Where the
 /// device fails while an entry is put into the journal, the reply says so, and the host doesn't get that entry.
-pub fn answer<S: Shelf, D: Disk>(alloc: Global, request: Request, server: &mut Server<S, D>) -> Reply
+pub fn answer<S: Shelf, D: Disk>(
+    alloc: Global,
+    request: Request,
+    server: &mut Server<S, D>,
+) -> Reply
     ensures replied { IsAnswer S.did S.failures D.faults server.old request.head request.body.items (answer_of result) server.new }
     ensures grows { Grows server.old.house server.new.house }
     ensures count { S.failures server.old.files.shelf ≤ S.failures server.new.files.shelf }

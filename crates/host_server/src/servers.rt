@@ -35,12 +35,7 @@ impl<S: Shelf, D: Disk> Server<S, D> {
     }
 
     /// A server with an empty journal, and without entries and known files, over a shelf.
-    pub fn with_journal(
-        alloc: Global,
-        shelf: S,
-        limit: u64,
-        journal: Journal<D>,
-    ) -> Server<S, D>
+    pub fn with_journal(alloc: Global, shelf: S, limit: u64, journal: Journal<D>) -> Server<S, D>
         requires some { 1 ≤ limit }
         requires bounded { limit ≤ 1000000 }
         requires empty { length journal.entries ≡ 0 }

@@ -74,8 +74,11 @@ pub fn run_solo<S: AsStr, D: Duplex, E: Sink>(
 {
     match wanted(alloc, words, errors) {
         Ok(Wanted::Solo) => {
-            let mut server: Server<MemShelf, MemDisk> =
-                Server::new(alloc, MemShelf::new(alloc), GREATEST_LIMIT);
+            let mut server: Server<MemShelf, MemDisk> = Server::new(
+                alloc,
+                MemShelf::new(alloc),
+                GREATEST_LIMIT,
+            );
             let ended = serve_connection(alloc, duplex, &mut server);
             status_after(errors, ended)
         }

@@ -1,20 +1,9 @@
-use Rattle.std.proofs.Common.{◌≡◌, true, None, Ok, inl, inr, arith, refl, subst, sym}
+use Rattle.std.proofs.Common.{◌≡◌, Ok, subst, sym}
 use Rattle.host_api.specs.declared.bodies.Ask.{Ask}
-use Rattle.host_api.specs.declared.bodies.Ask.TheVariants as ask
 use Rattle.host_server.specs.Asks.{CarriesOut}
 use Rattle.host_server.specs.Bodies.{answer_of}
-use Rattle.host_api.specs.declared.refusals.Refusal.TheVariants as reason
-use Rattle.host_server.specs.Journals.{BreaksOff, KeepsUp, is_broken}
-use Rattle.host_server.specs.Memory.{UndoRunsOut, DeployRunsOut}
-use Rattle.host_server.specs.Outcomes.{deploy_outcome, undone}
-use Rattle.host_server.specs.Reasons.{undo_refusal}
-use Rattle.site_change.specs.declared.commands.Command.TheVariants as command
-use Rattle.host_server.specs.Growth.{itself}
-use Rattle.host_server.specs.declared.servers.Server.{Server}
-use Rattle.host_server.proofs.Growing.{grows_same}
-use Rattle.host_server.proofs.HoldingUp.{free_as, whole_of}
-use Rattle.host_server.proofs.Journaling.{agrees_journaled, journaled_as, keeps_same}
-use Rattle.host_server.proofs.Telling.{kept_up, left_by, on_server, told_outcome, told_command, told_deploy, told_changes, told_upload}
+use Rattle.host_server.proofs.Journaling.{agrees_journaled}
+use Rattle.host_server.proofs.Telling.{on_server, told_command, told_upload}
 use Rattle.host_server.proofs.answers.carry_out.Goals as goal
 
 pub invariant_of-server : goal.invariant_of-server
@@ -39,7 +28,7 @@ returns-in-Command-clause-replied g c =
     let faults = g.D.Disk.faults in
     let A : Ask → Type 0 = λ a. CarriesOut g.S.Shelf.did g.S.Shelf.failures faults server c.args.head.now c.args.body.items (Ok a) (answer_of c.tell.result) next in
     subst A (sym c.in-Command.is) (on_server (next.files ≡ server.files) (told_command faults server.house next.house server.journal next.journal c.in-Command.command
-          c.change.result (answer_of c.tell.result) c.change.ensures.done c.change.ensures.stops c.change.ensures.journal c.tell.ensures) c.change.ensures.files)
+    c.change.result (answer_of c.tell.result) c.change.ensures.done c.change.ensures.stops c.change.ensures.journal c.tell.ensures) c.change.ensures.files)
 
 pub returns-in-Upload-clause-replied : goal.returns-in-Upload-clause-replied
 returns-in-Upload-clause-replied g c =
@@ -49,4 +38,4 @@ returns-in-Upload-clause-replied g c =
     let faults = g.D.Disk.faults in
     let A : Ask → Type 0 = λ a. CarriesOut g.S.Shelf.did g.S.Shelf.failures faults server c.args.head.now body (Ok a) (answer_of c.tell-in-Upload.result) next in
     subst A (sym c.in-Upload.is) (told_upload g.S.Shelf.did g.S.Shelf.failures faults server next c.args.head.now c.in-Upload.deploy c.in-Upload.path body c.upload.result
-          (answer_of c.tell-in-Upload.result) c.upload.ensures.done c.tell-in-Upload.ensures)
+    (answer_of c.tell-in-Upload.result) c.upload.ensures.done c.tell-in-Upload.ensures)

@@ -17,8 +17,10 @@ returns-clause-grows g c =
 pub invariant_of-self-2 : goal.invariant_of-self-2
 invariant_of-self-2 g c =
     let mid = c.keep.new.self in
-    record { agrees = agrees_journaled g.D.Disk.faults c.publish_if_ready.result mid.house c.publish_if_ready.new.self mid.journal c.publish_if_ready.new.journal mid.agrees
-    c.publish_if_ready.ensures.journal }
+    record {
+      agrees = agrees_journaled g.D.Disk.faults c.publish_if_ready.result mid.house c.publish_if_ready.new.self mid.journal c.publish_if_ready.new.journal mid.agrees
+          c.publish_if_ready.ensures.journal;
+    }
 
 pub returns-in_err-published-clause-done : goal.returns-in_err-published-clause-done
 returns-in_err-published-clause-done g c =
