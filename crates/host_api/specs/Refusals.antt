@@ -9,7 +9,7 @@ use Rattle.host_names.specs.declared.refusals.ChangeRefusal.TheVariants.{History
 use Rattle.host_api.specs.declared.refusals.HeadRefusal.{HeadRefusal}
 use Rattle.host_api.specs.declared.refusals.HeadRefusal.TheVariants.{HeadTooLarge, BadHead, CodingRefused, LengthBad, BodyTooLarge}
 use Rattle.host_api.specs.declared.refusals.Refusal.{Refusal}
-use Rattle.host_api.specs.declared.refusals.Refusal.TheVariants.{Change, BadName, BadPath, BadDigest, BadBody, NotListed, WrongDigest, TooLarge, Missing, Damaged, Device, OutOfMemory, NoRoute, BadMethod, Head, NotSatisfiable}
+use Rattle.host_api.specs.declared.refusals.Refusal.TheVariants.{Change, BadName, BadPath, BadDigest, BadBody, NotListed, WrongDigest, TooLarge, Missing, Damaged, Device, OutOfMemory, Broken, NoRoute, BadMethod, Head, NotSatisfiable}
 
 -- what a reply says of a reason against a change or an undo: its name, and the status code (RFC 9110, section 15)
 abbrev pub shown_of_change : ChangeRefusal → List ℕ × ℕ
@@ -50,6 +50,7 @@ shown_of Missing = (codes "Missing", 503)
 shown_of Damaged = (codes "Damaged", 503)
 shown_of Device = (codes "Device", 503)
 shown_of OutOfMemory = (codes "OutOfMemory", 503)
+shown_of Broken = (codes "Broken", 503)
 shown_of NoRoute = (codes "NoRoute", 404)
 shown_of (BadMethod resource) = (codes "BadMethod", 405)
 shown_of (Head reason) = shown_of_head reason

@@ -49,6 +49,8 @@ pub enum Refusal {
     Device,
     /// There was no memory for the request.
     OutOfMemory,
+    /// The device of the journal failed at an earlier request, and nothing is changed until it is opened again.
+    Broken,
     /// The target is on no route.
     NoRoute,
     /// The resource does not have the method.
@@ -120,6 +122,7 @@ impl Refusal {
             Refusal::Damaged => ("Damaged", StatusCode::SERVICE_UNAVAILABLE),
             Refusal::Device => ("Device", StatusCode::SERVICE_UNAVAILABLE),
             Refusal::OutOfMemory => ("OutOfMemory", StatusCode::SERVICE_UNAVAILABLE),
+            Refusal::Broken => ("Broken", StatusCode::SERVICE_UNAVAILABLE),
             Refusal::NoRoute => ("NoRoute", StatusCode::NOT_FOUND),
             Refusal::BadMethod(_) => ("BadMethod", StatusCode::METHOD_NOT_ALLOWED),
             Refusal::Head(reason) => shown_of_head(*reason),

@@ -3,6 +3,7 @@ ghost use Rattle.std.specs.Prelude.{◌≡◌};
 
 use anyhow::{Result, anyhow};
 use blob_store::MemShelf;
+use host_disk::MemDisk;
 use host_server::{Server, serve_connection};
 use http_wire::{Counting, Pair};
 use std::alloc::{AllocError, Global};
@@ -67,7 +68,7 @@ fn range_gets(alloc: Global, each: usize) -> Result<String, AllocError> {
 /// Answers the requests of a connection, by so many bytes at least.
 fn read_all(
     alloc: Global,
-    server: &mut Server<MemShelf>,
+    server: &mut Server<MemShelf, MemDisk>,
     requests: &str,
     least: u64,
 ) -> Result<()> {
@@ -85,7 +86,7 @@ fn read_all(
 /// The time of so many connections of these requests, each of which is answered by so many bytes at least.
 fn time_requests(
     rt: &HostRuntime,
-    server: &mut Server<MemShelf>,
+    server: &mut Server<MemShelf, MemDisk>,
     requests: &str,
     least: u64,
     times: u64,
@@ -100,7 +101,7 @@ fn time_requests(
 /// The time of so many connections of GETs.
 pub(crate) fn time_gets(
     rt: &HostRuntime,
-    server: &mut Server<MemShelf>,
+    server: &mut Server<MemShelf, MemDisk>,
     times: u64,
 ) -> Result<Duration> {
     let requests = gets(rt.alloc())?;
@@ -111,7 +112,7 @@ pub(crate) fn time_gets(
 /// The time of so many connections for the four stretches, of which each request asks for so many.
 pub(crate) fn time_ranges(
     rt: &HostRuntime,
-    server: &mut Server<MemShelf>,
+    server: &mut Server<MemShelf, MemDisk>,
     each: usize,
     times: u64,
 ) -> Result<Duration> {

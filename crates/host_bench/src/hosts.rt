@@ -6,6 +6,7 @@ use anyhow::{Result, anyhow};
 use blob_store::MemShelf;
 use change_undo::GREATEST_LIMIT;
 use host_api::{Refusal, Told};
+use host_disk::MemDisk;
 use host_names::{AliasName, Digest, FilePath, SiteName};
 use host_server::Server;
 use site_change::{Command, MOST_FILES};
@@ -22,7 +23,7 @@ pub(crate) struct Upload {
 }
 
 /// A server without entries, whose files are in memory.
-pub(crate) fn empty_server(alloc: Global) -> Server<MemShelf> {
+pub(crate) fn empty_server(alloc: Global) -> Server<MemShelf, MemDisk> {
     Server::new(alloc, MemShelf::new(alloc), GREATEST_LIMIT)
 }
 
@@ -32,12 +33,28 @@ fn expected(told: Result<Told, Refusal>) -> Result<Told> {
 }
 
 /// Puts a command to the host.
-fn change(server: &mut Server<MemShelf>, command: Command) -> Result<Told> {
-    expected(server.house.change(command))
+fn change(server: &mut Server<MemShelf, MemDisk>, command: Command) -> Result<Told> {
+    if server.is_broken() {
+        return Err(anyhow!("the journal is broken"));
+    }
+    expected(server.change(command))
+}
+
+/// Uploads the bytes as the file at a path of a deploy.
+fn upload(
+    server: &mut Server<MemShelf, MemDisk>,
+    deploy: u64,
+    path: &FilePath,
+    bytes: Vec<u8>,
+) -> Result<Told> {
+    if server.is_broken() {
+        return Err(anyhow!("the journal is broken"));
+    }
+    expected(server.upload(deploy, path, bytes))
 }
 
 /// Opens a deploy of what is listed, and answers its number.
-fn open_listing(server: &mut Server<MemShelf>, files: Listing) -> Result<u64> {
+fn open_listing(server: &mut Server<MemShelf, MemDisk>, files: Listing) -> Result<u64> {
     let opening = Command::Open {
         site: SiteName::new("one")?,
         files,
@@ -52,7 +69,7 @@ fn open_listing(server: &mut Server<MemShelf>, files: Listing) -> Result<u64> {
 /// Opens a deploy that adds these files to the site, and answers its number.
 pub(crate) fn open(
     alloc: Global,
-    server: &mut Server<MemShelf>,
+    server: &mut Server<MemShelf, MemDisk>,
     files: Range<u64>,
     contents: Contents,
 ) -> Result<u64> {
@@ -60,7 +77,7 @@ pub(crate) fn open(
 }
 
 /// Keeps a deploy of one file, which is uploaded, and answers its number.
-pub(crate) fn keep(alloc: Global, server: &mut Server<MemShelf>, file: u64) -> Result<u64> {
+pub(crate) fn keep(alloc: Global, server: &mut Server<MemShelf, MemDisk>, file: u64) -> Result<u64> {
     let end = file.saturating_add(1);
     let deploy = open_listing(server, listing(alloc, false, file..end, Contents::Own)?)?;
     let mut planned = Vec::new(alloc);
@@ -72,17 +89,17 @@ pub(crate) fn keep(alloc: Global, server: &mut Server<MemShelf>, file: u64) -> R
 /// Makes the site serve one file of these bytes, the first.
 pub(crate) fn serve_file(
     alloc: Global,
-    server: &mut Server<MemShelf>,
+    server: &mut Server<MemShelf, MemDisk>,
     bytes: Vec<u8>,
 ) -> Result<()> {
     let listing = one_file(alloc, Digest::of_bytes(bytes.as_slice()))?;
     let deploy = open_listing(server, listing)?;
-    let _ = expected(server.upload(deploy, &path(alloc, 0)?, bytes))?;
+    let _ = upload(server, deploy, &path(alloc, 0)?, bytes)?;
     Ok(())
 }
 
 /// Moves an alias of the site to a deploy.
-pub(crate) fn move_alias(server: &mut Server<MemShelf>, number: u64) -> Result<()> {
+pub(crate) fn move_alias(server: &mut Server<MemShelf, MemDisk>, number: u64) -> Result<()> {
     let site = SiteName::new("one")?;
     let name = AliasName::new("next")?;
     let _ = change(server, Command::MoveAlias { site, name, number })?;
@@ -107,20 +124,20 @@ pub(crate) fn plan(
 }
 
 /// Uploads each of these, in their order.
-pub(crate) fn upload_all(server: &mut Server<MemShelf>, uploads: Vec<Upload>) -> Result<()> {
+pub(crate) fn upload_all(server: &mut Server<MemShelf, MemDisk>, uploads: Vec<Upload>) -> Result<()> {
     for upload in uploads {
         let Upload {
             deploy,
             path,
             bytes,
         } = upload;
-        let _ = expected(server.upload(deploy, &path, bytes))?;
+        let _ = upload(server, deploy, &path, bytes)?;
     }
     Ok(())
 }
 
 /// Opens a deploy of these files, and uploads all of them.
-pub(crate) fn fill(alloc: Global, server: &mut Server<MemShelf>, files: Range<u64>) -> Result<()> {
+pub(crate) fn fill(alloc: Global, server: &mut Server<MemShelf, MemDisk>, files: Range<u64>) -> Result<()> {
     let deploy = open(alloc, server, files.start..files.end, Contents::Own)?;
     let mut planned = Vec::new(alloc);
     plan(alloc, &mut planned, deploy, files)?;
@@ -128,7 +145,7 @@ pub(crate) fn fill(alloc: Global, server: &mut Server<MemShelf>, files: Range<u6
 }
 
 /// Makes the site serve so many files, all of one content, which is uploaded.
-pub(crate) fn serve(alloc: Global, server: &mut Server<MemShelf>, count: u64) -> Result<()> {
+pub(crate) fn serve(alloc: Global, server: &mut Server<MemShelf, MemDisk>, count: u64) -> Result<()> {
     fill(alloc, server, 0..1)?;
     for first in (0..count).step_by(MOST_FILES) {
         let end = count.min(first.saturating_add(MOST_FILES as u64));
@@ -138,7 +155,7 @@ pub(crate) fn serve(alloc: Global, server: &mut Server<MemShelf>, count: u64) ->
 }
 
 /// Renames the first file of the site, or renames it back.
-pub(crate) fn rename(alloc: Global, server: &mut Server<MemShelf>, back: bool) -> Result<()> {
+pub(crate) fn rename(alloc: Global, server: &mut Server<MemShelf, MemDisk>, back: bool) -> Result<()> {
     let here = path(alloc, 0)?;
     let there = FilePath::read(alloc, "/renamed")?;
     let (source, target) = if back { (there, here) } else { (here, there) };

@@ -27,7 +27,10 @@ use Rattle.host_api.specs.declared.refusals.Refusal.{Refusal}
 use Rattle.host_api.specs.declared.refusals.Refusal.TheVariants as reason
 use Rattle.host_api.specs.declared.versions.Version.{Version}
 use Rattle.host_api.specs.declared.versions.Version.TheVariants as version
-use Rattle.host_server.specs.Asks.{IsAnswer, IsReplyToAsk, asked_for}
+use Rattle.host_disk.specs.declared.disks.Disk.{Ghosts}
+use Rattle.host_server.specs.Asks.{IsAnswer, IsReplyToAsk, asked_for, holds_up}
+use Rattle.host_server.specs.Journals.{is_broken}
+use Rattle.host_server.proofs.HoldingUp.{no_and}
 use Rattle.host_server.specs.Files.{IsFileSent, IsReadReply, plan_of, refusal_of_read}
 use Rattle.host_server.specs.Hosts.{Host, IsLawful, state_of}
 use Rattle.host_server.specs.ReadBack.{HasKnown, IsReadBack, IsSentExactly}
@@ -90,21 +93,25 @@ module _ {S : Type 0} (did : S → Call → S → Type 0) (failures : S → ℕ)
         | inr is ↦ inl (says ∙ ap (λ w. refused_answer (refusal_of_read w)) is)
       ]
 
-  reply_back : (server next : Server S) (parts : RequestParts) (path : List ℕ) (found : Result (List ℕ) Refusal) (file : List ℕ) (answer : Answer) → found ≡ Ok file
+module _ {S D : Type 0} {disk : Ghosts D} (did : S → Call → S → Type 0) (failures : S → ℕ) (faults : D → ℕ) (has : S → ShelfName → Option (List ℕ)) (keeps : Keeps did has) where
+  reply_back : (server next : Server S D disk) (parts : RequestParts) (path : List ℕ) (found : Result (List ℕ) Refusal) (file : List ℕ) (answer : Answer) → found ≡ Ok file
       → HasFile has server.files.shelf file → IsReadReply did failures server parts path found answer next → IsReadBack parts path file answer
   reply_back server next parts path found file answer is there reply =
       let (range, asks, sent, same) = subst (λ (f : Result (List ℕ) Refusal). IsReadReply did failures server parts path f answer next) is reply in
-      elim (sent_back server.files next.files parts path file (plan_of parts range file) answer there sent) [
+      elim (sent_back did failures has keeps server.files next.files parts path file (plan_of parts range file) answer there sent) [
         | inl none ↦ inl none
         | inr (inl failed) ↦ inr (inl failed)
         | inr (inr exact) ↦ inr (inr (range, asks, exact))
       ]
 
-  pub answered_back : (server next : Server S) (parts : RequestParts) (body : List ℕ) (answer : Answer) (site : SiteName) (version : Version) (path file : List ℕ)
+  pub answered_back : (server next : Server S D disk) (parts : RequestParts) (body : List ℕ) (answer : Answer) (site : SiteName) (version : Version) (path file : List ℕ)
       → AreDigested server.house.uploads → IsLawful server.house → HasKnown has server → asked_for parts body ≡ Ok (ask.Read site version path)
-      → file_of (state_of server.house) site version path ≡ Ok file → IsAnswer did failures server parts body answer next → IsReadBack parts path file answer
-  answered_back server next parts body answer site version path file digested lawful known asks is (inr (says, out)) = inl says
-  answered_back server next parts body answer site version path file digested lawful known asks is (inl reply) =
+      → file_of (state_of server.house) site version path ≡ Ok file → IsAnswer did failures faults server parts body answer next → IsReadBack parts path file answer
+  answered_back server next parts body answer site version path file digested lawful known asks is (inl (inl (held, says, same), kept)) =
+      absurd (cc (sym (no_and (is_broken server.journal)) ∙ ap (λ (a : Result Ask Refusal). holds_up server a) (sym asks) ∙ held))
+  answered_back server next parts body answer site version path file digested lawful known asks is (inl (inr (free, reply), kept)) =
       let there = known (digest_of file) file (file_known server.house site version path file digested lawful is) in
       reply_back server next parts path (file_of (state_of server.house) site version path) file answer is there
       (subst (λ (a : Result Ask Refusal). IsReplyToAsk did failures server parts body a answer next) asks reply)
+  answered_back server next parts body answer site version path file digested lawful known asks is (inr (inl ((says, out), kept))) = inl says
+  answered_back server next parts body answer site version path file digested lawful known asks is (inr (inr ((says, stops), broken))) = inr (inl says)

@@ -1,5 +1,5 @@
 -- The bytes of an upload are stored, known and published.
-use Rattle.std.proofs.Common.{◌≡◌, inl, inr, ℕ, List, Option, Result, Ok, Err, IsErrOf, IsTrue, OnErr, refl, sym, ap, subst, ◌∙◌}
+use Rattle.std.proofs.Common.{◌≡◌, ◌≢◌, ◌⊎◌, inl, inr, ℕ, List, Option, Result, Ok, Err, IsTrue, OnErr, refl, sym, ap, subst, ◌∙◌}
 use Rattle.host_names.specs.declared.digests.Digest.{Digest}
 use Rattle.host_names.specs.declared.names.SiteName.{SiteName}
 use Rattle.blob_store.specs.Calls.{Call}
@@ -7,47 +7,78 @@ use Rattle.host_api.specs.declared.refusals.Refusal.{Refusal}
 use Rattle.host_api.specs.declared.refusals.Refusal.TheVariants as reason
 use Rattle.host_api.specs.declared.texts.Told.{Told}
 use Rattle.host_api.specs.declared.texts.Told.TheVariants.{Uploaded}
+use Rattle.host_disk.specs.declared.disks.Disk.{Ghosts}
 use Rattle.host_server.specs.Hosts.{Host, with_upload}
+use Rattle.host_server.specs.Journals.{IsJournaled, IsStopped, KeepsUp}
 use Rattle.host_server.specs.Memory.{is_published}
 use Rattle.host_server.specs.Outcomes.{Publishes, judge_upload, published_if_ready, told_by, told_of, uploaded}
-use Rattle.host_server.specs.Storing.{DoesUpload, IsStored, IsStoredIf}
+use Rattle.host_server.specs.ServerJournals.{Breaks, GoesOn}
+use Rattle.host_server.specs.Storing.{DoesUpload, IsStored, IsStoredIf, IsUnpublished}
 use Rattle.host_server.specs.declared.servers.Server.{Server}
+use Rattle.host_server.proofs.Journaling.{journaled_as, journaled_then, keeps_entries, keeps_same}
 
 -- ---- what an upload does
 
-module _ {S : Type 0} (did : S → Call → S → Type 0) (failures : S → ℕ) where
-  pub not_judged : (server : Server S) (n : ℕ) (path bytes : List ℕ) (why : Refusal) → judge_upload server.house n path bytes ≡ Err why
-      → DoesUpload did failures server n path bytes (Err why) server
-  not_judged server n path bytes why is = inl (record {
-    stored = subst (λ j. IsStoredIf did j server.house.uploads server.files.shelf bytes server.files.shelf) (sym is) refl;
-    told_is = ap (λ j. (uploaded server.house n bytes j).told) (sym is);
-    host_is = ap (λ j. (uploaded server.house n bytes j).host) (sym is);
-  })
+left_at : {A E : Type 0} (L : Type 0) (r : Result A E) (why : E) → r ≡ Err why → OnErr r L → L
+left_at L (Ok x) why is left = absurd (cc is)
+left_at L (Err e) why is left = left
 
-  left_at : {A E : Type 0} (L : Type 0) (r : Result A E) (why : E) → r ≡ Err why → OnErr r L → L
-  left_at L (Ok x) why is left = absurd (cc is)
-  left_at L (Err e) why is left = left
+module _ {S D : Type 0} {disk : Ghosts D} (did : S → Call → S → Type 0) (failures : S → ℕ) (faults : D → ℕ) where
+  pub not_judged : (server : Server S D disk) (n : ℕ) (path bytes : List ℕ) (why : Refusal) → judge_upload server.house n path bytes ≡ Err why
+      → DoesUpload did failures faults server n path bytes (Err why) server
+  not_judged server n path bytes why is = inl (
+    record {
+      stored = subst (λ j. IsStoredIf did j server.house.uploads server.files.shelf bytes server.files.shelf) (sym is) refl;
+      told_is = ap (λ j. (uploaded server.house n bytes j).told) (sym is);
+      host_is = ap (λ j. (uploaded server.house n bytes j).host) (sym is);
+    },
+    keeps_same faults server.house server.house server.journal server.journal refl refl,
+  )
 
-  pub upload_done : (server next : Server S) (mid : Host) (n : ℕ) (path bytes : List ℕ) (at : SiteName × Digest) (entry : Result (Option ℕ) Refusal) (told : Result Told Refusal)
+  -- the entry that would publish the deploy isn't made, for this reason
+  unpublished : (server next : Server S D disk) (mid : Host) (n : ℕ) (path bytes : List ℕ) (at : SiteName × Digest) (entry : Result (Option ℕ) Refusal) (why : Refusal)
+      → judge_upload server.house n path bytes ≡ Ok at → mid ≡ with_upload server.house bytes
+      → IsStored did server.house.uploads server.files.shelf bytes next.files.shelf → IsTrue (is_published mid at.0 n) → OnErr entry (next.house ≡ mid) → entry ≡ Err why
+      → IsUnpublished did server n path bytes next
+  unpublished server next mid n path bytes at entry why judged known stored published left is = record {
+    at = at;
+    judged = judged;
+    stored = stored;
+    known = left_at (next.house ≡ mid) entry why is left ∙ known;
+    published = subst (λ h. IsTrue (is_published h at.0 n)) known published;
+  }
+
+  done_so : (server next : Server S D disk) (mid : Host) (n : ℕ) (path bytes : List ℕ) (at : SiteName × Digest) (entry : Result (Option ℕ) Refusal) (told : Result Told Refusal)
       → judge_upload server.house n path bytes ≡ Ok at → mid ≡ with_upload server.house bytes
       → IsStored did server.house.uploads server.files.shelf bytes next.files.shelf
-      → Publishes entry next.house (published_if_ready mid at.0 n) → (IsErrOf entry reason.OutOfMemory → IsTrue (is_published mid at.0 n)) → OnErr entry (next.house ≡ mid)
-      → told_by told ≡ told_of entry (λ published. Uploaded published at.1) → (entry ≡ Err reason.OutOfMemory → told ≡ Err reason.OutOfMemory)
-      → DoesUpload did failures server n path bytes told next
-  upload_done server next mid n path bytes at entry told judged known stored (inl none) memory left says runs_out = inr (inr (
-    runs_out none,
+      → Publishes entry next.house (published_if_ready mid at.0 n) → (IsStopped entry → IsTrue (is_published mid at.0 n)) → OnErr entry (next.house ≡ mid)
+      → ((entry ≡ Err reason.Device) × Breaks faults server next) ⊎ ((entry ≢ Err reason.Device) × GoesOn faults server next)
+      → told_by told ≡ told_of entry (λ published. Uploaded published at.1) → ((why : Refusal) → entry ≡ Err why → told ≡ Err why)
+      → DoesUpload did failures faults server n path bytes told next
+  done_so server next mid n path bytes at entry told judged known stored done stops left (inl (is, broken)) says fails =
+      inr (inr (unpublished server next mid n path bytes at entry reason.Device judged known stored (stops (inr is)) left is, inr (fails reason.Device is, broken)))
+  done_so server next mid n path bytes at entry told judged known stored (inl (inl none)) stops left (inr (other, kept)) says fails =
+      inr (inr (unpublished server next mid n path bytes at entry reason.OutOfMemory judged known stored (stops (inl none)) left none, inl (fails reason.OutOfMemory none, kept)))
+  done_so server next mid n path bytes at entry told judged known stored (inl (inr is)) stops left (inr (other, kept)) says fails = absurd (other is)
+  done_so server next mid n path bytes at entry told judged known stored (inr done) stops left (inr (other, kept)) says fails = inl (
     record {
-      at = at;
-      judged = judged;
-      stored = stored;
-      known = left_at (next.house ≡ mid) entry reason.OutOfMemory none left ∙ known;
-      published = subst (λ h. IsTrue (is_published h at.0 n)) known (memory none);
+      stored = subst (λ j. IsStoredIf did j server.house.uploads server.files.shelf bytes next.files.shelf) (sym judged) stored;
+      told_is = says ∙ ap (λ e. told_of e (λ published. Uploaded published at.1)) done.0
+          ∙ ap (λ h. told_of (published_if_ready h at.0 n).entry (λ published. Uploaded published at.1)) known
+          ∙ ap (λ j. (uploaded server.house n bytes j).told) (sym judged);
+      host_is = done.1 ∙ ap (λ h. (published_if_ready h at.0 n).host) known ∙ ap (λ j. (uploaded server.house n bytes j).host) (sym judged);
     },
-  ))
-  upload_done server next mid n path bytes at entry told judged known stored (inr done) memory left says runs_out = inl (record {
-    stored = subst (λ j. IsStoredIf did j server.house.uploads server.files.shelf bytes next.files.shelf) (sym judged) stored;
-    told_is = says ∙ ap (λ e. told_of e (λ published. Uploaded published at.1)) done.0
-        ∙ ap (λ h. told_of (published_if_ready h at.0 n).entry (λ published. Uploaded published at.1)) known
-        ∙ ap (λ j. (uploaded server.house n bytes j).told) (sym judged);
-    host_is = done.1 ∙ ap (λ h. (published_if_ready h at.0 n).host) known ∙ ap (λ j. (uploaded server.house n bytes j).host) (sym judged);
-  })
+    kept,
+  )
+
+  pub upload_done : (server next : Server S D disk) (mid : Host) (n : ℕ) (path bytes : List ℕ) (at : SiteName × Digest) (entry : Result (Option ℕ) Refusal) (told : Result Told Refusal)
+      → judge_upload server.house n path bytes ≡ Ok at → mid ≡ with_upload server.house bytes
+      → IsStored did server.house.uploads server.files.shelf bytes next.files.shelf
+      → Publishes entry next.house (published_if_ready mid at.0 n) → (IsStopped entry → IsTrue (is_published mid at.0 n)) → OnErr entry (next.house ≡ mid)
+      → IsJournaled faults entry mid server.journal next.house next.journal
+      → told_by told ≡ told_of entry (λ published. Uploaded published at.1) → ((why : Refusal) → entry ≡ Err why → told ≡ Err why)
+      → DoesUpload did failures faults server n path bytes told next
+  upload_done server next mid n path bytes at entry told judged known stored done stops left journaled says fails =
+      let from : KeepsUp faults server.house server.journal mid server.journal = keeps_entries faults server.house mid server.journal server.journal (ap (λ (h : Host). h.entries) known) refl in
+      let same = journaled_then faults entry server.house mid next.house server.journal server.journal next.journal from journaled in
+      done_so server next mid n path bytes at entry told judged known stored done stops left (journaled_as faults entry server.house next.house server.journal next.journal same) says fails

@@ -26,7 +26,8 @@ use Rattle.host_api.specs.Types.{type_of}
 use Rattle.host_api.specs.declared.bodies.Ask.{Ask}
 use Rattle.host_api.specs.declared.bodies.Ask.TheVariants as ask
 use Rattle.host_api.specs.declared.refusals.Refusal.{Refusal}
-use Rattle.host_server.specs.Asks.{AskRunsOut, HostRunsOut, IsAnswer, IsHostReply, IsReplyToAsk, asked_for}
+use Rattle.host_disk.specs.declared.disks.Disk.{Ghosts}
+use Rattle.host_server.specs.Asks.{AskRunsOut, AskStops, HostRunsOut, HostStops, IsAnswer, IsHostReply, IsReplyToAsk, asked_for}
 use Rattle.host_server.specs.Files.{IsFileSent, IsReadReply, ReadRunsOut, plan_of}
 use Rattle.host_server.specs.Hosts.{Host, next_number, state_of, with_entry, with_upload}
 use Rattle.host_server.specs.Outcomes.{commit_outcome, committed, enter_outcome, is_ready, outcome_on, judge_upload, published_if_ready, publishing, site_of_deploy, undone, uploaded}
@@ -119,22 +120,19 @@ runs_out_same host next (Ok (ask.Cancel n)) (inr is) = uploads_of next _ is.0 �
 runs_out_same host next (Ok (ask.Read site version path)) is = absurd is
 runs_out_same host next (Ok (ask.Upload n path)) is = absurd is
 
+-- the same where the journal's device fails
+stops_same : (host next : Host) (asking : Result Ask Refusal) → HostStops host asking next → next.uploads ≡ host.uploads
+stops_same host next (Err why) is = absurd is
+stops_same host next (Ok (ask.Command change)) is = runs_out_same host next (Ok (ask.Command change)) (inl is)
+stops_same host next (Ok (ask.Undo site k)) is = uploads_of next host is.0
+stops_same host next (Ok (ask.Changes site)) is = absurd is
+stops_same host next (Ok (ask.Deploy n)) is = absurd is
+stops_same host next (Ok (ask.RemoveDeploy n)) is = uploads_of next host is.0
+stops_same host next (Ok (ask.Cancel n)) is = uploads_of next host is.0
+stops_same host next (Ok (ask.Read site version path)) is = absurd is
+stops_same host next (Ok (ask.Upload n path)) is = absurd is
+
 module _ {S : Type 0} (did : S → Call → S → Type 0) (failures : S → ℕ) (has : S → ShelfName → Option (List ℕ)) (keeps : Keeps did has) where
-  -- ---- where no more is known
-
-  goes_over : (old new : Server S) → new.house.uploads ≡ old.house.uploads → ((name : ShelfName) → has new.files.shelf name ≡ has old.files.shelf name) → HasKnown has old
-      → HasKnown has new
-  goes_over old new uploads same known = λ digest file at.
-      moved has old.files.shelf new.files.shelf (things_of file) same (known digest file (ap (λ (u : Contents). map.get u digest) (sym uploads) ∙ at))
-
-  unmoved : (old new : Server S) → new.house.uploads ≡ old.house.uploads → new.files ≡ old.files → HasKnown has old → HasKnown has new
-  unmoved old new uploads files = goes_over old new uploads (λ name. ap (λ (f : Files S). has f.shelf name) files)
-
-  as_it_was : (old new : Server S) → new ≡ old → HasKnown has old → HasKnown has new
-  as_it_was old new is known = subst (λ (s : Server S). HasKnown has s) (sym is) known
-
-  -- ---- an upload
-
   stored_known : (uploads : Contents) (old new : S) (bytes : List ℕ) → AgreesWith uploads bytes
       → ((digest : Digest) (file : List ℕ) → map.get uploads digest ≡ Some file → HasFile has old file) → IsStored did uploads old bytes new
       → (digest : Digest) (file : List ℕ) → map.get (with_file uploads bytes) digest ≡ Some file → HasFile has new file
@@ -146,51 +144,67 @@ module _ {S : Type 0} (did : S → Call → S → Type 0) (failures : S → ℕ)
     | inr is ↦ subst (HasFile has new) (sym is) (all_there did has keeps old new (things_of bytes) agrees.itself puts)
   ]
 
-  uploaded_known : (server next : Server S) (n : ℕ) (bytes : List ℕ) (judged : Result (SiteName × Digest) Refusal) → AgreesWith server.house.uploads bytes → HasKnown has server
-      → IsStoredIf did judged server.house.uploads server.files.shelf bytes next.files.shelf → next.house ≡ (uploaded server.house n bytes judged).host → HasKnown has next
-  uploaded_known server next n bytes (Ok at) agrees known stored is = λ digest file found.
-      let same : next.house.uploads ≡ with_file server.house.uploads bytes = uploads_of next.house _ is ∙ published_same (with_upload server.house bytes) at.0 n in
-      stored_known server.house.uploads server.files.shelf next.files.shelf bytes agrees known stored digest file (ap (λ (u : Contents). map.get u digest) (sym same) ∙ found)
-  uploaded_known server next n bytes (Err why) agrees known stored is =
-      goes_over server next (uploads_of next.house server.house is) (λ name. ap (λ (s : S). has s name) stored) known
-
-  refused_known : (server next : Server S) (n : ℕ) (path bytes : List ℕ) (why : UploadFault) → AgreesWith server.house.uploads bytes → HasKnown has server
-      → IsRefusedByStore did failures server n path bytes why next → HasKnown has next
-  refused_known server next n path bytes why agrees known refused = λ digest file found.
-      let had = ap (λ (h : Host). map.get h.uploads digest) (sym refused.same) ∙ found in
-      there_after_fault did has keeps server.files.shelf next.files.shelf (things_of file) (things_of bytes) why (agrees.known digest file had) refused.not_stored.put
-      (known digest file had)
-
-  upload_known : (server next : Server S) (n : ℕ) (path bytes : List ℕ) (answer : Answer) → AgreesWith server.house.uploads bytes → HasKnown has server
-      → IsUploadReply did failures server n path bytes answer next → HasKnown has next
-  upload_known server next n path bytes answer agrees known (inl (told, done, says)) =
-      uploaded_known server next n bytes (judge_upload server.house n path bytes) agrees known done.stored done.host_is
-  upload_known server next n path bytes answer agrees known (inr (why, other, refused, says)) = refused_known server next n path bytes why agrees known refused
-
-  upload_out_known : (server next : Server S) (n : ℕ) (path bytes : List ℕ) → AgreesWith server.house.uploads bytes → HasKnown has server
-      → UploadRunsOut did failures server n path bytes next → HasKnown has next
-  upload_out_known server next n path bytes agrees known (inl refused) = refused_known server next n path bytes fault.OutOfMemory agrees known refused
-  upload_out_known server next n path bytes agrees known (inr (inl left)) = λ digest file found.
-      stored_known server.house.uploads server.files.shelf next.files.shelf bytes agrees known left.stored digest file
-      (ap (λ (h : Host). map.get h.uploads digest) (sym left.known) ∙ found)
-  upload_out_known server next n path bytes agrees known (inr (inr (told, done, text))) =
-      uploaded_known server next n bytes (judge_upload server.house n path bytes) agrees known done.stored done.host_is
-
-  -- ---- a read
-
   sent_stays : (old new : Files S) (path file : List ℕ) (plan : Choice) (answer : Answer) → IsFileSent did failures old path file plan answer new
       → (name : ShelfName) → has new.shelf name ≡ has old.shelf name
   sent_stays old new path file plan answer (inl (none, says, same)) name = ap (λ (f : Files S). has f.shelf name) same
   sent_stays old new path file plan answer (inr (inl (body, read, says))) name = read_stays did failures has keeps old new file (type_of path) plan body read name
   sent_stays old new path file plan answer (inr (inr (why, other, failed, says))) name = fault_stays did failures has keeps old new file plan why failed name
 
-  read_known : (server next : Server S) (parts : RequestParts) (path : List ℕ) (file : Result (List ℕ) Refusal) (answer : Answer) → HasKnown has server
+module _ {S D : Type 0} {disk : Ghosts D} (did : S → Call → S → Type 0) (failures : S → ℕ) (faults : D → ℕ) (has : S → ShelfName → Option (List ℕ)) (keeps : Keeps did has) where
+  -- ---- where no more is known
+
+  goes_over : (old new : Server S D disk) → new.house.uploads ≡ old.house.uploads → ((name : ShelfName) → has new.files.shelf name ≡ has old.files.shelf name) → HasKnown has old
+      → HasKnown has new
+  goes_over old new uploads same known = λ digest file at.
+      moved has old.files.shelf new.files.shelf (things_of file) same (known digest file (ap (λ (u : Contents). map.get u digest) (sym uploads) ∙ at))
+
+  unmoved : (old new : Server S D disk) → new.house.uploads ≡ old.house.uploads → new.files ≡ old.files → HasKnown has old → HasKnown has new
+  unmoved old new uploads files = goes_over old new uploads (λ name. ap (λ (f : Files S). has f.shelf name) files)
+
+  as_it_was : (old new : Server S D disk) → new ≡ old → HasKnown has old → HasKnown has new
+  as_it_was old new is known = subst (λ (s : Server S D disk). HasKnown has s) (sym is) known
+
+  -- ---- an upload
+
+  uploaded_known : (server next : Server S D disk) (n : ℕ) (bytes : List ℕ) (judged : Result (SiteName × Digest) Refusal) → AgreesWith server.house.uploads bytes → HasKnown has server
+      → IsStoredIf did judged server.house.uploads server.files.shelf bytes next.files.shelf → next.house ≡ (uploaded server.house n bytes judged).host → HasKnown has next
+  uploaded_known server next n bytes (Ok at) agrees known stored is = λ digest file found.
+      let same : next.house.uploads ≡ with_file server.house.uploads bytes = uploads_of next.house _ is ∙ published_same (with_upload server.house bytes) at.0 n in
+      stored_known did failures has keeps server.house.uploads server.files.shelf next.files.shelf bytes agrees known stored digest file (ap (λ (u : Contents). map.get u digest) (sym same) ∙ found)
+  uploaded_known server next n bytes (Err why) agrees known stored is =
+      goes_over server next (uploads_of next.house server.house is) (λ name. ap (λ (s : S). has s name) stored) known
+
+  refused_known : (server next : Server S D disk) (n : ℕ) (path bytes : List ℕ) (why : UploadFault) → AgreesWith server.house.uploads bytes → HasKnown has server
+      → IsRefusedByStore did failures server n path bytes why next → HasKnown has next
+  refused_known server next n path bytes why agrees known refused = λ digest file found.
+      let had = ap (λ (h : Host). map.get h.uploads digest) (sym refused.same) ∙ found in
+      there_after_fault did has keeps server.files.shelf next.files.shelf (things_of file) (things_of bytes) why (agrees.known digest file had) refused.not_stored.put
+      (known digest file had)
+
+  upload_known : (server next : Server S D disk) (n : ℕ) (path bytes : List ℕ) (answer : Answer) → AgreesWith server.house.uploads bytes → HasKnown has server
+      → IsUploadReply did failures server n path bytes answer next → HasKnown has next
+  upload_known server next n path bytes answer agrees known (inl (told, done, says)) =
+      uploaded_known server next n bytes (judge_upload server.house n path bytes) agrees known done.stored done.host_is
+  upload_known server next n path bytes answer agrees known (inr (why, other, refused, says)) = refused_known server next n path bytes why agrees known refused
+
+  upload_out_known : (server next : Server S D disk) (n : ℕ) (path bytes : List ℕ) → AgreesWith server.house.uploads bytes → HasKnown has server
+      → UploadRunsOut did failures server n path bytes next → HasKnown has next
+  upload_out_known server next n path bytes agrees known (inl refused) = refused_known server next n path bytes fault.OutOfMemory agrees known refused
+  upload_out_known server next n path bytes agrees known (inr (inl left)) = λ digest file found.
+      stored_known did failures has keeps server.house.uploads server.files.shelf next.files.shelf bytes agrees known left.stored digest file
+      (ap (λ (h : Host). map.get h.uploads digest) (sym left.known) ∙ found)
+  upload_out_known server next n path bytes agrees known (inr (inr (told, done, text))) =
+      uploaded_known server next n bytes (judge_upload server.house n path bytes) agrees known done.stored done.host_is
+
+  -- ---- a read
+
+  read_known : (server next : Server S D disk) (parts : RequestParts) (path : List ℕ) (file : Result (List ℕ) Refusal) (answer : Answer) → HasKnown has server
       → IsReadReply did failures server parts path file answer next → HasKnown has next
   read_known server next parts path (Err why) answer known is = as_it_was server next is.1 known
   read_known server next parts path (Ok file) answer known (range, asks, sent, same) =
-      goes_over server next (uploads_of next.house server.house same) (sent_stays server.files next.files path file (plan_of parts range file) answer sent) known
+      goes_over server next (uploads_of next.house server.house same) (sent_stays did failures has keeps server.files next.files path file (plan_of parts range file) answer sent) known
 
-  read_out_known : (server next : Server S) (parts : RequestParts) (file : Result (List ℕ) Refusal) → HasKnown has server
+  read_out_known : (server next : Server S D disk) (parts : RequestParts) (file : Result (List ℕ) Refusal) → HasKnown has server
       → ReadRunsOut did failures server parts file next → HasKnown has next
   read_out_known server next parts (Err why) known is = absurd is
   read_out_known server next parts (Ok file) known (range, asks, some, same, inl files) = unmoved server next (uploads_of next.house server.house same) files known
@@ -200,7 +214,7 @@ module _ {S : Type 0} (did : S → Call → S → Type 0) (failures : S → ℕ)
 
   -- ---- any request
 
-  reply_known : (server next : Server S) (parts : RequestParts) (body : List ℕ) (asking : Result Ask Refusal) (answer : Answer)
+  reply_known : (server next : Server S D disk) (parts : RequestParts) (body : List ℕ) (asking : Result Ask Refusal) (answer : Answer)
       → ((n : ℕ) (path : List ℕ) → asking ≡ Ok (ask.Upload n path) → AgreesWith server.house.uploads body) → HasKnown has server
       → IsReplyToAsk did failures server parts body asking answer next → HasKnown has next
   reply_known server next parts body (Ok (ask.Read site version path)) answer agrees known is =
@@ -208,7 +222,7 @@ module _ {S : Type 0} (did : S → Call → S → Type 0) (failures : S → ℕ)
   reply_known server next parts body (Ok (ask.Upload n path)) answer agrees known is = upload_known server next n path body answer (agrees n path refl) known is
   reply_known server next parts body asking answer agrees known is = unmoved server next (host_same server.house next.house asking answer is.0) is.1 known
 
-  out_known : (server next : Server S) (parts : RequestParts) (body : List ℕ) (asking : Result Ask Refusal)
+  out_known : (server next : Server S D disk) (parts : RequestParts) (body : List ℕ) (asking : Result Ask Refusal)
       → ((n : ℕ) (path : List ℕ) → asking ≡ Ok (ask.Upload n path) → AgreesWith server.house.uploads body) → HasKnown has server
       → AskRunsOut did failures server parts body asking next → HasKnown has next
   out_known server next parts body (Ok (ask.Read site version path)) agrees known is =
@@ -216,8 +230,16 @@ module _ {S : Type 0} (did : S → Call → S → Type 0) (failures : S → ℕ)
   out_known server next parts body (Ok (ask.Upload n path)) agrees known is = upload_out_known server next n path body (agrees n path refl) known is
   out_known server next parts body asking agrees known is = unmoved server next (runs_out_same server.house next.house asking is.0) is.1 known
 
-  pub answered_known : (server next : Server S) (parts : RequestParts) (body : List ℕ) (answer : Answer) → UploadAgrees server.house.uploads parts body → HasKnown has server
-      → IsAnswer did failures server parts body answer next → HasKnown has next
-  answered_known server next parts body answer agrees known (inl reply) = reply_known server next parts body (asked_for parts body) answer agrees known reply
-  answered_known server next parts body answer agrees known (inr (says, inl (same, takes))) = as_it_was server next same known
-  answered_known server next parts body answer agrees known (inr (says, inr out)) = out_known server next parts body (asked_for parts body) agrees known out
+  stops_known : (server next : Server S D disk) (body : List ℕ) (asking : Result Ask Refusal)
+      → ((n : ℕ) (path : List ℕ) → asking ≡ Ok (ask.Upload n path) → AgreesWith server.house.uploads body) → HasKnown has server
+      → AskStops did server body asking next → HasKnown has next
+  stops_known server next body (Ok (ask.Upload n path)) agrees known is = upload_out_known server next n path body (agrees n path refl) known (inr (inl is))
+  stops_known server next body asking agrees known is = unmoved server next (stops_same server.house next.house asking is.0) is.1 known
+
+  pub answered_known : (server next : Server S D disk) (parts : RequestParts) (body : List ℕ) (answer : Answer) → UploadAgrees server.house.uploads parts body → HasKnown has server
+      → IsAnswer did failures faults server parts body answer next → HasKnown has next
+  answered_known server next parts body answer agrees known (inl (inl (held, says, same), kept)) = as_it_was server next same known
+  answered_known server next parts body answer agrees known (inl (inr (free, reply), kept)) = reply_known server next parts body (asked_for parts body) answer agrees known reply
+  answered_known server next parts body answer agrees known (inr (inl ((says, inl (same, takes)), kept))) = as_it_was server next same known
+  answered_known server next parts body answer agrees known (inr (inl ((says, inr (free, out)), kept))) = out_known server next parts body (asked_for parts body) agrees known out
+  answered_known server next parts body answer agrees known (inr (inr ((says, stops), broken))) = stops_known server next body (asked_for parts body) agrees known stops

@@ -1,3 +1,7 @@
+pub mod Journaling
+pub mod Committing
+pub mod HoldingUp
+pub mod InRange
 pub mod FieldTexts
 pub mod Telling
 pub mod Reading

@@ -43,7 +43,8 @@ outcome after site id required = then_published (published_if_ready after site i
 pub open_done : (old after next : Host) (lent : Contents) (owner site : SiteName) (files : Listed) (auto : _) (id : ℕ) (required : List Digest) (entry : Result (Option ℕ) Refusal)
     → lent ≡ old.uploads → AreMissing lent files.1 required → commit_refusal old (Open site files auto) ≡ None → after ≡ with_entry old (Change (Open site files auto)) → id ≡ next_number old
     → owner ≡ site → Publishes entry next (published_if_ready after owner id) → DoesCommit (answer id required entry) next old (Open site files auto)
-open_done old after next lent owner site files auto id required entry same lacking ok is at named (inl none) = inl (ap (answer id required) none)
+open_done old after next lent owner site files auto id required entry same lacking ok is at named (inl (inl none)) = inl (inl (ap (answer id required) none))
+open_done old after next lent owner site files auto id required entry same lacking ok is at named (inl (inr failed)) = inl (inr (ap (answer id required) failed))
 open_done old after next lent owner site files auto id required entry same lacking ok is at named (inr done) =
     let there : outcome after owner id required ≡ commit_outcome old (Open site files auto) required (commit_refusal old (Open site files auto)) =
     ap (λ o. outcome after o id required) named ∙ ap (λ a. outcome a site id required) is ∙ ap (λ i. outcome (with_entry old (Change (Open site files auto))) site i required) at

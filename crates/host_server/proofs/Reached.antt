@@ -28,7 +28,7 @@ entry_at-push entries entry n =
       | false ↦ slice_get-push entries entry (n - 1)
     ]
 
-reached_by_entry : (entries : List Entry) (entry : Entry) (uploads : Contents) (places : BTreeMap ℕ ℕ) → AreReached entries uploads places → AreReached (entries ++ entry ∷ []) uploads places
+pub reached_by_entry : (entries : List Entry) (entry : Entry) (uploads : Contents) (places : BTreeMap ℕ ℕ) → AreReached entries uploads places → AreReached (entries ++ entry ∷ []) uploads places
 reached_by_entry entries entry uploads places reached n = elim (entry_at-push entries entry n) [
   | inl same ↦ subst (λ (e : Option Entry). place_of places n ≤ first_lacking_of uploads (listed_by e)) (sym same) (reached n)
   | inr none ↦

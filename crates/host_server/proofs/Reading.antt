@@ -16,6 +16,7 @@ use Rattle.http_wire.specs.Requests.{RequestParts}
 use Rattle.host_api.specs.Types.{type_of}
 use Rattle.host_api.specs.declared.refusals.Refusal.{Refusal}
 use Rattle.host_api.specs.declared.refusals.Refusal.TheVariants as reason
+use Rattle.host_disk.specs.declared.disks.Disk.{Ghosts}
 use Rattle.host_server.specs.Answers.{ReadsFile}
 use Rattle.host_server.specs.Bodies.{answer_of}
 use Rattle.host_server.specs.PartsTypes.{IsOfEight}
@@ -43,12 +44,12 @@ sends_parts texts digest plan body is intervals several = parts_of texts digest 
 abbrev pub IsAsked : RequestParts → List ℕ → Choice → Type 0
 IsAsked parts file plan = (range : Asked) × AsksRange parts range × (plan ≡ plan_of parts range file)
 
-module _ {S : Type 0} (did : S → Call → S → Type 0) (failures : S → ℕ) where
-  pub not_found : (server : Server S) (parts : RequestParts) (path : List ℕ) (file : Result (List ℕ) Refusal) (why : Refusal) → file ≡ Err why
+module _ {S D : Type 0} {disk : Ghosts D} (did : S → Call → S → Type 0) (failures : S → ℕ) where
+  pub not_found : (server : Server S D disk) (parts : RequestParts) (path : List ℕ) (file : Result (List ℕ) Refusal) (why : Refusal) → file ≡ Err why
       → ReadsFile did failures server parts path file (Err why) server
   not_found server parts path file why is = subst (λ f. ReadsFile did failures server parts path f (Err why) server) (sym is) (inl (refl, refl))
 
-  pub not_wanted : (server : Server S) (parts : RequestParts) (path : List ℕ) (file : Result (List ℕ) Refusal) (bytes : List ℕ) (plan : Choice) (why : Refusal)
+  pub not_wanted : (server : Server S D disk) (parts : RequestParts) (path : List ℕ) (file : Result (List ℕ) Refusal) (bytes : List ℕ) (plan : Choice) (why : Refusal)
       → file ≡ Ok bytes → IsAsked parts bytes plan
       → ((plan ≡ None416) × (why ≡ reason.NotSatisfiable (length bytes))) ⊎ ((why ≡ reason.OutOfMemory) × IsTrue (is_read plan))
       → ReadsFile did failures server parts path file (Err why) server
@@ -60,16 +61,16 @@ module _ {S : Type 0} (did : S → Call → S → Type 0) (failures : S → ℕ)
       (inr (ap Err memory, (range, asks, subst (λ p. IsTrue (is_read p)) planned some, refl, inl refl)))
 
   -- the reply with what was read of a file
-  abbrev pub IsReplyWith : Server S → List ℕ → List ℕ → Choice → Server S → Reply → Type 0
+  abbrev pub IsReplyWith : Server S D disk → List ℕ → List ℕ → Choice → Server S D disk → Reply → Type 0
   IsReplyWith server path bytes plan next reply =
       (body : FileBody) × IsRead (GaveOfFiles did failures) server.files bytes plan (type_of path) body next.files × (answer_of reply ≡ sent_answer path bytes body)
 
   -- why there is none
-  abbrev pub IsReason : Server S → List ℕ → Choice → Server S → Refusal → Type 0
+  abbrev pub IsReason : Server S D disk → List ℕ → Choice → Server S D disk → Refusal → Type 0
   IsReason server bytes plan next why =
       (cause : ReadFault) × IsNotRead (GaveOfFiles did failures) (FailedOfFiles did failures) server.files bytes plan cause next.files × (why ≡ refusal_of_read cause)
 
-  failing : (server next : Server S) (parts : RequestParts) (path bytes : List ℕ) (range : Asked) (why : Refusal) (cause : ReadFault)
+  failing : (server next : Server S D disk) (parts : RequestParts) (path bytes : List ℕ) (range : Asked) (why : Refusal) (cause : ReadFault)
       → AsksRange parts range → IsTrue (is_read (plan_of parts range bytes)) → next.house ≡ server.house
       → IsNotRead (GaveOfFiles did failures) (FailedOfFiles did failures) server.files bytes (plan_of parts range bytes) cause next.files → why ≡ refusal_of_read cause
       → ReadsFile did failures server parts path (Ok bytes) (Err why) next
@@ -82,7 +83,7 @@ module _ {S : Type 0} (did : S → Call → S → Type 0) (failures : S → ℕ)
       inl (range, asks, inr (inr (fault.Device, (λ e. cc e), failed, ap refused_answer told)), same)
 
   -- the same of a plan that was asked for
-  planned_read : (server next : Server S) (parts : RequestParts) (path bytes : List ℕ) (range : Asked) (result : Result Reply Refusal)
+  planned_read : (server next : Server S D disk) (parts : RequestParts) (path bytes : List ℕ) (range : Asked) (result : Result Reply Refusal)
       → AsksRange parts range → IsTrue (is_read (plan_of parts range bytes)) → next.house ≡ server.house
       → IfOk result (IsReplyWith server path bytes (plan_of parts range bytes) next) → IfErr result (IsReason server bytes (plan_of parts range bytes) next)
       → ReadsFile did failures server parts path (Ok bytes) result next
@@ -90,7 +91,7 @@ module _ {S : Type 0} (did : S → Call → S → Type 0) (failures : S → ℕ)
   planned_read server next parts path bytes range (Err why) asks some same sent (cause, failed, told) =
       failing server next parts path bytes range why cause asks some same failed told
 
-  pub file_read : (server next : Server S) (parts : RequestParts) (path : List ℕ) (file : Result (List ℕ) Refusal) (bytes : List ℕ) (plan : Choice) (result : Result Reply Refusal)
+  pub file_read : (server next : Server S D disk) (parts : RequestParts) (path : List ℕ) (file : Result (List ℕ) Refusal) (bytes : List ℕ) (plan : Choice) (result : Result Reply Refusal)
       → file ≡ Ok bytes → IsAsked parts bytes plan → IsTrue (is_read plan) → next.house ≡ server.house
       → IfOk result (IsReplyWith server path bytes plan next) → IfErr result (IsReason server bytes plan next)
       → ReadsFile did failures server parts path file result next

@@ -7,6 +7,7 @@ use Rattle.host_api.specs.declared.refusals.Refusal.{Refusal}
 use Rattle.host_api.specs.declared.refusals.Refusal.TheVariants.{OutOfMemory}
 use Rattle.host_api.specs.declared.texts.Told.{Told}
 use Rattle.host_api.specs.declared.versions.Version.{Version}
+use Rattle.host_disk.specs.declared.disks.Disk.{Ghosts}
 use Rattle.host_server.specs.declared.replies.Reply.{Reply}
 use Rattle.host_server.specs.declared.servers.Server.{Server}
 use Rattle.host_server.specs.Bodies.{answer_of}
@@ -26,13 +27,13 @@ answer_by (Ok reply) = answer_of reply
 answer_by (Err refusal) = refused_answer refusal
 
 -- the call gives the reply to the reading of this file, or runs out of memory
-abbrev pub ReadsFile : {S : Type 0} → (did : S → Call → S → Type 0) → (failures : S → ℕ) → Server S → RequestParts → List ℕ → Result (List ℕ) Refusal → Result Reply Refusal → Server S
+abbrev pub ReadsFile : {S D : Type 0} {disk : Ghosts D} → (did : S → Call → S → Type 0) → (failures : S → ℕ) → Server S D disk → RequestParts → List ℕ → Result (List ℕ) Refusal → Result Reply Refusal → Server S D disk
     → Type 0
 ReadsFile did failures server parts path file result next =
     IsReadReply did failures server parts path file (answer_by result) next
     ⊎ ((result ≡ Err OutOfMemory) × ReadRunsOut did failures server parts file next)
 
 -- the call reads the version of the site at the path, as the Range of the request asks
-abbrev pub Reads : {S : Type 0} → (did : S → Call → S → Type 0) → (failures : S → ℕ) → Server S → RequestParts → SiteName → Version → List ℕ → Result Reply Refusal → Server S → Type 0
+abbrev pub Reads : {S D : Type 0} {disk : Ghosts D} → (did : S → Call → S → Type 0) → (failures : S → ℕ) → Server S D disk → RequestParts → SiteName → Version → List ℕ → Result Reply Refusal → Server S D disk → Type 0
 Reads did failures server parts site version path result next =
     ReadsFile did failures server parts path (file_of (state_of server.house) site version path) result next

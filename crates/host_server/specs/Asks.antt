@@ -1,8 +1,9 @@
 -- What a request is answered, and what the server has then.
-use Rattle.std.specs.Prelude.{◌≡◌, ◌⊎◌, ℕ, List, Result, Ok, Err, IsTrue}
+use Rattle.std.specs.Prelude.{◌≡◌, ◌⊎◌, ℕ, List, Bool, true, false, Option, None, Result, Ok, Err, IsTrue}
 use Rattle.host_names.specs.declared.digests.Digest.{Digest}
 use Rattle.blob_store.specs.Calls.{Call}
 use Rattle.http_wire.specs.Requests.{RequestParts}
+use Rattle.change_journal.specs.Held.{Keeps}
 use Rattle.site_change.specs.declared.commands.Command.{Command}
 use Rattle.site_change.specs.declared.commands.Command.TheVariants.{Cancel, RemoveDeploy}
 use Rattle.host_api.specs.Bodies.{asked, then_with}
@@ -11,17 +12,21 @@ use Rattle.host_api.specs.Texts.{has_cell}
 use Rattle.host_api.specs.declared.bodies.Ask.{Ask}
 use Rattle.host_api.specs.declared.bodies.Ask.TheVariants as ask
 use Rattle.host_api.specs.declared.refusals.Refusal.{Refusal}
-use Rattle.host_api.specs.declared.refusals.Refusal.TheVariants.{OutOfMemory}
+use Rattle.host_api.specs.declared.refusals.Refusal.TheVariants.{Broken, Device, OutOfMemory}
 use Rattle.host_api.specs.declared.texts.Told.{Told}
 use Rattle.host_api.specs.declared.texts.Told.TheVariants.{Changes}
+use Rattle.host_disk.specs.declared.disks.Disk.{Ghosts}
 use Rattle.host_server.specs.Files.{IsReadReply, ReadRunsOut}
+use Rattle.host_server.specs.HeldUp.{is_held_up}
 use Rattle.host_server.specs.Hosts.{Host, state_of}
+use Rattle.host_server.specs.Journals.{BreaksOff, KeepsUp}
 use Rattle.host_server.specs.Memory.{CommandRunsOut, UndoRunsOut, DeployRunsOut, TextRunsOut, asking_takes, takes_text}
 use Rattle.host_server.specs.Outcomes.{Outcome, AreRequired, commit_outcome, deploy_outcome, undone}
 use Rattle.host_server.specs.Reasons.{commit_refusal, undo_refusal}
 use Rattle.host_server.specs.Replies.{Answer, refused_answer, told_answer}
 use Rattle.host_server.specs.Shown.{ShowsDeploy, is_open, shown_lines}
-use Rattle.host_server.specs.Storing.{IsUploadReply, UploadRunsOut}
+use Rattle.host_server.specs.ServerJournals.{Breaks, GoesOn}
+use Rattle.host_server.specs.Storing.{IsUnpublished, IsUploadReply, UploadRunsOut}
 use Rattle.host_server.specs.Versions.{file_of}
 use Rattle.host_server.specs.declared.servers.Server.{Server}
 
@@ -77,49 +82,98 @@ HostRunsOut host (Ok (ask.Cancel deploy)) next =
     ⊎ TextRunsOut (deploy_outcome host deploy (λ site. Cancel site deploy)) next
 HostRunsOut host asking next = ⊥
 
+-- what the host has where the device fails while an entry is put into the journal: what it has where there is no memory for that entry
+abbrev pub HostStops : Host → Result Ask Refusal → Host → Type 0
+HostStops host (Ok (ask.Command command)) next = CommandRunsOut host command next
+HostStops host (Ok (ask.Undo site change)) next = (next ≡ host) × (undo_refusal host site change ≡ None)
+HostStops host (Ok (ask.RemoveDeploy deploy)) next = DeployRunsOut host deploy (λ site. RemoveDeploy site deploy) next
+HostStops host (Ok (ask.Cancel deploy)) next = DeployRunsOut host deploy (λ site. Cancel site deploy) next
+HostStops host asking next = ⊥
+
 -- ---- with them
 
 -- the reply to what a request asks for, and what the server has then: only a read and an upload call the shelf
-abbrev pub IsReplyToAsk : {S : Type 0} → (did : S → Call → S → Type 0) → (failures : S → ℕ) → Server S → RequestParts → List ℕ → Result Ask Refusal → Answer → Server S → Type 0
+abbrev pub IsReplyToAsk : {S D : Type 0} {disk : Ghosts D} → (did : S → Call → S → Type 0) → (failures : S → ℕ) → Server S D disk → RequestParts → List ℕ → Result Ask Refusal → Answer → Server S D disk → Type 0
 IsReplyToAsk did failures server parts body (Ok (ask.Read site version path)) answer next =
     IsReadReply did failures server parts path (file_of (state_of server.house) site version path) answer next
 IsReplyToAsk did failures server parts body (Ok (ask.Upload deploy path)) answer next = IsUploadReply did failures server deploy path body answer next
 IsReplyToAsk did failures server parts body asking answer next = IsHostReply server.house asking answer next.house × (next.files ≡ server.files)
 
 -- what the server has where the carrying out of that runs out of memory, or the text that tells it
-abbrev pub AskRunsOut : {S : Type 0} → (did : S → Call → S → Type 0) → (failures : S → ℕ) → Server S → RequestParts → List ℕ → Result Ask Refusal → Server S → Type 0
+abbrev pub AskRunsOut : {S D : Type 0} {disk : Ghosts D} → (did : S → Call → S → Type 0) → (failures : S → ℕ) → Server S D disk → RequestParts → List ℕ → Result Ask Refusal → Server S D disk → Type 0
 AskRunsOut did failures server parts body (Ok (ask.Read site version path)) next =
     ReadRunsOut did failures server parts (file_of (state_of server.house) site version path) next
 AskRunsOut did failures server parts body (Ok (ask.Upload deploy path)) next = UploadRunsOut did failures server deploy path body next
 AskRunsOut did failures server parts body asking next = HostRunsOut server.house asking next.house × (next.files ≡ server.files)
 
+-- what the server has where the device fails while an entry is put into the journal
+abbrev pub AskStops : {S D : Type 0} {disk : Ghosts D} → (did : S → Call → S → Type 0) → Server S D disk → List ℕ → Result Ask Refusal → Server S D disk → Type 0
+AskStops did server body (Ok (ask.Upload deploy path)) next = IsUnpublished did server deploy path body next
+AskStops did server body asking next = HostStops server.house asking next.house × (next.files ≡ server.files)
+
+-- ---- a request
+
+-- whether what a request asks for is held up, since the journal's device has failed
+abbrev pub holds_up : {S D : Type 0} {disk : Ghosts D} → Server S D disk → Result Ask Refusal → Bool
+holds_up server asking = is_held_up server.house server.journal asking
+
+-- the reply to what is asked for, where that is held up or not, and what the server has then
+abbrev pub IsReplyOr : {S D : Type 0} {disk : Ghosts D} → (did : S → Call → S → Type 0) → (failures : S → ℕ) → Server S D disk → RequestParts → List ℕ → Result Ask Refusal → Answer → Server S D disk → Type 0
+IsReplyOr did failures server parts body asking answer next =
+    ((holds_up server asking ≡ true) × (answer ≡ refused_answer Broken) × (next ≡ server))
+    ⊎ ((holds_up server asking ≡ false) × IsReplyToAsk did failures server parts body asking answer next)
+
 -- the reply to a request of these parts and this body, and what the server has then
-abbrev pub IsReply : {S : Type 0} → (did : S → Call → S → Type 0) → (failures : S → ℕ) → Server S → RequestParts → List ℕ → Answer → Server S → Type 0
-IsReply did failures server parts body answer next = IsReplyToAsk did failures server parts body (asked_for parts body) answer next
+abbrev pub IsReply : {S D : Type 0} {disk : Ghosts D} → (did : S → Call → S → Type 0) → (failures : S → ℕ) → Server S D disk → RequestParts → List ℕ → Answer → Server S D disk → Type 0
+IsReply did failures server parts body answer next = IsReplyOr did failures server parts body (asked_for parts body) answer next
 
 -- What the server has where a request runs out of memory: what was there, where it takes memory to find what is asked for;
--- or what the carrying out leaves.
-abbrev pub RunsOut : {S : Type 0} → (did : S → Call → S → Type 0) → (failures : S → ℕ) → Server S → RequestParts → List ℕ → Server S → Type 0
+-- or what the carrying out leaves, where that isn't held up.
+abbrev pub RunsOut : {S D : Type 0} {disk : Ghosts D} → (did : S → Call → S → Type 0) → (failures : S → ℕ) → Server S D disk → RequestParts → List ℕ → Server S D disk → Type 0
 RunsOut did failures server parts body next =
-    ((next ≡ server) × IsTrue (asking_takes parts body)) ⊎ AskRunsOut did failures server parts body (asked_for parts body) next
+    ((next ≡ server) × IsTrue (asking_takes parts body))
+    ⊎ ((holds_up server (asked_for parts body) ≡ false) × AskRunsOut did failures server parts body (asked_for parts body) next)
 
 -- the reply that there is no memory, and what the server has then
-abbrev pub IsWithoutMemory : {S : Type 0} → (did : S → Call → S → Type 0) → (failures : S → ℕ) → Server S → RequestParts → List ℕ → Answer → Server S → Type 0
+abbrev pub IsWithoutMemory : {S D : Type 0} {disk : Ghosts D} → (did : S → Call → S → Type 0) → (failures : S → ℕ) → Server S D disk → RequestParts → List ℕ → Answer → Server S D disk → Type 0
 IsWithoutMemory did failures server parts body answer next = (answer ≡ refused_answer OutOfMemory) × RunsOut did failures server parts body next
 
--- the answer to a request: the reply to it, or that there is no memory
-abbrev pub IsAnswer : {S : Type 0} → (did : S → Call → S → Type 0) → (failures : S → ℕ) → Server S → RequestParts → List ℕ → Answer → Server S → Type 0
-IsAnswer did failures server parts body answer next =
-    IsReply did failures server parts body answer next ⊎ IsWithoutMemory did failures server parts body answer next
+-- the reply that the device failed while an entry was put into the journal, and what the server has then
+abbrev pub IsBrokenOff : {S D : Type 0} {disk : Ghosts D} → (did : S → Call → S → Type 0) → Server S D disk → RequestParts → List ℕ → Answer → Server S D disk → Type 0
+IsBrokenOff did server parts body answer next = (answer ≡ refused_answer Device) × AskStops did server body (asked_for parts body) next
+
+-- The answer to a request: the reply to it, or that there is no memory, and the journal then has what the host got; or that the journal's
+-- device failed.
+abbrev pub IsAnswer : {S D : Type 0} {disk : Ghosts D} → (did : S → Call → S → Type 0) → (failures : S → ℕ) → (faults : D → ℕ) → Server S D disk → RequestParts → List ℕ → Answer → Server S D disk → Type 0
+IsAnswer did failures faults server parts body answer next =
+    (IsReply did failures server parts body answer next × GoesOn faults server next)
+    ⊎ (IsWithoutMemory did failures server parts body answer next × GoesOn faults server next)
+    ⊎ (IsBrokenOff did server parts body answer next × Breaks faults server next)
 
 -- ---- what private functions say
 
 -- the answer to what a request asks for that no file is read or stored for
-abbrev pub AnswersHost : Host → Result Ask Refusal → Answer → Host → Type 0
-AnswersHost host asking answer next = IsHostReply host asking answer next ⊎ ((answer ≡ refused_answer OutOfMemory) × HostRunsOut host asking next)
+abbrev pub AnswersHost : {D : Type 0} → (faults : D → ℕ) → Host → Option (Keeps D) → Result Ask Refusal → Answer → Host → Option (Keeps D) → Type 0
+AnswersHost faults host journal asking answer next new_journal =
+    (IsHostReply host asking answer next × KeepsUp faults host journal next new_journal)
+    ⊎ (((answer ≡ refused_answer OutOfMemory) × HostRunsOut host asking next) × KeepsUp faults host journal next new_journal)
+    ⊎ (((answer ≡ refused_answer Device) × HostStops host asking next) × BreaksOff faults host journal next new_journal)
+
+-- the answer to what a request asks for that isn't held up
+abbrev pub CarriesOut : {S D : Type 0} {disk : Ghosts D} → (did : S → Call → S → Type 0) → (failures : S → ℕ) → (faults : D → ℕ) → Server S D disk → RequestParts → List ℕ → Result Ask Refusal → Answer → Server S D disk → Type 0
+CarriesOut did failures faults server parts body asking answer next =
+    (IsReplyToAsk did failures server parts body asking answer next × GoesOn faults server next)
+    ⊎ (((answer ≡ refused_answer OutOfMemory) × AskRunsOut did failures server parts body asking next) × GoesOn faults server next)
+    ⊎ (((answer ≡ refused_answer Device) × AskStops did server body asking next) × Breaks faults server next)
 
 -- the answer to what a request asks for
-abbrev pub AnswersAsk : {S : Type 0} → (did : S → Call → S → Type 0) → (failures : S → ℕ) → Server S → RequestParts → List ℕ → Result Ask Refusal → Answer → Server S → Type 0
-AnswersAsk did failures server parts body asking answer next =
-    IsReplyToAsk did failures server parts body asking answer next
-    ⊎ ((answer ≡ refused_answer OutOfMemory) × AskRunsOut did failures server parts body asking next)
+abbrev pub AnswersAsk : {S D : Type 0} {disk : Ghosts D} → (did : S → Call → S → Type 0) → (failures : S → ℕ) → (faults : D → ℕ) → Server S D disk → RequestParts → List ℕ → Result Ask Refusal → Answer → Server S D disk → Type 0
+AnswersAsk did failures faults server parts body asking answer next =
+    ((holds_up server asking ≡ true) × (answer ≡ refused_answer Broken) × (next ≡ server))
+    ⊎ ((holds_up server asking ≡ false) × CarriesOut did failures faults server parts body asking answer next)
+
+-- the answer to the reading of a file
+abbrev pub AnswersRead : {S D : Type 0} {disk : Ghosts D} → (did : S → Call → S → Type 0) → (failures : S → ℕ) → Server S D disk → RequestParts → List ℕ → Result (List ℕ) Refusal → Answer → Server S D disk → Type 0
+AnswersRead did failures server parts path file answer next =
+    IsReadReply did failures server parts path file answer next
+    ⊎ ((answer ≡ refused_answer OutOfMemory) × ReadRunsOut did failures server parts file next)

@@ -25,6 +25,7 @@ use Rattle.http_wire.specs.declared.replies.ContentRange.TheVariants.{Of}
 use Rattle.host_api.specs.Types.{type_of}
 use Rattle.host_api.specs.declared.refusals.Refusal.{Refusal}
 use Rattle.host_api.specs.declared.refusals.Refusal.TheVariants as reason
+use Rattle.host_disk.specs.declared.disks.Disk.{Ghosts}
 use Rattle.host_server.specs.PartsTypes.{IsOfEight, parts_type}
 use Rattle.host_server.specs.Replies.{Answer, part_answer, refused_answer}
 use Rattle.host_server.specs.declared.servers.Server.{Server}
@@ -78,7 +79,7 @@ IsFileSent did failures old path file plan answer new =
     × (answer ≡ refused_answer (refusal_of_read why)))
 
 -- the reply to the reading of this file at the path, or of none for this reason
-abbrev pub IsReadReply : {S : Type 0} → (did : S → Call → S → Type 0) → (failures : S → ℕ) → Server S → RequestParts → List ℕ → Result (List ℕ) Refusal → Answer → Server S
+abbrev pub IsReadReply : {S D : Type 0} {disk : Ghosts D} → (did : S → Call → S → Type 0) → (failures : S → ℕ) → Server S D disk → RequestParts → List ℕ → Result (List ℕ) Refusal → Answer → Server S D disk
     → Type 0
 IsReadReply did failures server parts path (Err refusal) answer next = (answer ≡ refused_answer refusal) × (next ≡ server)
 IsReadReply did failures server parts path (Ok file) answer next =
@@ -92,7 +93,7 @@ is_read None416 = false
 is_read plan = true
 
 -- the reading of this file runs out of memory: before it, or in it
-abbrev pub ReadRunsOut : {S : Type 0} → (did : S → Call → S → Type 0) → (failures : S → ℕ) → Server S → RequestParts → Result (List ℕ) Refusal → Server S → Type 0
+abbrev pub ReadRunsOut : {S D : Type 0} {disk : Ghosts D} → (did : S → Call → S → Type 0) → (failures : S → ℕ) → Server S D disk → RequestParts → Result (List ℕ) Refusal → Server S D disk → Type 0
 ReadRunsOut did failures server parts (Err refusal) next = ⊥
 ReadRunsOut did failures server parts (Ok file) next =
     (range : Asked) × AsksRange parts range × IsTrue (is_read (plan_of parts range file)) × (next.house ≡ server.house)

@@ -1,9 +1,12 @@
 -- what a host has, and what changes it
 pub mod Hosts
 pub mod Readiness
+pub mod Journals
+pub mod Entries
 pub mod Reasons
 pub mod Outcomes
 pub mod Memory
+pub mod HeldUp
 -- what is read of it
 pub mod Versions
 pub mod Shown
@@ -11,6 +14,7 @@ pub mod Shown
 pub mod Replies
 pub mod PartsTypes
 pub mod Files
+pub mod ServerJournals
 pub mod Storing
 pub mod Asks
 pub mod ReadBack

@@ -21,6 +21,7 @@ use Rattle.host_api.specs.declared.refusals.Refusal.TheVariants as reason
 use Rattle.host_api.specs.declared.texts.Told.{Told}
 use Rattle.host_api.specs.declared.texts.Told.TheVariants.{Opened, Uploaded, Entered, Refused}
 use Rattle.host_server.specs.Hosts.{Host, state_of, next_number, with_entry, with_upload}
+use Rattle.host_server.specs.Journals.{IsStopped}
 use Rattle.host_server.specs.Reasons.{commit_refusal}
 
 -- what the host tells, and what it has then
@@ -65,9 +66,9 @@ abbrev pub told_of : Result (Option ℕ) Refusal → (Option ℕ → Told) → T
 told_of (Ok published) tell = tell published
 told_of (Err why) tell = Refused why
 
--- the entry and what the host has are those, unless there was no memory
+-- the entry and what the host has are those, unless there was no memory or the journal's device failed
 abbrev pub Publishes : Result (Option ℕ) Refusal → Host → Publishing → Type 0
-Publishes entry host p = (entry ≡ Err reason.OutOfMemory) ⊎ ((entry ≡ p.entry) × (host ≡ p.host))
+Publishes entry host p = IsStopped entry ⊎ ((entry ≡ p.entry) × (host ≡ p.host))
 
 -- what is told of what was done, or of the refusal to publish it, which leaves it done
 abbrev pub then_published : Publishing → (Option ℕ → Told) → Outcome
@@ -187,14 +188,14 @@ abbrev pub told_by : Result Told Refusal → Told
 told_by (Ok told) = told
 told_by (Err why) = Refused why
 
--- the call did that, unless there was no memory
+-- the call did that, unless there was no memory or the journal's device failed
 abbrev pub Does : Result Told Refusal → Host → Outcome → Type 0
-Does result host out = (result ≡ Err reason.OutOfMemory) ⊎ ((told_by result ≡ out.told) × (host ≡ out.host))
+Does result host out = IsStopped result ⊎ ((told_by result ≡ out.told) × (host ≡ out.host))
 
 -- the same of a command
 abbrev pub DoesCommit : Result Told Refusal → Host → Host → Command → Type 0
 DoesCommit result next host command =
-    (result ≡ Err reason.OutOfMemory)
+    IsStopped result
     ⊎ ((required : List Digest) × AreRequired host.uploads command (commit_refusal host command) required
     × (told_by result ≡ (commit_outcome host command required (commit_refusal host command)).told)
     × (next ≡ (commit_outcome host command required (commit_refusal host command)).host))

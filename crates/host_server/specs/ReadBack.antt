@@ -15,13 +15,14 @@ use Rattle.http_wire.specs.Requests.{RequestParts}
 use Rattle.host_api.specs.Types.{type_of}
 use Rattle.host_api.specs.declared.bodies.Ask.TheVariants.{Upload}
 use Rattle.host_api.specs.declared.refusals.Refusal.TheVariants as reason
+use Rattle.host_disk.specs.declared.disks.Disk.{Ghosts}
 use Rattle.host_server.specs.Asks.{asked_for}
 use Rattle.host_server.specs.Files.{AsksRange, plan_of, sent_answer}
 use Rattle.host_server.specs.Replies.{Answer, refused_answer}
 use Rattle.host_server.specs.declared.servers.Server.{Server}
 
 -- the shelf of a server has each file that its host knows
-abbrev pub HasKnown : {S : Type 0} → (has : S → ShelfName → Option (List ℕ)) → Server S → Type 0
+abbrev pub HasKnown : {S D : Type 0} {disk : Ghosts D} → (has : S → ShelfName → Option (List ℕ)) → Server S D disk → Type 0
 HasKnown has server = (digest : Digest) (file : List ℕ) → map.get server.house.uploads digest ≡ Some file → HasFile has server.files.shelf file
 
 -- of these bytes and the files that are known, no two pieces, nor two files, share a digest and differ

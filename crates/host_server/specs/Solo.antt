@@ -10,6 +10,8 @@ use Rattle.host_server.specs.declared.connections.ConnectionFault.TheVariants as
 use Rattle.blob_store.specs.Shelves.{Does, found_in}
 use Rattle.blob_store.specs.declared.mem_shelf.MemShelf.{MemShelf}
 use Rattle.blob_store.specs.declared.shelves.ShelfName.{ShelfName}
+use Rattle.host_disk.specs.declared.disks.Disk.{Ghosts}
+use Rattle.host_disk.specs.declared.mem_disk.MemDisk.{MemDisk}
 use Rattle.host_server.specs.Asks.{IsAnswer}
 use Rattle.host_server.specs.Hosts.{Host}
 use Rattle.host_server.specs.declared.servers.Server.{Server}
@@ -60,26 +62,27 @@ IsNotRead says_fail status said new_said = (status ≡ 2) × IsSaid says_fail me
 abbrev pub IsNotServed : (says_fail : Type 0) → List (List ℕ) → ℕ → (said new_said : Stream) → Type 0
 IsNotServed says_fail words status said new_said = IsRefused says_fail words status said new_said ⊎ IsNotRead says_fail status said new_said
 
--- a server without entries and files, whose shelf is in memory
-pub record IsEmpty (server : Server MemShelf) : Type 0 where
+-- a server without entries, files and a journal, whose shelf is in memory
+pub record IsEmpty {disk : Ghosts MemDisk} (server : Server MemShelf MemDisk disk) : Type 0 where
   pub host : server.house ≡ empty_host
+  pub journal : server.journal ≡ None
   pub shelf : (name : ShelfName) → found_in server.files.shelf name ≡ None
 
 -- the words ask for a connection to such a server, and the status says how it ended
-pub record IsServed (read_fails write_fails says_fail : Type 0) (words : List (List ℕ)) (status : ℕ) (stream held new_held said new_said : Stream)
+pub record IsServed (disk : Ghosts MemDisk) (read_fails write_fails says_fail : Type 0) (words : List (List ℕ)) (status : ℕ) (stream held new_held said new_said : Stream)
     : Type 0 where
   pub asked : AskForSolo words
   pub ended : Result (Unit {0}) ConnectionFault
   pub says : status ≡ status_of ended
-  pub start : Server MemShelf
+  pub start : Server MemShelf MemDisk disk
   pub empty : IsEmpty start
-  pub next : Server MemShelf
-  pub serves : Serves (IsAnswer Does (λ shelf. 0)) read_fails write_fails ended start next stream held new_held
+  pub next : Server MemShelf MemDisk disk
+  pub serves : Serves (IsAnswer Does (λ shelf. 0) disk.faults) read_fails write_fails ended start next stream held new_held
   pub end_said : SaysEnd says_fail ended said new_said
 
 -- A run: no connection is served, and nothing is answered; or one is. So the status is 1 exactly where the words ask for nothing
 -- that the program does, unless memory ran out while they were read; this and a fault of the connection are 2.
-abbrev pub Runs : (read_fails write_fails says_fail : Type 0) → List (List ℕ) → ℕ → (stream held new_held said new_said : Stream) → Type 0
-Runs read_fails write_fails says_fail words status stream held new_held said new_said =
+abbrev pub Runs : (disk : Ghosts MemDisk) → (read_fails write_fails says_fail : Type 0) → List (List ℕ) → ℕ → (stream held new_held said new_said : Stream) → Type 0
+Runs disk read_fails write_fails says_fail words status stream held new_held said new_said =
     (IsNotServed says_fail words status said new_said × (new_held ≡ held))
-    ⊎ IsServed read_fails write_fails says_fail words status stream held new_held said new_said
+    ⊎ IsServed disk read_fails write_fails says_fail words status stream held new_held said new_said

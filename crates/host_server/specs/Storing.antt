@@ -11,10 +11,12 @@ use Rattle.blob_store.specs.declared.blobs.UploadFault.TheVariants as fault
 use Rattle.host_api.specs.declared.refusals.Refusal.{Refusal}
 use Rattle.host_api.specs.declared.refusals.Refusal.TheVariants as reason
 use Rattle.host_api.specs.declared.texts.Told.{Told}
+use Rattle.host_disk.specs.declared.disks.Disk.{Ghosts}
 use Rattle.host_server.specs.Hosts.{with_upload}
 use Rattle.host_server.specs.Memory.{is_published, TextRunsOut}
 use Rattle.host_server.specs.Outcomes.{judge_upload, told_by, upload_outcome}
 use Rattle.host_server.specs.Replies.{Answer, refused_answer, told_answer}
+use Rattle.host_server.specs.ServerJournals.{Breaks, GoesOn}
 use Rattle.host_server.specs.declared.servers.Server.{Server}
 
 -- the bytes aren't too many, and are on the shelf: nothing is put of those that are known, and of others each piece, and then the table
@@ -43,21 +45,21 @@ IsStoredIf did (Ok at) uploads old bytes new = IsStored did uploads old bytes ne
 IsStoredIf did (Err why) uploads old bytes new = new ≡ old
 
 -- the bytes are stored where nothing is against them, and the host does what comes of that
-pub record IsUploaded {S : Type 0} (did : S → Call → S → Type 0) (server : Server S) (n : ℕ) (path bytes : List ℕ) (told : Told) (next : Server S) : Type 0 where
+pub record IsUploaded {S D : Type 0} {disk : Ghosts D} (did : S → Call → S → Type 0) (server : Server S D disk) (n : ℕ) (path bytes : List ℕ) (told : Told) (next : Server S D disk) : Type 0 where
   pub stored : IsStoredIf did (judge_upload server.house n path bytes) server.house.uploads server.files.shelf bytes next.files.shelf
   pub told_is : told ≡ (upload_outcome server.house n path bytes).told
   pub host_is : next.house ≡ (upload_outcome server.house n path bytes).host
 
 -- nothing is against the bytes, but they can't be stored, and nothing else is done
-pub record IsRefusedByStore {S : Type 0} (did : S → Call → S → Type 0) (failures : S → ℕ) (server : Server S) (n : ℕ) (path bytes : List ℕ) (why : UploadFault) (next : Server S)
+pub record IsRefusedByStore {S D : Type 0} {disk : Ghosts D} (did : S → Call → S → Type 0) (failures : S → ℕ) (server : Server S D disk) (n : ℕ) (path bytes : List ℕ) (why : UploadFault) (next : Server S D disk)
     : Type 0 where
   pub at : SiteName × Digest
   pub judged : judge_upload server.house n path bytes ≡ Ok at
   pub not_stored : IsNotStored did failures server.house.uploads server.files.shelf bytes why next.files.shelf
   pub same : next.house ≡ server.house
 
--- the bytes are stored and known, and there is no memory for the entry that publishes the deploy that they complete
-pub record IsUnpublished {S : Type 0} (did : S → Call → S → Type 0) (server : Server S) (n : ℕ) (path bytes : List ℕ) (next : Server S) : Type 0 where
+-- the bytes are stored and known, and the entry that publishes the deploy that they complete is not made
+pub record IsUnpublished {S D : Type 0} {disk : Ghosts D} (did : S → Call → S → Type 0) (server : Server S D disk) (n : ℕ) (path bytes : List ℕ) (next : Server S D disk) : Type 0 where
   pub at : SiteName × Digest
   pub judged : judge_upload server.house n path bytes ≡ Ok at
   pub stored : IsStored did server.house.uploads server.files.shelf bytes next.files.shelf
@@ -67,13 +69,13 @@ pub record IsUnpublished {S : Type 0} (did : S → Call → S → Type 0) (serve
 -- ---- the reply
 
 -- the reply to an upload: what comes of it, or the reason why the store doesn't take the bytes
-abbrev pub IsUploadReply : {S : Type 0} → (did : S → Call → S → Type 0) → (failures : S → ℕ) → Server S → ℕ → List ℕ → List ℕ → Answer → Server S → Type 0
+abbrev pub IsUploadReply : {S D : Type 0} {disk : Ghosts D} → (did : S → Call → S → Type 0) → (failures : S → ℕ) → Server S D disk → ℕ → List ℕ → List ℕ → Answer → Server S D disk → Type 0
 IsUploadReply did failures server n path bytes answer next =
     ((told : Told) × IsUploaded did server n path bytes told next × (answer ≡ told_answer told))
     ⊎ ((why : UploadFault) × (why ≢ fault.OutOfMemory) × IsRefusedByStore did failures server n path bytes why next × (answer ≡ refused_answer (refusal_of_upload why)))
 
 -- an upload runs out of memory: the store does, or the entry that publishes, or the text of the reply
-abbrev pub UploadRunsOut : {S : Type 0} → (did : S → Call → S → Type 0) → (failures : S → ℕ) → Server S → ℕ → List ℕ → List ℕ → Server S → Type 0
+abbrev pub UploadRunsOut : {S D : Type 0} {disk : Ghosts D} → (did : S → Call → S → Type 0) → (failures : S → ℕ) → Server S D disk → ℕ → List ℕ → List ℕ → Server S D disk → Type 0
 UploadRunsOut did failures server n path bytes next =
     IsRefusedByStore did failures server n path bytes fault.OutOfMemory next
     ⊎ IsUnpublished did server n path bytes next
@@ -81,9 +83,14 @@ UploadRunsOut did failures server n path bytes next =
 
 -- ---- what private functions say
 
+-- there was no memory for that entry, or the journal's device failed while it was put
+abbrev pub StopsPublishing : {S D : Type 0} {disk : Ghosts D} → (faults : D → ℕ) → Server S D disk → Result Told Refusal → Server S D disk → Type 0
+StopsPublishing faults server result next =
+    ((result ≡ Err reason.OutOfMemory) × GoesOn faults server next) ⊎ ((result ≡ Err reason.Device) × Breaks faults server next)
+
 -- the call did that, or says why not
-abbrev pub DoesUpload : {S : Type 0} → (did : S → Call → S → Type 0) → (failures : S → ℕ) → Server S → ℕ → List ℕ → List ℕ → Result Told Refusal → Server S → Type 0
-DoesUpload did failures server n path bytes result next =
-    IsUploaded did server n path bytes (told_by result) next
-    ⊎ ((why : UploadFault) × IsRefusedByStore did failures server n path bytes why next × (result ≡ Err (refusal_of_upload why)))
-    ⊎ ((result ≡ Err reason.OutOfMemory) × IsUnpublished did server n path bytes next)
+abbrev pub DoesUpload : {S D : Type 0} {disk : Ghosts D} → (did : S → Call → S → Type 0) → (failures : S → ℕ) → (faults : D → ℕ) → Server S D disk → ℕ → List ℕ → List ℕ → Result Told Refusal → Server S D disk → Type 0
+DoesUpload did failures faults server n path bytes result next =
+    (IsUploaded did server n path bytes (told_by result) next × GoesOn faults server next)
+    ⊎ ((why : UploadFault) × IsRefusedByStore did failures server n path bytes why next × (result ≡ Err (refusal_of_upload why)) × GoesOn faults server next)
+    ⊎ (IsUnpublished did server n path bytes next × StopsPublishing faults server result next)

@@ -1,17 +1,19 @@
 //! What a request is answered.
-ghost use Rattle.std.specs.Prelude.{◌≡◌, ◌⊎◌, ℕ, ◌+◌, ◌≤◌, List, [], ◌∷◌, ◌++◌, Ok, Err, IsTrue, IfOk, IfErr, length};
+ghost use Rattle.std.specs.Prelude.{◌≡◌, ◌⊎◌, ℕ, ◌+◌, ◌≤◌, List, [], ◌∷◌, ◌++◌, Ok, Err, false, IsTrue, IfOk, IfErr, length};
 ghost use Rattle.change_undo.specs.declared.entries.Entry.{Entry as Line};
 ghost use Rattle.change_undo.specs.declared.entries.Entry.TheVariants as entry;
 ghost use Rattle.host_names.specs.declared.names.SiteName.{SiteName as Site};
 ghost use Rattle.site_change.specs.declared.commands.Command.{Command as Change};
 ghost use Rattle.host_server.specs.Asks as spec;
-ghost use Rattle.host_server.specs.Asks.{AnswersAsk, IsAnswer};
+ghost use Rattle.host_server.specs.Asks.{AnswersAsk, AnswersRead, CarriesOut, IsAnswer};
+ghost use Rattle.host_server.specs.HeldUp.{is_held_up};
 ghost use Rattle.host_server.specs.Bodies.{answer_of};
 ghost use Rattle.host_server.specs.Hosts.{Grows, state_of, with_entries};
 ghost use Rattle.host_server.specs.Answers.{Tells};
 ghost use Rattle.host_server.specs.Memory.{asking_takes};
 ghost use Rattle.host_server.specs.Shown.{shown_lines};
 ghost use Rattle.host_server.specs.Outcomes.{told_by};
+ghost use Rattle.host_server.specs.Versions.{file_of};
 
 use crate::host::{HostView, list_changes, show_deploy};
 use crate::reads::read_file;
@@ -19,6 +21,7 @@ use crate::replies::Reply;
 use crate::servers::Server;
 use blob_store::Shelf;
 use host_api::{Ask, Refusal, Told, Version, ask_of, route_of};
+use host_disk::Disk;
 use host_names::{FilePath, SiteName};
 use http::Version as HttpVersion;
 use http_wire::Head;
@@ -45,16 +48,17 @@ impl Request {
 }
 
 /// The reply to the reading of a file.
-fn read<S: Shelf>(
+fn read<S: Shelf, D: Disk>(
     alloc: Global,
-    server: &mut Server<S>,
+    server: &mut Server<S, D>,
     head: &Head,
     site: &SiteName,
     version: &Version,
     path: &FilePath,
 ) -> Reply
-    ensures replied { (body : List ℕ) → AnswersAsk S.did S.failures server.old head.now body (Ok (Ask.Read site.now version.now path.now)) (answer_of result) server.new }
+    ensures replied { AnswersRead S.did S.failures server.old head.now path.now (file_of (state_of server.old.house) site.now version.now path.now) (answer_of result) server.new }
     ensures house { server.new.house ≡ server.old.house }
+    ensures journal { server.new.journal ≡ server.old.journal }
     ensures count { S.failures server.old.files.shelf ≤ S.failures server.new.files.shelf }
 {
     match read_file(alloc, server, head, site, version, path) {
@@ -90,15 +94,16 @@ fn asked_for(alloc: Global, head: &Head, body: &[u8]) -> Result<Ask, Refusal>
     ask_of(alloc, route, body)
 }
 
-/// The reply to what a request asks for, and what that does to the host.
-fn respond<S: Shelf>(
+/// The reply to what a request asks for that isn't held up, and what that does to the host.
+fn carry_out<S: Shelf, D: Disk>(
     alloc: Global,
     head: &Head,
     body: Vec<u8>,
-    server: &mut Server<S>,
+    server: &mut Server<S, D>,
     ask: Ask,
 ) -> Reply
-    ensures replied { AnswersAsk S.did S.failures server.old head.now body.items (Ok ask) (answer_of result) server.new }
+    requires { is_held_up server.old.house server.old.journal (Ok ask) ≡ false }
+    ensures replied { CarriesOut S.did S.failures D.faults server.old head.now body.items (Ok ask) (answer_of result) server.new }
     ensures grows { Grows server.old.house server.new.house }
     ensures count { S.failures server.old.files.shelf ≤ S.failures server.new.files.shelf }
 {
@@ -108,20 +113,49 @@ fn respond<S: Shelf>(
             version,
             path,
         } => read(alloc, server, head, &site, &version, &path),
-        Ask::Command(command) => tell(alloc, server.house.change(command)),
-        Ask::Undo { site, change } => tell(alloc, server.house.take_back(&site, change)),
+        Ask::Command(command) => tell(alloc, server.change(command)),
+        Ask::Undo { site, change } => tell(
+            alloc,
+            server.house.take_back(&mut server.journal, &site, change),
+        ),
         Ask::Changes { site } => tell(alloc, told_changes(alloc, &server.house, &site)),
         Ask::Deploy { deploy } => tell(alloc, show_deploy(alloc, &server.house, deploy)),
-        Ask::RemoveDeploy { deploy } => tell(alloc, server.house.remove_deploy(deploy)),
-        Ask::Cancel { deploy } => tell(alloc, server.house.cancel(deploy)),
+        Ask::RemoveDeploy { deploy } => tell(
+            alloc,
+            server.house.remove_deploy(&mut server.journal, deploy),
+        ),
+        Ask::Cancel { deploy } => tell(alloc, server.house.cancel(&mut server.journal, deploy)),
         Ask::Upload { deploy, path } => tell(alloc, server.upload(deploy, &path, body)),
     }
 }
 
+/// The reply to what a request asks for, and what that does to the host.
+fn respond<S: Shelf, D: Disk>(
+    alloc: Global,
+    head: &Head,
+    body: Vec<u8>,
+    server: &mut Server<S, D>,
+    ask: Ask,
+) -> Reply
+    ensures replied { AnswersAsk S.did S.failures D.faults server.old head.now body.items (Ok ask) (answer_of result) server.new }
+    ensures grows { Grows server.old.house server.new.house }
+    ensures count { S.failures server.old.files.shelf ≤ S.failures server.new.files.shelf }
+{
+    if server.is_held_up(&ask) {
+        return Reply::plain(Refusal::Broken);
+    }
+    carry_out(alloc, head, body, server, ask)
+}
+
 /// The reply to a request, and what it does to the host. Where there is no memory the reply says so; then the request
-/// may have done nothing, or what it does first (an Open without its publish, an upload), or all that it does.
-pub fn answer<S: Shelf>(alloc: Global, request: Request, server: &mut Server<S>) -> Reply
-    ensures replied { IsAnswer S.did S.failures server.old request.head request.body.items (answer_of result) server.new }
+/// may have done nothing, or what it does first (an Open without its publish, an upload), or all that it does. Where the
+/// device fails while an entry is put into the journal, the reply says so, and the host doesn't get that entry.
+pub fn answer<S: Shelf, D: Disk>(
+    alloc: Global,
+    request: Request,
+    server: &mut Server<S, D>,
+) -> Reply
+    ensures replied { IsAnswer S.did S.failures D.faults server.old request.head request.body.items (answer_of result) server.new }
     ensures grows { Grows server.old.house server.new.house }
     ensures count { S.failures server.old.files.shelf ≤ S.failures server.new.files.shelf }
     // Where an accepted change is undone next, the state is the one before it.

@@ -16,16 +16,17 @@ ghost use Rattle.host_server.specs.Versions.{file_of};
 ghost use Rattle.host_server.specs.declared.servers.Server.{Server};
 
 use blob_store::Shelf;
+use host_disk::Disk;
 
 /// Where the shelf keeps what is put there, it has each file that is known, from an empty server on and after each request, unless an upload has a
 /// piece or a digest that other bytes of it or of a known file have too. What is then read of a file is of the file itself, and is refused only for
 /// the device and for want of memory: it is neither missing nor damaged.
-pub fn uploads_are_read_back<S: Shelf>()
-    ensures empty { (has : S → ShelfName → Option (List ℕ)) (server : Server S) → server.house.uploads ≡ map.empty → HasKnown has server }
-    ensures kept { (has : S → ShelfName → Option (List ℕ)) (old new : Server S) (parts : RequestParts) (body : List ℕ) (answer : Answer) → Keeps S.did has
-        → UploadAgrees old.house.uploads parts body → HasKnown has old → IsAnswer S.did S.failures old parts body answer new → HasKnown has new }
-    ensures read { (has : S → ShelfName → Option (List ℕ)) (old new : Server S) (parts : RequestParts) (body : List ℕ) (answer : Answer) (site : Site) (version : Version)
+pub fn uploads_are_read_back<S: Shelf, D: Disk>()
+    ensures empty { (has : S → ShelfName → Option (List ℕ)) (server : Server S D D.Disk) → server.house.uploads ≡ map.empty → HasKnown has server }
+    ensures kept { (has : S → ShelfName → Option (List ℕ)) (old new : Server S D D.Disk) (parts : RequestParts) (body : List ℕ) (answer : Answer) → Keeps S.did has
+        → UploadAgrees old.house.uploads parts body → HasKnown has old → IsAnswer S.did S.failures D.faults old parts body answer new → HasKnown has new }
+    ensures read { (has : S → ShelfName → Option (List ℕ)) (old new : Server S D D.Disk) (parts : RequestParts) (body : List ℕ) (answer : Answer) (site : Site) (version : Version)
         (path file : List ℕ) → Keeps S.did has → AreDigested old.house.uploads → IsLawful old.house → HasKnown has old
         → asked_for parts body ≡ Ok (Read site version path) → file_of (state_of old.house) site version path ≡ Ok file
-        → IsAnswer S.did S.failures old parts body answer new → IsReadBack parts path file answer }
+        → IsAnswer S.did S.failures D.faults old parts body answer new → IsReadBack parts path file answer }
 {}

@@ -3,7 +3,9 @@
 
 mod answers;
 mod bodies;
+mod changing;
 mod connections;
+mod held_up;
 mod host;
 mod laws;
 mod media_types;
@@ -13,6 +15,7 @@ mod replies;
 mod servers;
 mod services;
 mod solo;
+mod storing;
 
 pub use answers::{Request, answer};
 pub use connections::{ConnectionFault, serve_connection};

@@ -24,6 +24,7 @@ use blob_store::{Files, ReadFault, Shelf};
 use byte_view::BlobInfo;
 use file_reads::read_body;
 use host_api::{Refusal, Version, content_type};
+use host_disk::Disk;
 use host_names::{Digest, FilePath, SiteName};
 use http_wire::Head;
 use range_reply::{IfRange, ReplyPlan, plan};
@@ -113,9 +114,9 @@ fn send<S: Shelf>(
 }
 
 /// The reply with what is read of a file, or why there is none.
-pub(crate) fn read_file<S: Shelf>(
+pub(crate) fn read_file<S: Shelf, D: Disk>(
     alloc: Global,
-    server: &mut Server<S>,
+    server: &mut Server<S, D>,
     head: &Head,
     site: &SiteName,
     version: &Version,
@@ -124,6 +125,7 @@ pub(crate) fn read_file<S: Shelf>(
     ensures reads { Reads S.did S.failures server.old head.now site.now version.now path.now result server.new }
     ensures plain { IfErr result (λ reason. has_cell reason ≡ false) }
     ensures house { server.new.house ≡ server.old.house }
+    ensures journal { server.new.journal ≡ server.old.journal }
     ensures count { S.failures server.old.files.shelf ≤ S.failures server.new.files.shelf }
 {
     let file = file(&server.house, site, version, path)?;

@@ -129,7 +129,7 @@ impl Reply {
     }
 
     /// The reply to a request that is refused for a reason that names no cell. It takes no memory.
-    fn plain(reason: Refusal) -> Reply
+    pub(crate) fn plain(reason: Refusal) -> Reply
         requires { has_cell reason ≡ false }
         ensures { answer_of result ≡ refused_answer reason }
     {

@@ -11,6 +11,7 @@ use crate::answers::{Request, answer};
 use crate::replies::Reply;
 use crate::servers::Server;
 use blob_store::Shelf;
+use host_disk::Disk;
 use std::alloc::Global;
 
 /// Answers requests, one after another.
@@ -32,8 +33,8 @@ pub trait Service {
     ghost goes_on: { (first mid last : Self) → grows first mid → grows mid last → grows first last };
 }
 
-impl<S: Shelf> Service for Server<S> {
-    ghost answers = { IsAnswer S.did S.failures };
+impl<S: Shelf, D: Disk> Service for Server<S, D> {
+    ghost answers = { IsAnswer S.did S.failures D.faults };
 
     ghost grows = { λ old new. Grows old.house new.house };
 

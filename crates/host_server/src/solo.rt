@@ -9,6 +9,7 @@ use crate::servers::Server;
 use blob_store::MemShelf;
 use change_undo::GREATEST_LIMIT;
 use command_line::{Refusal, Wanted, read};
+use host_disk::{Disk, MemDisk};
 use http_wire::{Duplex, Sink, write_all};
 use std::alloc::Global;
 use std::convert::AsStr;
@@ -68,12 +69,16 @@ pub fn run_solo<S: AsStr, D: Duplex, E: Sink>(
     duplex: &mut D,
     errors: &mut E,
 ) -> u8
-    ensures { Runs D.read_fails D.write_fails E.may_fail (map S.text words.now) result
+    ensures { Runs ⟦<MemDisk as Disk>⟧ D.read_fails D.write_fails E.may_fail (map S.text words.now) result
         (D.left duplex.old) (D.held duplex.old) (D.held duplex.new) (E.held errors.old) (E.held errors.new) }
 {
     match wanted(alloc, words, errors) {
         Ok(Wanted::Solo) => {
-            let mut server = Server::new(alloc, MemShelf::new(alloc), GREATEST_LIMIT);
+            let mut server: Server<MemShelf, MemDisk> = Server::new(
+                alloc,
+                MemShelf::new(alloc),
+                GREATEST_LIMIT,
+            );
             let ended = serve_connection(alloc, duplex, &mut server);
             status_after(errors, ended)
         }

@@ -4,6 +4,8 @@ ghost use Rattle.site_change.specs.declared.commands.Command.TheVariants as comm
 ghost use Rattle.change_undo.specs.Histories.{may_take_memory};
 ghost use Rattle.change_undo.specs.declared.entries.Entry.TheVariants as entry;
 ghost use Rattle.host_server.specs.Hosts.{Grows};
+ghost use Rattle.host_server.specs.Journals.{Agrees, IsJournaled, IsStopped, is_broken};
+ghost use Rattle.host_server.specs.HeldUp.{IsWholeFor};
 ghost use Rattle.host_names.specs.declared.names.SiteName.{SiteName as Site};
 ghost use Rattle.host_server.specs.Memory.{CommandRunsOut, deploy_refusal, is_published};
 ghost use Rattle.host_server.specs.Outcomes;
@@ -14,7 +16,9 @@ ghost use Rattle.host_server.specs.Reasons.{commit_refusal};
 use super::deploys::owner;
 use super::houses::SoloHouse;
 use super::views::HostView;
+use change_journal::Journal;
 use host_api::{Items, Refusal, Told};
+use host_disk::Disk;
 use host_names::{ChangeRefusal, SiteName};
 use site_change::{Command, MOST_FILES};
 use site_state::{Draft, Listing, missing};
@@ -36,30 +40,38 @@ fn judge_opening<H: HostView>(host: &H, files: &Listing) -> Result<(), ChangeRef
 
 impl SoloHouse {
     /// Publishes a deploy if it is ready, and answers the entry that did. On an error it stays open.
-    pub(crate) fn publish_if_ready(
+    pub(crate) fn publish_if_ready<D: Disk>(
         &mut self,
+        journal: &mut Option<Journal<D>>,
         site: &SiteName,
         number: u64,
     ) -> Result<Option<u64>, Refusal>
+        requires agrees { Agrees journal.old self.old.entries }
+        requires whole { is_broken journal.old ≡ false }
         ensures done { Publishes result self.new (published_if_ready self.old site.now number) }
-        ensures memory { IsErrOf result Refusal.OutOfMemory → IsTrue (is_published self.old site.now number) }
+        ensures stops { IsStopped result → IsTrue (is_published self.old site.now number) }
+        ensures journal { IsJournaled D.faults result self.old journal.old self.new journal.new }
         ensures err { OnErr result (self.new ≡ self.old) }
         ensures grows { Grows self.old self.new }
     {
         let is_ready = self.is_ready(site, number);
-        self.publish_if(is_ready, site, number)
+        self.publish_if(journal, is_ready, site, number)
     }
 
     /// The same of a deploy of which it is known whether it is ready.
-    fn publish_if(
+    fn publish_if<D: Disk>(
         &mut self,
+        journal: &mut Option<Journal<D>>,
         is_ready: bool,
         site: &SiteName,
         number: u64,
     ) -> Result<Option<u64>, Refusal>
-        requires { is_ready ≡ Outcomes.is_ready self.old site.now number }
+        requires ready { is_ready ≡ Outcomes.is_ready self.old site.now number }
+        requires agrees { Agrees journal.old self.old.entries }
+        requires whole { is_broken journal.old ≡ false }
         ensures done { Publishes result self.new (published_if_ready self.old site.now number) }
-        ensures memory { IsErrOf result Refusal.OutOfMemory → IsTrue (is_published self.old site.now number) }
+        ensures stops { IsStopped result → IsTrue (is_published self.old site.now number) }
+        ensures journal { IsJournaled D.faults result self.old journal.old self.new journal.new }
         ensures err { OnErr result (self.new ≡ self.old) }
         ensures grows { Grows self.old self.new }
     {
@@ -67,18 +79,27 @@ impl SoloHouse {
             return Ok(None);
         }
         let site = site.copied();
-        let entry = self.commit(Command::Publish { site, number })?;
+        let entry = self.commit(journal, Command::Publish { site, number })?;
         self.forget(number);
         Ok(Some(entry))
     }
 
     /// Opens a deploy, and publishes it if it is ready, which it is where it publishes itself and nothing is required.
-    fn open(&mut self, site: SiteName, files: Listing, auto: bool) -> Result<Told, Refusal>
+    fn open<D: Disk>(
+        &mut self,
+        journal: &mut Option<Journal<D>>,
+        site: SiteName,
+        files: Listing,
+        auto: bool,
+    ) -> Result<Told, Refusal>
+        requires agrees { Agrees journal.old self.old.entries }
+        requires whole { is_broken journal.old ≡ false }
         ensures done { DoesCommit result self.new self.old (command.Open site files auto) }
         ensures told { IfOk result (λ told. Outcomes.is_refusal told ≡ false) }
         ensures stands { let opening = command.Open site files auto in
             OnErr result ((self.new ≡ self.old) ⊎ (self.new ≡ entered self.old opening (commit_refusal self.old opening))) }
-        ensures memory { IsErrOf result Refusal.OutOfMemory → CommandRunsOut self.old (command.Open site files auto) self.new }
+        ensures stops { IsStopped result → CommandRunsOut self.old (command.Open site files auto) self.new }
+        ensures journal { IsJournaled D.faults result self.old journal.old self.new journal.new }
         ensures grows { Grows self.old self.new }
     {
         judge_opening(self, &files)?;
@@ -88,8 +109,8 @@ impl SoloHouse {
         let is_ready = auto && required.is_empty();
         let owner = site.copied();
         let Draft { auto, files } = draft;
-        let id = self.commit(Command::Open { site, files, auto })?;
-        let published = self.publish_if(is_ready, &owner, id)?;
+        let id = self.commit(journal, Command::Open { site, files, auto })?;
+        let published = self.publish_if(journal, is_ready, &owner, id)?;
         Ok(Told::Opened {
             id,
             published,
@@ -98,68 +119,105 @@ impl SoloHouse {
     }
 
     /// Commits a command, and tells its entry's number. On an error nothing changes.
-    fn enter(&mut self, command: Command) -> Result<Told, Refusal>
+    fn enter<D: Disk>(
+        &mut self,
+        journal: &mut Option<Journal<D>>,
+        command: Command,
+    ) -> Result<Told, Refusal>
+        requires agrees { Agrees journal.old self.old.entries }
+        requires whole { is_broken journal.old ≡ false }
         ensures done { Does result self.new (enter_outcome self.old command (commit_refusal self.old command)) }
         ensures told { IfOk result (λ told. Outcomes.is_refusal told ≡ false) }
-        ensures memory { IsErrOf result Refusal.OutOfMemory → commit_refusal self.old command ≡ None }
+        ensures stops { IsStopped result → commit_refusal self.old command ≡ None }
+        ensures journal { IsJournaled D.faults result self.old journal.old self.new journal.new }
         ensures err { OnErr result (self.new ≡ self.old) }
         ensures grows { Grows self.old self.new }
     {
-        let number = self.commit(command)?;
+        let number = self.commit(journal, command)?;
         Ok(Told::Entered { number })
     }
 
     /// Commits a command, and publishes a deploy that it leaves ready. Where that publishing fails, out of memory or
     /// because the history is full, the command remains.
-    pub fn change(&mut self, command: Command) -> Result<Told, Refusal>
+    pub fn change<D: Disk>(
+        &mut self,
+        journal: &mut Option<Journal<D>>,
+        command: Command,
+    ) -> Result<Told, Refusal>
+        requires agrees { Agrees journal.old self.old.entries }
+        requires whole { is_broken journal.old ≡ false }
         ensures done { DoesCommit result self.new self.old command }
         ensures told { IfOk result (λ told. Outcomes.is_refusal told ≡ false) }
-        ensures memory { IsErrOf result Refusal.OutOfMemory → CommandRunsOut self.old command self.new }
+        ensures stops { IsStopped result → CommandRunsOut self.old command self.new }
+        ensures journal { IsJournaled D.faults result self.old journal.old self.new journal.new }
         ensures stands { OnErr result ((self.new ≡ self.old) ⊎ (self.new ≡ entered self.old command (commit_refusal self.old command))) }
         ensures grows { Grows self.old self.new }
     {
         match command {
-            Command::Open { site, files, auto } => self.open(site, files, auto),
-            other => self.enter(other),
+            Command::Open { site, files, auto } => self.open(journal, site, files, auto),
+            other => self.enter(journal, other),
         }
     }
 
     /// Undoes a change of a site. On an error nothing changes.
-    pub fn take_back(&mut self, site: &SiteName, change: u64) -> Result<Told, Refusal>
+    pub fn take_back<D: Disk>(
+        &mut self,
+        journal: &mut Option<Journal<D>>,
+        site: &SiteName,
+        change: u64,
+    ) -> Result<Told, Refusal>
+        requires agrees { Agrees journal.old self.old.entries }
+        requires whole { is_broken journal.old ≡ false }
         ensures done { Does result self.new (undone self.old site.now change (Reasons.undo_refusal self.old site.now change)) }
         ensures told { IfOk result (λ told. Outcomes.is_refusal told ≡ false) }
         ensures memory { IsErrOf result Refusal.OutOfMemory → may_take_memory (Reasons.undo_refusal self.old site.now change) ≡ true }
+        ensures device { IsErrOf result Refusal.Device → Reasons.undo_refusal self.old site.now change ≡ None }
+        ensures journal { IsJournaled D.faults result self.old journal.old self.new journal.new }
         ensures err { OnErr result (self.new ≡ self.old) }
         ensures grows { Grows self.old self.new }
     {
-        let number = self.undo(site, change)?;
+        let number = self.undo(journal, site, change)?;
         self.forget(change);
         Ok(Told::Entered { number })
     }
 
     /// Cancels an open deploy, in the site that has it. On an error nothing changes.
-    pub fn cancel(&mut self, number: u64) -> Result<Told, Refusal>
+    pub fn cancel<D: Disk>(
+        &mut self,
+        journal: &mut Option<Journal<D>>,
+        number: u64,
+    ) -> Result<Told, Refusal>
+        requires agrees { Agrees journal.old self.old.entries }
+        requires whole { IsWholeFor journal.old self.old number }
         ensures done { Does result self.new (deploy_outcome self.old number (λ site. command.Cancel site number)) }
         ensures told { IfOk result (λ told. Outcomes.is_refusal told ≡ false) }
-        ensures memory { IsErrOf result Refusal.OutOfMemory → deploy_refusal self.old number (λ site. command.Cancel site number) ≡ None }
+        ensures stops { IsStopped result → deploy_refusal self.old number (λ site. command.Cancel site number) ≡ None }
+        ensures journal { IsJournaled D.faults result self.old journal.old self.new journal.new }
         ensures err { OnErr result (self.new ≡ self.old) }
         ensures grows { Grows self.old self.new }
     {
         let site = owner(self, number)?;
-        let told = self.enter(Command::Cancel { site, number })?;
+        let told = self.enter(journal, Command::Cancel { site, number })?;
         self.forget(number);
         Ok(told)
     }
 
     /// Removes a deploy that was published whole, in the site that has it. On an error nothing changes.
-    pub fn remove_deploy(&mut self, number: u64) -> Result<Told, Refusal>
+    pub fn remove_deploy<D: Disk>(
+        &mut self,
+        journal: &mut Option<Journal<D>>,
+        number: u64,
+    ) -> Result<Told, Refusal>
+        requires agrees { Agrees journal.old self.old.entries }
+        requires whole { IsWholeFor journal.old self.old number }
         ensures done { Does result self.new (deploy_outcome self.old number (λ site. command.RemoveDeploy site number)) }
         ensures told { IfOk result (λ told. Outcomes.is_refusal told ≡ false) }
-        ensures memory { IsErrOf result Refusal.OutOfMemory → deploy_refusal self.old number (λ site. command.RemoveDeploy site number) ≡ None }
+        ensures stops { IsStopped result → deploy_refusal self.old number (λ site. command.RemoveDeploy site number) ≡ None }
+        ensures journal { IsJournaled D.faults result self.old journal.old self.new journal.new }
         ensures err { OnErr result (self.new ≡ self.old) }
         ensures grows { Grows self.old self.new }
     {
         let site = owner(self, number)?;
-        self.enter(Command::RemoveDeploy { site, number })
+        self.enter(journal, Command::RemoveDeploy { site, number })
     }
 }

@@ -1,19 +1,25 @@
 //! A host on one thread: its history, and what is known of its uploads.
-ghost use Rattle.std.specs.Prelude.{◌≡◌, ◌≤◌, Option, [], Some, None, IfOk, OnOk, OnErr, length, nat_le, option_copied, option_map};
+ghost use Rattle.std.specs.Prelude.{◌≡◌, ◌≤◌, Option, [], ◌∷◌, Some, None, IfOk, OnOk, OnErr, false, length, nat_le, option_copied, option_map};
 ghost use Rattle.std.specs.FinMap as map;
 ghost use Rattle.host_names.specs.Blobs.{digest_of};
 ghost use Rattle.host_names.specs.Refusals.{IsRefusedBy};
-ghost use Rattle.change_undo.specs.Histories.{run, entry_at, marked_entry, IsUndoRefusedBy};
+ghost use Rattle.change_undo.specs.Histories.{IsUndoRefusedBy, run, entry_at, marked_entry};
 ghost use Rattle.change_undo.specs.declared.entries.Entry.TheVariants as entry;
+ghost use Rattle.host_server.specs.Entries.{IsEntered, IsRefusedAs, IsUndoRefusedAs};
 ghost use Rattle.host_server.specs.Hosts.{Grows, Host, state_of, next_number, with_entry, with_upload, IsLawful};
+ghost use Rattle.host_server.specs.Journals.{Agrees, is_broken};
 ghost use Rattle.host_server.specs.Outcomes;
 ghost use Rattle.host_server.specs.Reasons;
 ghost use Rattle.host_server.specs.Reasons.{commit_refusal};
 
+use super::copies::{put_last, with_change, with_undo};
+use super::entry_errors::EntryError;
 use super::readiness::Readiness;
 use blob_store::Known;
 use byte_view::BlobInfo;
+use change_journal::Journal;
 use change_undo::{Entry, History};
+use host_disk::Disk;
 use host_names::{ChangeError, SiteName};
 use site_change::Command;
 use site_state::State;
@@ -113,8 +119,30 @@ impl SoloHouse {
         &self.uploads
     }
 
-    /// Commits a command as the next entry, and answers its number. On an error nothing changes.
-    pub(crate) fn commit(&mut self, command: Command) -> Result<u64, ChangeError>
+    /// Commits a command as the next entry, which is put into the journal first, and answers its number. On an error it
+    /// has no such entry.
+    pub(crate) fn commit<D: Disk>(
+        &mut self,
+        journal: &mut Option<Journal<D>>,
+        command: Command,
+    ) -> Result<u64, EntryError>
+        requires agrees { Agrees journal.old self.old.entries }
+        requires whole { is_broken journal.old ≡ false }
+        ensures number { IfOk result (λ number. number ≡ next_number self.old) }
+        ensures entries { OnOk result (self.new ≡ with_entry self.old (entry.Change command)) }
+        ensures refused { IsRefusedAs (commit_refusal self.old command) result }
+        ensures journal { IsEntered D.faults result (entry.Change command) journal.old journal.new }
+        ensures err { OnErr result (self.new ≡ self.old) }
+        ensures grows { Grows self.old self.new }
+    {
+        match journal {
+            Some(journal) => self.commit_into(journal, command),
+            None => Ok(self.commit_alone(command)?),
+        }
+    }
+
+    /// The same without a journal. On an error nothing changes.
+    fn commit_alone(&mut self, command: Command) -> Result<u64, ChangeError>
         ensures number { IfOk result (λ number. number ≡ next_number self.old) }
         ensures entries { OnOk result (self.new ≡ with_entry self.old (entry.Change command)) }
         ensures refused { IsRefusedBy (commit_refusal self.old command) result }
@@ -124,8 +152,52 @@ impl SoloHouse {
         self.history.commit(&self.uploads, command)
     }
 
-    /// Undoes a change of this site by the next entry, and answers its number. On an error nothing changes.
-    pub(crate) fn undo(&mut self, site: &SiteName, change: u64) -> Result<u64, ChangeError>
+    /// The same with a journal. All that takes memory comes before the entry is put.
+    fn commit_into<D: Disk>(
+        &mut self,
+        journal: &mut Journal<D>,
+        command: Command,
+    ) -> Result<u64, EntryError>
+        requires agrees { journal.old.entries ≡ self.old.entries }
+        requires whole { journal.old.broken ≡ false }
+        ensures number { IfOk result (λ number. number ≡ next_number self.old) }
+        ensures entries { OnOk result (self.new ≡ with_entry self.old (entry.Change command)) }
+        ensures refused { IsRefusedAs (commit_refusal self.old command) result }
+        ensures journal { IsEntered D.faults result (entry.Change command) (Some journal.old) (Some journal.new) }
+        ensures err { OnErr result (self.new ≡ self.old) }
+        ensures grows { Grows self.old self.new }
+    {
+        let next = with_change(self.alloc, &self.history, &self.uploads, command)?;
+        put_last(self.alloc, journal, &next)?;
+        self.history = next;
+        Ok(self.history.len())
+    }
+
+    /// Undoes a change of this site by the next entry, which is put into the journal first, and answers its number. On
+    /// an error it has no such entry.
+    pub(crate) fn undo<D: Disk>(
+        &mut self,
+        journal: &mut Option<Journal<D>>,
+        site: &SiteName,
+        change: u64,
+    ) -> Result<u64, EntryError>
+        requires agrees { Agrees journal.old self.old.entries }
+        requires whole { is_broken journal.old ≡ false }
+        ensures number { IfOk result (λ number. number ≡ next_number self.old) }
+        ensures entries { OnOk result (self.new ≡ with_entry self.old (entry.Undo site.now change)) }
+        ensures refused { IsUndoRefusedAs (Reasons.undo_refusal self.old site.now change) result }
+        ensures journal { IsEntered D.faults result (entry.Undo site.now change) journal.old journal.new }
+        ensures err { OnErr result (self.new ≡ self.old) }
+        ensures grows { Grows self.old self.new }
+    {
+        match journal {
+            Some(journal) => self.undo_into(journal, site, change),
+            None => Ok(self.undo_alone(site, change)?),
+        }
+    }
+
+    /// The same without a journal. On an error nothing changes.
+    fn undo_alone(&mut self, site: &SiteName, change: u64) -> Result<u64, ChangeError>
         ensures number { IfOk result (λ number. number ≡ next_number self.old) }
         ensures entries { OnOk result (self.new ≡ with_entry self.old (entry.Undo site.now change)) }
         ensures refused { IsUndoRefusedBy (Reasons.undo_refusal self.old site.now change) result }
@@ -133,6 +205,28 @@ impl SoloHouse {
         ensures grows { Grows self.old self.new }
     {
         self.history.undo(site, change)
+    }
+
+    /// The same with a journal. All that takes memory comes before the entry is put.
+    fn undo_into<D: Disk>(
+        &mut self,
+        journal: &mut Journal<D>,
+        site: &SiteName,
+        change: u64,
+    ) -> Result<u64, EntryError>
+        requires agrees { journal.old.entries ≡ self.old.entries }
+        requires whole { journal.old.broken ≡ false }
+        ensures number { IfOk result (λ number. number ≡ next_number self.old) }
+        ensures entries { OnOk result (self.new ≡ with_entry self.old (entry.Undo site.now change)) }
+        ensures refused { IsUndoRefusedAs (Reasons.undo_refusal self.old site.now change) result }
+        ensures journal { IsEntered D.faults result (entry.Undo site.now change) (Some journal.old) (Some journal.new) }
+        ensures err { OnErr result (self.new ≡ self.old) }
+        ensures grows { Grows self.old self.new }
+    {
+        let next = with_undo(&self.history, site, change)?;
+        put_last(self.alloc, journal, &next)?;
+        self.history = next;
+        Ok(self.history.len())
     }
 
     /// Adds a file to the uploads. A digest that is known keeps its file, and takes no memory. Without memory nothing

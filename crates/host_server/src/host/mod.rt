@@ -2,7 +2,9 @@
 
 mod change_lists;
 mod changes;
+mod copies;
 mod deploys;
+mod entry_errors;
 mod houses;
 mod readiness;
 mod uploads;
@@ -11,6 +13,7 @@ mod views;
 
 pub use change_lists::list_changes;
 pub use deploys::show_deploy;
+pub(crate) use deploys::site_of_deploy;
 pub use houses::SoloHouse;
 pub(crate) use uploads::judge_upload;
 pub(crate) use versions::file;

@@ -1,5 +1,6 @@
 //! Reads and writes that fail at each place of a run.
 
+use host_disk::MemDisk;
 use super::asserts::{assert_number, assert_text};
 use super::fakes::{Narrow, Trickle};
 use super::talks::{
@@ -17,7 +18,7 @@ use std::test::Fail;
 fn assert_front_answered<S: Source + Drop>(
     rt: &impl Abort,
     alloc: Global,
-    server: &mut Server<MemShelf>,
+    server: &mut Server<MemShelf, MemDisk>,
     source: S,
     count: usize,
 ) -> Result<(), Fail> {
@@ -87,7 +88,7 @@ fn a_write_fails_after_each_count_of_bytes(rt: HostRuntime) -> Result<(), Fail> 
 fn assert_answers_one_by_one(
     rt: &impl Abort,
     alloc: Global,
-    server: &mut Server<MemShelf>,
+    server: &mut Server<MemShelf, MemDisk>,
 ) -> Result<(), Fail> {
     for at in 0..5usize {
         assert_answers(rt, alloc, server, &REQUESTS[at..=at], &REPLIES[at..=at])?;

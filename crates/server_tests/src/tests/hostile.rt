@@ -1,5 +1,6 @@
 //! A server whose shelf does one call wrong, for each call of a run over a connection.
 
+use host_disk::MemDisk;
 use super::talks::{assert_serves, joined};
 use blob_store::MemShelf;
 use change_undo::GREATEST_LIMIT;
@@ -136,7 +137,7 @@ fn assert_runs(
         for call in calls.split(' ') {
             let call = call.parse::<usize>()?;
             let shelf = HostileShelf::new(alloc, MemShelf::new(alloc), wrong, call);
-            let mut server = Server::new(alloc, shelf, GREATEST_LIMIT);
+            let mut server: Server<_, MemDisk> = Server::new(alloc, shelf, GREATEST_LIMIT);
             let source = asked.as_bytes();
             assert_serves(rt, alloc, &mut server, source, wanted.as_str(), Ok(()));
         }

@@ -1,5 +1,6 @@
 //! Histories that are full, and long ones.
 
+use host_disk::MemDisk;
 use super::asserts::{assert_number, assert_text};
 use super::talks::{
     ONE, OPEN, OPENED, READ, SENT, UPLOAD, assert_answers, assert_ended, assert_has, entries,
@@ -28,7 +29,7 @@ const FULL: &str =
 fn assert_talk(
     rt: &impl Abort,
     alloc: Global,
-    server: &mut Server<MemShelf>,
+    server: &mut Server<MemShelf, MemDisk>,
     requests: &[&str],
     replies: &[&str],
     wanted: (&str, bool),
@@ -42,7 +43,7 @@ const OPENINGS: [&str; 3] = [OPENING, OPENING, UNDO];
 #[test]
 fn an_opening_stands_whose_publishing_finds_the_history_full(rt: HostRuntime) -> Result<(), Fail> {
     let alloc = rt.alloc();
-    let mut server = Server::new(alloc, MemShelf::new(alloc), 1);
+    let mut server: Server<MemShelf, MemDisk> = Server::new(alloc, MemShelf::new(alloc), 1);
     assert_talk(&rt, alloc, &mut server, &OPENINGS, &[FULL; 3], (ONE, false))
 }
 
@@ -60,7 +61,7 @@ const UPLOADED: [&str; 4] = [OPENED, FULL, FULL, WRONG_DIGEST];
 #[test]
 fn an_upload_stands_whose_publishing_finds_the_history_full(rt: HostRuntime) -> Result<(), Fail> {
     let alloc = rt.alloc();
-    let mut server = Server::new(alloc, MemShelf::new(alloc), 1);
+    let mut server: Server<MemShelf, MemDisk> = Server::new(alloc, MemShelf::new(alloc), 1);
     assert_talk(&rt, alloc, &mut server, &UPLOADS, &UPLOADED, (ONE, true))
 }
 
@@ -72,10 +73,13 @@ const OPEN_LARGE: &str = "POST /api/v1/sites/one/deploys HTTP/1.1\r\nContent-Len
 fn assert_too_large(
     rt: &impl Abort,
     alloc: Global,
-    server: &mut Server<MemShelf>,
+    server: &mut Server<MemShelf, MemDisk>,
 ) -> Result<(), Fail> {
     let path = FilePath::read(alloc, "/a.txt")?;
     let bytes = vec![in alloc; 0; 16_777_217]?;
+    if server.is_broken() {
+        return Err(Fail::from("there is no journal"));
+    }
     let Err(reason) = server.upload(1, &path, bytes) else {
         return Err(Fail::from("a byte too many is taken"));
     };
@@ -128,7 +132,7 @@ const SIX: &str = "{\"changes\":[{\"entry\":1,\"kind\":\"open\",\"live\":true},\
 fn enter(
     rt: &impl Abort,
     alloc: Global,
-    server: &mut Server<MemShelf>,
+    server: &mut Server<MemShelf, MemDisk>,
     requests: &[&str],
 ) -> Result<(), Fail> {
     let stream = joined(alloc, requests)?;
@@ -145,7 +149,7 @@ fn enter(
 fn assert_takes_six(
     rt: &impl Abort,
     alloc: Global,
-    server: &mut Server<MemShelf>,
+    server: &mut Server<MemShelf, MemDisk>,
 ) -> Result<(), Fail> {
     enter(rt, alloc, server, &FILLING)?;
     assert_has(rt, alloc, server, (SIX, true))?;
@@ -156,7 +160,7 @@ fn assert_takes_six(
 #[test]
 fn a_full_history_takes_no_change_and_no_undo(rt: HostRuntime) -> Result<(), Fail> {
     let alloc = rt.alloc();
-    let mut server = Server::new(alloc, MemShelf::new(alloc), 6);
+    let mut server: Server<MemShelf, MemDisk> = Server::new(alloc, MemShelf::new(alloc), 6);
     assert_takes_six(&rt, alloc, &mut server)
 }
 
@@ -171,7 +175,7 @@ fn assert_lists(rt: &impl Abort, listed: &str) {
 fn assert_makes_and_lists(
     rt: &impl Abort,
     alloc: Global,
-    server: &mut Server<MemShelf>,
+    server: &mut Server<MemShelf, MemDisk>,
 ) -> Result<(), Fail> {
     for _ in 0..6u8 {
         enter(rt, alloc, server, &[OPENING; 100])?;

@@ -4,6 +4,7 @@ mod fakes;
 mod faults;
 mod heads;
 mod hostile;
+mod journals;
 mod limits;
 mod replies;
 mod statuses;

@@ -1,5 +1,6 @@
 //! Requests to a host, the replies that they want, and what the host has then.
 
+use host_disk::MemDisk;
 use super::asserts::assert_text;
 use blob_store::{MemShelf, Shelf};
 use change_undo::GREATEST_LIMIT;
@@ -91,7 +92,7 @@ pub(crate) fn count_whole(messages: &[&str], length: usize) -> usize {
 }
 
 /// A server whose host may have as many entries as any.
-pub(crate) fn new_server(alloc: Global) -> Server<MemShelf> {
+pub(crate) fn new_server(alloc: Global) -> Server<MemShelf, MemDisk> {
     Server::new(alloc, MemShelf::new(alloc), GREATEST_LIMIT)
 }
 
@@ -107,7 +108,7 @@ pub(crate) fn assert_ended(
 pub(crate) fn assert_serves<S: Source + Drop, K: Shelf>(
     rt: &impl Abort,
     alloc: Global,
-    server: &mut Server<K>,
+    server: &mut Server<K, MemDisk>,
     source: S,
     wanted: &str,
     ending: Result<(), ConnectionFault>,
@@ -125,7 +126,7 @@ pub(crate) fn assert_serves<S: Source + Drop, K: Shelf>(
 pub(crate) fn assert_answers(
     rt: &impl Abort,
     alloc: Global,
-    server: &mut Server<MemShelf>,
+    server: &mut Server<MemShelf, MemDisk>,
     requests: &[&str],
     replies: &[&str],
 ) -> Result<(), Fail> {
@@ -136,8 +137,8 @@ pub(crate) fn assert_answers(
 }
 
 /// The entries of the site `one`.
-pub(crate) fn entries(alloc: Global, server: &Server<MemShelf>) -> Result<String, Fail> {
-    let lines = list_changes(alloc, &server.house, &SiteName::new("one")?)?;
+pub(crate) fn entries(alloc: Global, server: &Server<MemShelf, MemDisk>) -> Result<String, Fail> {
+    let lines = list_changes(alloc, server.house(), &SiteName::new("one")?)?;
     Ok(text(alloc, &Told::Changes(lines))?)
 }
 
@@ -145,11 +146,11 @@ pub(crate) fn entries(alloc: Global, server: &Server<MemShelf>) -> Result<String
 pub(crate) fn assert_has(
     rt: &impl Abort,
     alloc: Global,
-    server: &Server<MemShelf>,
+    server: &Server<MemShelf, MemDisk>,
     wanted: (&str, bool),
 ) -> Result<(), Fail> {
     let hello = Digest::of_hex("aaf4c61ddcc5e8a2dabede0f3b482cd9aea9434d")?;
-    assert!(rt; server.house.uploads().find(&hello).is_some() == wanted.1);
+    assert!(rt; server.house().uploads().find(&hello).is_some() == wanted.1);
     let listed = entries(alloc, server)?;
     assert_text(rt, listed.as_bytes(), wanted.0);
     Ok(())
@@ -159,7 +160,7 @@ pub(crate) fn assert_has(
 pub(crate) fn assert_history(
     rt: &impl Abort,
     alloc: Global,
-    server: &Server<MemShelf>,
+    server: &Server<MemShelf, MemDisk>,
     requests: usize,
 ) -> Result<(), Fail> {
     let wanted = HISTORIES.get(requests).ok_or("no such history")?;

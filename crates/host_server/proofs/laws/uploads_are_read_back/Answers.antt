@@ -13,8 +13,8 @@ returns-clause-empty g c = λ has server empty digest file at.
 
 pub returns-clause-kept : goal.returns-clause-kept
 returns-clause-kept g c = λ has old new parts body answer keeps agrees known is.
-    answered_known g.S.Shelf.did g.S.Shelf.failures has keeps old new parts body answer agrees known is
+    answered_known g.S.Shelf.did g.S.Shelf.failures g.D.Disk.faults has keeps old new parts body answer agrees known is
 
 pub returns-clause-read : goal.returns-clause-read
 returns-clause-read g c = λ has old new parts body answer site version path file keeps digested lawful known asks there is.
-    answered_back g.S.Shelf.did g.S.Shelf.failures has keeps old new parts body answer site version path file digested lawful known asks there is
+    answered_back g.S.Shelf.did g.S.Shelf.failures g.D.Disk.faults has keeps old new parts body answer site version path file digested lawful known asks there is

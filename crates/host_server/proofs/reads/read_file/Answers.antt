@@ -13,7 +13,7 @@ returns-clause-reads g c =
     let parts = c.args.head.now in
     let path = c.args.path.now in
     let plan = c.plan_asked-plan.result in
-    let next : Server g.row.S.Denot = record { house = server.house; files = c.send.new.files } in
+    let next : Server g.row.S.Denot g.row.D.Denot g.D.Disk = record { house = server.house; journal = server.journal; files = c.send.new.files; agrees = _ } in
     let same = c.in_ok-info.ensures.ok ∙ c.info-2.ensures in
     file_read did failures server next parts path (file_of (state_of server.house) c.args.site.now c.args.version.now path) c.in_ok-file.file.now plan c.send.result
     c.in_ok-file.ensures.found

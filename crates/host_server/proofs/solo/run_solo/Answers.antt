@@ -12,7 +12,7 @@ returns-in-Ok-Solo g c =
       ended = c.serve_connection-ended.result;
       says = search rules;
       start = c.new-server.result;
-      empty = record { host = c.new-server.ensures.house; shelf = λ name. subst (λ shelf. found_in shelf name ≡ None) (sym c.new-server.ensures.shelf) (c.new.ensures name) };
+      empty = record { host = c.new-server.ensures.house; journal = c.new-server.ensures.journal; shelf = λ name. subst (λ shelf. found_in shelf name ≡ None) (sym c.new-server.ensures.shelf) (c.new.ensures name) };
       next = c.serve_connection-ended.new.service;
       serves = c.serve_connection-ended.ensures.served;
       end_said = subst (λ said. SaysEnd fails c.serve_connection-ended.result said (g.E.Sink.held c.status_after.new.errors)) unsaid c.status_after.ensures.said;

@@ -6,7 +6,7 @@ use Rattle.host_server.proofs.Reached.{reached_by_history}
 use Rattle.host_server.proofs.Refusing.{refused_as_kept}
 use Rattle.change_undo.specs.declared.entries.Entry.TheVariants.{Change}
 use Rattle.host_server.proofs.Growing.{grows_past, same_entries}
-use Rattle.host_server.proofs.host.houses.SoloHouse.commit.Goals as goal
+use Rattle.host_server.proofs.host.houses.SoloHouse.commit_alone.Goals as goal
 
 pub invariant_of-self : goal.invariant_of-self
 invariant_of-self c = record {

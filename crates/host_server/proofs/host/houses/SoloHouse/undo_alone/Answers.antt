@@ -6,7 +6,7 @@ use Rattle.host_server.proofs.Reached.{reached_by_history}
 use Rattle.change_undo.specs.Histories.{IsUndoRefusedBy}
 use Rattle.change_undo.specs.declared.entries.Entry.TheVariants.{Undo}
 use Rattle.host_server.proofs.Growing.{grows_past, same_entries}
-use Rattle.host_server.proofs.host.houses.SoloHouse.undo.Goals as goal
+use Rattle.host_server.proofs.host.houses.SoloHouse.undo_alone.Goals as goal
 
 pub invariant_of-self : goal.invariant_of-self
 invariant_of-self c = record {

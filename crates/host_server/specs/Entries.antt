@@ -1,0 +1,45 @@
+-- How a host gets an entry.
+use Rattle.std.specs.Prelude.{◌≡◌, ℕ, [], ◌∷◌, true, Option, Some, None, Result, Ok, Err}
+use Rattle.host_names.specs.declared.refusals.ChangeError.{ChangeError}
+use Rattle.host_names.specs.declared.refusals.ChangeError.TheVariants as change
+use Rattle.host_names.specs.declared.refusals.ChangeRefusal.{ChangeRefusal}
+use Rattle.change_journal.specs.Held.{Keeps}
+use Rattle.change_undo.specs.declared.entries.Entry.{Entry}
+use Rattle.change_undo.specs.Histories.{may_take_memory}
+use Rattle.host_api.specs.declared.refusals.Refusal.{Refusal}
+use Rattle.host_api.specs.declared.refusals.Refusal.TheVariants as reason
+use Rattle.host_server.specs.declared.host.entry_errors.EntryError.{EntryError}
+use Rattle.host_server.specs.declared.host.entry_errors.EntryError.TheVariants.{Refused, OutOfMemory, Device}
+use Rattle.host_server.specs.Journals.{Puts, PutsInPart}
+
+-- the error where a history answers so
+abbrev pub of_change_error : ChangeError → EntryError
+of_change_error (change.Refused why) = Refused why
+of_change_error change.OutOfMemory = OutOfMemory
+
+-- an error, as it is told
+abbrev pub told_error : EntryError → Refusal
+told_error (Refused why) = reason.Change why
+told_error OutOfMemory = reason.OutOfMemory
+told_error Device = reason.Device
+
+-- a command is refused exactly where there is a reason, and by that
+abbrev pub IsRefusedAs : {A : Type 0} → Option ChangeRefusal → Result A EntryError → Type 0
+IsRefusedAs why (Ok answer) = why ≡ None
+IsRefusedAs why (Err (Refused told)) = why ≡ Some told
+IsRefusedAs why (Err OutOfMemory) = why ≡ None
+IsRefusedAs why (Err Device) = why ≡ None
+
+-- the same of an undo, but for a clash that memory may be too short to name
+abbrev pub IsUndoRefusedAs : {A : Type 0} → Option ChangeRefusal → Result A EntryError → Type 0
+IsUndoRefusedAs why (Ok answer) = why ≡ None
+IsUndoRefusedAs why (Err (Refused told)) = why ≡ Some told
+IsUndoRefusedAs why (Err OutOfMemory) = may_take_memory why ≡ true
+IsUndoRefusedAs why (Err Device) = why ≡ None
+
+-- the entry was put into the journal, if there is one; or the device failed in that; or nothing was put
+abbrev pub IsEntered : {A D : Type 0} → (faults : D → ℕ) → Result A EntryError → Entry → Option (Keeps D) → Option (Keeps D) → Type 0
+IsEntered faults (Ok answer) entry old new = Puts faults old (entry ∷ []) new
+IsEntered faults (Err (Refused told)) entry old new = new ≡ old
+IsEntered faults (Err OutOfMemory) entry old new = new ≡ old
+IsEntered faults (Err Device) entry old new = PutsInPart faults old [] new

@@ -1,0 +1,78 @@
+-- What becomes of a journal where a host gets more entries.
+use Rattle.std.specs.Prelude.{◌≡◌, ◌⊎◌, ℕ, List, [], ◌∷◌, ◌++◌, Bool, true, false, Option, Some, None, Result, Err}
+use Rattle.change_journal.specs.Held.{Keeps}
+use Rattle.change_journal.specs.Settled.{TellsBreak}
+use Rattle.change_journal.specs.declared.records.PutFault.TheVariants as put_fault
+use Rattle.change_undo.specs.declared.entries.Entry.{Entry}
+use Rattle.host_api.specs.declared.refusals.Refusal.{Refusal}
+use Rattle.host_api.specs.declared.refusals.Refusal.TheVariants as reason
+use Rattle.host_server.specs.Hosts.{Host}
+
+-- ---- a journal and a host
+
+-- the entries of the journal; where there is none, these
+abbrev pub entries_in : {D : Type 0} → Option (Keeps D) → List Entry → List Entry
+entries_in None entries = entries
+entries_in (Some journal) entries = journal.entries
+
+-- the entries of the journal, if there is one, are these
+abbrev pub Agrees : {D : Type 0} → Option (Keeps D) → List Entry → Type 0
+Agrees journal entries = entries_in journal entries ≡ entries
+
+-- whether the device failed while an entry was put
+abbrev pub is_broken : {D : Type 0} → Option (Keeps D) → Bool
+is_broken None = false
+is_broken (Some journal) = journal.broken
+
+-- ---- puts
+
+-- an entry was put after the others
+pub record IsPut {D : Type 0} (faults : D → ℕ) (old : Keeps D) (entry : Entry) (new : Keeps D) : Type 0 where
+  pub was_whole : old.broken ≡ false
+  pub entries : new.entries ≡ old.entries ++ entry ∷ []
+  pub whole : new.broken ≡ false
+  pub cause : faults new.disk ≡ faults old.disk
+
+-- the device failed while an entry was put: it is none of the journal's, of which nothing more is put
+pub record IsPutInVain {D : Type 0} (faults : D → ℕ) (old new : Keeps D) : Type 0 where
+  pub was_whole : old.broken ≡ false
+  pub entries : new.entries ≡ old.entries
+  pub broken : new.broken ≡ true
+  pub cause : TellsBreak put_fault.Device (faults old.disk) (faults new.disk)
+
+-- these entries were put, one after another; where there is no journal, or no entry, nothing was
+abbrev pub Puts : {D : Type 0} → (faults : D → ℕ) → Option (Keeps D) → List Entry → Option (Keeps D) → Type 0
+Puts faults old [] new = new ≡ old
+Puts faults None (entry ∷ more) new = new ≡ None
+Puts {D = D} faults (Some old) (entry ∷ more) new = (mid : Keeps D) × IsPut faults old entry mid × Puts faults (Some mid) more new
+
+-- these were, and then the device failed while one more was put
+pub record PutsInPart {D : Type 0} (faults : D → ℕ) (old : Option (Keeps D)) (more : List Entry) (new : Option (Keeps D)) : Type 0 where
+  pub mid : Keeps D
+  pub put : Puts faults old more (Some mid)
+  pub last : Keeps D
+  pub in_vain : IsPutInVain faults mid last
+  pub is : new ≡ Some last
+
+-- ---- what a host's call does to its journal
+
+-- the entries that the host got were put
+pub record KeepsUp {D : Type 0} (faults : D → ℕ) (old : Host) (journal : Option (Keeps D)) (new : Host) (next : Option (Keeps D)) : Type 0 where
+  pub more : List Entry
+  pub longer : new.entries ≡ old.entries ++ more
+  pub put : Puts faults journal more next
+
+-- they were, and then the device failed while one more was put, which the host didn't get
+pub record BreaksOff {D : Type 0} (faults : D → ℕ) (old : Host) (journal : Option (Keeps D)) (new : Host) (next : Option (Keeps D)) : Type 0 where
+  pub more : List Entry
+  pub longer : new.entries ≡ old.entries ++ more
+  pub put : PutsInPart faults journal more next
+
+-- where a call of the host answers so, a failure of the device is that of its journal
+abbrev pub IsJournaled : {A D : Type 0} → (faults : D → ℕ) → Result A Refusal → Host → Option (Keeps D) → Host → Option (Keeps D) → Type 0
+IsJournaled faults (Err reason.Device) old journal new next = BreaksOff faults old journal new next
+IsJournaled faults result old journal new next = KeepsUp faults old journal new next
+
+-- there was no memory, or the device of the journal failed
+abbrev pub IsStopped : {A : Type 0} → Result A Refusal → Type 0
+IsStopped result = (result ≡ Err reason.OutOfMemory) ⊎ (result ≡ Err reason.Device)

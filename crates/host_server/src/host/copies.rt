@@ -1,0 +1,153 @@
+//! Histories with one entry more, beside the old one, and the journal that gets that entry.
+ghost use Rattle.std.specs.Prelude.{◌≡◌, ◌⊎◌, ◌++◌, ◌∷◌, [], None, Err, ℕ, IfOk, IfErr, OnOk, false, option_map};
+ghost use Rattle.host_names.specs.Blobs.{Contents};
+ghost use Rattle.host_names.specs.Refusals.{IsRefusedBy};
+ghost use Rattle.host_names.specs.declared.names.SiteName.{SiteName as Site};
+ghost use Rattle.host_names.specs.declared.refusals.ChangeRefusal.TheVariants as reason;
+ghost use Rattle.site_change.specs.declared.commands.Command.{Command as Change};
+ghost use Rattle.change_journal.specs.Spells.{IsInRange};
+ghost use Rattle.change_undo.specs.Clashes;
+ghost use Rattle.change_undo.specs.Histories;
+ghost use Rattle.change_undo.specs.Histories.{IsUndoRefusedBy};
+ghost use Rattle.change_undo.specs.Plans.{IsHistoryOver};
+ghost use Rattle.change_undo.specs.declared.entries.Entry.{Entry as Line};
+ghost use Rattle.change_undo.specs.declared.entries.Entry.TheVariants as entry;
+ghost use Rattle.host_server.specs.declared.host.entry_errors.EntryError.TheVariants.{Device, OutOfMemory};
+ghost use Rattle.host_server.specs.Journals.{IsPutInVain};
+
+use super::entry_errors::EntryError;
+use blob_store::Known;
+use change_journal::{Journal, prepare};
+use change_undo::{Entry, History};
+use host_disk::Disk;
+use host_names::{ChangeError, ChangeRefusal, SiteName};
+use site_change::{Command, decide};
+use std::alloc::Global;
+
+/// Why there is no copy of the history with this command as its next entry, where there was no memory for a copy: the
+/// first reason against the command, or else that.
+fn without_copy(alloc: Global, history: &History, uploads: &Known, command: &Command) -> ChangeError
+    requires { IsHistoryOver uploads.now history.now }
+    ensures { IsRefusedBy {A = ℕ} (Histories.commit_refusal uploads.now history.now.limit history.now.entries history.now.state command.now) (Err result) }
+{
+    if history.is_full() {
+        return ChangeError::Refused(ChangeRefusal::HistoryFull);
+    }
+    history.files_were_uploaded(uploads);
+    match decide(alloc, history.state(), uploads, history.len() + 1, command) {
+        Ok(_) => ChangeError::OutOfMemory,
+        Err(error) => error,
+    }
+}
+
+/// The clash of a change as a reason to refuse its undo, or that there is no memory: for an undo without a clash, or for the
+/// clash's path.
+fn without_copy_or_clash(history: &History, change: u64) -> ChangeError
+    ensures { (uploads : Contents) → IsHistoryOver uploads history.now
+        → IsUndoRefusedBy {A = ℕ} (option_map (λ later. reason.Clash later.0 later.1) (Clashes.clash uploads history.now.entries change)) (Err result) }
+{
+    let Some((change, cell)) = history.clash(change) else {
+        return ChangeError::OutOfMemory;
+    };
+    match cell.clone() {
+        Ok(cell) => ChangeError::Refused(ChangeRefusal::Clash { change, cell }),
+        Err(_) => ChangeError::OutOfMemory,
+    }
+}
+
+/// The same of the undo of a change of this site.
+fn without_copy_to_undo(history: &History, site: &SiteName, change: u64) -> ChangeError
+    ensures { (uploads : Contents) → IsHistoryOver uploads history.now
+        → IsUndoRefusedBy {A = ℕ} (Histories.undo_refusal uploads history.now.limit history.now.entries site.now change) (Err result) }
+{
+    if history.is_full() {
+        return ChangeError::Refused(ChangeRefusal::HistoryFull);
+    }
+    let Some((entry, is_undone)) = history.marked_entry(change) else {
+        return ChangeError::Refused(ChangeRefusal::NoSuchChange);
+    };
+    if entry.site() != site {
+        return ChangeError::Refused(ChangeRefusal::NoSuchChange);
+    }
+    match entry {
+        Entry::Undo { .. } => ChangeError::Refused(ChangeRefusal::NotAChange),
+        Entry::Change(_) if is_undone => ChangeError::Refused(ChangeRefusal::AlreadyUndone),
+        Entry::Change(_) => without_copy_or_clash(history, change),
+    }
+}
+
+/// What is accepted has a number from 1 to 1,000,000, and lists at most 10,000 paths. It does nothing.
+fn accepted_is_in_range(history: &History)
+    ensures commands { (uploads : Contents) (command : Change)
+        → Histories.commit_refusal uploads history.now.limit history.now.entries history.now.state command ≡ None → IsInRange (entry.Change command) }
+    ensures undos { (uploads : Contents) (site : Site) (change : ℕ)
+        → Histories.undo_refusal uploads history.now.limit history.now.entries site change ≡ None → IsInRange (entry.Undo site change) }
+{
+    let _ = history.len();
+    let _ = history.state();
+}
+
+/// A copy of the history with a command as its next entry.
+pub(super) fn with_change(
+    alloc: Global,
+    history: &History,
+    uploads: &Known,
+    command: Command,
+) -> Result<History, ChangeError>
+    requires { IsHistoryOver uploads.now history.now }
+    ensures refused { IsRefusedBy (Histories.commit_refusal uploads.now history.now.limit history.now.entries history.now.state command) result }
+    ensures entries { IfOk result (λ next. next.entries ≡ history.now.entries ++ entry.Change command ∷ []) }
+    ensures in_range { OnOk result (IsInRange (entry.Change command)) }
+    ensures over { IfOk result (λ next. IsHistoryOver uploads.now next) }
+    ensures limit { IfOk result (λ next. next.limit ≡ history.now.limit) }
+{
+    accepted_is_in_range(history);
+    let Ok(mut next) = history.copy() else {
+        return Err(without_copy(alloc, history, uploads, &command));
+    };
+    next.commit(uploads, command)?;
+    Ok(next)
+}
+
+/// A copy of the history with the undo of a change of this site as its next entry.
+pub(super) fn with_undo(
+    history: &History,
+    site: &SiteName,
+    change: u64,
+) -> Result<History, ChangeError>
+    ensures refused { (uploads : Contents) → IsHistoryOver uploads history.now
+        → IsUndoRefusedBy (Histories.undo_refusal uploads history.now.limit history.now.entries site.now change) result }
+    ensures entries { IfOk result (λ next. next.entries ≡ history.now.entries ++ entry.Undo site.now change ∷ []) }
+    ensures in_range { OnOk result ((uploads : Contents) → IsHistoryOver uploads history.now → IsInRange (entry.Undo site.now change)) }
+    ensures over { IfOk result (λ next. (uploads : Contents) → IsHistoryOver uploads history.now → IsHistoryOver uploads next) }
+    ensures limit { IfOk result (λ next. next.limit ≡ history.now.limit) }
+{
+    accepted_is_in_range(history);
+    let Ok(mut next) = history.copy() else {
+        return Err(without_copy_to_undo(history, site, change));
+    };
+    next.undo(site, change)?;
+    Ok(next)
+}
+
+/// Puts the last entry of a history into the journal, which has those before it.
+pub(super) fn put_last<D: Disk>(
+    alloc: Global,
+    journal: &mut Journal<D>,
+    next: &History,
+) -> Result<(), EntryError>
+    requires follows { (last : Line) × IsInRange last × (next.now.entries ≡ journal.old.entries ++ last ∷ []) }
+    requires whole { journal.old.broken ≡ false }
+    ensures entries { OnOk result (journal.new.entries ≡ next.now.entries) }
+    ensures whole { OnOk result (journal.new.broken ≡ false) }
+    ensures cause { OnOk result (D.faults journal.new.disk ≡ D.faults journal.old.disk) }
+    ensures error { IfErr result (λ error. ((error ≡ OutOfMemory) × (journal.new ≡ journal.old))
+        ⊎ ((error ≡ Device) × IsPutInVain D.faults journal.old journal.new)) }
+{
+    let entry = next.entry(next.len()).unwrap();
+    let prepared = prepare(alloc, entry)?;
+    match journal.put(prepared) {
+        Ok(()) => Ok(()),
+        Err(_) => Err(EntryError::Device),
+    }
+}
