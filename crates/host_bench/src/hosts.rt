@@ -77,7 +77,11 @@ pub(crate) fn open(
 }
 
 /// Keeps a deploy of one file, which is uploaded, and answers its number.
-pub(crate) fn keep(alloc: Global, server: &mut Server<MemShelf, MemDisk>, file: u64) -> Result<u64> {
+pub(crate) fn keep(
+    alloc: Global,
+    server: &mut Server<MemShelf, MemDisk>,
+    file: u64,
+) -> Result<u64> {
     let end = file.saturating_add(1);
     let deploy = open_listing(server, listing(alloc, false, file..end, Contents::Own)?)?;
     let mut planned = Vec::new(alloc);
@@ -124,7 +128,10 @@ pub(crate) fn plan(
 }
 
 /// Uploads each of these, in their order.
-pub(crate) fn upload_all(server: &mut Server<MemShelf, MemDisk>, uploads: Vec<Upload>) -> Result<()> {
+pub(crate) fn upload_all(
+    server: &mut Server<MemShelf, MemDisk>,
+    uploads: Vec<Upload>,
+) -> Result<()> {
     for upload in uploads {
         let Upload {
             deploy,
@@ -137,7 +144,11 @@ pub(crate) fn upload_all(server: &mut Server<MemShelf, MemDisk>, uploads: Vec<Up
 }
 
 /// Opens a deploy of these files, and uploads all of them.
-pub(crate) fn fill(alloc: Global, server: &mut Server<MemShelf, MemDisk>, files: Range<u64>) -> Result<()> {
+pub(crate) fn fill(
+    alloc: Global,
+    server: &mut Server<MemShelf, MemDisk>,
+    files: Range<u64>,
+) -> Result<()> {
     let deploy = open(alloc, server, files.start..files.end, Contents::Own)?;
     let mut planned = Vec::new(alloc);
     plan(alloc, &mut planned, deploy, files)?;
@@ -145,7 +156,11 @@ pub(crate) fn fill(alloc: Global, server: &mut Server<MemShelf, MemDisk>, files:
 }
 
 /// Makes the site serve so many files, all of one content, which is uploaded.
-pub(crate) fn serve(alloc: Global, server: &mut Server<MemShelf, MemDisk>, count: u64) -> Result<()> {
+pub(crate) fn serve(
+    alloc: Global,
+    server: &mut Server<MemShelf, MemDisk>,
+    count: u64,
+) -> Result<()> {
     fill(alloc, server, 0..1)?;
     for first in (0..count).step_by(MOST_FILES) {
         let end = count.min(first.saturating_add(MOST_FILES as u64));
@@ -155,7 +170,11 @@ pub(crate) fn serve(alloc: Global, server: &mut Server<MemShelf, MemDisk>, count
 }
 
 /// Renames the first file of the site, or renames it back.
-pub(crate) fn rename(alloc: Global, server: &mut Server<MemShelf, MemDisk>, back: bool) -> Result<()> {
+pub(crate) fn rename(
+    alloc: Global,
+    server: &mut Server<MemShelf, MemDisk>,
+    back: bool,
+) -> Result<()> {
     let here = path(alloc, 0)?;
     let there = FilePath::read(alloc, "/renamed")?;
     let (source, target) = if back { (there, here) } else { (here, there) };

@@ -131,7 +131,11 @@ fn ranges(rt: &HostRuntime, of_each: u64) -> Result<u128> {
 }
 
 /// The time of so many renamings.
-fn time_renamings(rt: &HostRuntime, server: &mut Server<MemShelf, MemDisk>, times: u64) -> Result<Duration> {
+fn time_renamings(
+    rt: &HostRuntime,
+    server: &mut Server<MemShelf, MemDisk>,
+    times: u64,
+) -> Result<Duration> {
     let begun = Instant::now(rt)?;
     for turn in 0..times {
         rename(rt.alloc(), server, turn % 2 == 1)?;
@@ -165,7 +169,11 @@ fn copies(rt: &HostRuntime, entries: u64) -> Result<u128> {
 }
 
 /// Opens deploys of so many files each, and gives the uploads to them but for the last of each, which would publish it.
-fn plan_all(alloc: Global, server: &mut Server<MemShelf, MemDisk>, files: u64) -> Result<Vec<Upload>> {
+fn plan_all(
+    alloc: Global,
+    server: &mut Server<MemShelf, MemDisk>,
+    files: u64,
+) -> Result<Vec<Upload>> {
     let mut planned = Vec::new(alloc);
     for first in (0..FILES).step_by(files.max(1) as usize) {
         let end = first.saturating_add(files);

@@ -1,6 +1,5 @@
 //! Reads and writes that fail at each place of a run.
 
-use host_disk::MemDisk;
 use super::asserts::{assert_number, assert_text};
 use super::fakes::{Narrow, Trickle};
 use super::talks::{
@@ -8,6 +7,7 @@ use super::talks::{
     joined, new_server,
 };
 use blob_store::MemShelf;
+use host_disk::MemDisk;
 use host_server::{ConnectionFault, Server, serve_connection};
 use http_wire::{Pair, Reading, Source, Writing};
 use std::alloc::Global;

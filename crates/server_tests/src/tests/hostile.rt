@@ -1,9 +1,9 @@
 //! A server whose shelf does one call wrong, for each call of a run over a connection.
 
-use host_disk::MemDisk;
 use super::talks::{assert_serves, joined};
 use blob_store::MemShelf;
 use change_undo::GREATEST_LIMIT;
+use host_disk::MemDisk;
 use host_server::Server;
 use std::alloc::{AllocError, Global};
 use std::process::Abort;

@@ -27,12 +27,7 @@ fn new_server(alloc: Global, room: usize) -> Result<Server<MemShelf, MemDisk>, F
     if log.len() > 0 {
         return Err(Fail::from("a new disk has entries"));
     }
-    Ok(Server::with_journal(
-        alloc,
-        MemShelf::new(alloc),
-        GREATEST_LIMIT,
-        journal,
-    ))
+    Ok(Server::with_journal(alloc, MemShelf::new(alloc), GREATEST_LIMIT, journal))
 }
 
 /// The words of these entries, each with the number that it names, if it is an undo.

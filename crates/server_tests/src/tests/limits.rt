@@ -1,12 +1,12 @@
 //! Histories that are full, and long ones.
 
-use host_disk::MemDisk;
 use super::asserts::{assert_number, assert_text};
 use super::talks::{
     ONE, OPEN, OPENED, READ, SENT, UPLOAD, assert_answers, assert_ended, assert_has, entries,
     joined, new_server,
 };
 use blob_store::MemShelf;
+use host_disk::MemDisk;
 use host_names::FilePath;
 use host_server::{Server, serve_connection};
 use http::StatusCode;

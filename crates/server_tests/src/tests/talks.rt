@@ -1,10 +1,10 @@
 //! Requests to a host, the replies that they want, and what the host has then.
 
-use host_disk::MemDisk;
 use super::asserts::assert_text;
 use blob_store::{MemShelf, Shelf};
 use change_undo::GREATEST_LIMIT;
 use host_api::{Told, text};
+use host_disk::MemDisk;
 use host_names::{Digest, SiteName};
 use host_server::{ConnectionFault, Server, list_changes, serve_connection};
 use http_wire::{Pair, Source, Writing};
