@@ -1,5 +1,5 @@
 //! A host with a journal on a disk in memory.
-ghost use Rattle.std.specs.Prelude.{◌≡◌};
+ghost use Rattle.std.specs.Prelude.{◌≡◌, IfOk, length};
 
 use super::asserts::assert_text;
 use super::talks::{ONE, OPEN, OPENED, REPLIES, UPLOAD, assert_answers, entries};
@@ -14,7 +14,9 @@ use std::process::Abort;
 use std::test::Fail;
 
 /// The journal of a disk, and its entries.
-fn opened(alloc: Global, disk: MemDisk) -> Result<(Journal<MemDisk>, Log), Fail> {
+fn opened(alloc: Global, disk: MemDisk) -> Result<(Journal<MemDisk>, Log), Fail>
+    ensures { IfOk result (λ answer. length answer.0.entries ≡ length answer.1) }
+{
     match Journal::open(alloc, disk) {
         Ok(answer) => Ok(answer),
         Err(_) => Err(Fail::from("the journal isn't opened")),
