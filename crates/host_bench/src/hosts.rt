@@ -132,12 +132,12 @@ pub(crate) fn upload_all(
     server: &mut Server<MemShelf, MemDisk>,
     uploads: Vec<Upload>,
 ) -> Result<()> {
-    for upload in uploads {
+    for planned in uploads {
         let Upload {
             deploy,
             path,
             bytes,
-        } = upload;
+        } = planned;
         let _ = upload(server, deploy, &path, bytes)?;
     }
     Ok(())
