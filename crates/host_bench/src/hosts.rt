@@ -41,7 +41,7 @@ fn change(server: &mut Server<MemShelf, MemDisk>, command: Command) -> Result<To
 }
 
 /// Uploads the bytes as the file at a path of a deploy.
-fn upload(
+fn upload_one(
     server: &mut Server<MemShelf, MemDisk>,
     deploy: u64,
     path: &FilePath,
@@ -98,7 +98,7 @@ pub(crate) fn serve_file(
 ) -> Result<()> {
     let listing = one_file(alloc, Digest::of_bytes(bytes.as_slice()))?;
     let deploy = open_listing(server, listing)?;
-    let _ = upload(server, deploy, &path(alloc, 0)?, bytes)?;
+    let _ = upload_one(server, deploy, &path(alloc, 0)?, bytes)?;
     Ok(())
 }
 
@@ -138,7 +138,7 @@ pub(crate) fn upload_all(
             path,
             bytes,
         } = planned;
-        let _ = upload(server, deploy, &path, bytes)?;
+        let _ = upload_one(server, deploy, &path, bytes)?;
     }
     Ok(())
 }
