@@ -172,9 +172,9 @@ def content_length(head):
 class Client:
     """One that sends bytes to a program of its own and waits for its replies; what takes too long ends the program."""
 
-    def __init__(self, test):
+    def __init__(self, test, **how):
         pipes = dict.fromkeys(("stdin", "stdout", "stderr"), subprocess.PIPE)
-        self.program = subprocess.Popen([PROGRAM, "solo"], bufsize=0, **pipes)
+        self.program = subprocess.Popen([PROGRAM, *test.words], bufsize=0, **pipes, **how)
         self.watch = threading.Timer(PATIENCE, self.program.kill)
         self.watch.start()
         test.addCleanup(self.leave)
@@ -209,17 +209,20 @@ class Client:
 
 
 class Program(unittest.TestCase):
+    # what the program is called with, where a test doesn't say it
+    words = ("solo",)
+
     def setUp(self):
         self.assertTrue(PROGRAM.is_file(), "there is no program to test: ./filehost builds it")
 
     def assert_answers(self, given, wanted, message=None):
         """It answers these requests with exactly these replies, and ends well."""
-        self.assertEqual(run("solo", given=given), (0, wanted, b""), message)
+        self.assertEqual(run(*self.words, given=given), (0, wanted, b""), message)
 
     def assert_converses(self, exchanges, unread=b""):
         """It answers the request of each exchange with the reply beside it, nothing after them, and ends well."""
         given = b"".join(asked for asked, _ in exchanges)
-        status, out, errors = run("solo", given=given + unread)
+        status, out, errors = run(*self.words, given=given + unread)
         place = 0
         for number, (asked, wanted) in enumerate(exchanges, 1):
             got = out[place:place + len(wanted)]

@@ -65,7 +65,9 @@ def is_right(replies):
     return replies[place + 1:] in TAILS[place]
 
 
-class RefusedAllocations(Program):
+class Refusing(Program):
+    """Runs of the program with one of its allocations refused."""
+
     def setUp(self):
         super().setUp()
         folder = tempfile.TemporaryDirectory()
@@ -79,9 +81,11 @@ class RefusedAllocations(Program):
         told_in = self.folder / "allocations"
         told_in.unlink(missing_ok=True)
         names = {"LD_PRELOAD": str(self.library), "REFUSED_PLACE": str(place), "ALLOCATIONS_FILE": str(told_in)}
-        ran = subprocess.run([PROGRAM, "solo"], input=given, capture_output=True, timeout=SECONDS, env=os.environ | names)
+        ran = subprocess.run([PROGRAM, *self.words], input=given, capture_output=True, timeout=SECONDS, env=os.environ | names)
         return (ran.returncode, ran.stdout, ran.stderr), int(told_in.read_text())
 
+
+class RefusedAllocations(Refusing):
     def test_give_no_wrong_answer_at_any_place_of_the_first_run(self):
         whole, count = self.run_refusing(0)
         self.assertEqual(whole, (0, b"".join([OPENED, UPLOADED, PART, UNDONE, GONE]), b""))

@@ -1,14 +1,17 @@
 //! The words of the program's command line.
 #![tactic(auto)]
 
-ghost use Rattle.std.specs.Prelude.{◌≡◌, ◌≢◌, [], IfOk, map};
+mod laws;
+
+ghost use Rattle.std.specs.Prelude.{◌≡◌, ◌≢◌, [], IfOk, codes, map, option_map};
 ghost use Rattle.std.specs.String.{string_bytes};
-ghost use Rattle.clap.specs.Words.{app_of, kind_of};
+ghost use Rattle.clap.specs.Words.{app_of, first_of, found_of, kind_of, rows_of};
 ghost use Rattle.command_line.specs.CommandLine.{HasText, Reads, filehost};
 ghost use Rattle.command_line.specs.declared.Refusal.TheVariants.{OutOfMemory};
 
 use clap::error::ErrorKind;
-use clap::{Command, Error};
+use clap::{Arg, ArgAction, ArgMatches, Command, Error};
+pub use laws::solo_takes_one_folder;
 use std::alloc::{AllocError, Global};
 use std::convert::AsStr;
 
@@ -32,18 +35,30 @@ Documents, in the repository:
 const ABOUT_SOLO: &str =
     "Serves one connection: HTTP/1.1 requests on standard input, replies on standard output";
 
-const MORE_ON_SOLO: &str = "The host is empty at first, and what it holds ends with the connection.
+const ABOUT_STORE: &str =
+    "The folder in which the host is kept. It has to be there, and to be the program's own";
+
+const MORE_ON_SOLO: &str =
+    "Without --store the host is empty at first, and what it holds ends with the connection.
+
+With it the host is what it was when it was last served from DIR, and empty where DIR has nothing
+of it yet. Let nothing else write into DIR: files there of the program's own names are read and
+written over.
 
 Exit status: 0 where the input has ended or a reply has closed the connection, 1 for arguments
-that are not taken, 2 where input, output or memory failed.";
+that are not taken, 2 where input, output or memory failed, 3 where the journal in DIR can't be
+opened, 4 where a file in DIR is missing or damaged, or can't be read.";
 
 const NOT_TAKEN: &str = "filehost: these arguments are not taken\n";
 
 /// What the command line asks for.
-#[derive(Clone, Copy, Debug, PartialEq, Eq)]
+#[derive(Debug, Drop, PartialEq, Eq)]
 pub enum Wanted {
     /// Serve one connection on standard input and standard output.
-    Solo,
+    Solo {
+        /// The folder in which the host is kept, if it is kept in one.
+        store: Option<String>,
+    },
 }
 
 /// Why the command line asks for nothing that the program does.
@@ -74,8 +89,23 @@ pub fn read<S: AsStr>(alloc: Global, words: &[S]) -> Result<Wanted, Refusal>
 {
     let command = commands(alloc)?;
     match command.try_get_matches_from(words) {
-        Ok(_) => Ok(Wanted::Solo),
+        Ok(matches) => match matches.subcommand_matches("solo") {
+            Some(solo) => Ok(Wanted::Solo {
+                store: store_in(alloc, solo)?,
+            }),
+            None => Err(Refusal::Shown(String::from_str(alloc, NOT_TAKEN)?)),
+        },
         Err(error) => Err(make_refusal(alloc, &error)),
+    }
+}
+
+/// The folder that is given to a command.
+fn store_in(alloc: Global, given: &ArgMatches) -> Result<Option<String>, AllocError>
+    ensures { IfOk result (λ store. option_map string_bytes store ≡ first_of (codes "store") (rows_of (found_of given.now))) }
+{
+    match given.get_str("store") {
+        Some(folder) => Ok(Some(String::from_str(alloc, folder)?)),
+        None => Ok(None),
     }
 }
 
@@ -108,9 +138,15 @@ fn text_of(alloc: Global, error: &Error) -> Result<String, AllocError>
 fn commands<'a>(alloc: Global) -> Result<Command<'a>, AllocError>
     ensures { IfOk result (λ command. app_of command ≡ filehost) }
 {
+    let store = Arg::new(alloc, "store")
+        .long("store")
+        .value_name("DIR")
+        .help(ABOUT_STORE)
+        .action(ArgAction::Set);
     let solo = Command::new(alloc, "solo")
         .about(ABOUT_SOLO)
-        .after_help(MORE_ON_SOLO);
+        .after_help(MORE_ON_SOLO)
+        .arg(store)?;
     Command::new(alloc, "filehost")
         .bin_name("filehost")?
         .no_binary_name(true)

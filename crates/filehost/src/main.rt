@@ -35,7 +35,7 @@ fn run(rt: &HostRuntime, words: &[String]) -> u8 {
         sink: Writing(rt.stdout()),
     };
     let mut errors = Writing(rt.stderr());
-    run_solo(rt.alloc(), words, &mut duplex, &mut errors)
+    run_solo(rt, rt.alloc(), words, &mut duplex, &mut errors)
 }
 
 /// Says why the words can't be read, as far as anyone listens, and answers the exit status.

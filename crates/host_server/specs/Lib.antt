@@ -20,6 +20,8 @@ pub mod Asks
 pub mod ReadBack
 pub mod Serving
 pub mod Timing
+pub mod Openings
+pub mod OpeningLines
 pub mod Solo
 -- what the values and the calls of the code mean: `answer_of` and `Grows` for callers, the others for private functions
 pub mod Bodies

@@ -1,21 +1,27 @@
--- What a run of the program does: one connection to an empty server, where its words ask for that. Where its status isn't 0, it
--- says why.
-use Rattle.std.specs.Prelude.{◌≡◌, ◌≢◌, ◌⊎◌, ℕ, List, [], None, Result, Ok, Err, codes}
+-- What a run of the program does: one connection, to an empty server or to the one that a store keeps, where its words ask for that. Where
+-- its status isn't 0, it says why.
+use Rattle.std.specs.Prelude.{◌≡◌, ◌≢◌, ◌⊎◌, ℕ, List, [], Option, Some, None, Result, Ok, Err, codes}
 use Rattle.std.specs.FinMap as map
 use Rattle.std.specs.Io.KnownBytes.{Appends}
 use Rattle.command_line.specs.CommandLine.{AskForSolo}
 use Rattle.http_wire.specs.Sending.{AppendsFront}
-use Rattle.host_server.specs.declared.connections.ConnectionFault.{ConnectionFault}
-use Rattle.host_server.specs.declared.connections.ConnectionFault.TheVariants as fault
+use Rattle.blob_store.specs.Calls.{Call}
 use Rattle.blob_store.specs.Shelves.{Does, found_in}
 use Rattle.blob_store.specs.declared.mem_shelf.MemShelf.{MemShelf}
+use Rattle.blob_store.specs.declared.shelves.Shelf as shelves
 use Rattle.blob_store.specs.declared.shelves.ShelfName.{ShelfName}
 use Rattle.host_disk.specs.declared.disks.Disk.{Ghosts}
 use Rattle.host_disk.specs.declared.mem_disk.MemDisk.{MemDisk}
 use Rattle.host_server.specs.Asks.{IsAnswer}
 use Rattle.host_server.specs.Hosts.{Host}
+use Rattle.host_server.specs.OpeningLines.{opening_line, opening_status}
+use Rattle.host_server.specs.Openings.{IsOpened, IsOpenFault}
+use Rattle.host_server.specs.Serving.{Answering, Stream, Serves}
+use Rattle.host_server.specs.declared.connections.ConnectionFault.{ConnectionFault}
+use Rattle.host_server.specs.declared.connections.ConnectionFault.TheVariants as fault
+use Rattle.host_server.specs.declared.openings.OpenFault.{OpenFault}
+use Rattle.host_server.specs.declared.openings.OpenFault.TheVariants as open_fault
 use Rattle.host_server.specs.declared.servers.Server.{Server}
-use Rattle.host_server.specs.Serving.{Stream, Serves}
 
 -- a host without entries and uploads, which may have as many entries as any
 abbrev pub empty_host : Host
@@ -47,12 +53,16 @@ abbrev pub SaysEnd : (says_fail : Type 0) → Result (Unit {0}) ConnectionFault 
 SaysEnd says_fail (Ok done) said new_said = new_said ≡ said
 SaysEnd says_fail (Err fault) said new_said = IsSaid says_fail (fault_line fault) said new_said
 
--- ---- what is done
+-- it is said why a store can't be opened, also by the status
+abbrev pub SaysFault : (says_fail : Type 0) → OpenFault → ℕ → (said new_said : Stream) → Type 0
+SaysFault says_fail why status said new_said = (status ≡ opening_status why) × IsSaid says_fail (opening_line why) said new_said
+
+-- ---- what isn't served
 
 -- the words ask for nothing that the program does, and some text is said
 abbrev pub IsRefused : (says_fail : Type 0) → List (List ℕ) → ℕ → (said new_said : Stream) → Type 0
 IsRefused says_fail words status said new_said =
-    (¬ (AskForSolo words)) × (status ≡ 1) × ((text : List ℕ) × (text ≢ []) × IsSaid says_fail text said new_said)
+    ((store : Option (List ℕ)) → ¬ (AskForSolo words store)) × (status ≡ 1) × ((text : List ℕ) × (text ≢ []) × IsSaid says_fail text said new_said)
 
 -- memory ran out while the words were read, and that is said
 abbrev pub IsNotRead : (says_fail : Type 0) → ℕ → (said new_said : Stream) → Type 0
@@ -62,27 +72,69 @@ IsNotRead says_fail status said new_said = (status ≡ 2) × IsSaid says_fail me
 abbrev pub IsNotServed : (says_fail : Type 0) → List (List ℕ) → ℕ → (said new_said : Stream) → Type 0
 IsNotServed says_fail words status said new_said = IsRefused says_fail words status said new_said ⊎ IsNotRead says_fail status said new_said
 
+-- ---- what is served
+
+-- a connection to this server is served, and the status says how it ended
+pub record IsServed {H : Type 0} (answers : Answering H) (read_fails write_fails says_fail : Type 0) (start : H) (status : ℕ) (stream held new_held said new_said : Stream)
+    : Type 0 where
+  pub ended : Result (Unit {0}) ConnectionFault
+  pub says : status ≡ status_of ended
+  pub next : H
+  pub serves : Serves answers read_fails write_fails ended start next stream held new_held
+  pub end_said : SaysEnd says_fail ended said new_said
+
 -- a server without entries, files and a journal, whose shelf is in memory
 pub record IsEmpty {disk : Ghosts MemDisk} (server : Server MemShelf MemDisk disk) : Type 0 where
   pub host : server.house ≡ empty_host
   pub journal : server.journal ≡ None
   pub shelf : (name : ShelfName) → found_in server.files.shelf name ≡ None
 
--- the words ask for a connection to such a server, and the status says how it ended
-pub record IsServed (disk : Ghosts MemDisk) (read_fails write_fails says_fail : Type 0) (words : List (List ℕ)) (status : ℕ) (stream held new_held said new_said : Stream)
-    : Type 0 where
-  pub asked : AskForSolo words
-  pub ended : Result (Unit {0}) ConnectionFault
-  pub says : status ≡ status_of ended
-  pub start : Server MemShelf MemDisk disk
-  pub empty : IsEmpty start
-  pub next : Server MemShelf MemDisk disk
-  pub serves : Serves (IsAnswer Does (λ shelf. 0) disk.faults) read_fails write_fails ended start next stream held new_held
-  pub end_said : SaysEnd says_fail ended said new_said
+-- a connection to such a server is served
+abbrev pub IsEmptyServed : (disk : Ghosts MemDisk) → (read_fails write_fails says_fail : Type 0) → ℕ → (stream held new_held said new_said : Stream) → Type 0
+IsEmptyServed disk read_fails write_fails says_fail status stream held new_held said new_said =
+    (start : Server MemShelf MemDisk disk) × IsEmpty start
+    × IsServed (IsAnswer Does (λ shelf. 0) disk.faults) read_fails write_fails says_fail start status stream held new_held said new_said
 
--- A run: no connection is served, and nothing is answered; or one is. So the status is 1 exactly where the words ask for nothing
--- that the program does, unless memory ran out while they were read; this and a fault of the connection are 2.
-abbrev pub Runs : (disk : Ghosts MemDisk) → (read_fails write_fails says_fail : Type 0) → List (List ℕ) → ℕ → (stream held new_held said new_said : Stream) → Type 0
-Runs disk read_fails write_fails says_fail words status stream held new_held said new_said =
+-- A run over the store of a disk and a shelf: a server is opened of them, and a connection to it is served; or none can be, and that
+-- is said, and nothing is answered.
+abbrev pub RunsStore : {S D : Type 0} → (disk : Ghosts D) → (did : S → Call → S → Type 0) → (failures : S → ℕ) → (read_fails write_fails says_fail : Type 0)
+    → (old : D) → (shelf : S) → ℕ → (stream held new_held said new_said : Stream) → Type 0
+RunsStore {S = S} {D = D} disk did failures read_fails write_fails says_fail old shelf status stream held new_held said new_said =
+    ((start : Server S D disk) × IsOpened did old shelf 1000000 start
+    × IsServed (IsAnswer did failures disk.faults) read_fails write_fails says_fail start status stream held new_held said new_said)
+    ⊎ ((why : OpenFault) × (new : D) × (new_shelf : S) × IsOpenFault disk did old shelf 1000000 why new new_shelf
+    × SaysFault says_fail why status said new_said × (new_held ≡ held))
+
+-- why there is no disk or shelf in a folder: the journal's file can't be opened, or memory ran out
+abbrev pub IsFolderFault : OpenFault → Type 0
+IsFolderFault open_fault.JournalDevice = Unit {0}
+IsFolderFault open_fault.OutOfMemory = Unit {0}
+IsFolderFault why = ⊥
+
+-- A run over the store in a folder, which has a name: over the disk and the shelf there; or there is none, and that is said.
+abbrev pub RunsFolder : {S D : Type 0} → (disk : Ghosts D) → (shelf : shelves.Ghosts S) → (read_fails write_fails says_fail : Type 0)
+    → (folder : List ℕ) → ℕ → (stream held new_held said new_said : Stream) → Type 0
+RunsFolder {S = S} {D = D} disk shelf read_fails write_fails says_fail folder status stream held new_held said new_said =
+    ((folder ≢ []) × ((old : D) × (there : S)
+    × RunsStore disk shelf.did shelf.failures read_fails write_fails says_fail old there status stream held new_held said new_said))
+    ⊎ ((why : OpenFault) × IsFolderFault why × SaysFault says_fail why status said new_said × (new_held ≡ held))
+
+-- ---- the whole
+
+-- what is served, by whether the words name a folder
+abbrev pub RunsOver : {S D : Type 0} → Ghosts MemDisk → (disk : Ghosts D) → (shelf : shelves.Ghosts S) → (read_fails write_fails says_fail : Type 0)
+    → Option (List ℕ) → ℕ → (stream held new_held said new_said : Stream) → Type 0
+RunsOver in_memory disk shelf read_fails write_fails says_fail None status stream held new_held said new_said =
+    IsEmptyServed in_memory read_fails write_fails says_fail status stream held new_held said new_said
+RunsOver in_memory disk shelf read_fails write_fails says_fail (Some folder) status stream held new_held said new_said =
+    RunsFolder disk shelf read_fails write_fails says_fail folder status stream held new_held said new_said
+
+-- A run: no connection is served, and nothing is answered; or the words ask for one. So the status is 1 exactly where the words ask for
+-- nothing that the program does, unless memory ran out while they were read; this and a fault of the connection are 2, and a store that
+-- can't be opened has a status of its own.
+abbrev pub Runs : {S D : Type 0} → Ghosts MemDisk → (disk : Ghosts D) → (shelf : shelves.Ghosts S) → (read_fails write_fails says_fail : Type 0)
+    → List (List ℕ) → ℕ → (stream held new_held said new_said : Stream) → Type 0
+Runs in_memory disk shelf read_fails write_fails says_fail words status stream held new_held said new_said =
     (IsNotServed says_fail words status said new_said × (new_held ≡ held))
-    ⊎ IsServed disk read_fails write_fails says_fail words status stream held new_held said new_said
+    ⊎ ((store : Option (List ℕ)) × AskForSolo words store
+    × RunsOver in_memory disk shelf read_fails write_fails says_fail store status stream held new_held said new_said)

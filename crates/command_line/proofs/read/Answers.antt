@@ -1,26 +1,24 @@
-use Rattle.std.proofs.Common.{◌≡◌, ◌∙◌, List, Err, ap, map, sym}
-use Rattle.clap.specs.Words.{Text, fault_of, is_simple_and_free, takes}
-use Rattle.command_line.specs.CommandLine.{AskForSolo, HasText, Reads}
-use Rattle.command_line.specs.declared.Refusal.{Refusal}
-use Rattle.command_line.specs.declared.Refusal.TheVariants.{Shown, OutOfMemory}
-use Rattle.command_line.proofs.Asking.{is_exact, solo_taken}
-use Rattle.command_line.proofs.Refusing.{only_solo}
+use Rattle.std.proofs.Common.{◌≡◌, ◌∙◌, [], ap, map, refl, subst, sym}
+use Rattle.clap.specs.Kinds.{HasKind}
+use Rattle.clap.specs.Words.{App, HasMatchesOf, fault_of, found_of, is_simple_and_free, rows_of}
+use Rattle.command_line.specs.CommandLine.{filehost}
+use Rattle.command_line.proofs.Asking.{is_exact}
+use Rattle.command_line.proofs.Reading.{asks, only_memory, refused}
 use Rattle.command_line.proofs.read.Goals as goal
 
-refused : (words : List Text) (refusal : Refusal) → (AskForSolo words → refusal ≡ OutOfMemory) → HasText refusal → Reads words (Err refusal)
-refused words (Shown text) memory told = ((λ asks. let other : Shown text ≡ OutOfMemory = memory asks in cc), told)
-refused words OutOfMemory memory told = tt
-
-pub returns-in-Ok : goal.returns-in-Ok
-returns-in-Ok g c =
+pub returns-in-Some : goal.returns-in-Some
+returns-in-Some g c =
     let known = c.in_ok-command.ensures in
     let words = map g.S.AsStr.text c.args.words.now in
-    only_solo words (ap (λ a. fault_of a words) (sym known) ∙ c.in-Ok.ensures.kinds (ap is_simple_and_free known ∙ is_exact))
+    let m = c.in-Ok.matches in
+    let none : fault_of filehost words ≡ [] = ap (λ (a : App). fault_of a words) (sym known) ∙ c.in-Ok.ensures.kinds (ap is_simple_and_free known ∙ is_exact) in
+    let matches : HasMatchesOf filehost words m = subst (λ (a : App). HasMatchesOf a words m) known c.in-Ok.ensures.matches in
+    asks words m (rows_of (found_of c.in-Some.solo.now)) _ none matches (c.in-Some.ensures.found.0 refl) c.in-Some.ensures.rows c.in_ok-store_in-in-Some.ensures
 
 pub returns : goal.returns
 returns g c =
     let known = c.in_ok-command.ensures in
     let words = map g.S.AsStr.text c.args.words.now in
-    refused words c.make_refusal.result
-    (λ asks. c.make_refusal.ensures.memory (c.in-Err.ensures.passes (ap (λ a. takes a words) known ∙ solo_taken words asks)))
-    c.make_refusal.ensures.told
+    let kinds : HasKind (fault_of filehost words) c.in-Err.error =
+    subst (λ (a : App). HasKind (fault_of a words) c.in-Err.error) known (c.in-Err.ensures.kinds (ap is_simple_and_free known ∙ is_exact)) in
+    refused words c.make_refusal.result (λ store asked. c.make_refusal.ensures.memory (only_memory words c.in-Err.error kinds asked.0)) c.make_refusal.ensures.told

@@ -6,7 +6,8 @@ ghost use Rattle.host_names.specs.Refusals.{IsRefusedBy};
 ghost use Rattle.change_undo.specs.Histories.{IsUndoRefusedBy, run, entry_at, marked_entry};
 ghost use Rattle.change_undo.specs.declared.entries.Entry.TheVariants as entry;
 ghost use Rattle.host_server.specs.Entries.{IsEntered, IsRefusedAs, IsUndoRefusedAs};
-ghost use Rattle.host_server.specs.Hosts.{Grows, Host, state_of, next_number, with_entry, with_upload, IsLawful};
+ghost use Rattle.change_undo.specs.Plans.{IsHistoryOver};
+ghost use Rattle.host_server.specs.Hosts.{Grows, Host, host_of, state_of, next_number, with_entry, with_upload, IsLawful};
 ghost use Rattle.host_server.specs.Journals.{Agrees, is_broken};
 ghost use Rattle.host_server.specs.Outcomes;
 ghost use Rattle.host_server.specs.Reasons;
@@ -64,6 +65,19 @@ impl SoloHouse {
             alloc,
             history: History::new(alloc, limit),
             uploads: Known::new(alloc),
+            readiness: Readiness::new(alloc),
+        }
+    }
+
+    /// The host of a history, which is what it is over these uploads.
+    pub(crate) fn of(alloc: Global, history: History, uploads: Known) -> SoloHouse
+        requires over { IsHistoryOver uploads history }
+        ensures { result ≡ host_of history uploads }
+    {
+        SoloHouse {
+            alloc,
+            history,
+            uploads,
             readiness: Readiness::new(alloc),
         }
     }

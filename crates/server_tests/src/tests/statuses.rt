@@ -23,7 +23,7 @@ fn assert_says<S: Source + Drop>(
         source,
         sink: Writing(out),
     };
-    let status = run_solo(alloc, ["solo"].as_slice(), &mut duplex, &mut errors);
+    let status = run_solo(&rt, alloc, ["solo"].as_slice(), &mut duplex, &mut errors);
     assert_number(rt, usize::from(status), wanted.0);
     assert_text(rt, errors.0.as_slice(), wanted.1);
     assert_text(rt, duplex.sink.0.held.as_slice(), held);
@@ -67,7 +67,7 @@ fn keeps_the_status_where_nobody_listens(rt: HostRuntime) -> Result<(), Fail> {
         sink: Writing(Narrow::new(alloc, 1, NEVER, true)),
     };
     let mut errors = Writing(Narrow::new(alloc, 1, 3, true));
-    let status = run_solo(alloc, ["solo"].as_slice(), &mut duplex, &mut errors);
+    let status = run_solo(&rt, alloc, ["solo"].as_slice(), &mut duplex, &mut errors);
     assert_number(&rt, usize::from(status), 2);
     assert_text(&rt, errors.0.held.as_slice(), "fil");
     Ok(())

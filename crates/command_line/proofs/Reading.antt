@@ -1,0 +1,50 @@
+-- What a parse that ends well, or doesn't, says of the words.
+use Rattle.std.proofs.Common.{◌≡◌, ◌∙◌, List, [], Option, Some, None, Err, ap, codes, inl, inr, refl, option_map, subst, sym}
+use Rattle.std.specs.Prelude.{Box}
+use Rattle.std.specs.Box.{box_value}
+use Rattle.clap.specs.Kinds.{HasKind, IsAmong}
+use Rattle.clap.specs.Words.{HasMatchesOf, Row, Text, fault_of, first_of, kind_of, subcommand_name_of, subcommand_rows, subcommand_rows_of}
+use Rattle.clap.specs.declared.error.Error.{Error}
+use Rattle.clap.specs.declared.error.kind.ErrorKind.TheVariants as kind
+use Rattle.clap.specs.declared.parser.matches.ArgMatches.{ArgMatches}
+use Rattle.clap.specs.declared.parser.matches.ArgMatches.TheViews.{out-ArgMatches, out-SubCommand}
+use Rattle.clap.specs.declared.parser.matches.SubCommand.{SubCommand}
+use Rattle.command_line.specs.CommandLine.{AskForSolo, HasText, Reads, filehost}
+use Rattle.command_line.proofs.Asking.{is_plain}
+use Rattle.command_line.specs.declared.Refusal.{Refusal}
+use Rattle.command_line.specs.declared.Refusal.TheVariants.{Shown, OutOfMemory}
+
+-- the name of the command is that with its rows
+pub named : (m : ArgMatches) → option_map (λ (p : Text × List Row). p.0) (subcommand_rows_of m) ≡ subcommand_name_of m
+named m = go (out-ArgMatches m).subcommand
+  where
+    go : {Z : Type 0} (o : Option (Box SubCommand Z)) → option_map (λ (p : Text × List Row). p.0) (subcommand_rows o) ≡ option_map (λ b. (out-SubCommand (box_value b)).name.now) o
+    go None = refl
+    go (Some b) = refl
+
+-- a command of that name with these rows
+pub has_name : (o : Option (Text × List Row)) (name : Text) (rows : List Row) → option_map (λ (p : Text × List Row). p.0) o ≡ Some name → option_map (λ (p : Text × List Row). p.1) o ≡ Some rows
+    → o ≡ Some (name, rows)
+has_name None name rows n r = cc n
+has_name (Some p) name rows n r = let first : p.0 ≡ name = cc n in let second : p.1 ≡ rows = cc r in λ i. Some (first i, second i)
+
+pub refused : (words : List Text) (refusal : Refusal) → ((store : Option Text) → AskForSolo words store → refusal ≡ OutOfMemory) → HasText refusal → Reads words (Err refusal)
+refused words (Shown text) memory told = ((λ store asks. let other : Shown text ≡ OutOfMemory = memory store asks in cc), told)
+refused words OutOfMemory memory told = tt
+
+-- where the parse ends well and the command is `solo`, the words ask for it, with what is read of it
+pub asks : (words : List Text) (m : ArgMatches) (rows : List Row) (store : Option Text) → fault_of filehost words ≡ [] → HasMatchesOf filehost words m
+    → subcommand_name_of m ≡ Some (codes "solo") → option_map (λ (p : Text × List Row). p.1) (subcommand_rows_of m) ≡ Some rows → store ≡ first_of (codes "store") rows
+    → AskForSolo words store
+asks words m rows store none matches name has is =
+    (none, (rows, sym (matches is_plain).1 ∙ has_name (subcommand_rows_of m) (codes "solo") rows (named m ∙ name) has, sym is))
+
+-- and where it is another, they don't
+pub asks_not : (words : List Text) (m : ArgMatches) → HasMatchesOf filehost words m → (subcommand_name_of m ≡ Some (codes "solo") → ⊥) → (store : Option Text) → AskForSolo words store → ⊥
+asks_not words m matches other store asked =
+    other (sym (named m) ∙ ap (option_map (λ (p : Text × List Row). p.0)) ((matches is_plain).1 ∙ asked.1.1))
+
+-- where they ask for it, the parse fails for want of memory alone
+pub only_memory : (words : List Text) (e : Error) → HasKind (fault_of filehost words) e → fault_of filehost words ≡ [] → kind_of e ≡ kind.OutOfMemory
+only_memory words e (inl memory) none = memory
+only_memory words e (inr among) none = absurd (subst (λ k. IsAmong (kind_of e) k) none among)

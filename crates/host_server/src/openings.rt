@@ -1,0 +1,143 @@
+//! Openings: a host is made again of a journal's entries and the files on a shelf.
+ghost use Rattle.std.specs.Prelude.{◌≡◌, ◌<◌, ◌≤◌, IfErr, IfOk, MatchResult};
+ghost use Rattle.blob_store.specs.declared.openings.OpenFault.{OpenFault as OfBlobs};
+ghost use Rattle.change_journal.specs.declared.faults.OpenFault.{OpenFault as OfJournal};
+ghost use Rattle.host_opening.specs.declared.replays.ReplayFault.{ReplayFault as OfReplay};
+ghost use Rattle.host_server.specs.Openings as spec;
+ghost use Rattle.host_server.specs.Openings.{HasFiles, IsHostFault};
+ghost use Rattle.host_server.specs.declared.openings.OpenFault.TheVariants.{BlobsDevice, OutOfMemory};
+
+use crate::host::SoloHouse;
+use blob_store::{Blobs, Files, Shelf};
+use change_undo::Log;
+use host_names::Digest;
+use host_opening::{ReplayFault, replay, wanted};
+use std::alloc::{AllocError, Global};
+
+/// Why a server can't be opened.
+#[derive(Clone, Copy, Debug, PartialEq, Eq)]
+pub enum OpenFault {
+    /// The disk has a file that is no journal.
+    BadHeader,
+    /// The record of this number in the journal is none.
+    BadRecord(u64),
+    /// The entry of this number isn't accepted after those before it.
+    NotLegal(u64),
+    /// The device of the journal failed.
+    JournalDevice,
+    /// The shelf has no table of a file that a published deploy lists.
+    MissingBlob(Digest),
+    /// The shelf has a table of such a file, and not all of the file.
+    DamagedBlob(Digest),
+    /// The device of the shelf failed.
+    BlobsDevice,
+    OutOfMemory,
+}
+
+impl From<AllocError> for OpenFault {
+    ghost from_gives = { λ _ fault. fault ≡ OutOfMemory };
+
+    fn from(_error: AllocError) -> OpenFault {
+        OpenFault::OutOfMemory
+    }
+}
+
+/// A server that couldn't be opened: why, and its disk and its shelf as they are then.
+#[derive(Drop)]
+pub struct NotOpened<S, D> {
+    pub fault: OpenFault,
+    pub disk: D,
+    pub shelf: S,
+}
+
+/// A host that couldn't be made of a shelf: why, and the shelf as it is then.
+#[derive(Drop)]
+pub(crate) struct NoHost<S> {
+    pub(crate) fault: OpenFault,
+    pub(crate) shelf: S,
+}
+
+/// What an opening answers for a fault of the journal.
+pub(crate) fn of_journal(fault: change_journal::OpenFault) -> OpenFault
+    ensures { result ≡ spec.of_journal fault }
+{
+    match fault {
+        change_journal::OpenFault::BadHeader => OpenFault::BadHeader,
+        change_journal::OpenFault::BadRecord(number) => OpenFault::BadRecord(number),
+        change_journal::OpenFault::Device => OpenFault::JournalDevice,
+        change_journal::OpenFault::OutOfMemory => OpenFault::OutOfMemory,
+    }
+}
+
+/// What it answers for a fault of the files.
+fn of_blobs(fault: blob_store::OpenFault) -> OpenFault
+    ensures { result ≡ spec.of_blobs fault }
+{
+    match fault {
+        blob_store::OpenFault::MissingBlob(digest) => OpenFault::MissingBlob(digest),
+        blob_store::OpenFault::DamagedBlob(digest) => OpenFault::DamagedBlob(digest),
+        blob_store::OpenFault::Device => OpenFault::BlobsDevice,
+        blob_store::OpenFault::OutOfMemory => OpenFault::OutOfMemory,
+    }
+}
+
+/// What it answers where the entries aren't accepted in turn.
+fn of_replay(fault: ReplayFault) -> OpenFault
+    ensures { result ≡ spec.of_replay fault }
+{
+    match fault {
+        ReplayFault::NotLegal(number) => OpenFault::NotLegal(number),
+        ReplayFault::OutOfMemory => OpenFault::OutOfMemory,
+    }
+}
+
+/// The files of a shelf that are wanted for these entries.
+fn open_blobs<S: Shelf>(alloc: Global, log: &Log, shelf: S) -> Result<Blobs<S>, NoHost<S>>
+    ensures opened { IfOk result (λ blobs. HasFiles S.did shelf log.now blobs.known blobs.shelf) }
+    ensures fault { IfErr result (λ stop. spec.IsFilesFault S.did shelf log.now stop.fault stop.shelf) }
+    ensures device { IfErr result (λ stop. stop.fault ≡ BlobsDevice → S.failures shelf < S.failures stop.shelf) }
+    ensures count { MatchResult result (λ blobs. S.failures shelf ≤ S.failures blobs.shelf) (λ stop. S.failures shelf ≤ S.failures stop.shelf) }
+{
+    let Ok(wanted) = wanted(alloc, log) else {
+        return Err(NoHost {
+            fault: OpenFault::OutOfMemory,
+            shelf,
+        });
+    };
+    match Blobs::open(alloc, shelf, wanted.as_slice()) {
+        Ok(blobs) => Ok(blobs),
+        Err(stop) => Err(NoHost {
+            fault: of_blobs(stop.fault),
+            shelf: stop.shelf,
+        }),
+    }
+}
+
+/// The host of these entries, and the files on the shelf.
+pub(crate) fn open_host<S: Shelf>(
+    alloc: Global,
+    log: &Log,
+    shelf: S,
+    limit: u64,
+) -> Result<(SoloHouse, Files<S>), NoHost<S>>
+    requires some { 1 ≤ limit }
+    requires bounded { limit ≤ 1000000 }
+    ensures files { IfOk result (λ answer. HasFiles S.did shelf log.now answer.0.uploads answer.1.shelf) }
+    ensures entries { IfOk result (λ answer. answer.0.entries ≡ log.now) }
+    ensures limit { IfOk result (λ answer. answer.0.limit ≡ limit) }
+    ensures fault { IfErr result (λ stop. IsHostFault S.did shelf limit log.now stop.fault stop.shelf) }
+    ensures device { IfErr result (λ stop. stop.fault ≡ BlobsDevice → S.failures shelf < S.failures stop.shelf) }
+    ensures count { MatchResult result (λ answer. S.failures shelf ≤ S.failures answer.1.shelf) (λ stop. S.failures shelf ≤ S.failures stop.shelf) }
+{
+    let blobs = open_blobs(alloc, log, shelf)?;
+    match replay(alloc, log, limit, &blobs) {
+        Ok(history) => {
+            let (known, files) = blobs.into_parts();
+            Ok((SoloHouse::of(alloc, history, known), files))
+        }
+        Err(fault) => Err(NoHost {
+            fault: of_replay(fault),
+            shelf: blobs.into_shelf(),
+        }),
+    }
+}

@@ -1,0 +1,56 @@
+//! What ends a run of the program: its exit status, and what is said.
+ghost use Rattle.std.specs.Prelude.{◌≡◌};
+ghost use Rattle.host_server.specs.Asks.{IsAnswer};
+ghost use Rattle.host_server.specs.Solo.{IsSaid, IsServed, SaysEnd, status_of};
+
+use crate::connections::{ConnectionFault, serve_connection};
+use crate::servers::Server;
+use blob_store::Shelf;
+use host_disk::Disk;
+use http_wire::{Duplex, Sink, write_all};
+use std::alloc::Global;
+
+/// The exit status where the connection has ended.
+const DONE: u8 = 0;
+
+/// The exit status where input, output or memory failed.
+pub(crate) const FAILED: u8 = 2;
+
+pub(crate) const OUT_OF_MEMORY: &str = "filehost: out of memory\n";
+
+/// Says why a run fails, as far as it can be said, and gives the exit status.
+pub(crate) fn fail<E: Sink>(errors: &mut E, status: u8, why: &str) -> u8
+    ensures status { result ≡ status }
+    ensures said { IsSaid E.may_fail why.now (E.held errors.old) (E.held errors.new) }
+{
+    let _ = write_all(errors, why.as_bytes());
+    status
+}
+
+/// The exit status where the connection ended so; a fault is said.
+fn status_after<E: Sink>(errors: &mut E, ended: Result<(), ConnectionFault>) -> u8
+    ensures status { result ≡ status_of ended }
+    ensures said { SaysEnd E.may_fail ended (E.held errors.old) (E.held errors.new) }
+{
+    match ended {
+        Ok(()) => DONE,
+        Err(ConnectionFault::InputFault) => fail(errors, FAILED, "filehost: input fault\n"),
+        Err(ConnectionFault::OutputFault) => fail(errors, FAILED, "filehost: output fault\n"),
+        Err(ConnectionFault::OutOfMemory) => fail(errors, FAILED, OUT_OF_MEMORY),
+    }
+}
+
+/// Serves one connection over a server, and gives the exit status; where it isn't 0, why is said.
+pub(crate) fn serve_server<S: Shelf + Drop, D: Disk + Drop, X: Duplex, E: Sink>(
+    alloc: Global,
+    server: Server<S, D>,
+    duplex: &mut X,
+    errors: &mut E,
+) -> u8
+    ensures { IsServed (IsAnswer S.did S.failures D.faults) X.read_fails X.write_fails E.may_fail server result
+        (X.left duplex.old) (X.held duplex.old) (X.held duplex.new) (E.held errors.old) (E.held errors.new) }
+{
+    let mut server = server;
+    let ended = serve_connection(alloc, duplex, &mut server);
+    status_after(errors, ended)
+}

@@ -1,0 +1,80 @@
+//! A run over a store: it is opened, and one connection is served.
+ghost use Rattle.std.specs.Prelude.{◌≡◌, ◌≢◌, [], IfErr, OnOk};
+ghost use Rattle.host_server.specs.Solo.{IsFolderFault, RunsFolder, RunsStore, SaysFault};
+ghost use Rattle.host_server.specs.declared.openings.OpenFault.TheVariants.{JournalDevice};
+
+use crate::opening_lines::{line_of, status_of};
+use crate::openings::OpenFault;
+use crate::runs::{fail, serve_server};
+use crate::servers::Server;
+use blob_store::{DirShelf, Shelf};
+use change_undo::GREATEST_LIMIT;
+use host_disk::{Disk, FileDisk};
+use http_wire::{Duplex, Sink};
+use std::alloc::Global;
+use std::fs::File;
+use std::path::PathBuf;
+use std::rt::Files;
+
+/// The name of the journal's file in a folder.
+const JOURNAL: &str = "journal";
+
+/// Serves one connection over the store of a disk and a shelf, and gives the exit status. Where it isn't 0, `errors` is told why:
+/// the store can't be opened, and nothing is answered; or the connection failed.
+pub fn run_store<S: Shelf + Drop, D: Disk + Drop, X: Duplex, E: Sink>(
+    alloc: Global,
+    disk: D,
+    shelf: S,
+    duplex: &mut X,
+    errors: &mut E,
+) -> u8
+    ensures { RunsStore D.Disk S.did S.failures X.read_fails X.write_fails E.may_fail disk shelf result
+        (X.left duplex.old) (X.held duplex.old) (X.held duplex.new) (E.held errors.old) (E.held errors.new) }
+{
+    match Server::open(alloc, disk, shelf, GREATEST_LIMIT) {
+        Ok(server) => serve_server(alloc, server, duplex, errors),
+        Err(stop) => refuse(errors, &stop.fault),
+    }
+}
+
+/// Says why a store can't be opened, and gives the exit status.
+fn refuse<E: Sink>(errors: &mut E, fault: &OpenFault) -> u8
+    ensures { SaysFault E.may_fail fault.now result (E.held errors.old) (E.held errors.new) }
+{
+    fail(errors, status_of(fault), line_of(fault).as_str())
+}
+
+/// The disk and the shelf in a folder, which has to be there.
+fn open_folder<'a, R: Files<File = File>>(
+    rt: &'a R,
+    alloc: Global,
+    folder: &str,
+) -> Result<(FileDisk, DirShelf<'a, R>), OpenFault>
+    ensures named { OnOk result (folder.now ≢ []) }
+    ensures fault { IfErr result IsFolderFault }
+{
+    if folder.is_empty() {
+        return Err(OpenFault::JournalDevice);
+    }
+    let path = PathBuf::from_str(alloc, folder)?.join(alloc, JOURNAL)?;
+    let disk = FileDisk::open(rt, path.as_str()).map_err(|_| OpenFault::JournalDevice)?;
+    let shelf = DirShelf::new(rt, alloc, folder)?;
+    Ok((disk, shelf))
+}
+
+/// The same over the store in a folder.
+pub(crate) fn run_folder<R: Files<File = File>, X: Duplex, E: Sink>(
+    rt: &R,
+    alloc: Global,
+    folder: &str,
+    duplex: &mut X,
+    errors: &mut E,
+) -> u8
+    ensures { RunsFolder ⟦<FileDisk as Disk>⟧ ⟦<DirShelf<'static, R> as Shelf>⟧ X.read_fails X.write_fails E.may_fail folder.now result
+        (X.left duplex.old) (X.held duplex.old) (X.held duplex.new) (E.held errors.old) (E.held errors.new) }
+{
+    match open_folder(rt, alloc, folder) {
+        Ok((disk, shelf)) => run_store(alloc, disk, shelf, duplex, errors),
+        Err(fault) => refuse(errors, &fault),
+    }
+}

@@ -1,0 +1,196 @@
+"""Stores in folders, as docs/STORAGE.md says what is in them: what the program is to find there, and runs of it over one."""
+
+import contextlib
+import pathlib
+import shutil
+import tempfile
+
+import journal
+from client import Client, Program, content_length, digest_of, request, run
+from plain_history import Deploy, Entry
+from plain_model import Model, Request
+from test_histories import SITES, in_json, views
+
+PIECE = 65_536
+
+# The kinds that the list of changes and the reader of journals name in two ways.
+KINDS = {"unalias": "no-alias", "delete": "no-deploy"}
+
+
+def told(entry):
+    """An entry of the plain model, as the reader of journals tells it."""
+    if entry.kind != "open":
+        return (KINDS.get(entry.kind, entry.kind), entry.site, *entry.parts)
+    deploy, = entry.parts
+    flags = ("patch",) * deploy.is_patch + ("auto",) * (not deploy.is_draft)
+    return "open", entry.site, flags, tuple(sorted(deploy.files.items(), key=lambda listed: listed[0].encode()))
+
+
+def entry_of(told):
+    """The same the other way."""
+    kind, site, *parts = told
+    if kind != "open":
+        return Entry({word: name for name, word in KINDS.items()}.get(kind, kind), site, tuple(parts))
+    flags, listing = parts
+    return Entry(kind, site, (Deploy(dict(listing), "auto" not in flags, "patch" in flags),))
+
+
+def opening_of(contents, site="one", flags=("auto",)):
+    """The entry that opens a deploy of files with these contents, as the reader of journals tells it."""
+    return "open", site, flags, tuple((path, digest_of(content)) for path, content in sorted(contents.items()))
+
+
+def pieces_of(content):
+    return [content[start:start + PIECE] for start in range(0, len(content), PIECE)]
+
+
+def files_of(content):
+    """The files that a store has for an uploaded one: for each of their names the bytes, the table last."""
+    pieces = {f"c-{digest_of(piece)}": piece for piece in pieces_of(content)}
+    names = b"".join(bytes.fromhex(digest_of(piece)) for piece in pieces_of(content))
+    return pieces | {f"t-{digest_of(content)}": len(content).to_bytes(8, "big") + names}
+
+
+def files_in(folder):
+    """What a store has but its journal and what was written last."""
+    return {file.name: file.read_bytes() for file in folder.iterdir() if file.name not in ("journal", "blob.tmp")}
+
+
+def is_stored(folder, content):
+    """Whether a store has an uploaded file whole."""
+    return files_of(content).items() <= files_in(folder).items()
+
+
+def write_store(folder, entries, *contents):
+    """Writes a store with these entries and these uploaded files."""
+    folder.mkdir(exist_ok=True)
+    (folder / "journal").write_bytes(journal.write(entries))
+    for content in contents:
+        for name, data in files_of(content).items():
+            (folder / name).write_bytes(data)
+
+
+def copy_of(model):
+    """A host with the same entries and uploads, over a new connection."""
+    copy = Model()
+    copy.uploads, copy.entries, copy.known_states = dict(model.uploads), list(model.entries), dict(model.known_states)
+    return copy
+
+
+def found_in(test, folder, model, asked=None):
+    """The model of what a store has after a stop, where this request was in hand: what was acknowledged, all and unchanged, and after it
+    none, the first or all of the entries that the request would make; and what is uploaded whole, also by that request."""
+    file = folder / "journal"
+    entries = [entry_of(entry) for entry in journal.read(file.read_bytes() if file.exists() else b"")]
+    done, count = copy_of(model), len(model.entries)
+    if asked:
+        done.answer(asked)
+    test.assertEqual(entries[:count], model.entries)
+    test.assertEqual(entries[count:], done.entries[count:len(entries)])
+    for content in model.uploads.values():
+        test.assertTrue(is_stored(folder, content), f"{content[:40]} is lost")
+    found = copy_of(model)
+    found.entries = entries
+    found.uploads = {digest: content for digest, content in done.uploads.items() if is_stored(folder, content)}
+    return found
+
+
+def refused_undos(model):
+    """Requests to undo what can't be undone, or not any more."""
+    trial, found = copy_of(model), []
+    for number in range(1, len(model.entries) + 2):
+        for site in SITES:
+            asked = Request("POST", f"/api/v1/sites/{site}/undo", body=in_json(change=number))
+            trial.answer(asked)
+            if len(trial.entries) == len(model.entries):
+                found.append(asked)
+            else:
+                trial = copy_of(model)
+    return found
+
+
+def looks(model):
+    """Requests that read all that is visible: the changes of each site, each file of each version, and each deploy."""
+    return [Request("GET", f"/api/v1/sites/{site}/changes") for site in SITES] + views(model)
+
+
+def as_bytes(asked):
+    return request(asked.method, asked.target, *asked.fields, body=asked.body)
+
+
+class Stored(Program):
+    """Runs of the program over a store in a folder of its own."""
+
+    def setUp(self):
+        super().setUp()
+        room = tempfile.TemporaryDirectory(prefix="filehost-test-")
+        self.addCleanup(room.cleanup)
+        self.room = pathlib.Path(room.name).resolve()
+        self.use(self.room / "store")
+        self.folder.mkdir()
+
+    def use(self, folder):
+        """Lets the program be called with this folder."""
+        self.folder = folder
+        self.words = ("solo", "--store", str(folder))
+
+    def write(self, entries, *contents):
+        """Writes the store anew."""
+        if self.folder.exists():
+            shutil.rmtree(self.folder)
+        write_store(self.folder, entries, *contents)
+
+    def assert_answers_as(self, model, requests):
+        """One connection is answered as the model does, byte for byte; afterwards the journal has its entries."""
+        model.requests = 0
+        self.assert_converses([(as_bytes(asked), model.answer(asked)) for asked in requests])
+        self.assert_has(model.entries)
+
+    def assert_has(self, entries):
+        """The journal has these entries, and no other byte."""
+        file = (self.folder / "journal").read_bytes()
+        self.assertEqual([entry_of(entry) for entry in journal.read(file)], entries)
+        self.assertEqual(file, journal.write(map(told, entries)))
+
+    def assert_fails(self, status, why, words=None, **how):
+        """An opening ends with this status and this line, answers nothing, and changes no file of the store."""
+        before = self.all_files()
+        given = request("GET", "/s/one/a.txt")
+        ended = run(*(words or self.words), given=given, **how)
+        self.assertEqual(ended, (status, b"", f"filehost: {why}\n".encode()))
+        self.assertEqual(self.all_files(), before)
+
+    def all_files(self):
+        """Each file of the store with its bytes; nothing where there is no folder to be read."""
+        if not self.folder.is_dir():
+            return None
+        return {file.name: file.is_file() and file.read_bytes() for file in self.folder.iterdir()}
+
+
+class Conversation:
+    """A program over a store that is asked one request after the other."""
+
+    def __init__(self, test, **how):
+        self.test = test
+        self.client = Client(test, **how)
+
+    def answer_to(self, asked):
+        """The reply, or as much of it as comes before the program ends."""
+        with contextlib.suppress(BrokenPipeError):
+            self.client.send(asked)
+        got = b""
+        while b"\r\n\r\n" not in got and (byte := self.client.receive(1)):
+            got += byte
+        has_body = got.endswith(b"\r\n\r\n") and not asked.startswith(b"HEAD ")
+        return got + self.client.receive(content_length(got)) if has_body else got
+
+    def ask(self, asked, wanted):
+        self.test.assertEqual(self.answer_to(asked), wanted, asked[:200])
+
+    def ask_all(self, exchanges):
+        for exchange in exchanges:
+            self.ask(*exchange)
+
+    def end(self):
+        self.client.program.stdin.close()
+        self.test.assertEqual(self.client.end(), (0, b"", b""))

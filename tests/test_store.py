@@ -1,0 +1,261 @@
+"""A store that is closed and opened again answers as it did before; and what its folder then has is what docs/STORAGE.md says."""
+
+import random
+import subprocess
+import sys
+import unittest
+
+import journal
+from client import ABC, EXAMPLES, HELLO, LARGEST_FILE, SECONDS, TOP, digest_of, opened, opening, refused, request, sent, upload, uploaded
+from plain_model import Model
+from stores import PIECE, Conversation, Stored, as_bytes, entry_of, files_in, files_of, is_stored, looks, refused_undos
+from test_histories import Generator
+from worked import (
+    LISTING, aliasing, clash, deleting, deployed, done, entry, first_deployed, reading, removing, renaming, restoring, serves,
+    showing, stands, undoing,
+)
+
+HISTORIES = 24
+OPENINGS = 4
+
+
+class Closed(Stored):
+    """Runs that are parted among several programs, one after the other over the same folder."""
+
+    first = [
+        (opening({"/a.txt": HELLO, "b.txt": ABC}), opened(1, ABC, HELLO)),
+        (upload(1, "a.txt", b"hello"), uploaded(b"hello")),
+        (upload(1, "b.txt", b"abc"), uploaded(b"abc", published=2)),
+        (upload(1, "b.txt", b"abc"), uploaded(b"abc")),
+        (upload(1, "b.txt", b"hello"), refused("WrongDigest")),
+        (renaming("/a.txt", "/c.txt"), entry(3)),
+        (removing("/b.txt"), entry(4)),
+        (undoing(3), entry(5)),
+        *serves("/a.txt"),
+    ]
+    then = [
+        (undoing(2), clash(4, "live /b.txt")),
+        (undoing(3), refused("AlreadyUndone")),
+        (undoing(5), refused("NotAChange")),
+        (undoing(99), refused("NoSuchChange")),
+        (undoing(0), refused("NoSuchChange")),
+        (LISTING, done(changes=[
+            {"entry": 1, "kind": "open", "live": True},
+            {"entry": 2, "kind": "publish", "live": True},
+            {"entry": 3, "kind": "rename", "live": False},
+            {"entry": 4, "kind": "remove", "live": True},
+            {"entry": 5, "kind": "undo", "of": 3},
+        ])),
+        (undoing(4), entry(6)),
+        (undoing(2), entry(7)),
+        *serves(among=("/a.txt", "/b.txt")),
+        (showing(1), stands(1, "open")),
+        (restoring(1), entry(8)),
+        (reading("/s/one/a.txt"), sent(b"hello")),
+        (reading("/s/one/b.txt"), sent(b"abc")),
+        (showing(1), stands(1, "kept")),
+        (aliasing("next", 1), entry(9)),
+        (reading("/a/one/next/a.txt"), sent(b"hello")),
+        (undoing(8), clash(9, "kept 1")),
+        (deleting(1), refused("DeployInUse", alias="next")),
+        (renaming("/a.txt", "/z.txt"), entry(10)),
+        *deployed(11, "/z.txt"),
+        (undoing(10), clash(12, "live /a.txt")),
+        (reading("/s/one/b.txt"), refused("NoSuchFile")),
+    ]
+
+    def test_a_run_goes_on_where_it_was_closed(self):
+        self.assert_converses(self.first)
+        self.assert_converses(self.then)
+
+    def test_a_run_goes_on_wherever_it_is_closed(self):
+        for exchange in self.first + self.then:
+            self.assert_converses([exchange])
+
+    def test_its_files_are_those_of_the_format(self):
+        self.assert_converses(self.first)
+        wanted = journal.write([
+            ("open", "one", ("auto",), (("/a.txt", HELLO), ("/b.txt", ABC))), ("publish", "one", 1),
+            ("rename", "one", "/a.txt", "/c.txt"), ("remove", "one", "/b.txt"), ("undo", "one", 3),
+        ])
+        self.assertEqual((self.folder / "journal").read_bytes(), wanted)
+        self.assertEqual(files_in(self.folder), files_of(b"hello") | files_of(b"abc"))
+
+    def test_an_empty_folder_becomes_an_empty_journal(self):
+        for _ in range(2):
+            self.assert_answers(b"", b"")
+            self.assertEqual(self.all_files(), {"journal": journal.EMPTY})
+
+    def test_nothing_is_written_by_what_is_refused_or_read(self):
+        self.assert_converses(self.first)
+        before = self.all_files()
+        self.assert_converses([*self.then[:6], *serves("/a.txt")])
+        self.assertEqual(self.all_files(), before)
+
+    def test_what_a_deploy_lacked_is_lacking_still(self):
+        listed = {"/a.txt": HELLO, "/b.txt": ABC}
+        self.assert_converses([(opening(listed), opened(1, ABC, HELLO)), (upload(1, "b.txt", b"abc"), uploaded(b"abc"))])
+        self.assert_converses([(showing(1), stands(1, "open", HELLO)), (opening(listed, "two"), opened(2, HELLO))])
+        self.assert_converses([(upload(1, "a.txt", b"hello"), uploaded(b"hello", published=3))])
+        self.assert_converses([(showing(2), done(id="2", required=[], site="two", state="open")), *serves("/a.txt", among=("/a.txt",))])
+
+    def test_what_was_uploaded_is_known_though_its_deploy_was_undone(self):
+        self.assert_converses([*first_deployed("/a.txt"), (undoing(2), entry(3)), (undoing(1), entry(4))])
+        self.assert_converses([(opening({"/b.txt": HELLO}), opened(5, published=6))])
+
+    def test_files_of_all_sizes_are_there(self):
+        sizes = (0, 1, PIECE - 1, PIECE, PIECE + 1, 3 * PIECE + 5, LARGEST_FILE)
+        contents = {f"/{size}": random.Random(size).randbytes(size) for size in sizes}
+        digests = {path: digest_of(content) for path, content in contents.items()}
+        uploads = [(upload(1, path[1:], content), uploaded(content, 2 if path == f"/{LARGEST_FILE}" else None))
+                   for path, content in contents.items()]
+        self.assert_converses([(opening(digests), opened(1, *sorted(digests.values()))), *uploads])
+        self.assert_converses([(reading(f"/s/one{path}"), sent(content, kind="application/octet-stream"))
+                               for path, content in contents.items()])
+        for content in contents.values():
+            self.assertTrue(is_stored(self.folder, content))
+
+    def test_without_a_store_nothing_is_kept(self):
+        self.words = ("solo",)
+        self.assert_converses(self.first)
+        self.assert_converses(serves(among=("/a.txt", "/b.txt")))
+        self.assertEqual(self.all_files(), {})
+
+
+class Generated(Stored):
+    """Histories that are drawn by chance, each parted among several programs."""
+
+    def test_are_answered_as_by_the_plain_model_and_as_before(self):
+        for seed in range(HISTORIES):
+            with self.subTest(seed=seed):
+                self.write([])
+                self.run_history(seed)
+
+    def run_history(self, seed):
+        model = Model()
+        generator = Generator(seed, model)
+        for _ in range(OPENINGS):
+            drawn = list(self.drawn(generator, generator.random.randrange(1, 25)))
+            last = self.some(generator, looks(model), 40) + self.some(generator, refused_undos(model), 20)
+            self.assert_answered(model, drawn + [(as_bytes(asked), model.answer(asked)) for asked in last])
+            model.requests = 0
+            self.assert_answered(model, [(as_bytes(asked), model.answer(asked)) for asked in last])
+            model.requests = 0
+
+    def drawn(self, generator, count):
+        """Requests for what the model has by then, each with its reply."""
+        for asked in generator.requests(count):
+            yield as_bytes(asked), generator.model.answer(asked)
+
+    def some(self, generator, requests, count):
+        return generator.random.sample(requests, min(count, len(requests)))
+
+    def assert_answered(self, model, exchanges):
+        self.assert_converses(exchanges)
+        self.assert_has(model.entries)
+        for content in model.uploads.values():
+            self.assertTrue(is_stored(self.folder, content))
+
+
+class Written(Stored):
+    """Stores that no program has written, after docs/STORAGE.md alone."""
+
+    def test_a_store_is_opened_whoever_wrote_it(self):
+        content = bytes(range(256)) * 600
+        listing = ("open", "one", ("auto",), (("/a.txt", HELLO), ("/d", digest_of(content))))
+        self.write([listing, ("publish", "one", 1), ("alias", "one", "next", 1), ("remove", "one", "/d")], b"hello", content)
+        self.assert_converses([
+            (reading("/a/one/next/d"), sent(content, kind="application/octet-stream")),
+            (request("GET", "/a/one/next/d", "Range: bytes=65530-65540"), sent(
+                content[65530:65541], "Content-Range: bytes 65530-65540/153600", kind="application/octet-stream", whole=content)),
+            (reading("/s/one/d"), refused("NoSuchFile")),
+            (undoing(4), entry(5)),
+            (reading("/s/one/d"), sent(content, kind="application/octet-stream")),
+        ])
+
+    def test_a_file_that_the_store_has_and_no_entry_lists_is_not_known(self):
+        self.write([], b"hello")
+        self.assert_converses([(opening({"/a.txt": HELLO}), opened(1, HELLO))])
+
+    def test_what_a_stop_left_behind_the_last_gate_is_cut(self):
+        self.write([("open", "one", (), (("/a.txt", HELLO),))], b"hello")
+        whole = (self.folder / "journal").read_bytes()
+        for last in (b"\x00", b"\x07"):
+            (self.folder / "journal").write_bytes(whole[:-1] + last + b"half of an entry")
+            self.assert_converses([(showing(1), stands(1, "open"))])
+            self.assertEqual((self.folder / "journal").read_bytes(), whole)
+
+    def test_nothing_else_in_the_folder_is_read_or_removed(self):
+        self.write([("open", "one", ("auto",), (("/a.txt", HELLO),))])
+        others = {"notes": b"mine", f"c-{HELLO}.old": b"x", f"t-{HELLO.upper()}": b"y"}
+        for name, data in others.items():
+            (self.folder / name).write_bytes(data)
+        self.assert_converses([(upload(1, "a.txt", b"hello"), uploaded(b"hello", published=2))])
+        self.assertEqual(files_in(self.folder), others | files_of(b"hello"))
+
+
+class Copied(Stored):
+    """Copies of a store that are made while the program changes it: the journal first, and then the other files."""
+
+    MOVES = 90
+
+    def copy_to(self, folder):
+        folder.mkdir()
+        (folder / "journal").write_bytes((self.folder / "journal").read_bytes())
+        for file in self.folder.iterdir():
+            if file.name not in ("journal", "blob.tmp"):
+                (folder / file.name).write_bytes(file.read_bytes())
+
+    def requests(self):
+        """Deploys with contents of their own, as many as a connection takes."""
+        for number in range(1, self.MOVES, 2):
+            content = b"%d" % number
+            yield opening({"/a.txt": digest_of(content)}), upload(number // 2 * 2 + 1, "a.txt", content)
+
+    def test_are_opened_with_what_was_there(self):
+        copies = []
+        with Conversation(self).client.program as program:
+            for number, (opens, uploads) in enumerate(self.requests()):
+                program.stdin.write(opens + uploads)
+                if number % 4 == 0 and (self.folder / "journal").exists():
+                    copies.append(self.room / f"copy-{number}")
+                    self.copy_to(copies[-1])
+            program.stdin.close()
+            program.stdout.read()
+        last = journal.read((self.folder / "journal").read_bytes())
+        self.assertEqual(len(last), 2 * len(list(self.requests())))
+        for copy in copies:
+            self.use(copy)
+            entries = journal.read((copy / "journal").read_bytes())
+            self.assertEqual(entries, last[:len(entries)])
+            self.assert_answers(b"", b"")
+            self.assert_has([entry_of(entry) for entry in entries])
+
+
+class Examples(Stored):
+    """examples/after-restart.http, and scripts/show-store."""
+
+    def test_go_on_after_a_restart(self):
+        for name in ("take-back", "after-restart"):
+            given, wanted = ((EXAMPLES / f"{name}.{ending}").read_bytes() for ending in ("http", "replies"))
+            self.assert_answers(given, wanted)
+
+    def show(self):
+        ran = subprocess.run([sys.executable, TOP / "scripts/show-store", self.folder], capture_output=True, text=True, timeout=SECONDS)
+        return ran.returncode, ran.stdout.splitlines(), ran.stderr
+
+    def test_show_what_is_in_a_store(self):
+        self.write([("open", "one", ("patch",), (("/a.txt", HELLO), ("/b.txt", ABC), ("/c.txt", None))), ("undo", "one", 1)], b"hello", b"")
+        (self.folder / f"c-{HELLO}").write_bytes(b"hellp")
+        before = self.all_files()
+        self.assertEqual(self.show(), (0, [
+            "1 open one patch", f"    /a.txt {HELLO} damaged", f"    /b.txt {ABC} missing", "    /c.txt removed", "2 undo one 1",
+            f"not listed: t-{digest_of(b'')} 0 bytes",
+        ], ""))
+        self.assertEqual(self.all_files(), before)
+        (self.folder / "journal").write_bytes(b"none")
+        self.assertEqual(self.show(), (1, [], "show-store: the file `journal` is no journal\n"))
+
+
+if __name__ == "__main__":
+    unittest.main()
