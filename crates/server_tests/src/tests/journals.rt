@@ -1,6 +1,4 @@
 //! A host with a journal on a disk in memory.
-ghost use Rattle.std.specs.Prelude.{◌≡◌, IfOk, length};
-
 use super::asserts::assert_text;
 use super::talks::{ONE, OPEN, OPENED, REPLIES, UPLOAD, assert_answers, entries};
 use blob_store::MemShelf;
@@ -13,23 +11,21 @@ use std::alloc::Global;
 use std::process::Abort;
 use std::test::Fail;
 
-/// The journal of a disk, and its entries.
-fn opened(alloc: Global, disk: MemDisk) -> Result<(Journal<MemDisk>, Log), Fail>
-    ensures { IfOk result (λ answer. length answer.0.entries ≡ length answer.1) }
-{
+/// The entries of the journal on a disk.
+fn entries_on(alloc: Global, disk: MemDisk) -> Result<Log, Fail> {
     match Journal::open(alloc, disk) {
-        Ok(answer) => Ok(answer),
+        Ok((_, log)) => Ok(log),
         Err(_) => Err(Fail::from("the journal isn't opened")),
     }
 }
 
 /// A server with a journal on a new disk with room for so many bytes.
 fn new_server(alloc: Global, room: usize) -> Result<Server<MemShelf, MemDisk>, Fail> {
-    let (journal, log) = opened(alloc, MemDisk::new(alloc, room)?)?;
-    if log.len() > 0 {
-        return Err(Fail::from("a new disk has entries"));
+    let disk = MemDisk::new(alloc, room)?;
+    match Server::open(alloc, disk, MemShelf::new(alloc), GREATEST_LIMIT) {
+        Ok(server) => Ok(server),
+        Err(_) => Err(Fail::from("a new store isn't opened")),
     }
-    Ok(Server::with_journal(alloc, MemShelf::new(alloc), GREATEST_LIMIT, journal))
 }
 
 /// The words of these entries, each with the number that it names, if it is an undo.
@@ -68,7 +64,7 @@ fn the_journal_has_the_entries_when_it_is_opened_again(rt: HostRuntime) -> Resul
     assert_answers(&rt, alloc, &mut server, &[OPEN, UPLOAD], first)?;
     assert_answers(&rt, alloc, &mut server, &MORE, &MORE_REPLIES)?;
     let journal = server.into_journal().ok_or("the journal is gone")?;
-    let (_, log) = opened(alloc, journal.into_disk())?;
+    let log = entries_on(alloc, journal.into_disk())?;
     let told = words(alloc, &log)?;
     assert_text(&rt, told.as_bytes(), "open publish rename remove undo 4 ");
     Ok(())

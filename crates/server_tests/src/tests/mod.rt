@@ -8,6 +8,7 @@ mod journals;
 mod limits;
 mod replies;
 mod statuses;
+mod stores;
 mod talks;
 mod texts;
 mod wires;

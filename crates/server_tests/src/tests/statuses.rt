@@ -6,12 +6,14 @@ use super::talks::{REPLIES, REQUESTS, joined};
 use host_server::run_solo;
 use http_wire::{Pair, Reading, Source, Writing};
 use std::alloc::Global;
+use std::fs::File;
 use std::process::Abort;
+use std::rt::Files;
 use std::test::Fail;
 
 /// Asserts the status of a run, what it says of its end, and what it wrote.
 fn assert_says<S: Source + Drop>(
-    rt: &impl Abort,
+    rt: &(impl Abort + Files<File = File>),
     alloc: Global,
     source: S,
     out: Narrow,
@@ -23,7 +25,7 @@ fn assert_says<S: Source + Drop>(
         source,
         sink: Writing(out),
     };
-    let status = run_solo(&rt, alloc, ["solo"].as_slice(), &mut duplex, &mut errors);
+    let status = run_solo(rt, alloc, ["solo"].as_slice(), &mut duplex, &mut errors);
     assert_number(rt, usize::from(status), wanted.0);
     assert_text(rt, errors.0.as_slice(), wanted.1);
     assert_text(rt, duplex.sink.0.held.as_slice(), held);
