@@ -13,6 +13,7 @@ pub mod Kept
 pub mod Reached
 pub mod Refusing
 pub mod Opening
+pub mod Opened
 pub mod Entering
 pub mod Growing
 pub mod Turns

@@ -1,15 +1,19 @@
 //! Openings: a host is made again of a journal's entries and the files on a shelf.
-ghost use Rattle.std.specs.Prelude.{◌≡◌, ◌<◌, ◌≤◌, IfErr, IfOk, MatchResult};
-ghost use Rattle.blob_store.specs.declared.openings.OpenFault.{OpenFault as OfBlobs};
-ghost use Rattle.change_journal.specs.declared.faults.OpenFault.{OpenFault as OfJournal};
-ghost use Rattle.host_opening.specs.declared.replays.ReplayFault.{ReplayFault as OfReplay};
+ghost use Rattle.std.specs.Prelude.{◌≡◌, ◌<◌, ◌≤◌, ℕ, IfErr, IfOk, IsTrue, List, MatchResult, Some, length};
+ghost use Rattle.change_journal.specs.Held.{Keeps};
+ghost use Rattle.change_journal.specs.Texts.{HoldsEntries, MayHoldNext};
+ghost use Rattle.change_undo.specs.declared.entries.Entry.{Entry as Line};
+ghost use Rattle.host_disk.specs.Crashes.{LeavesOnly};
 ghost use Rattle.host_server.specs.Openings as spec;
-ghost use Rattle.host_server.specs.Openings.{HasFiles, IsHostFault};
+ghost use Rattle.host_server.specs.Openings.{HasFiles, IsHostFault, IsNoRecordFault, IsOpened, IsOpenFault};
 ghost use Rattle.host_server.specs.declared.openings.OpenFault.TheVariants.{BlobsDevice, OutOfMemory};
 
 use crate::host::SoloHouse;
+use crate::servers::Server;
 use blob_store::{Blobs, Files, Shelf};
+use change_journal::Journal;
 use change_undo::Log;
+use host_disk::Disk;
 use host_names::Digest;
 use host_opening::{ReplayFault, replay, wanted};
 use std::alloc::{AllocError, Global};
@@ -139,5 +143,48 @@ pub(crate) fn open_host<S: Shelf>(
             fault: of_replay(fault),
             shelf: blobs.into_shelf(),
         }),
+    }
+}
+
+impl<S: Shelf, D: Disk> Server<S, D> {
+    /// Opens the journal of a disk, and then the files on a shelf that its entries want; last, each entry is accepted in turn,
+    /// of as many as the limit says. The first fault ends it, and the disk and the shelf are handed back.
+    pub fn open(
+        alloc: Global,
+        disk: D,
+        shelf: S,
+        limit: u64,
+    ) -> Result<Server<S, D>, NotOpened<S, D>>
+        requires some { 1 ≤ limit }
+        requires bounded { limit ≤ 1000000 }
+        ensures opened { IfOk result (λ server. IsOpened S.did disk shelf limit server) }
+        ensures fault { IfErr result (λ stop. IsOpenFault D.Disk S.did disk shelf limit stop.fault stop.disk stop.shelf) }
+        ensures kept { IsTrue D.is_modelled → (had : List Line) → length had ≤ 1000000 → HoldsEntries had (D.seen disk) → MatchResult result (λ server. server.house.entries ≡ had) (λ stop. IsNoRecordFault stop.fault) }
+        ensures any_moment { IsTrue D.is_modelled → (had : List Line) (next : Line) → length had < 1000000 → ((c : List ℕ) → D.may_leave disk c → MayHoldNext had next c) → MatchResult result (λ server. (journal : Keeps _) → server.journal ≡ Some journal → LeavesOnly D.moment D.left_since disk journal.disk (MayHoldNext had next)) (λ stop. LeavesOnly D.moment D.left_since disk stop.disk (MayHoldNext had next)) }
+        ensures device { IfErr result (λ stop. stop.fault ≡ BlobsDevice → S.failures shelf < S.failures stop.shelf) }
+        ensures count { MatchResult result (λ server. S.failures shelf ≤ S.failures server.files.shelf) (λ stop. S.failures shelf ≤ S.failures stop.shelf) }
+    {
+        let (journal, log) = match Journal::open(alloc, disk) {
+            Ok(opened) => opened,
+            Err(stop) => {
+                return Err(NotOpened {
+                    fault: of_journal(stop.fault),
+                    disk: stop.disk,
+                    shelf,
+                });
+            }
+        };
+        match open_host(alloc, &log, shelf, limit) {
+            Ok((house, files)) => Ok(Server {
+                house,
+                journal: Some(journal),
+                files,
+            }),
+            Err(stop) => Err(NotOpened {
+                fault: stop.fault,
+                disk: journal.into_disk(),
+                shelf: stop.shelf,
+            }),
+        }
     }
 }

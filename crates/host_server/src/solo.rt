@@ -1,7 +1,6 @@
 //! The program's run: its words are read, and one connection is served.
-ghost use Rattle.std.specs.Prelude.{◌≡◌, IfErr, IfOk, map, option_map};
-ghost use Rattle.std.specs.String.{string_bytes};
-ghost use Rattle.command_line.specs.CommandLine.{AskForSolo};
+ghost use Rattle.std.specs.Prelude.{ℕ, Err, List, map};
+ghost use Rattle.command_line.specs.CommandLine.{Reads};
 ghost use Rattle.host_server.specs.Solo.{IsEmptyServed, IsNotServed, Runs};
 
 use crate::runs::{FAILED, OUT_OF_MEMORY, fail, serve_server};
@@ -20,19 +19,13 @@ use std::rt::Files;
 /// The exit status where the words ask for nothing that the program does.
 const NOT_TAKEN: u8 = 1;
 
-/// The folder that the words ask to serve from, if they name one, or else the exit status; the reason is said.
-fn store<S: AsStr, E: Sink>(
-    alloc: Global,
-    words: &[S],
-    errors: &mut E,
-) -> Result<Option<String>, u8>
-    ensures asked { IfOk result (λ store. AskForSolo (map S.text words.now) (option_map string_bytes store) × (E.held errors.new ≡ E.held errors.old)) }
-    ensures refused { IfErr result (λ status. IsNotServed E.may_fail (map S.text words.now) status (E.held errors.old) (E.held errors.new)) }
+/// Says why the words ask for nothing that the program does, or that memory ran out, and gives the exit status.
+fn refuse<E: Sink>(errors: &mut E, refusal: Refusal) -> u8
+    ensures { (words : List (List ℕ)) → Reads words (Err refusal) → IsNotServed E.may_fail words result (E.held errors.old) (E.held errors.new) }
 {
-    match read(alloc, words) {
-        Ok(Wanted::Solo { store }) => Ok(store),
-        Err(Refusal::Shown(text)) => Err(fail(errors, NOT_TAKEN, text.as_str())),
-        Err(Refusal::OutOfMemory) => Err(fail(errors, FAILED, OUT_OF_MEMORY)),
+    match refusal {
+        Refusal::Shown(text) => fail(errors, NOT_TAKEN, text.as_str()),
+        Refusal::OutOfMemory => fail(errors, FAILED, OUT_OF_MEMORY),
     }
 }
 
@@ -64,9 +57,13 @@ pub fn run_solo<R: Files<File = File>, S: AsStr, D: Duplex, E: Sink>(
     ensures { Runs ⟦<MemDisk as Disk>⟧ ⟦<FileDisk as Disk>⟧ ⟦<DirShelf<'static, R> as Shelf>⟧ D.read_fails D.write_fails E.may_fail (map S.text words.now) result
         (D.left duplex.old) (D.held duplex.old) (D.held duplex.new) (E.held errors.old) (E.held errors.new) }
 {
-    match store(alloc, words, errors) {
-        Ok(None) => run_in_memory(alloc, duplex, errors),
-        Ok(Some(folder)) => run_folder(rt, alloc, folder.as_str(), duplex, errors),
-        Err(status) => status,
+    match read(alloc, words) {
+        Ok(Wanted::Solo { store: None }) => run_in_memory(alloc, duplex, errors),
+        Ok(
+            Wanted::Solo {
+                store: Some(folder),
+            },
+        ) => { run_folder(rt, alloc, folder.as_str(), duplex, errors) }
+        Err(refusal) => refuse(errors, refusal),
     }
 }

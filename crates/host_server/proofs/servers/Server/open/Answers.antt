@@ -1,0 +1,44 @@
+use Rattle.std.proofs.Common.{◌≡◌, ◌∙◌, inr, refl, subst, sym}
+use Rattle.change_journal.specs.Held.{Keeps}
+use Rattle.change_journal.specs.Texts.{MayHoldNext}
+use Rattle.host_disk.specs.Crashes.{LeavesOnly}
+use Rattle.host_server.specs.Openings.{HasFiles, IsHostFault}
+use Rattle.host_server.proofs.Opened.{has_journal}
+use Rattle.host_server.proofs.servers.Server.open.Goals as goal
+
+pub returns-in-Ok-open_host-clause-opened : goal.returns-in-Ok-open_host-clause-opened
+returns-in-Ok-open_host-clause-opened g c =
+    let journal = c.in-Ok.opened.0 in
+    let found = c.in-Ok.ensures in
+    let made = c.in-Ok-open_host.ensures in
+    let house = c.in-Ok-open_host.house in
+    record {
+      journal = journal;
+      is = refl;
+      has_journal = has_journal g.D.Disk c.args.disk journal c.in-Ok.opened.1 found.entries found.found found.stored found.cause;
+      entries = made.entries ∙ sym found.entries.0;
+      limit_is = made.limit;
+      has_files = subst (λ entries. HasFiles g.S.Shelf.did c.args.shelf entries house.uploads c.in-Ok-open_host.files.shelf) (sym made.entries) made.files;
+    }
+
+pub returns-in-Ok-open_host-clause-any_moment : goal.returns-in-Ok-open_host-clause-any_moment
+returns-in-Ok-open_host-clause-any_moment g c modelled had next few leaves journal is =
+    let disk = g.D.Disk in
+    let same : c.in-Ok.opened.0 ≡ journal = cc is in
+    subst (λ (j : Keeps g.row.D.Denot). LeavesOnly disk.moment disk.left_since c.args.disk j.disk (MayHoldNext had next)) same
+    (c.in-Ok.ensures.any_moment modelled had next few leaves)
+
+pub returns-clause-fault : goal.returns-clause-fault
+returns-clause-fault g c =
+    let journal = c.in-Ok.opened.0 in
+    let found = c.in-Ok.ensures in
+    let stop = c.in-Err-open_host.stop in
+    let held = has_journal g.D.Disk c.args.disk journal c.in-Ok.opened.1 found.entries found.found found.stored found.cause in
+    let why = subst (λ entries. IsHostFault g.S.Shelf.did c.args.shelf c.args.limit entries stop.fault stop.shelf) (sym found.entries.0) c.in-Err-open_host.ensures.fault in
+    inr (journal, held, c.into_disk.ensures, why)
+
+pub returns-clause-any_moment : goal.returns-clause-any_moment
+returns-clause-any_moment g c modelled had next few leaves =
+    let disk = g.D.Disk in
+    subst (λ d. LeavesOnly disk.moment disk.left_since c.args.disk d (MayHoldNext had next)) (sym c.into_disk.ensures)
+    (c.in-Ok.ensures.any_moment modelled had next few leaves)

@@ -1,0 +1,5 @@
+use Rattle.std.proofs.Common.{inl}
+use Rattle.host_server.proofs.stores.run_folder.Goals as goal
+
+pub returns-in-Ok : goal.returns-in-Ok
+returns-in-Ok g c = inl (c.in-Ok.ensures.named, (c.in-Ok.disk, c.in-Ok.shelf, c.run_store.ensures))
