@@ -72,13 +72,12 @@ class Refusing(Program):
         super().setUp()
         folder = tempfile.TemporaryDirectory()
         self.addCleanup(folder.cleanup)
-        self.folder = pathlib.Path(folder.name)
-        self.library = self.folder / "refuse_allocation.so"
+        self.library = pathlib.Path(folder.name) / "refuse_allocation.so"
         subprocess.run(["gcc", "-O1", "-shared", "-fPIC", "-o", self.library, SOURCE, "-ldl"], check=True, timeout=SECONDS)
 
     def run_refusing(self, place, given=GIVEN):
         """The status, output and words on standard error where this allocation is refused; how many there were."""
-        told_in = self.folder / "allocations"
+        told_in = self.library.with_name("allocations")
         told_in.unlink(missing_ok=True)
         names = {"LD_PRELOAD": str(self.library), "REFUSED_PLACE": str(place), "ALLOCATIONS_FILE": str(told_in)}
         ran = subprocess.run([PROGRAM, *self.words], input=given, capture_output=True, timeout=SECONDS, env=os.environ | names)
