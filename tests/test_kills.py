@@ -104,7 +104,7 @@ class Round:
             for asked in self.generator.requests(self.random.randrange(1, 12)):
                 self.expect(program, asked)
             asked = self.generator.draw(CHANGING)
-            got = program.kill_after(self.random.random() * 0.7 * sum(self.took) / len(self.took), asked)
+            got = program.kill_after(self.random.random() * 0.3 * sum(self.took) / len(self.took), asked)
         self.take_stock(asked, got)
 
     def kill_while_opened(self, program):
@@ -159,7 +159,7 @@ class Kills(Program):
     def test_lose_nothing_that_was_acknowledged(self):
         tally = self.tally()
         self.assertEqual(sum(tally[when] for when in ("while the store was opened", "after the reply", "within a request")), KILLS)
-        self.assertGreater(tally["within a request"], KILLS // 5, tally)
+        self.assertGreater(tally["within a request"], KILLS // 10, tally)
 
 
 if __name__ == "__main__":
