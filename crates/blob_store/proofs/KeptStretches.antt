@@ -29,7 +29,7 @@ all_take P (suc n) [] all = all
 all_take P (suc n) (x ∷ xs) all = (all.0, all_take P n xs all.1)
 
 module _ {S : Type 0} (did : S → Call → S → Type 0) (has : S → ShelfName → Option (List ℕ)) (keeps : Keeps did has) where
-  chunk_stays : (old new : S) (asked : Digest) (why : ReadFault) (name : ShelfName) → IsChunkFault did old asked why new → has new name ≡ has old name
+  pub chunk_stays : (old new : S) (asked : Digest) (why : ReadFault) (name : ShelfName) → IsChunkFault did old asked why new → has new name ≡ has old name
   chunk_stays old new asked read_fault.Missing name fault = keeps.stays old new (Part asked) name None fault
   chunk_stays old new asked read_fault.Damaged name fault = keeps.stays old new (Part asked) name (Some fault.0) fault.2
   chunk_stays old new asked read_fault.Device name fault = keeps.get_fails old new (Part asked) name shelf_fault.Device fault

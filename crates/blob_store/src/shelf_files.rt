@@ -1,18 +1,19 @@
 //! Files on a shelf, without what is known of them.
-ghost use Rattle.std.specs.Prelude.{◌≡◌, ◌↔◌, ◌<◌, ◌≤◌, Err, IfErr, IfOk, None, OnOk, length};
+ghost use Rattle.std.specs.Prelude.{◌≡◌, ◌↔◌, ◌<◌, ◌≤◌, Err, IfErr, IfOk, None, OnOk, Some, length};
 ghost use Rattle.host_names.specs.Blobs.{digest_of};
 ghost use Rattle.blob_store.specs.declared.blobs.UploadFault.TheVariants as upload_fault;
 ghost use Rattle.blob_store.specs.declared.reading.ReadFault.TheVariants as read_fault;
-ghost use Rattle.blob_store.specs.Calls.{PutsInTurn, things_of};
-ghost use Rattle.blob_store.specs.Faults.{HasPutSome};
+ghost use Rattle.blob_store.specs.declared.shelves.ShelfName.TheVariants.{Part};
+ghost use Rattle.blob_store.specs.Calls.{Got, PutsInTurn, things_of};
+ghost use Rattle.blob_store.specs.Faults.{HasPutSome, IsChunkFault};
 ghost use Rattle.blob_store.specs.Reads.{GivesInTurn};
 ghost use Rattle.blob_store.specs.Stretches.{IsStretchFault, chunks_given};
 
 use crate::blobs::{UploadFault, put_whole};
-use crate::reading::ReadFault;
+use crate::reading::{ReadFault, read_chunk};
 use crate::shelves::Shelf;
 use crate::stretches::read_stretch;
-use byte_view::{BlobInfo, Hold};
+use byte_view::{BlobInfo, Chunk, Hold};
 use host_names::Digest;
 use std::alloc::Global;
 use std::sync::Arc;
@@ -32,6 +33,13 @@ impl<S: Shelf> Files<S> {
         Files { alloc, shelf }
     }
 
+    /// Hands out the shelf.
+    pub fn into_shelf(self) -> S
+        ensures { result ≡ self.shelf }
+    {
+        self.shelf
+    }
+
     /// Puts a file of at most `MAX_SIZE` bytes on the shelf, each piece and then its table, and answers what is kept of it.
     pub fn put(&mut self, digest: Digest, bytes: &[u8]) -> Result<Arc<BlobInfo>, UploadFault>
         requires { digest ≡ digest_of bytes.now }
@@ -43,6 +51,17 @@ impl<S: Shelf> Files<S> {
         ensures count { S.failures self.old.shelf ≤ S.failures self.new.shelf }
     {
         put_whole(self.alloc, &mut self.shelf, digest, bytes)
+    }
+
+    /// The chunk of a name, as the shelf gives it now, and checked: it has that name.
+    pub fn chunk(&mut self, name: &Digest) -> Result<Chunk, ReadFault>
+        ensures given { IfOk result (λ chunk. S.did self.old.shelf (Got (Part name.now) (Some chunk)) self.new.shelf) }
+        ensures named { IfOk result (λ chunk. digest_of chunk ≡ name.now) }
+        ensures fault { IfErr result (λ fault. IsChunkFault S.did self.old.shelf name.now fault self.new.shelf) }
+        ensures device { IfErr result (λ fault. fault ≡ read_fault.Device → S.failures self.old.shelf < S.failures self.new.shelf) }
+        ensures count { S.failures self.old.shelf ≤ S.failures self.new.shelf }
+    {
+        read_chunk(&mut self.shelf, *name)
     }
 
     /// A stretch of a file, from its first to its last byte, with the chunks that it meets, as the shelf gives them now. Each chunk

@@ -1,3 +1,4 @@
+pub mod Alone
 mod Misses
 mod Outcomes
 mod ReadInTurn

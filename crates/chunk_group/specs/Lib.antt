@@ -8,3 +8,4 @@ pub mod Outcomes
 pub mod Holding
 pub mod Nodes
 pub mod Stores
+pub mod Lone

@@ -1,4 +1,4 @@
--- What a load from a store does.
+-- What a load from a shelf does.
 use Rattle.std.specs.Prelude.{◌≡◌, ℕ, ◌<◌, ◌≤◌, List, Some, Result, Ok, Err}
 use Rattle.host_names.specs.declared.digests.Digest.{Digest}
 use Rattle.host_names.specs.Blobs.{digest_of}
@@ -7,15 +7,15 @@ use Rattle.blob_store.specs.declared.reading.ReadFault.TheVariants.{Device}
 use Rattle.blob_store.specs.declared.shelves.ShelfName.TheVariants.{Part}
 use Rattle.blob_store.specs.Calls.{Call, Got}
 use Rattle.blob_store.specs.Faults.{IsChunkFault}
-use Rattle.chunk_group.specs.declared.blob_sources.BlobSource.{BlobSource}
+use Rattle.chunk_group.specs.declared.file_sources.FileSource.{FileSource}
 
 -- the shelf gives the piece of this name, or what it answers is a fault
 abbrev pub IsPiece : {S : Type 0} → (did : S → Call → S → Type 0) → S → Digest → Result (List ℕ) ReadFault → S → Type 0
 IsPiece did old name (Ok piece) new = (digest_of piece ≡ name) × did old (Got (Part name) (Some piece)) new
 IsPiece did old name (Err fault) new = IsChunkFault did old name fault new
 
--- a load of a key is one call of the shelf, and what is known of the files stays; a device is blamed only where it failed
-abbrev pub LoadedOfBlobs : {S : Type 0} → (did : S → Call → S → Type 0) → (failures : S → ℕ) → BlobSource S → Digest → Result (List ℕ) ReadFault → BlobSource S → Type 0
-LoadedOfBlobs did failures old key answer new =
-    IsPiece did old.blobs.shelf key answer new.blobs.shelf × (answer ≡ Err Device → failures old.blobs.shelf < failures new.blobs.shelf)
-    × (failures old.blobs.shelf ≤ failures new.blobs.shelf) × (new.blobs.known ≡ old.blobs.known)
+-- a load of a key is one call of the shelf; a device is blamed only where it failed
+abbrev pub LoadedOfFiles : {S : Type 0} → (did : S → Call → S → Type 0) → (failures : S → ℕ) → FileSource S → Digest → Result (List ℕ) ReadFault → FileSource S → Type 0
+LoadedOfFiles did failures old key answer new =
+    IsPiece did old.files.shelf key answer new.files.shelf × (answer ≡ Err Device → failures old.files.shelf < failures new.files.shelf)
+    × (failures old.files.shelf ≤ failures new.files.shelf)

@@ -1,6 +1,9 @@
 //! The group of a node on one thread.
-ghost use Rattle.std.specs.Prelude.{◌≡◌, ◌<◌, ◌≤◌, ◌≢◌, Err, IfErr, IfOk, None, Ok, length};
+ghost use Rattle.std.specs.Prelude.{◌≡◌, ◌↔◌, ◌<◌, ◌≤◌, ◌≢◌, Err, IfErr, IfOk, None, Ok, OnOk, length};
 ghost use Rattle.host_names.specs.Blobs.{digest_of};
+ghost use Rattle.blob_store.specs.Calls.{PutsInTurn, things_of};
+ghost use Rattle.blob_store.specs.Faults.{HasPutSome};
+ghost use Rattle.blob_store.specs.declared.blobs.UploadFault.TheVariants as upload_fault;
 ghost use Rattle.blob_store.specs.declared.reading.ReadFault.TheVariants.{OutOfMemory};
 ghost use Rattle.chunk_lru.specs.Caches.{empty};
 ghost use Rattle.chunk_lru.specs.Rules.{held};
@@ -12,11 +15,12 @@ ghost use Rattle.chunk_group.specs.Nodes.{ReadsOf};
 
 use crate::caches::Caches;
 use crate::coins::Coin;
+use crate::file_sources::FileSource;
 use crate::holds::{ChunkReader, hold_stretch};
 use crate::loads::{Given, Suppliers};
 use crate::places::RingPlace;
 use crate::sources::Source;
-use blob_store::ReadFault;
+use blob_store::{ReadFault, Shelf, UploadFault};
 use byte_view::{BlobInfo, Chunk, Hold};
 use chunk_lru::ChunkCache;
 use file_reads::Holder;
@@ -83,14 +87,35 @@ impl<H: RingHash + Copy + Drop, S: Source + Drop, L: PeerLink + Drop, C: Coin + 
         ensures caches { IfOk result (λ group. (group.node.caches.cache ≡ empty limit) × (group.node.caches.coin ≡ coin)) }
         ensures suppliers { IfOk result (λ group. (group.node.suppliers.source ≡ source) × (group.node.suppliers.link ≡ link)) }
     {
-        Ok(SoloGroup {
+        let cache = ChunkCache::new(alloc, limit)?;
+        Ok(SoloGroup::with_cache(alloc, cache, ring, me, source, link, coin))
+    }
+}
+
+impl<H: RingHash + Copy + Drop, S: Source, L: PeerLink, C: Coin> SoloGroup<H, S, L, C> {
+    /// The node at a place in a ring, with these caches.
+    pub fn with_cache(
+        alloc: Global,
+        cache: ChunkCache,
+        ring: Ring<H>,
+        me: usize,
+        source: S,
+        link: L,
+        coin: C,
+    ) -> SoloGroup<H, S, L, C>
+        requires { me < length ring.names }
+        ensures place { (result.place.ring ≡ ring) × (result.place.me ≡ me) }
+        ensures caches { (result.node.caches.cache ≡ cache) × (result.node.caches.coin ≡ coin) }
+        ensures suppliers { (result.node.suppliers.source ≡ source) × (result.node.suppliers.link ≡ link) }
+    {
+        SoloGroup {
             alloc,
             place: RingPlace::new(ring, me),
             node: Node {
-                caches: Caches::new(ChunkCache::new(alloc, limit)?, coin),
+                caches: Caches::new(cache, coin),
                 suppliers: Suppliers { source, link },
             },
-        })
+        }
     }
 
     /// A share of the chunk of a key: from the caches, or else from the peer that owns it, or else from the source. What the source
@@ -127,7 +152,7 @@ impl<H: RingHash + Copy + Drop, S: Source + Drop, L: PeerLink + Drop, C: Coin + 
     }
 }
 
-impl<H: RingHash + Copy + Drop, S: Source + Drop, L: PeerLink + Drop, C: Coin + Drop> ChunkReader
+impl<H: RingHash + Copy + Drop, S: Source, L: PeerLink, C: Coin> ChunkReader
     for SoloGroup<H, S, L, C> {
     ghost reads = { ReadsOf S.loaded L.fetched C.drew H.hashed };
 
@@ -137,13 +162,31 @@ impl<H: RingHash + Copy + Drop, S: Source + Drop, L: PeerLink + Drop, C: Coin + 
 }
 
 /// Files are read through the caches, and from who is asked else.
-impl<H: RingHash + Copy + Drop, S: Source + Drop, L: PeerLink + Drop, C: Coin + Drop> Holder
-    for SoloGroup<H, S, L, C> {
+impl<H: RingHash + Copy + Drop, S: Source, L: PeerLink, C: Coin> Holder for SoloGroup<H, S, L, C> {
     ghost gave = { λ old hold new. ReadsInTurn (ReadsOf S.loaded L.fetched C.drew H.hashed) old hold.chunks new };
 
     ghost failed = { IsNotHeld (ReadsOf S.loaded L.fetched C.drew H.hashed) };
 
     fn hold(&mut self, info: Arc<BlobInfo>, first: usize, last: usize) -> Result<Hold, ReadFault> {
         self.hold(info, first, last)
+    }
+}
+
+impl<H: RingHash + Copy + Drop, S: Shelf, L, C> SoloGroup<H, FileSource<S>, L, C> {
+    /// Puts a file of at most `MAX_SIZE` bytes on the shelf of the source, each piece and then its table, and answers what is kept
+    /// of it. What the caches have stays.
+    pub fn put(&mut self, digest: Digest, bytes: &[u8]) -> Result<Arc<BlobInfo>, UploadFault>
+        requires { digest ≡ digest_of bytes.now }
+        ensures large { (result ≡ Err upload_fault.TooLarge) ↔ (16777216 < length bytes.now) }
+        ensures info { IfOk result (λ info. info.value ≡ bytes.now) }
+        ensures put { OnOk result (PutsInTurn S.did self.old.node.suppliers.source.files.shelf (things_of bytes.now) None self.new.node.suppliers.source.files.shelf) }
+        ensures not_put { IfErr result (λ fault. HasPutSome S.did self.old.node.suppliers.source.files.shelf (things_of bytes.now) fault self.new.node.suppliers.source.files.shelf) }
+        ensures device { IfErr result (λ fault. fault ≡ upload_fault.Device → S.failures self.old.node.suppliers.source.files.shelf < S.failures self.new.node.suppliers.source.files.shelf) }
+        ensures count { S.failures self.old.node.suppliers.source.files.shelf ≤ S.failures self.new.node.suppliers.source.files.shelf }
+        ensures caches { self.new.node.caches ≡ self.old.node.caches }
+        ensures link { self.new.node.suppliers.link ≡ self.old.node.suppliers.link }
+        ensures place { self.new.place ≡ self.old.place }
+    {
+        self.node.suppliers.source.files.put(digest, bytes)
     }
 }

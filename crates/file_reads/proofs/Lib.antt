@@ -1,3 +1,4 @@
 mod HeldInTurn
 mod Joined
+pub mod Passing
 pub mod Stored

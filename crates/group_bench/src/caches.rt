@@ -1,7 +1,7 @@
 //! Look-ups of chunks that are there.
 use crate::Measured;
+use crate::chunks::{CHUNK, chunk_of};
 use anyhow::{Result, anyhow};
-use byte_view::Chunk;
 use chunk_lru::{ChunkCache, Which};
 use host_names::Digest;
 use std::alloc::Global;
@@ -11,25 +11,12 @@ use std::time::{Clock, Instant};
 /// How many chunks a cache of 64 MiB has, of 64 KiB each.
 const CHUNKS: usize = 1024;
 
-const CHUNK: usize = 65_536;
-
-/// The chunk of a number: its decimal text, and zeros after it.
-fn chunk(alloc: Global, number: usize) -> Result<Chunk> {
-    let text = format!(in alloc; "{number}")?;
-    let mut bytes = Vec::from_slice(alloc, text.as_bytes())?;
-    bytes.resize(CHUNK, 0)?;
-    let name = Digest::of_bytes(bytes.as_slice());
-    Chunk::check(name, bytes)
-        .ok()
-        .ok_or(anyhow!("a chunk without its own name"))
-}
-
 /// A cache that is full of these chunks, all in main, and their names.
 fn full(alloc: Global) -> Result<(ChunkCache, Vec<Digest>)> {
     let mut cache = ChunkCache::new(alloc, CHUNKS * (CHUNK + 40))?;
     let mut names = Vec::new(alloc);
     for number in 0..CHUNKS {
-        let chunk = chunk(alloc, number)?;
+        let chunk = chunk_of(alloc, number)?;
         names.push(chunk.name())?;
         cache.add(Which::Main, Arc::new(alloc, chunk)?)?;
     }

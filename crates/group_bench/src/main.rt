@@ -1,12 +1,15 @@
-//! Measures calls of a ring, of flights and of a cache, as bench/groupcache.go measures groupcache's: a run makes one measurement, and
-//! prints the nanoseconds of all its calls and the sum of their answers.
+//! Measures calls of a ring, of flights and of a cache, as bench/groupcache.go measures groupcache's, and reads through a node: a run
+//! makes one measurement, and prints the nanoseconds of all its calls and the sum of their answers.
 #![tactic(auto)]
 
 ghost use Rattle.std.specs.Prelude.{◌≡◌};
 
 mod caches;
+mod chunks;
 mod flights;
+mod reads;
 mod rings;
+mod thread_reads;
 
 use anyhow::{Result, anyhow};
 use host_names::Digest;
@@ -14,10 +17,19 @@ use std::alloc::{AllocError, Global};
 use std::env;
 use std::io::Print;
 use std::sync::Wait;
+use std::thread::Threads;
 use std::time::{Clock, Duration};
 
 /// How many keys are asked for in turn.
 const KEYS: u32 = 1024;
+
+/// What can be measured, a line each.
+const LIST: &str = "hit ROUNDS       so many look-ups of each of 1024 chunks that a cache has
+owner ROUNDS     the owners of 1024 keys in a ring of 8 peers, so many times
+run ROUNDS       as many flights, which nobody joins
+hot ROUNDS       so many reads of each of 1024 chunks of 64 KiB that a node has in its cache
+share ROUNDS     as many times a second owner of each of 1024 chunks, which a read makes at least
+threads THREADS  200 reads of each of 64 such chunks by each of so many threads, which copy them";
 
 /// What some calls took, and the sum of their answers.
 #[derive(Drop)]
@@ -36,38 +48,39 @@ fn keys(alloc: Global) -> Result<Vec<Digest>, AllocError> {
     Ok(keys)
 }
 
-/// Makes the measurement of this name, over so many rounds of all keys.
-fn measure<R: Wait + Clock>(rt: &R, alloc: Global, name: &str, rounds: &str) -> Result<Measured> {
-    let rounds = rounds
-        .parse::<u64>()
-        .ok()
-        .ok_or(anyhow!("no such number of rounds"))?;
+/// Makes the measurement of this name: over so many rounds, or by so many threads.
+fn measure<R: Threads + Wait + Clock + Sync>(
+    rt: &R,
+    alloc: Global,
+    name: &str,
+    count: &str,
+) -> Result<Measured> {
+    let count = count.parse::<u64>().ok().ok_or(anyhow!("no such number"))?;
     let keys = keys(alloc)?;
     match name {
-        "hit" => caches::time_hits(rt, alloc, rounds),
-        "owner" => rings::time_owners(rt, alloc, keys.as_slice(), rounds),
-        "run" => flights::time_runs(rt, alloc, keys.as_slice(), rounds),
+        "hit" => caches::time_hits(rt, alloc, count),
+        "owner" => rings::time_owners(rt, alloc, keys.as_slice(), count),
+        "run" => flights::time_runs(rt, alloc, keys.as_slice(), count),
+        "hot" => reads::time_reads(rt, alloc, count),
+        "share" => reads::time_shares(rt, alloc, count),
+        "threads" => thread_reads::time_threads(rt, alloc, count),
         _ => Err(anyhow!("no such measurement")),
     }
 }
 
 /// Prints what these words ask for.
-fn answer<R: Wait + Clock + Print>(rt: &R, alloc: Global, words: &[String]) -> Result<()> {
+fn answer<R: Threads + Wait + Clock + Print + Sync>(
+    rt: &R,
+    alloc: Global,
+    words: &[String],
+) -> Result<()> {
     match words {
-        [word] if word.as_str() == "list" => {
-            println!(rt;
-                "hit ROUNDS    so many look-ups of each of {KEYS} chunks that a cache has"
-            )?;
-            println!(rt;
-                "owner ROUNDS  the owners of {KEYS} keys in a ring of 8 peers, so many times"
-            )?;
-            println!(rt; "run ROUNDS    as many flights, which nobody joins")?;
-        }
-        [name, rounds] => {
-            let measured = measure(rt, alloc, name.as_str(), rounds.as_str())?;
+        [word] if word.as_str() == "list" => println!(rt; "{LIST}")?,
+        [name, count] => {
+            let measured = measure(rt, alloc, name.as_str(), count.as_str())?;
             println!(rt; "{} {}", measured.took.as_nanos(), measured.sum)?;
         }
-        _ => return Err(anyhow!("a measurement and its rounds are wanted, or list")),
+        _ => return Err(anyhow!("a measurement and its number are wanted, or list")),
     }
     Ok(())
 }

@@ -1,3 +1,3 @@
 mod Numbered
 mod Owned
-mod Placed
+pub mod Placed

@@ -34,7 +34,7 @@ peers_points hashed (name ∷ names) peer =
     (All-weaker (λ p. p.peer.0 ≡ peer) (λ p. p.peer.0 < peer + length (name ∷ names)) (λ p is. omega (arith, is)) _ (own_points hashed name peer 50).1)
     (All-weaker (λ p. p.peer.0 < (peer + 1) + length names) (λ p. p.peer.0 < peer + length (name ∷ names)) (λ p below. omega (arith, below)) _ (peers_points hashed names (peer + 1)))
 
-owner_is_peer : (hashed : List ℕ → ℕ) (names : List (List ℕ)) (hash peer : ℕ) → IsOwner (points_of hashed names 0) hash peer → peer < length names
+pub owner_is_peer : (hashed : List ℕ → ℕ) (names : List (List ℕ)) (hash peer : ℕ) → IsOwner (points_of hashed names 0) hash peer → peer < length names
 owner_is_peer hashed names hash peer (p, is, inl next) =
     let below = All-contains (λ q. q.peer.0 < 0 + length names) (points_of hashed names 0) p (peers_points hashed names 0) next.is_point in omega (arith, is, below)
 owner_is_peer hashed names hash peer (p, is, inr none) =

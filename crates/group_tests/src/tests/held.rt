@@ -3,7 +3,7 @@ use super::fixtures::{Giver, bytes_of, names};
 use super::gates::assert_count;
 use blob_store::{Blobs, MemShelf, ReadFault};
 use byte_view::{BlobInfo, Hold};
-use chunk_group::{BlobSource, Counter, Group, SoloGroup};
+use chunk_group::{Counter, FileSource, Group, SoloGroup};
 use file_reads::Holder;
 use peer_link::NoLink;
 use peer_ring::{DigestHash, Ring};
@@ -58,7 +58,7 @@ fn a_stretch_of_a_stored_file_is_held_across_the_edge_of_a_chunk(
     let mut blobs = Blobs::new(rt.alloc(), MemShelf::new(rt.alloc()));
     let info = blobs.upload(file.as_slice())?;
     let ring = Ring::new(rt.alloc(), &["node0", "node1"], &DigestHash)?;
-    let source = BlobSource::new(blobs);
+    let source = FileSource::new(blobs.into_parts().1);
     let mut node = SoloGroup::new(rt.alloc(), 100_000, ring, 0, source, NoLink, Counter::new())?;
     // From the shelf, and then from the cache.
     for _ in 0..2 {

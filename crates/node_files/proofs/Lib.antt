@@ -1,0 +1,6 @@
+mod Alone
+mod Caches
+mod Pieces
+mod Turns
+mod Kept
+pub mod Stored
