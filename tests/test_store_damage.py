@@ -1,4 +1,5 @@
-"""A store whose files are lost or damaged while the program runs: what is read of them is refused, and all else goes on."""
+"""A store whose files are lost or damaged while the program runs: what is read of them is refused, unless it was read before and is still in memory, and
+all else goes on."""
 
 import unittest
 
@@ -84,6 +85,38 @@ class Damage(Stored):
         talk.ask(reading("/s/one/d"), MISSING)
         self.piece(1).write_bytes(data)
         talk.ask(reading("/s/one/d"), sent(self.content, kind=BINARY))
+        talk.end()
+
+
+class Cached(Stored):
+    """Files that are lost after they were read, while their pieces are in memory."""
+
+    small = b"".join(bytes([place]) * PIECE for place in range(3)) + b"the end"
+    # Four files of 16 MiB, of which no two pieces are the same.
+    large = [b"".join((1000 * number + place).to_bytes(4, "big") * (PIECE // 4) for place in range(256)) for number in range(1, 5)]
+
+    def begin(self):
+        """A program that has opened the store and has read the small file, one piece of which is lost since then."""
+        files = {"/small": self.small} | {f"/{number}": content for number, content in enumerate(self.large)}
+        self.write([opening_of(files), ("publish", "one", 1)], self.small, *self.large)
+        talk = Conversation(self)
+        talk.ask(reading("/s/one/small"), sent(self.small, kind=BINARY))
+        (self.folder / f"c-{digest_of(pieces_of(self.small)[1])}").unlink()
+        return talk
+
+    def test_what_was_read_is_sent_from_memory(self):
+        talk = self.begin()
+        talk.ask(reading("/s/one/small"), sent(self.small, kind=BINARY))
+        talk.ask(request("GET", "/s/one/small", "Range: bytes=65536-65537"),
+                 sent(b"\x01\x01", f"Content-Range: bytes 65536-65537/{len(self.small)}", kind=BINARY, whole=self.small))
+        talk.end()
+        self.assert_fails(4, f"blobs: DamagedBlob {digest_of(self.small)}")
+
+    def test_what_was_read_64_mib_ago_is_looked_for(self):
+        talk = self.begin()
+        for number, content in enumerate(self.large):
+            talk.ask(reading(f"/s/one/{number}"), sent(content, kind=BINARY))
+        talk.ask(reading("/s/one/small"), MISSING)
         talk.end()
 
 

@@ -12,9 +12,6 @@ use std::time::{Duration, Instant};
 /// How many requests a connection has, at most.
 pub(crate) const REQUESTS: u64 = 100;
 
-/// The reply to a GET of a file has at least its bytes.
-const LEAST_REPLY: u64 = 64;
-
 /// A GET of the first file of the site, but for the empty line at its end.
 const GET: &str = "GET /s/one/00000000 HTTP/1.1\r\nHost: localhost\r\n";
 
@@ -38,6 +35,17 @@ fn gets(alloc: Global) -> Result<String, AllocError> {
     for _ in 0..REQUESTS {
         requests.push_str(GET)?;
         requests.push_str("\r\n")?;
+    }
+    Ok(requests)
+}
+
+/// The requests of a connection: a GET of each of the first files of the site.
+fn gets_in_turn(alloc: Global, files: u64) -> Result<String, AllocError> {
+    let mut requests = String::new(alloc);
+    for number in 0..files {
+        let line = format!(in alloc; "GET /s/one/{number:08} HTTP/1.1\r\n")?;
+        requests.push_str(line.as_str())?;
+        requests.push_str("Host: localhost\r\n\r\n")?;
     }
     Ok(requests)
 }
@@ -98,15 +106,28 @@ fn time_requests(
     Ok(begun.elapsed(rt)?)
 }
 
-/// The time of so many connections of GETs.
+/// The time of so many connections of GETs of the first file, which has so many bytes. A reply has at least these.
 pub(crate) fn time_gets(
     rt: &HostRuntime,
     server: &mut Server<MemShelf, MemDisk>,
+    bytes: u64,
     times: u64,
 ) -> Result<Duration> {
     let requests = gets(rt.alloc())?;
-    let least = REQUESTS.saturating_mul(LEAST_REPLY);
+    let least = REQUESTS.saturating_mul(bytes);
     time_requests(rt, server, requests.as_str(), least, times)
+}
+
+/// The time of one connection that reads each of the first files once, which have so many bytes each.
+pub(crate) fn time_first_gets(
+    rt: &HostRuntime,
+    server: &mut Server<MemShelf, MemDisk>,
+    files: u64,
+    bytes: u64,
+) -> Result<Duration> {
+    let requests = gets_in_turn(rt.alloc(), files)?;
+    let least = files.saturating_mul(bytes);
+    time_requests(rt, server, requests.as_str(), least, 1)
 }
 
 /// The time of so many connections for the four stretches, of which each request asks for so many.

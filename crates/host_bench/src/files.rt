@@ -88,10 +88,10 @@ pub(crate) fn listing(
     Ok(Listing::new(is_patch, paths)?)
 }
 
-/// What a deploy lists that has one file, which has this digest.
-pub(crate) fn one_file(alloc: Global, digest: Digest) -> Result<Listing> {
+/// What a patch lists that adds one file, which has this digest, at the path of a number.
+pub(crate) fn one_file(alloc: Global, number: u64, digest: Digest) -> Result<Listing> {
     let mut entries = no_entries(alloc);
-    push_path(&mut entries, path(alloc, 0)?, Some(digest))?;
+    push_path(&mut entries, path(alloc, number)?, Some(digest))?;
     let paths = PathMap::from_sorted(alloc, entries)?;
-    Ok(Listing::new(false, paths)?)
+    Ok(Listing::new(true, paths)?)
 }

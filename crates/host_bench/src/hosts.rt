@@ -23,8 +23,8 @@ pub(crate) struct Upload {
 }
 
 /// A server without entries, whose files are in memory.
-pub(crate) fn empty_server(alloc: Global) -> Server<MemShelf, MemDisk> {
-    Server::new(alloc, MemShelf::new(alloc), GREATEST_LIMIT)
+pub(crate) fn empty_server(alloc: Global) -> Result<Server<MemShelf, MemDisk>> {
+    Ok(Server::new(alloc, MemShelf::new(alloc), GREATEST_LIMIT)?)
 }
 
 /// What a call told, which no measurement expects to be refused.
@@ -90,16 +90,26 @@ pub(crate) fn keep(
     Ok(deploy)
 }
 
-/// Makes the site serve one file of these bytes, the first.
+/// Makes the site serve a file of these bytes as well, at the path of a number.
+pub(crate) fn add_file(
+    alloc: Global,
+    server: &mut Server<MemShelf, MemDisk>,
+    number: u64,
+    bytes: Vec<u8>,
+) -> Result<()> {
+    let listing = one_file(alloc, number, Digest::of_bytes(bytes.as_slice()))?;
+    let deploy = open_listing(server, listing)?;
+    let _ = upload_one(server, deploy, &path(alloc, number)?, bytes)?;
+    Ok(())
+}
+
+/// Makes the site serve a file of these bytes, the first.
 pub(crate) fn serve_file(
     alloc: Global,
     server: &mut Server<MemShelf, MemDisk>,
     bytes: Vec<u8>,
 ) -> Result<()> {
-    let listing = one_file(alloc, Digest::of_bytes(bytes.as_slice()))?;
-    let deploy = open_listing(server, listing)?;
-    let _ = upload_one(server, deploy, &path(alloc, 0)?, bytes)?;
-    Ok(())
+    add_file(alloc, server, 0, bytes)
 }
 
 /// Moves an alias of the site to a deploy.

@@ -1,11 +1,12 @@
 //! The measurements: each makes its server or its store, and then takes the time of some calls.
 ghost use Rattle.std.specs.Prelude.{◌≡◌};
 
-use crate::connections::{REQUESTS, TURNS, time_gets, time_ranges};
+use crate::connections::{REQUESTS, TURNS, time_first_gets, time_gets, time_ranges};
 use crate::copies::time_copies;
 use crate::files::Contents;
 use crate::hosts::{
-    Upload, empty_server, fill, keep, move_alias, open, plan, rename, serve, serve_file, upload_all,
+    Upload, add_file, empty_server, fill, keep, move_alias, open, plan, rename, serve, serve_file,
+    upload_all,
 };
 use crate::stores::{random, time_digest, time_distinct, time_equal, time_read, time_upload};
 use anyhow::Result;
@@ -18,6 +19,8 @@ use std::time::{Duration, Instant};
 /// What can be measured, a line each.
 pub(crate) const LIST: &str =
     "get FILES        nanoseconds of a GET of a file of 64 bytes in a site that serves so many, in connections of 100
+cached BYTES     nanoseconds of a GET of a file of so many bytes, all of whose chunks are in the cache
+uncached BYTES   the same where none of them is: of files of 64 MiB together, at most 100, each is read once
 ranges EACH      nanoseconds of four ranges of 16 KiB of a file, where each request asks for so many of them
 rename FILES     nanoseconds of a renaming in a site that serves so many files
 put FILES        nanoseconds of an upload to an open deploy of so many files that stays open
@@ -33,6 +36,16 @@ read BYTES       nanoseconds of a read of so many bytes from a store in memory, 
 
 /// How many connections of GETs are timed in a site.
 const CONNECTIONS: u64 = 1_000;
+
+/// How many bytes a file of that site has.
+const SMALL_FILE: u64 = 64;
+
+/// How many connections of GETs of a file that is in the cache are timed.
+const CACHED_CONNECTIONS: u64 = 5;
+
+/// How many bytes the files have together that are read once: as many as the cache has room for, so that it and the shelf
+/// take about 128 MiB.
+const UNCACHED_BYTES: u64 = 67_108_864;
 
 /// How many connections for ranges are timed, and of how large a file.
 const RANGE_CONNECTIONS: u64 = 20;
@@ -52,6 +65,8 @@ const FILES: u64 = 10_000;
 #[derive(Clone, Copy)]
 pub(crate) enum Measurement {
     Get(u64),
+    Cached(u64),
+    Uncached(u64),
     Ranges(u64),
     Rename(u64),
     Put(u64),
@@ -73,6 +88,8 @@ impl Measurement {
         match name {
             _ if count == 0 => None,
             "get" => Some(Measurement::Get(count)),
+            "cached" => Some(Measurement::Cached(count)),
+            "uncached" => Some(Measurement::Uncached(count)),
             "ranges" => Some(Measurement::Ranges(count)),
             "rename" => Some(Measurement::Rename(count)),
             "put" => Some(Measurement::Put(count)),
@@ -93,6 +110,8 @@ impl Measurement {
     pub(crate) fn run(&self, rt: &HostRuntime) -> Result<u128> {
         match self {
             Measurement::Get(files) => gets(rt, *files),
+            Measurement::Cached(bytes) => cached(rt, *bytes),
+            Measurement::Uncached(bytes) => uncached(rt, *bytes),
             Measurement::Ranges(of_each) => ranges(rt, *of_each),
             Measurement::Rename(files) => renamings(rt, *files, RENAMINGS),
             Measurement::Put(files) => puts(rt, *files),
@@ -116,15 +135,42 @@ fn each(took: Duration, calls: u64) -> u128 {
 
 /// The time of one GET of a file in a site that serves so many.
 fn gets(rt: &HostRuntime, files: u64) -> Result<u128> {
-    let mut server = empty_server(rt.alloc());
+    let mut server = empty_server(rt.alloc())?;
     serve(rt.alloc(), &mut server, files)?;
-    let took = time_gets(rt, &mut server, CONNECTIONS)?;
+    let took = time_gets(rt, &mut server, SMALL_FILE, CONNECTIONS)?;
     Ok(each(took, CONNECTIONS.saturating_mul(REQUESTS)))
+}
+
+/// A server of so many files of so many bytes, each of other bytes. None was read yet, so none of their chunks is in the cache.
+fn unread(rt: &HostRuntime, files: u64, bytes: u64) -> Result<Server<MemShelf, MemDisk>> {
+    let mut server = empty_server(rt.alloc())?;
+    for number in 0..files {
+        let content = random(rt.alloc(), bytes as usize, number.saturating_add(1))?;
+        add_file(rt.alloc(), &mut server, number, content)?;
+    }
+    Ok(server)
+}
+
+/// The time of one GET of a file out of the cache, where the first GET puts it.
+fn cached(rt: &HostRuntime, bytes: u64) -> Result<u128> {
+    let mut server = unread(rt, 1, bytes)?;
+    let _ = time_first_gets(rt, &mut server, 1, bytes)?;
+    let took = time_gets(rt, &mut server, bytes, CACHED_CONNECTIONS)?;
+    Ok(each(took, CACHED_CONNECTIONS.saturating_mul(REQUESTS)))
+}
+
+/// The time of one GET of a file whose chunks all come from the shelf.
+fn uncached(rt: &HostRuntime, bytes: u64) -> Result<u128> {
+    let fitting = UNCACHED_BYTES.checked_div(bytes).unwrap_or(0);
+    let files = fitting.max(1).min(REQUESTS);
+    let mut server = unread(rt, files, bytes)?;
+    let took = time_first_gets(rt, &mut server, files, bytes)?;
+    Ok(each(took, files))
 }
 
 /// The time of the four ranges once, where each request asks for so many of them.
 fn ranges(rt: &HostRuntime, of_each: u64) -> Result<u128> {
-    let mut server = empty_server(rt.alloc());
+    let mut server = empty_server(rt.alloc())?;
     serve_file(rt.alloc(), &mut server, random(rt.alloc(), RANGE_FILE, 1)?)?;
     let took = time_ranges(rt, &mut server, of_each as usize, RANGE_CONNECTIONS)?;
     Ok(each(took, RANGE_CONNECTIONS.saturating_mul(TURNS)))
@@ -145,14 +191,14 @@ fn time_renamings(
 
 /// The time of one of so many renamings in a site that serves so many files.
 fn renamings(rt: &HostRuntime, files: u64, times: u64) -> Result<u128> {
-    let mut server = empty_server(rt.alloc());
+    let mut server = empty_server(rt.alloc())?;
     serve(rt.alloc(), &mut server, files)?;
     Ok(each(time_renamings(rt, &mut server, times)?, times))
 }
 
 /// The time of one of so many moves of an alias between two deploys.
 fn moves(rt: &HostRuntime, times: u64) -> Result<u128> {
-    let mut server = empty_server(rt.alloc());
+    let mut server = empty_server(rt.alloc())?;
     let first = keep(rt.alloc(), &mut server, 0)?;
     let second = keep(rt.alloc(), &mut server, 1)?;
     let begun = Instant::now(rt)?;
@@ -196,7 +242,7 @@ fn time_uploads(
 
 /// The time of one of the uploads to open deploys of so many files, which stay open.
 fn puts(rt: &HostRuntime, files: u64) -> Result<u128> {
-    let mut server = empty_server(rt.alloc());
+    let mut server = empty_server(rt.alloc())?;
     let planned = plan_all(rt.alloc(), &mut server, files)?;
     let calls = planned.len() as u64;
     Ok(each(time_uploads(rt, &mut server, planned)?, calls))
@@ -204,7 +250,7 @@ fn puts(rt: &HostRuntime, files: u64) -> Result<u128> {
 
 /// The time of a deploy of so many files, from before its opening to its publishing.
 fn deploy(rt: &HostRuntime, files: u64) -> Result<u128> {
-    let mut server = empty_server(rt.alloc());
+    let mut server = empty_server(rt.alloc())?;
     let begun = Instant::now(rt)?;
     fill(rt.alloc(), &mut server, 0..files)?;
     Ok(begun.elapsed(rt)?.as_nanos())

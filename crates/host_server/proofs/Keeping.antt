@@ -29,6 +29,7 @@ module _ {S D : Type 0} {disk : Ghosts D} (did : S → Call → S → Type 0) (f
   not_judged server n path bytes why is = inl (
     record {
       stored = subst (λ j. IsStoredIf did j server.house.uploads server.files.shelf bytes server.files.shelf) (sym is) refl;
+      cache = refl;
       told_is = ap (λ j. (uploaded server.house n bytes j).told) (sym is);
       host_is = ap (λ j. (uploaded server.house n bytes j).host) (sym is);
     },
@@ -38,31 +39,34 @@ module _ {S D : Type 0} {disk : Ghosts D} (did : S → Call → S → Type 0) (f
   -- the entry that would publish the deploy isn't made, for this reason
   unpublished : (server next : Server S D disk) (mid : Host) (n : ℕ) (path bytes : List ℕ) (at : SiteName × Digest) (entry : Result (Option ℕ) Refusal) (why : Refusal)
       → judge_upload server.house n path bytes ≡ Ok at → mid ≡ with_upload server.house bytes
-      → IsStored did server.house.uploads server.files.shelf bytes next.files.shelf → IsTrue (is_published mid at.0 n) → OnErr entry (next.house ≡ mid) → entry ≡ Err why
+      → IsStored did server.house.uploads server.files.shelf bytes next.files.shelf → next.files.cache ≡ server.files.cache
+      → IsTrue (is_published mid at.0 n) → OnErr entry (next.house ≡ mid) → entry ≡ Err why
       → IsUnpublished did server n path bytes next
-  unpublished server next mid n path bytes at entry why judged known stored published left is = record {
+  unpublished server next mid n path bytes at entry why judged known stored cache published left is = record {
     at = at;
     judged = judged;
     stored = stored;
+    cache = cache;
     known = left_at (next.house ≡ mid) entry why is left ∙ known;
     published = subst (λ h. IsTrue (is_published h at.0 n)) known published;
   }
 
   done_so : (server next : Server S D disk) (mid : Host) (n : ℕ) (path bytes : List ℕ) (at : SiteName × Digest) (entry : Result (Option ℕ) Refusal) (told : Result Told Refusal)
       → judge_upload server.house n path bytes ≡ Ok at → mid ≡ with_upload server.house bytes
-      → IsStored did server.house.uploads server.files.shelf bytes next.files.shelf
+      → IsStored did server.house.uploads server.files.shelf bytes next.files.shelf → next.files.cache ≡ server.files.cache
       → Publishes entry next.house (published_if_ready mid at.0 n) → (IsStopped entry → IsTrue (is_published mid at.0 n)) → OnErr entry (next.house ≡ mid)
       → ((entry ≡ Err reason.Device) × Breaks faults server next) ⊎ ((entry ≢ Err reason.Device) × GoesOn faults server next)
       → told_by told ≡ told_of entry (λ published. Uploaded published at.1) → ((why : Refusal) → entry ≡ Err why → told ≡ Err why)
       → DoesUpload did failures faults server n path bytes told next
-  done_so server next mid n path bytes at entry told judged known stored done stops left (inl (is, broken)) says fails =
-      inr (inr (unpublished server next mid n path bytes at entry reason.Device judged known stored (stops (inr is)) left is, inr (fails reason.Device is, broken)))
-  done_so server next mid n path bytes at entry told judged known stored (inl (inl none)) stops left (inr (other, kept)) says fails =
-      inr (inr (unpublished server next mid n path bytes at entry reason.OutOfMemory judged known stored (stops (inl none)) left none, inl (fails reason.OutOfMemory none, kept)))
-  done_so server next mid n path bytes at entry told judged known stored (inl (inr is)) stops left (inr (other, kept)) says fails = absurd (other is)
-  done_so server next mid n path bytes at entry told judged known stored (inr done) stops left (inr (other, kept)) says fails = inl (
+  done_so server next mid n path bytes at entry told judged known stored cache done stops left (inl (is, broken)) says fails =
+      inr (inr (unpublished server next mid n path bytes at entry reason.Device judged known stored cache (stops (inr is)) left is, inr (fails reason.Device is, broken)))
+  done_so server next mid n path bytes at entry told judged known stored cache (inl (inl none)) stops left (inr (other, kept)) says fails =
+      inr (inr (unpublished server next mid n path bytes at entry reason.OutOfMemory judged known stored cache (stops (inl none)) left none, inl (fails reason.OutOfMemory none, kept)))
+  done_so server next mid n path bytes at entry told judged known stored cache (inl (inr is)) stops left (inr (other, kept)) says fails = absurd (other is)
+  done_so server next mid n path bytes at entry told judged known stored cache (inr done) stops left (inr (other, kept)) says fails = inl (
     record {
       stored = subst (λ j. IsStoredIf did j server.house.uploads server.files.shelf bytes next.files.shelf) (sym judged) stored;
+      cache = cache;
       told_is = says ∙ ap (λ e. told_of e (λ published. Uploaded published at.1)) done.0
           ∙ ap (λ h. told_of (published_if_ready h at.0 n).entry (λ published. Uploaded published at.1)) known
           ∙ ap (λ j. (uploaded server.house n bytes j).told) (sym judged);
@@ -73,12 +77,13 @@ module _ {S D : Type 0} {disk : Ghosts D} (did : S → Call → S → Type 0) (f
 
   pub upload_done : (server next : Server S D disk) (mid : Host) (n : ℕ) (path bytes : List ℕ) (at : SiteName × Digest) (entry : Result (Option ℕ) Refusal) (told : Result Told Refusal)
       → judge_upload server.house n path bytes ≡ Ok at → mid ≡ with_upload server.house bytes
-      → IsStored did server.house.uploads server.files.shelf bytes next.files.shelf
+      → IsStored did server.house.uploads server.files.shelf bytes next.files.shelf → next.files.cache ≡ server.files.cache
       → Publishes entry next.house (published_if_ready mid at.0 n) → (IsStopped entry → IsTrue (is_published mid at.0 n)) → OnErr entry (next.house ≡ mid)
       → IsJournaled faults entry mid server.journal next.house next.journal
       → told_by told ≡ told_of entry (λ published. Uploaded published at.1) → ((why : Refusal) → entry ≡ Err why → told ≡ Err why)
       → DoesUpload did failures faults server n path bytes told next
-  upload_done server next mid n path bytes at entry told judged known stored done stops left journaled says fails =
+  upload_done server next mid n path bytes at entry told judged known stored cache done stops left journaled says fails =
       let from : KeepsUp faults server.house server.journal mid server.journal = keeps_entries faults server.house mid server.journal server.journal (ap (λ (h : Host). h.entries) known) refl in
       let same = journaled_then faults entry server.house mid next.house server.journal server.journal next.journal from journaled in
-      done_so server next mid n path bytes at entry told judged known stored done stops left (journaled_as faults entry server.house next.house server.journal next.journal same) says fails
+      done_so server next mid n path bytes at entry told judged known stored cache done stops left
+      (journaled_as faults entry server.house next.house server.journal next.journal same) says fails

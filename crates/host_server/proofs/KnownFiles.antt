@@ -1,75 +1,42 @@
--- What a server knows is on its shelf, and stays there.
-use Rattle.std.proofs.Common.{◌≡◌, ◌⊎◌, inl, inr, ℕ, true, false, cond, List, Option, Some, None, is_some, Result, Ok, Err, refl, sym, ap, subst, ◌∙◌}
+-- What a server knows is on its shelf, and stays there; what is in its cache is of that.
+use Rattle.std.proofs.Common.{◌≡◌, ◌⊎◌, inl, inr, ℕ, true, false, cond, List, [], ◌∷◌, Option, Some, None, is_some, Result, Ok, Err, refl, sym, ap, subst, ◌∙◌}
 use Rattle.std.specs.FinMap as map
+use Rattle.std.specs.List.{AllByRecursion, Contains}
 use Rattle.std.specs.Ordering.{eq_by_cmp}
+use Rattle.std.proofs.lemmas.List.Elements.{All-contains, All-from_recursion}
 use Rattle.host_names.specs.Blobs.{Contents, digest_of, with_file}
 use Rattle.host_names.specs.Digests.{digest_cmp, digest_cmp_total}
 use Rattle.host_names.specs.declared.digests.Digest.{Digest}
 use Rattle.host_names.specs.declared.names.SiteName.{SiteName}
-use Rattle.host_names.specs.declared.refusals.ChangeRefusal.{ChangeRefusal}
 use Rattle.blob_store.specs.Calls.{Call, things_of}
-use Rattle.blob_store.specs.Keeping.{HasFile, Keeps}
+use Rattle.blob_store.specs.Keeping.{HasFile, Keeps, Thing}
 use Rattle.blob_store.specs.declared.blobs.UploadFault.{UploadFault}
 use Rattle.blob_store.specs.declared.blobs.UploadFault.TheVariants as fault
 use Rattle.blob_store.specs.declared.reading.ReadFault.TheVariants as read_fault
-use Rattle.blob_store.specs.declared.shelf_files.Files.{Files}
 use Rattle.blob_store.specs.declared.shelves.ShelfName.{ShelfName}
+use Rattle.blob_store.specs.declared.shelves.ShelfName.TheVariants.{Part}
 use Rattle.blob_store.proofs.Kept.{all_there, moved, still_there, there_after_fault}
-use Rattle.file_reads.proofs.Stored.{fault_stays, read_stays}
+use Rattle.chunk_lru.specs.Caches.{Cache}
+use Rattle.node_files.specs.Cached.{AllCached, CachedShelf, HasCached}
+use Rattle.node_files.proofs.Stored.{fault_cached, fault_stays, read_cached, read_stays}
 use Rattle.range_spec.specs.declared.selection.Choice.{Choice}
 use Rattle.http_wire.specs.Requests.{RequestParts}
-use Rattle.site_change.specs.declared.commands.Command.{Command}
-use Rattle.site_change.specs.declared.commands.Command.TheVariants as command
-use Rattle.change_undo.specs.Histories.{entry_at}
-use Rattle.change_undo.specs.declared.entries.Entry.TheVariants.{Change}
+use Rattle.change_undo.proofs.Found.{kept-with_file}
 use Rattle.host_api.specs.Types.{type_of}
 use Rattle.host_api.specs.declared.bodies.Ask.{Ask}
 use Rattle.host_api.specs.declared.bodies.Ask.TheVariants as ask
 use Rattle.host_api.specs.declared.refusals.Refusal.{Refusal}
 use Rattle.host_disk.specs.declared.disks.Disk.{Ghosts}
-use Rattle.host_server.specs.Asks.{AskRunsOut, AskStops, HostRunsOut, HostStops, IsAnswer, IsHostReply, IsReplyToAsk, asked_for}
-use Rattle.host_server.specs.Files.{IsFileSent, IsReadReply, ReadRunsOut, plan_of}
-use Rattle.host_server.specs.Hosts.{Host, next_number, state_of, with_entry, with_upload}
-use Rattle.host_server.specs.Outcomes.{commit_outcome, committed, enter_outcome, is_ready, outcome_on, judge_upload, published_if_ready, publishing, site_of_deploy, undone, uploaded}
-use Rattle.host_server.specs.ReadBack.{AgreesWith, HasKnown, UploadAgrees}
-use Rattle.host_server.specs.Reasons.{commit_refusal, undo_refusal}
+use Rattle.host_server.specs.Asks.{AskRunsOut, AskStops, IsAnswer, IsReplyToAsk, asked_for}
+use Rattle.host_server.specs.Files.{IsFileSent, IsKnown, IsReadReply, ReadRunsOut, plan_of}
+use Rattle.host_server.specs.Hosts.{Host, state_of, with_upload}
+use Rattle.host_server.specs.Outcomes.{judge_upload, uploaded}
+use Rattle.host_server.specs.ReadBack.{AgreesWith, HasKnown, IsKnownPiece, UploadAgrees}
 use Rattle.host_server.specs.Replies.{Answer}
 use Rattle.host_server.specs.Storing.{IsRefusedByStore, IsStored, IsStoredIf, IsUploadReply, UploadRunsOut}
 use Rattle.host_server.specs.Versions.{file_of}
 use Rattle.host_server.specs.declared.servers.Server.{Server}
-
--- ---- uploads that stay as they were
-
-publishing_same : (host : Host) (change : Command) (refusal : Option ChangeRefusal) → (publishing host change refusal).host.uploads ≡ host.uploads
-publishing_same host change None = refl
-publishing_same host change (Some why) = refl
-
-pub published_same : (host : Host) (site : SiteName) (n : ℕ) → (published_if_ready host site n).host.uploads ≡ host.uploads
-published_same host site n =
-    elim (is_ready host site n) as (λ b. (cond b (publishing host (command.Publish site n) (commit_refusal host (command.Publish site n))) (record { entry = Ok None; host = host })).host.uploads ≡ host.uploads) [
-      | true ↦ publishing_same host (command.Publish site n) (commit_refusal host (command.Publish site n))
-      | false ↦ refl
-    ]
-
-committed_same : (host : Host) (change : Command) (required : List Digest) → (committed host change required).host.uploads ≡ host.uploads
-committed_same host (command.Open site files auto) required = published_same (with_entry host (Change (command.Open site files auto))) site (next_number host)
-committed_same host change required = refl
-
-commit_same : (host : Host) (change : Command) (required : List Digest) (refusal : Option ChangeRefusal) → (commit_outcome host change required refusal).host.uploads ≡ host.uploads
-commit_same host change required None = committed_same host change required
-commit_same host change required (Some why) = refl
-
-enter_same : (host : Host) (change : Command) (refusal : Option ChangeRefusal) → (enter_outcome host change refusal).host.uploads ≡ host.uploads
-enter_same host change None = refl
-enter_same host change (Some why) = refl
-
-on_same : (host : Host) (change : SiteName → Command) (site : Option SiteName) → (outcome_on host change site).host.uploads ≡ host.uploads
-on_same host change None = refl
-on_same host change (Some site) = enter_same host (change site) (commit_refusal host (change site))
-
-undone_same : (host : Host) (site : SiteName) (k : ℕ) (refusal : Option ChangeRefusal) → (undone host site k refusal).host.uploads ≡ host.uploads
-undone_same host site k None = refl
-undone_same host site k (Some why) = refl
+use Rattle.host_server.proofs.SameUploads.{host_same, published_same, runs_out_same, stops_same, uploads_of}
 
 -- ---- what is known once there is one file more
 
@@ -86,51 +53,32 @@ known_or_added uploads bytes digest file none at =
       | false ↦ λ e. inl e
     ] found
 
-uploads_of : (a b : Host) → a ≡ b → a.uploads ≡ b.uploads
-uploads_of a b is = ap (λ (h : Host). h.uploads) is
+-- ---- what is in the cache
 
--- ---- without the files
+all_weaker : (P Q : List ℕ → Type 0) → ((chunk : List ℕ) → P chunk → Q chunk) → (chunks : List (List ℕ)) → AllByRecursion P chunks → AllByRecursion Q chunks
+all_weaker P Q weaker [] all = tt
+all_weaker P Q weaker (chunk ∷ chunks) all = (weaker chunk all.0, all_weaker P Q weaker chunks all.1)
 
-host_same : (host next : Host) (asking : Result Ask Refusal) (answer : Answer) → IsHostReply host asking answer next → next.uploads ≡ host.uploads
-host_same host next (Err why) answer is = uploads_of next host is.1
-host_same host next (Ok (ask.Command change)) answer is = uploads_of next _ is.2.1 ∙ commit_same host change is.0 (commit_refusal host change)
-host_same host next (Ok (ask.Undo site k)) answer is = uploads_of next _ is.1 ∙ undone_same host site k (undo_refusal host site k)
-host_same host next (Ok (ask.Changes site)) answer is = uploads_of next host is.1
-host_same host next (Ok (ask.Deploy n)) answer is = uploads_of next host is.3
-host_same host next (Ok (ask.RemoveDeploy n)) answer is =
-    uploads_of next _ is.1 ∙ on_same host (λ site. command.RemoveDeploy site n) (site_of_deploy (entry_at host.entries n))
-host_same host next (Ok (ask.Cancel n)) answer is = uploads_of next _ is.1 ∙ on_same host (λ site. command.Cancel site n) (site_of_deploy (entry_at host.entries n))
-host_same host next (Ok (ask.Read site version path)) answer is = absurd is
-host_same host next (Ok (ask.Upload n path)) answer is = absurd is
+cached_weaker : (P Q : List ℕ → Type 0) → ((chunk : List ℕ) → P chunk → Q chunk) → (cache : Cache) → AllCached P cache → AllCached Q cache
+cached_weaker P Q weaker cache all = (all_weaker P Q weaker cache.main all.0, all_weaker P Q weaker cache.hot all.1)
 
-runs_out_same : (host next : Host) (asking : Result Ask Refusal) → HostRunsOut host asking next → next.uploads ≡ host.uploads
-runs_out_same host next (Err why) is = uploads_of next host is.0
-runs_out_same host next (Ok (ask.Command change)) (inl (accepted, inl is)) = uploads_of next host is
-runs_out_same host next (Ok (ask.Command change)) (inl (accepted, inr (is, published))) = uploads_of next _ is
-runs_out_same host next (Ok (ask.Command change)) (inr (required, are, is)) = uploads_of next _ is.0 ∙ commit_same host change required (commit_refusal host change)
-runs_out_same host next (Ok (ask.Undo site k)) (inl is) = uploads_of next host is.0
-runs_out_same host next (Ok (ask.Undo site k)) (inr is) = uploads_of next _ is.0 ∙ undone_same host site k (undo_refusal host site k)
-runs_out_same host next (Ok (ask.Changes site)) is = uploads_of next host is
-runs_out_same host next (Ok (ask.Deploy n)) is = uploads_of next host is.0
-runs_out_same host next (Ok (ask.RemoveDeploy n)) (inl is) = uploads_of next host is.0
-runs_out_same host next (Ok (ask.RemoveDeploy n)) (inr is) =
-    uploads_of next _ is.0 ∙ on_same host (λ site. command.RemoveDeploy site n) (site_of_deploy (entry_at host.entries n))
-runs_out_same host next (Ok (ask.Cancel n)) (inl is) = uploads_of next host is.0
-runs_out_same host next (Ok (ask.Cancel n)) (inr is) = uploads_of next _ is.0 ∙ on_same host (λ site. command.Cancel site n) (site_of_deploy (entry_at host.entries n))
-runs_out_same host next (Ok (ask.Read site version path)) is = absurd is
-runs_out_same host next (Ok (ask.Upload n path)) is = absurd is
+-- a piece of a known file is one with one file more
+still_piece : (uploads : Contents) (bytes chunk : List ℕ) → IsKnownPiece uploads chunk → IsKnownPiece (with_file uploads bytes) chunk
+still_piece uploads bytes chunk (digest, file, at, among) = (digest, file, kept-with_file uploads bytes digest file at, among)
 
--- the same where the journal's device fails
-stops_same : (host next : Host) (asking : Result Ask Refusal) → HostStops host asking next → next.uploads ≡ host.uploads
-stops_same host next (Err why) is = absurd is
-stops_same host next (Ok (ask.Command change)) is = runs_out_same host next (Ok (ask.Command change)) (inl is)
-stops_same host next (Ok (ask.Undo site k)) is = uploads_of next host is.0
-stops_same host next (Ok (ask.Changes site)) is = absurd is
-stops_same host next (Ok (ask.Deploy n)) is = absurd is
-stops_same host next (Ok (ask.RemoveDeploy n)) is = uploads_of next host is.0
-stops_same host next (Ok (ask.Cancel n)) is = uploads_of next host is.0
-stops_same host next (Ok (ask.Read site version path)) is = absurd is
-stops_same host next (Ok (ask.Upload n path)) is = absurd is
+-- a shelf that has a file has each of its pieces
+piece_there : {S : Type 0} (has : S → ShelfName → Option (List ℕ)) (shelf : S) (file chunk : List ℕ) → HasFile has shelf file
+    → Contains (things_of file) (Part (digest_of chunk), chunk) → has shelf (Part (digest_of chunk)) ≡ Some chunk
+piece_there has shelf file chunk there among =
+    let P : Thing → Type 0 = λ t. has shelf t.0 ≡ Some t.1 in
+    All-contains P (things_of file) (Part (digest_of chunk), chunk) (All-from_recursion P (things_of file) there) among
+
+-- so it has what is in the cache of what is known
+pub known_cached : {S D : Type 0} {disk : Ghosts D} (has : S → ShelfName → Option (List ℕ)) (server : Server S D disk) → HasKnown has server → HasCached has server.files
+known_cached has server known =
+    cached_weaker (IsKnownPiece server.house.uploads) (λ chunk. has server.files.shelf (Part (digest_of chunk)) ≡ Some chunk)
+    (λ chunk piece. let (digest, file, at, among) = piece in piece_there has server.files.shelf file chunk (known.on_shelf digest file at) among)
+    server.files.cache known.cached
 
 module _ {S : Type 0} (did : S → Call → S → Type 0) (failures : S → ℕ) (has : S → ShelfName → Option (List ℕ)) (keeps : Keeps did has) where
   stored_known : (uploads : Contents) (old new : S) (bytes : List ℕ) → AgreesWith uploads bytes
@@ -144,73 +92,133 @@ module _ {S : Type 0} (did : S → Call → S → Type 0) (failures : S → ℕ)
     | inr is ↦ subst (HasFile has new) (sym is) (all_there did has keeps old new (things_of bytes) agrees.itself puts)
   ]
 
-  sent_stays : (old new : Files S) (path file : List ℕ) (plan : Choice) (answer : Answer) → IsFileSent did failures old path file plan answer new
-      → (name : ShelfName) → has new.shelf name ≡ has old.shelf name
-  sent_stays old new path file plan answer (inl (none, says, same)) name = ap (λ (f : Files S). has f.shelf name) same
-  sent_stays old new path file plan answer (inr (inl (body, read, says))) name = read_stays did failures has keeps old new file (type_of path) plan body read name
-  sent_stays old new path file plan answer (inr (inr (why, other, failed, says))) name = fault_stays did failures has keeps old new file plan why failed name
+  -- a reading of a known file changes nothing on the shelf, and the cache has pieces of known files then
+  module _ (old new : CachedShelf S) (path file : List ℕ) (plan : Choice) where
+    sent_stays : (answer : Answer) → IsFileSent did failures old path file plan answer new → (name : ShelfName) → has new.shelf name ≡ has old.shelf name
+    sent_stays answer (inl (none, says, same)) name = ap (λ (n : CachedShelf S). has n.shelf name) same
+    sent_stays answer (inr (inl (body, read, says))) name = read_stays did failures has keeps old new file (type_of path) plan body read name
+    sent_stays answer (inr (inr (why, other, failed, says))) name = fault_stays did failures has keeps old new file plan why failed name
+
+    sent_cached : (P : List ℕ → Type 0) → ((chunk : List ℕ) → Contains (things_of file) (Part (digest_of chunk), chunk) → P chunk) → (answer : Answer)
+        → HasFile has old.shelf file → HasCached has old → AllCached P old.cache → IsFileSent did failures old path file plan answer new → AllCached P new.cache
+    sent_cached P pieces answer there cached all (inl (none, says, same)) = subst (λ (n : CachedShelf S). AllCached P n.cache) (sym same) all
+    sent_cached P pieces answer there cached all (inr (inl (body, read, says))) =
+        read_cached did failures has keeps file P pieces old new (type_of path) plan body there cached all read
+    sent_cached P pieces answer there cached all (inr (inr (why, other, failed, says))) =
+        fault_cached did failures has keeps file P pieces old new plan why there cached all failed
 
 module _ {S D : Type 0} {disk : Ghosts D} (did : S → Call → S → Type 0) (failures : S → ℕ) (faults : D → ℕ) (has : S → ShelfName → Option (List ℕ)) (keeps : Keeps did has) where
   -- ---- where no more is known
 
-  goes_over : (old new : Server S D disk) → new.house.uploads ≡ old.house.uploads → ((name : ShelfName) → has new.files.shelf name ≡ has old.files.shelf name) → HasKnown has old
-      → HasKnown has new
-  goes_over old new uploads same known = λ digest file at.
-      moved has old.files.shelf new.files.shelf (things_of file) same (known digest file (ap (λ (u : Contents). map.get u digest) (sym uploads) ∙ at))
+  -- what is known stays on the shelf
+  shelf_over : (old new : Server S D disk) → new.house.uploads ≡ old.house.uploads → ((name : ShelfName) → has new.files.shelf name ≡ has old.files.shelf name)
+      → HasKnown has old
+      → (digest : Digest) (file : List ℕ) → map.get new.house.uploads digest ≡ Some file → HasFile has new.files.shelf file
+  shelf_over old new uploads same known digest file at =
+      moved has old.files.shelf new.files.shelf (things_of file) same (known.on_shelf digest file (ap (λ (u : Contents). map.get u digest) (sym uploads) ∙ at))
+
+  -- what is in a cache that stays is of what is known
+  cache_over : (old new : Server S D disk) → new.house.uploads ≡ old.house.uploads → new.files.cache ≡ old.files.cache → HasKnown has old
+      → AllCached (IsKnownPiece new.house.uploads) new.files.cache
+  cache_over old new uploads cache known =
+      subst (λ (u : Contents). AllCached (IsKnownPiece u) new.files.cache) (sym uploads) (subst (λ (c : Cache). AllCached (IsKnownPiece old.house.uploads) c) (sym cache) known.cached)
+
+  goes_over : (old new : Server S D disk) → new.house.uploads ≡ old.house.uploads → ((name : ShelfName) → has new.files.shelf name ≡ has old.files.shelf name)
+      → new.files.cache ≡ old.files.cache → HasKnown has old → HasKnown has new
+  goes_over old new uploads same cache known = record { on_shelf = shelf_over old new uploads same known; cached = cache_over old new uploads cache known }
 
   unmoved : (old new : Server S D disk) → new.house.uploads ≡ old.house.uploads → new.files ≡ old.files → HasKnown has old → HasKnown has new
-  unmoved old new uploads files = goes_over old new uploads (λ name. ap (λ (f : Files S). has f.shelf name) files)
+  unmoved old new uploads files =
+      goes_over old new uploads (λ name. ap (λ (f : CachedShelf S). has f.shelf name) files) (ap (λ (f : CachedShelf S). f.cache) files)
 
   as_it_was : (old new : Server S D disk) → new ≡ old → HasKnown has old → HasKnown has new
   as_it_was old new is known = subst (λ (s : Server S D disk). HasKnown has s) (sym is) known
 
   -- ---- an upload
 
+  -- the bytes are stored, and known from then on
+  stored_over : (server next : Server S D disk) (bytes : List ℕ) → AgreesWith server.house.uploads bytes → HasKnown has server
+      → IsStored did server.house.uploads server.files.shelf bytes next.files.shelf → next.files.cache ≡ server.files.cache
+      → next.house.uploads ≡ with_file server.house.uploads bytes → HasKnown has next
+  stored_over server next bytes agrees known stored cache same =
+      let Old = IsKnownPiece server.house.uploads in
+      let More = IsKnownPiece (with_file server.house.uploads bytes) in
+      let more = cached_weaker Old More (still_piece server.house.uploads bytes) server.files.cache known.cached in
+      record {
+        on_shelf = λ digest file found.
+            stored_known did failures has keeps server.house.uploads server.files.shelf next.files.shelf bytes agrees known.on_shelf stored digest file
+            (ap (λ (u : Contents). map.get u digest) (sym same) ∙ found);
+        cached = subst (λ (u : Contents). AllCached (IsKnownPiece u) next.files.cache) (sym same)
+            (subst (λ (c : Cache). AllCached More c) (sym cache) more);
+      }
+
   uploaded_known : (server next : Server S D disk) (n : ℕ) (bytes : List ℕ) (judged : Result (SiteName × Digest) Refusal) → AgreesWith server.house.uploads bytes → HasKnown has server
-      → IsStoredIf did judged server.house.uploads server.files.shelf bytes next.files.shelf → next.house ≡ (uploaded server.house n bytes judged).host → HasKnown has next
-  uploaded_known server next n bytes (Ok at) agrees known stored is = λ digest file found.
-      let same : next.house.uploads ≡ with_file server.house.uploads bytes = uploads_of next.house _ is ∙ published_same (with_upload server.house bytes) at.0 n in
-      stored_known did failures has keeps server.house.uploads server.files.shelf next.files.shelf bytes agrees known stored digest file (ap (λ (u : Contents). map.get u digest) (sym same) ∙ found)
-  uploaded_known server next n bytes (Err why) agrees known stored is =
-      goes_over server next (uploads_of next.house server.house is) (λ name. ap (λ (s : S). has s name) stored) known
+      → IsStoredIf did judged server.house.uploads server.files.shelf bytes next.files.shelf → next.files.cache ≡ server.files.cache
+      → next.house ≡ (uploaded server.house n bytes judged).host → HasKnown has next
+  uploaded_known server next n bytes (Ok at) agrees known stored cache is =
+      stored_over server next bytes agrees known stored cache (uploads_of next.house _ is ∙ published_same (with_upload server.house bytes) at.0 n)
+  uploaded_known server next n bytes (Err why) agrees known stored cache is =
+      goes_over server next (uploads_of next.house server.house is) (λ name. ap (λ (s : S). has s name) stored) cache known
 
   refused_known : (server next : Server S D disk) (n : ℕ) (path bytes : List ℕ) (why : UploadFault) → AgreesWith server.house.uploads bytes → HasKnown has server
       → IsRefusedByStore did failures server n path bytes why next → HasKnown has next
-  refused_known server next n path bytes why agrees known refused = λ digest file found.
-      let had = ap (λ (h : Host). map.get h.uploads digest) (sym refused.same) ∙ found in
-      there_after_fault did has keeps server.files.shelf next.files.shelf (things_of file) (things_of bytes) why (agrees.known digest file had) refused.not_stored.put
-      (known digest file had)
+  refused_known server next n path bytes why agrees known refused = record {
+    on_shelf = λ digest file found.
+        let had = ap (λ (h : Host). map.get h.uploads digest) (sym refused.same) ∙ found in
+        there_after_fault did has keeps server.files.shelf next.files.shelf (things_of file) (things_of bytes) why (agrees.known digest file had) refused.not_stored.put
+        (known.on_shelf digest file had);
+    cached = cache_over server next (uploads_of next.house server.house refused.same) refused.cache known;
+  }
 
   upload_known : (server next : Server S D disk) (n : ℕ) (path bytes : List ℕ) (answer : Answer) → AgreesWith server.house.uploads bytes → HasKnown has server
       → IsUploadReply did failures server n path bytes answer next → HasKnown has next
   upload_known server next n path bytes answer agrees known (inl (told, done, says)) =
-      uploaded_known server next n bytes (judge_upload server.house n path bytes) agrees known done.stored done.host_is
+      uploaded_known server next n bytes (judge_upload server.house n path bytes) agrees known done.stored done.cache done.host_is
   upload_known server next n path bytes answer agrees known (inr (why, other, refused, says)) = refused_known server next n path bytes why agrees known refused
 
   upload_out_known : (server next : Server S D disk) (n : ℕ) (path bytes : List ℕ) → AgreesWith server.house.uploads bytes → HasKnown has server
       → UploadRunsOut did failures server n path bytes next → HasKnown has next
   upload_out_known server next n path bytes agrees known (inl refused) = refused_known server next n path bytes fault.OutOfMemory agrees known refused
-  upload_out_known server next n path bytes agrees known (inr (inl left)) = λ digest file found.
-      stored_known did failures has keeps server.house.uploads server.files.shelf next.files.shelf bytes agrees known left.stored digest file
-      (ap (λ (h : Host). map.get h.uploads digest) (sym left.known) ∙ found)
+  upload_out_known server next n path bytes agrees known (inr (inl left)) = stored_over server next bytes agrees known left.stored left.cache (uploads_of next.house _ left.known)
   upload_out_known server next n path bytes agrees known (inr (inr (told, done, text))) =
-      uploaded_known server next n bytes (judge_upload server.house n path bytes) agrees known done.stored done.host_is
+      uploaded_known server next n bytes (judge_upload server.house n path bytes) agrees known done.stored done.cache done.host_is
 
   -- ---- a read
+
+  -- a reading of a known file was made of these files
+  module _ (server next : Server S D disk) (file : List ℕ) (known : HasKnown has server) (uploaded : IsKnown server file) (same : next.house ≡ server.house) where
+    there : HasFile has server.files.shelf file
+    there = known.on_shelf (digest_of file) file uploaded
+
+    -- each of its pieces is one of a known file
+    its_piece : (chunk : List ℕ) → Contains (things_of file) (Part (digest_of chunk), chunk) → IsKnownPiece server.house.uploads chunk
+    its_piece chunk among = (digest_of file, file, uploaded, among)
+
+    after_read : ((name : ShelfName) → has next.files.shelf name ≡ has server.files.shelf name) → AllCached (IsKnownPiece server.house.uploads) next.files.cache
+        → HasKnown has next
+    after_read stays cached = record {
+      on_shelf = shelf_over server next (uploads_of next.house server.house same) stays known;
+      cached = subst (λ (u : Contents). AllCached (IsKnownPiece u) next.files.cache) (sym (uploads_of next.house server.house same)) cached;
+    }
 
   read_known : (server next : Server S D disk) (parts : RequestParts) (path : List ℕ) (file : Result (List ℕ) Refusal) (answer : Answer) → HasKnown has server
       → IsReadReply did failures server parts path file answer next → HasKnown has next
   read_known server next parts path (Err why) answer known is = as_it_was server next is.1 known
-  read_known server next parts path (Ok file) answer known (range, asks, sent, same) =
-      goes_over server next (uploads_of next.house server.house same) (sent_stays did failures has keeps server.files next.files path file (plan_of parts range file) answer sent) known
+  read_known server next parts path (Ok file) answer known (uploaded, range, asks, sent, same) =
+      let plan = plan_of parts range file in
+      after_read server next file known uploaded same (sent_stays did failures has keeps server.files next.files path file plan answer sent)
+      (sent_cached did failures has keeps server.files next.files path file plan (IsKnownPiece server.house.uploads) (its_piece server next file known uploaded same) answer
+      (there server next file known uploaded same) (known_cached has server known) known.cached sent)
 
   read_out_known : (server next : Server S D disk) (parts : RequestParts) (file : Result (List ℕ) Refusal) → HasKnown has server
       → ReadRunsOut did failures server parts file next → HasKnown has next
   read_out_known server next parts (Err why) known is = absurd is
-  read_out_known server next parts (Ok file) known (range, asks, some, same, inl files) = unmoved server next (uploads_of next.house server.house same) files known
-  read_out_known server next parts (Ok file) known (range, asks, some, same, inr failed) =
-      goes_over server next (uploads_of next.house server.house same)
-      (fault_stays did failures has keeps server.files next.files file (plan_of parts range file) read_fault.OutOfMemory failed) known
+  read_out_known server next parts (Ok file) known (uploaded, range, asks, some, same, inl files) = unmoved server next (uploads_of next.house server.house same) files known
+  read_out_known server next parts (Ok file) known (uploaded, range, asks, some, same, inr failed) =
+      let plan = plan_of parts range file in
+      after_read server next file known uploaded same (fault_stays did failures has keeps server.files next.files file plan read_fault.OutOfMemory failed)
+      (fault_cached did failures has keeps file (IsKnownPiece server.house.uploads) (its_piece server next file known uploaded same) server.files next.files plan
+      read_fault.OutOfMemory (there server next file known uploaded same) (known_cached has server known) known.cached failed)
 
   -- ---- any request
 

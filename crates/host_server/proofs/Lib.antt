@@ -6,6 +6,8 @@ pub mod FieldTexts
 pub mod Telling
 pub mod Reading
 pub mod Keeping
+mod FilesKnown
+mod SameUploads
 pub mod KnownFiles
 pub mod ExactReads
 mod Memory

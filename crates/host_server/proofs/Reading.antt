@@ -10,8 +10,8 @@ use Rattle.range_spec.specs.declared.selection.Choice.TheVariants.{Whole, One, M
 use Rattle.range_reply.specs.Bodies.{text_in}
 use Rattle.range_reply.specs.declared.boundaries.Boundary.{Boundary}
 use Rattle.file_reads.specs.Sending.{IsNotRead, IsRead, IsSent}
-use Rattle.file_reads.specs.Stores.{FailedOfFiles, GaveOfFiles}
 use Rattle.file_reads.specs.declared.bodies.FileBody.{FileBody}
+use Rattle.node_files.specs.Cached.{FailedOfNode, GaveOfNode}
 use Rattle.http_wire.specs.Requests.{RequestParts}
 use Rattle.host_api.specs.Types.{type_of}
 use Rattle.host_api.specs.declared.refusals.Refusal.{Refusal}
@@ -20,7 +20,7 @@ use Rattle.host_disk.specs.declared.disks.Disk.{Ghosts}
 use Rattle.host_server.specs.Answers.{ReadsFile}
 use Rattle.host_server.specs.Bodies.{answer_of}
 use Rattle.host_server.specs.PartsTypes.{IsOfEight}
-use Rattle.host_server.specs.Files.{AsksRange, SendsParts, is_read, plan_of, refusal_of_read, sent_answer}
+use Rattle.host_server.specs.Files.{AsksRange, IsKnown, SendsParts, is_read, plan_of, refusal_of_read, sent_answer}
 use Rattle.host_server.specs.Replies.{refused_answer}
 use Rattle.host_server.specs.declared.replies.Reply.{Reply}
 use Rattle.host_server.specs.declared.servers.Server.{Server}
@@ -50,52 +50,52 @@ module _ {S D : Type 0} {disk : Ghosts D} (did : S → Call → S → Type 0) (f
   not_found server parts path file why is = subst (λ f. ReadsFile did failures server parts path f (Err why) server) (sym is) (inl (refl, refl))
 
   pub not_wanted : (server : Server S D disk) (parts : RequestParts) (path : List ℕ) (file : Result (List ℕ) Refusal) (bytes : List ℕ) (plan : Choice) (why : Refusal)
-      → file ≡ Ok bytes → IsAsked parts bytes plan
+      → file ≡ Ok bytes → IsKnown server bytes → IsAsked parts bytes plan
       → ((plan ≡ None416) × (why ≡ reason.NotSatisfiable (length bytes))) ⊎ ((why ≡ reason.OutOfMemory) × IsTrue (is_read plan))
       → ReadsFile did failures server parts path file (Err why) server
-  not_wanted server parts path file bytes plan why is (range, asks, planned) (inl (none, told)) =
+  not_wanted server parts path file bytes plan why is known (range, asks, planned) (inl (none, told)) =
       subst (λ f. ReadsFile did failures server parts path f (Err why) server) (sym is)
-      (inl (range, asks, inl (sym planned ∙ none, ap refused_answer told, refl), refl))
-  not_wanted server parts path file bytes plan why is (range, asks, planned) (inr (memory, some)) =
+      (inl (known, range, asks, inl (sym planned ∙ none, ap refused_answer told, refl), refl))
+  not_wanted server parts path file bytes plan why is known (range, asks, planned) (inr (memory, some)) =
       subst (λ f. ReadsFile did failures server parts path f (Err why) server) (sym is)
-      (inr (ap Err memory, (range, asks, subst (λ p. IsTrue (is_read p)) planned some, refl, inl refl)))
+      (inr (ap Err memory, (known, range, asks, subst (λ p. IsTrue (is_read p)) planned some, refl, inl refl)))
 
   -- the reply with what was read of a file
   abbrev pub IsReplyWith : Server S D disk → List ℕ → List ℕ → Choice → Server S D disk → Reply → Type 0
   IsReplyWith server path bytes plan next reply =
-      (body : FileBody) × IsRead (GaveOfFiles did failures) server.files bytes plan (type_of path) body next.files × (answer_of reply ≡ sent_answer path bytes body)
+      (body : FileBody) × IsRead (GaveOfNode did failures) server.files bytes plan (type_of path) body next.files × (answer_of reply ≡ sent_answer path bytes body)
 
   -- why there is none
   abbrev pub IsReason : Server S D disk → List ℕ → Choice → Server S D disk → Refusal → Type 0
   IsReason server bytes plan next why =
-      (cause : ReadFault) × IsNotRead (GaveOfFiles did failures) (FailedOfFiles did failures) server.files bytes plan cause next.files × (why ≡ refusal_of_read cause)
+      (cause : ReadFault) × IsNotRead (GaveOfNode did failures) (FailedOfNode did failures) server.files bytes plan cause next.files × (why ≡ refusal_of_read cause)
 
   failing : (server next : Server S D disk) (parts : RequestParts) (path bytes : List ℕ) (range : Asked) (why : Refusal) (cause : ReadFault)
-      → AsksRange parts range → IsTrue (is_read (plan_of parts range bytes)) → next.house ≡ server.house
-      → IsNotRead (GaveOfFiles did failures) (FailedOfFiles did failures) server.files bytes (plan_of parts range bytes) cause next.files → why ≡ refusal_of_read cause
+      → IsKnown server bytes → AsksRange parts range → IsTrue (is_read (plan_of parts range bytes)) → next.house ≡ server.house
+      → IsNotRead (GaveOfNode did failures) (FailedOfNode did failures) server.files bytes (plan_of parts range bytes) cause next.files → why ≡ refusal_of_read cause
       → ReadsFile did failures server parts path (Ok bytes) (Err why) next
-  failing server next parts path bytes range why fault.OutOfMemory asks some same failed told = inr (ap Err told, (range, asks, some, same, inr failed))
-  failing server next parts path bytes range why fault.Missing asks some same failed told =
-      inl (range, asks, inr (inr (fault.Missing, (λ e. cc e), failed, ap refused_answer told)), same)
-  failing server next parts path bytes range why fault.Damaged asks some same failed told =
-      inl (range, asks, inr (inr (fault.Damaged, (λ e. cc e), failed, ap refused_answer told)), same)
-  failing server next parts path bytes range why fault.Device asks some same failed told =
-      inl (range, asks, inr (inr (fault.Device, (λ e. cc e), failed, ap refused_answer told)), same)
+  failing server next parts path bytes range why fault.OutOfMemory known asks some same failed told = inr (ap Err told, (known, range, asks, some, same, inr failed))
+  failing server next parts path bytes range why fault.Missing known asks some same failed told =
+      inl (known, range, asks, inr (inr (fault.Missing, (λ e. cc e), failed, ap refused_answer told)), same)
+  failing server next parts path bytes range why fault.Damaged known asks some same failed told =
+      inl (known, range, asks, inr (inr (fault.Damaged, (λ e. cc e), failed, ap refused_answer told)), same)
+  failing server next parts path bytes range why fault.Device known asks some same failed told =
+      inl (known, range, asks, inr (inr (fault.Device, (λ e. cc e), failed, ap refused_answer told)), same)
 
   -- the same of a plan that was asked for
   planned_read : (server next : Server S D disk) (parts : RequestParts) (path bytes : List ℕ) (range : Asked) (result : Result Reply Refusal)
-      → AsksRange parts range → IsTrue (is_read (plan_of parts range bytes)) → next.house ≡ server.house
+      → IsKnown server bytes → AsksRange parts range → IsTrue (is_read (plan_of parts range bytes)) → next.house ≡ server.house
       → IfOk result (IsReplyWith server path bytes (plan_of parts range bytes) next) → IfErr result (IsReason server bytes (plan_of parts range bytes) next)
       → ReadsFile did failures server parts path (Ok bytes) result next
-  planned_read server next parts path bytes range (Ok reply) asks some same (body, read, told) refused = inl (range, asks, inr (inl (body, read, told)), same)
-  planned_read server next parts path bytes range (Err why) asks some same sent (cause, failed, told) =
-      failing server next parts path bytes range why cause asks some same failed told
+  planned_read server next parts path bytes range (Ok reply) known asks some same (body, read, told) refused = inl (known, range, asks, inr (inl (body, read, told)), same)
+  planned_read server next parts path bytes range (Err why) known asks some same sent (cause, failed, told) =
+      failing server next parts path bytes range why cause known asks some same failed told
 
   pub file_read : (server next : Server S D disk) (parts : RequestParts) (path : List ℕ) (file : Result (List ℕ) Refusal) (bytes : List ℕ) (plan : Choice) (result : Result Reply Refusal)
-      → file ≡ Ok bytes → IsAsked parts bytes plan → IsTrue (is_read plan) → next.house ≡ server.house
+      → file ≡ Ok bytes → IsKnown server bytes → IsAsked parts bytes plan → IsTrue (is_read plan) → next.house ≡ server.house
       → IfOk result (IsReplyWith server path bytes plan next) → IfErr result (IsReason server bytes plan next)
       → ReadsFile did failures server parts path file result next
-  file_read server next parts path file bytes plan result is (range, asks, planned) some same sent refused =
+  file_read server next parts path file bytes plan result is known (range, asks, planned) some same sent refused =
       subst (λ f. ReadsFile did failures server parts path f result next) (sym is)
-      (planned_read server next parts path bytes range result asks (subst (λ p. IsTrue (is_read p)) planned some) same
+      (planned_read server next parts path bytes range result known asks (subst (λ p. IsTrue (is_read p)) planned some) same
       (subst (λ p. IfOk result (IsReplyWith server path bytes p next)) planned sent) (subst (λ p. IfErr result (IsReason server bytes p next)) planned refused))

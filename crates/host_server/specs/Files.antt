@@ -1,12 +1,12 @@
 -- What is answered to the reading of a file.
 use Rattle.std.specs.Prelude.{◌≡◌, ◌≢◌, ◌⊎◌, ℕ, List, [], ◌∷◌, Bool, true, false, Option, Some, None, Result, Ok, Err, IsTrue, length, codes}
+use Rattle.std.specs.FinMap as map
 use Rattle.std.specs.Str.{bytes_eq}
 use Rattle.host_names.specs.Blobs.{digest_of}
 use Rattle.host_names.specs.declared.digests.Digest.{Digest}
 use Rattle.blob_store.specs.Calls.{Call}
 use Rattle.blob_store.specs.declared.reading.ReadFault.{ReadFault}
 use Rattle.blob_store.specs.declared.reading.ReadFault.TheVariants as fault
-use Rattle.blob_store.specs.declared.shelf_files.Files.{Files}
 use Rattle.range_spec.specs.declared.grammar.Asked.{Asked}
 use Rattle.range_spec.specs.declared.grammar.Asked.TheVariants.{Ignore}
 use Rattle.range_spec.specs.declared.selection.Choice.{Choice}
@@ -17,8 +17,8 @@ use Rattle.range_reply.specs.Conditions.{condition_of}
 use Rattle.range_reply.specs.Plans.{planned}
 use Rattle.range_reply.specs.declared.boundaries.Boundary.{Boundary}
 use Rattle.file_reads.specs.Sending.{IsNotRead, IsRead}
-use Rattle.file_reads.specs.Stores.{FailedOfFiles, GaveOfFiles}
 use Rattle.file_reads.specs.declared.bodies.FileBody.{FileBody}
+use Rattle.node_files.specs.Cached.{CachedShelf, FailedOfNode, GaveOfNode}
 use Rattle.http_wire.specs.Fields.{values_of}
 use Rattle.http_wire.specs.Requests.{RequestParts}
 use Rattle.http_wire.specs.declared.replies.ContentRange.TheVariants.{Of}
@@ -71,19 +71,25 @@ refusal_of_read fault.OutOfMemory = reason.OutOfMemory
 
 -- Such a plan of a file at a path is carried out, and the files are then these: none of the range is there, and that is told; or what was read
 -- is sent; or it can't be read, and the reason is told, which is what the shelf answered.
-abbrev pub IsFileSent : {S : Type 0} → (did : S → Call → S → Type 0) → (failures : S → ℕ) → Files S → List ℕ → List ℕ → Choice → Answer → Files S → Type 0
+abbrev pub IsFileSent : {S : Type 0} → (did : S → Call → S → Type 0) → (failures : S → ℕ) → CachedShelf S → List ℕ → List ℕ → Choice → Answer → CachedShelf S
+    → Type 0
 IsFileSent did failures old path file plan answer new =
     ((plan ≡ None416) × (answer ≡ refused_answer (reason.NotSatisfiable (length file))) × (new ≡ old))
-    ⊎ ((body : FileBody) × IsRead (GaveOfFiles did failures) old file plan (type_of path) body new × (answer ≡ sent_answer path file body))
-    ⊎ ((why : ReadFault) × (why ≢ fault.OutOfMemory) × IsNotRead (GaveOfFiles did failures) (FailedOfFiles did failures) old file plan why new
+    ⊎ ((body : FileBody) × IsRead (GaveOfNode did failures) old file plan (type_of path) body new × (answer ≡ sent_answer path file body))
+    ⊎ ((why : ReadFault) × (why ≢ fault.OutOfMemory) × IsNotRead (GaveOfNode did failures) (FailedOfNode did failures) old file plan why new
     × (answer ≡ refused_answer (refusal_of_read why)))
 
--- the reply to the reading of this file at the path, or of none for this reason
+-- the file was uploaded
+abbrev pub IsKnown : {S D : Type 0} {disk : Ghosts D} → Server S D disk → List ℕ → Type 0
+IsKnown server file = map.get server.house.uploads (digest_of file) ≡ Some file
+
+-- the reply to the reading of this file at the path, which was uploaded, or of none for this reason
 abbrev pub IsReadReply : {S D : Type 0} {disk : Ghosts D} → (did : S → Call → S → Type 0) → (failures : S → ℕ) → Server S D disk → RequestParts → List ℕ → Result (List ℕ) Refusal → Answer → Server S D disk
     → Type 0
 IsReadReply did failures server parts path (Err refusal) answer next = (answer ≡ refused_answer refusal) × (next ≡ server)
 IsReadReply did failures server parts path (Ok file) answer next =
-    (range : Asked) × AsksRange parts range × IsFileSent did failures server.files path file (plan_of parts range file) answer next.files × (next.house ≡ server.house)
+    IsKnown server file × (range : Asked) × AsksRange parts range × IsFileSent did failures server.files path file (plan_of parts range file) answer next.files
+    × (next.house ≡ server.house)
 
 -- ---- where memory runs out
 
@@ -96,9 +102,9 @@ is_read plan = true
 abbrev pub ReadRunsOut : {S D : Type 0} {disk : Ghosts D} → (did : S → Call → S → Type 0) → (failures : S → ℕ) → Server S D disk → RequestParts → Result (List ℕ) Refusal → Server S D disk → Type 0
 ReadRunsOut did failures server parts (Err refusal) next = ⊥
 ReadRunsOut did failures server parts (Ok file) next =
-    (range : Asked) × AsksRange parts range × IsTrue (is_read (plan_of parts range file)) × (next.house ≡ server.house)
+    IsKnown server file × (range : Asked) × AsksRange parts range × IsTrue (is_read (plan_of parts range file)) × (next.house ≡ server.house)
     × ((next.files ≡ server.files)
-    ⊎ IsNotRead (GaveOfFiles did failures) (FailedOfFiles did failures) server.files file (plan_of parts range file) fault.OutOfMemory next.files)
+    ⊎ IsNotRead (GaveOfNode did failures) (FailedOfNode did failures) server.files file (plan_of parts range file) fault.OutOfMemory next.files)
 
 -- ---- what private functions say
 

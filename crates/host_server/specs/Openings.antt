@@ -6,6 +6,7 @@ use Rattle.blob_store.specs.Openings as blobs
 use Rattle.blob_store.specs.declared.openings.OpenFault as of_files
 use Rattle.blob_store.specs.declared.openings.OpenFault.TheVariants as blobs_fault
 use Rattle.blob_store.specs.declared.openings.Wanted.{Wanted}
+use Rattle.chunk_lru.specs.Caches.{empty}
 use Rattle.change_undo.specs.declared.entries.Entry.{Entry}
 use Rattle.change_journal.specs.Held.{Keeps}
 use Rattle.change_journal.specs.Openings.{IsFound, IsNoJournal}
@@ -37,7 +38,8 @@ pub record HasFiles {S : Type 0} (did : S → Call → S → Type 0) (old : S) (
   pub are_wanted : AreWanted entries wanted
   pub opened : blobs.IsOpened did old wanted known new
 
--- A server is opened: its host has the entries of the journal, each accepted in its place over the files that they want.
+-- A server is opened: its host has the entries of the journal, each accepted in its place over the files that they want. Nothing is in its
+-- cache yet.
 pub record IsOpened {S D : Type 0} {disk : Ghosts D} (did : S → Call → S → Type 0) (old : D) (shelf : S) (limit : ℕ) (server : Server S D disk) : Type 0 where
   pub journal : Keeps D
   pub is : server.journal ≡ Some journal
@@ -45,6 +47,7 @@ pub record IsOpened {S D : Type 0} {disk : Ghosts D} (did : S → Call → S →
   pub entries : server.house.entries ≡ journal.entries
   pub limit_is : server.house.limit ≡ limit
   pub has_files : HasFiles did shelf server.house.entries server.house.uploads server.files.shelf
+  pub cache : server.files.cache ≡ empty 67108864
 
 -- ---- why there is none, in the order in which it is told
 

@@ -1,16 +1,19 @@
 -- Files that were uploaded are read back.
 use Rattle.std.specs.Prelude.{◌≡◌, ◌⊎◌, ℕ, List, Option, Some, Ok, length}
+use Rattle.std.specs.List.{Contains}
 use Rattle.std.specs.FinMap as map
-use Rattle.host_names.specs.Blobs.{Contents}
+use Rattle.host_names.specs.Blobs.{Contents, digest_of}
 use Rattle.host_names.specs.declared.digests.Digest.{Digest}
 use Rattle.blob_store.specs.Calls.{things_of}
 use Rattle.blob_store.specs.Keeping.{Agree, HasFile}
 use Rattle.blob_store.specs.declared.shelves.ShelfName.{ShelfName}
+use Rattle.blob_store.specs.declared.shelves.ShelfName.TheVariants.{Part}
 use Rattle.range_spec.specs.declared.grammar.Asked.{Asked}
 use Rattle.range_spec.specs.declared.selection.Choice.{Choice}
 use Rattle.range_spec.specs.declared.selection.Choice.TheVariants.{None416}
 use Rattle.file_reads.specs.Sending.{IsExact}
 use Rattle.file_reads.specs.declared.bodies.FileBody.{FileBody}
+use Rattle.node_files.specs.Cached.{AllCached}
 use Rattle.http_wire.specs.Requests.{RequestParts}
 use Rattle.host_api.specs.Types.{type_of}
 use Rattle.host_api.specs.declared.bodies.Ask.TheVariants.{Upload}
@@ -21,9 +24,15 @@ use Rattle.host_server.specs.Files.{AsksRange, plan_of, sent_answer}
 use Rattle.host_server.specs.Replies.{Answer, refused_answer}
 use Rattle.host_server.specs.declared.servers.Server.{Server}
 
--- the shelf of a server has each file that its host knows
-abbrev pub HasKnown : {S D : Type 0} {disk : Ghosts D} → (has : S → ShelfName → Option (List ℕ)) → Server S D disk → Type 0
-HasKnown has server = (digest : Digest) (file : List ℕ) → map.get server.house.uploads digest ≡ Some file → HasFile has server.files.shelf file
+-- the chunk is a piece of a file that is known
+abbrev pub IsKnownPiece : Contents → List ℕ → Type 0
+IsKnownPiece uploads chunk =
+    (digest : Digest) × (file : List ℕ) × (map.get uploads digest ≡ Some file) × Contains (things_of file) (Part (digest_of chunk), chunk)
+
+-- the shelf of a server has each file that its host knows, and what is in its cache is of such files
+pub record HasKnown {S D : Type 0} {disk : Ghosts D} (has : S → ShelfName → Option (List ℕ)) (server : Server S D disk) : Type 0 where
+  pub on_shelf : (digest : Digest) (file : List ℕ) → map.get server.house.uploads digest ≡ Some file → HasFile has server.files.shelf file
+  pub cached : AllCached (IsKnownPiece server.house.uploads) server.files.cache
 
 -- of these bytes and the files that are known, no two pieces, nor two files, share a digest and differ
 pub record AgreesWith (uploads : Contents) (bytes : List ℕ) : Type 0 where

@@ -10,6 +10,7 @@ use Rattle.blob_store.specs.Shelves.{Does, found_in}
 use Rattle.blob_store.specs.declared.mem_shelf.MemShelf.{MemShelf}
 use Rattle.blob_store.specs.declared.shelves.Shelf as shelves
 use Rattle.blob_store.specs.declared.shelves.ShelfName.{ShelfName}
+use Rattle.chunk_lru.specs.Caches.{empty}
 use Rattle.host_disk.specs.declared.disks.Disk.{Ghosts}
 use Rattle.host_disk.specs.declared.mem_disk.MemDisk.{MemDisk}
 use Rattle.host_server.specs.Asks.{IsAnswer}
@@ -83,17 +84,23 @@ pub record IsServed {H : Type 0} (answers : Answering H) (read_fails write_fails
   pub serves : Serves answers read_fails write_fails ended start next stream held new_held
   pub end_said : SaysEnd says_fail ended said new_said
 
--- a server without entries, files and a journal, whose shelf is in memory
+-- a server without entries, files and a journal, whose shelf is in memory, and whose cache has nothing yet
 pub record IsEmpty {disk : Ghosts MemDisk} (server : Server MemShelf MemDisk disk) : Type 0 where
   pub host : server.house ≡ empty_host
   pub journal : server.journal ≡ None
   pub shelf : (name : ShelfName) → found_in server.files.shelf name ≡ None
+  pub cache : server.files.cache ≡ empty 67108864
 
--- a connection to such a server is served
+-- there was no memory for the server, and that is said
+abbrev pub IsOutOfMemory : (says_fail : Type 0) → ℕ → (said new_said : Stream) → Type 0
+IsOutOfMemory says_fail status said new_said = (status ≡ 2) × IsSaid says_fail memory_line said new_said
+
+-- a connection to such a server is served; or there was no memory for it, and nothing is answered
 abbrev pub IsEmptyServed : (disk : Ghosts MemDisk) → (read_fails write_fails says_fail : Type 0) → ℕ → (stream held new_held said new_said : Stream) → Type 0
 IsEmptyServed disk read_fails write_fails says_fail status stream held new_held said new_said =
-    (start : Server MemShelf MemDisk disk) × IsEmpty start
-    × IsServed (IsAnswer Does (λ shelf. 0) disk.faults) read_fails write_fails says_fail start status stream held new_held said new_said
+    ((start : Server MemShelf MemDisk disk) × IsEmpty start
+    × IsServed (IsAnswer Does (λ shelf. 0) disk.faults) read_fails write_fails says_fail start status stream held new_held said new_said)
+    ⊎ (IsOutOfMemory says_fail status said new_said × (new_held ≡ held))
 
 -- A run over the store of a disk and a shelf: a server is opened of them, and a connection to it is served; or none can be, and that
 -- is said, and nothing is answered.

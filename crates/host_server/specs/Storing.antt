@@ -44,9 +44,10 @@ abbrev pub IsStoredIf : {S : Type 0} → (did : S → Call → S → Type 0) →
 IsStoredIf did (Ok at) uploads old bytes new = IsStored did uploads old bytes new
 IsStoredIf did (Err why) uploads old bytes new = new ≡ old
 
--- the bytes are stored where nothing is against them, and the host does what comes of that
+-- the bytes are stored where nothing is against them, what is in the cache stays, and the host does what comes of that
 pub record IsUploaded {S D : Type 0} {disk : Ghosts D} (did : S → Call → S → Type 0) (server : Server S D disk) (n : ℕ) (path bytes : List ℕ) (told : Told) (next : Server S D disk) : Type 0 where
   pub stored : IsStoredIf did (judge_upload server.house n path bytes) server.house.uploads server.files.shelf bytes next.files.shelf
+  pub cache : next.files.cache ≡ server.files.cache
   pub told_is : told ≡ (upload_outcome server.house n path bytes).told
   pub host_is : next.house ≡ (upload_outcome server.house n path bytes).host
 
@@ -56,6 +57,7 @@ pub record IsRefusedByStore {S D : Type 0} {disk : Ghosts D} (did : S → Call �
   pub at : SiteName × Digest
   pub judged : judge_upload server.house n path bytes ≡ Ok at
   pub not_stored : IsNotStored did failures server.house.uploads server.files.shelf bytes why next.files.shelf
+  pub cache : next.files.cache ≡ server.files.cache
   pub same : next.house ≡ server.house
 
 -- the bytes are stored and known, and the entry that publishes the deploy that they complete is not made
@@ -63,6 +65,7 @@ pub record IsUnpublished {S D : Type 0} {disk : Ghosts D} (did : S → Call → 
   pub at : SiteName × Digest
   pub judged : judge_upload server.house n path bytes ≡ Ok at
   pub stored : IsStored did server.house.uploads server.files.shelf bytes next.files.shelf
+  pub cache : next.files.cache ≡ server.files.cache
   pub known : next.house ≡ with_upload server.house bytes
   pub published : IsTrue (is_published (with_upload server.house bytes) at.0 n)
 

@@ -1,15 +1,15 @@
 //! What follows of servers whose shelf keeps what is put there. The function does nothing: its contract is the law.
 ghost use Rattle.std.specs.Prelude.{◌≡◌, ℕ, List, Option, Ok};
 ghost use Rattle.std.specs.FinMap as map;
-ghost use Rattle.host_names.specs.Blobs.{AreDigested};
 ghost use Rattle.host_names.specs.declared.names.SiteName.{SiteName as Site};
 ghost use Rattle.blob_store.specs.Keeping.{Keeps};
 ghost use Rattle.blob_store.specs.declared.shelves.ShelfName.{ShelfName};
+ghost use Rattle.chunk_lru.specs.Caches.{empty};
 ghost use Rattle.http_wire.specs.Requests.{RequestParts};
 ghost use Rattle.host_api.specs.declared.bodies.Ask.TheVariants.{Read};
 ghost use Rattle.host_api.specs.declared.versions.Version.{Version};
 ghost use Rattle.host_server.specs.Asks.{IsAnswer, asked_for};
-ghost use Rattle.host_server.specs.Hosts.{IsLawful, state_of};
+ghost use Rattle.host_server.specs.Hosts.{state_of};
 ghost use Rattle.host_server.specs.ReadBack.{HasKnown, IsReadBack, UploadAgrees};
 ghost use Rattle.host_server.specs.Replies.{Answer};
 ghost use Rattle.host_server.specs.Versions.{file_of};
@@ -18,15 +18,16 @@ ghost use Rattle.host_server.specs.declared.servers.Server.{Server};
 use blob_store::Shelf;
 use host_disk::Disk;
 
-/// Where the shelf keeps what is put there, it has each file that is known, from an empty server on and after each request, unless an upload has a
-/// piece or a digest that other bytes of it or of a known file have too. What is then read of a file is of the file itself, and is refused only for
-/// the device and for want of memory: it is neither missing nor damaged.
+/// Where the shelf keeps what is put there, it has each file that is known, and what is in the cache is of such files, from an empty server on and
+/// after each request, unless an upload has a piece or a digest that other bytes of it or of a known file have too. What is then read of a file is
+/// of the file itself, and is refused only for the device and for want of memory: it is neither missing nor damaged.
 pub fn uploads_are_read_back<S: Shelf, D: Disk>()
-    ensures empty { (has : S → ShelfName → Option (List ℕ)) (server : Server S D D.Disk) → server.house.uploads ≡ map.empty → HasKnown has server }
+    ensures empty { (has : S → ShelfName → Option (List ℕ)) (server : Server S D D.Disk) (limit : ℕ) → server.house.uploads ≡ map.empty → server.files.cache ≡ empty limit
+        → HasKnown has server }
     ensures kept { (has : S → ShelfName → Option (List ℕ)) (old new : Server S D D.Disk) (parts : RequestParts) (body : List ℕ) (answer : Answer) → Keeps S.did has
         → UploadAgrees old.house.uploads parts body → HasKnown has old → IsAnswer S.did S.failures D.faults old parts body answer new → HasKnown has new }
     ensures read { (has : S → ShelfName → Option (List ℕ)) (old new : Server S D D.Disk) (parts : RequestParts) (body : List ℕ) (answer : Answer) (site : Site) (version : Version)
-        (path file : List ℕ) → Keeps S.did has → AreDigested old.house.uploads → IsLawful old.house → HasKnown has old
+        (path file : List ℕ) → Keeps S.did has → HasKnown has old
         → asked_for parts body ≡ Ok (Read site version path) → file_of (state_of old.house) site version path ≡ Ok file
         → IsAnswer S.did S.failures D.faults old parts body answer new → IsReadBack parts path file answer }
 {}

@@ -3,6 +3,7 @@ ghost use Rattle.std.specs.Prelude.{◌≡◌, ◌<◌, ◌≤◌, ℕ, IfErr, I
 ghost use Rattle.change_journal.specs.Held.{Keeps};
 ghost use Rattle.change_journal.specs.Texts.{HoldsEntries, MayHoldNext};
 ghost use Rattle.change_undo.specs.declared.entries.Entry.{Entry as Line};
+ghost use Rattle.chunk_lru.specs.Caches.{empty};
 ghost use Rattle.host_disk.specs.Crashes.{LeavesOnly};
 ghost use Rattle.host_server.specs.Openings as spec;
 ghost use Rattle.host_server.specs.Openings.{HasFiles, IsHostFault, IsNoRecordFault, IsOpened, IsOpenFault};
@@ -16,6 +17,7 @@ use change_undo::Log;
 use host_disk::Disk;
 use host_names::Digest;
 use host_opening::{ReplayFault, replay, wanted};
+use node_files::NodeFiles;
 use std::alloc::{AllocError, Global};
 
 /// Why a server can't be opened.
@@ -117,16 +119,31 @@ fn open_blobs<S: Shelf>(alloc: Global, log: &Log, shelf: S) -> Result<Blobs<S>, 
     }
 }
 
-/// The host of these entries, and the files on the shelf.
+/// The files with a cache; where there is no memory for it, their shelf is handed back.
+fn with_cache<S: Shelf>(alloc: Global, files: Files<S>) -> Result<NodeFiles<S>, NoHost<S>>
+    ensures made { IfOk result (λ node. node ≡ record { shelf = files.shelf; cache = empty 67108864 }) }
+    ensures fault { IfErr result (λ stop. (stop.fault ≡ OutOfMemory) × (stop.shelf ≡ files.shelf)) }
+{
+    match NodeFiles::new(alloc, files) {
+        Ok(node) => Ok(node),
+        Err(files) => Err(NoHost {
+            fault: OpenFault::OutOfMemory,
+            shelf: files.into_shelf(),
+        }),
+    }
+}
+
+/// The host of these entries, and the files on the shelf, with nothing in their cache yet.
 pub(crate) fn open_host<S: Shelf>(
     alloc: Global,
     log: &Log,
     shelf: S,
     limit: u64,
-) -> Result<(SoloHouse, Files<S>), NoHost<S>>
+) -> Result<(SoloHouse, NodeFiles<S>), NoHost<S>>
     requires some { 1 ≤ limit }
     requires bounded { limit ≤ 1000000 }
     ensures files { IfOk result (λ answer. HasFiles S.did shelf log.now answer.0.uploads answer.1.shelf) }
+    ensures cache { IfOk result (λ answer. answer.1.cache ≡ empty 67108864) }
     ensures entries { IfOk result (λ answer. answer.0.entries ≡ log.now) }
     ensures limit { IfOk result (λ answer. answer.0.limit ≡ limit) }
     ensures fault { IfErr result (λ stop. IsHostFault S.did shelf limit log.now stop.fault stop.shelf) }
@@ -137,6 +154,7 @@ pub(crate) fn open_host<S: Shelf>(
     match replay(alloc, log, limit, &blobs) {
         Ok(history) => {
             let (known, files) = blobs.into_parts();
+            let files = with_cache(alloc, files)?;
             Ok((SoloHouse::of(alloc, history, known), files))
         }
         Err(fault) => Err(NoHost {

@@ -7,8 +7,8 @@ ghost use Rattle.range_spec.specs.declared.selection.Choice.TheVariants.{None416
 ghost use Rattle.range_reply.specs.Conditions.{condition_of};
 ghost use Rattle.http_wire.specs.Fields.{values_of};
 ghost use Rattle.file_reads.specs.Sending.{IsNotRead, IsRead};
-ghost use Rattle.file_reads.specs.Stores.{FailedOfFiles, GaveOfFiles};
 ghost use Rattle.file_reads.specs.declared.bodies.FileBody.{FileBody as Sent};
+ghost use Rattle.node_files.specs.Cached.{FailedOfNode, GaveOfNode};
 ghost use Rattle.host_api.specs.Texts.{has_cell};
 ghost use Rattle.host_api.specs.Types.{type_of};
 ghost use Rattle.host_api.specs.declared.refusals.Refusal.TheVariants.{NotSatisfiable, OutOfMemory};
@@ -20,15 +20,17 @@ ghost use Rattle.host_server.specs.Files.{AsksRange, is_read, plan_of, sent_answ
 use crate::host::file;
 use crate::replies::Reply;
 use crate::servers::Server;
-use blob_store::{Files, ReadFault, Shelf};
+use blob_store::{ReadFault, Shelf};
 use byte_view::BlobInfo;
 use file_reads::read_body;
 use host_api::{Refusal, Version, content_type};
 use host_disk::Disk;
 use host_names::{Digest, FilePath, SiteName};
 use http_wire::Head;
+use node_files::NodeFiles;
 use range_reply::{IfRange, ReplyPlan, plan};
 use range_spec::{Asked, Choice, parse};
+use site_change::uploads_are_digested;
 use std::alloc::Global;
 use std::sync::Arc;
 
@@ -94,16 +96,16 @@ fn refusal_of_read(why: ReadFault) -> Refusal
 /// The reply with what a plan sends of a file.
 fn send<S: Shelf>(
     alloc: Global,
-    files: &mut Files<S>,
+    files: &mut NodeFiles<S>,
     info: &Arc<BlobInfo>,
     plan: ReplyPlan,
     path: &FilePath,
 ) -> Result<Reply, Refusal>
     requires { All (LiesWithin (length info.now.value)) (intervals_in plan) }
-    ensures sent { IfOk result (λ reply. (body : Sent) × IsRead (GaveOfFiles S.did S.failures) files.old info.now.value plan (type_of path.now) body files.new
+    ensures sent { IfOk result (λ reply. (body : Sent) × IsRead (GaveOfNode S.did S.failures) files.old info.now.value plan (type_of path.now) body files.new
         × (answer_of reply ≡ sent_answer path.now info.now.value body)) }
     ensures refused { IfErr result (λ reason. (why : Fault)
-        × IsNotRead (GaveOfFiles S.did S.failures) (FailedOfFiles S.did S.failures) files.old info.now.value plan why files.new
+        × IsNotRead (GaveOfNode S.did S.failures) (FailedOfNode S.did S.failures) files.old info.now.value plan why files.new
         × (reason ≡ spec.refusal_of_read why)) }
     ensures count { S.failures files.old.shelf ≤ S.failures files.new.shelf }
 {
@@ -128,6 +130,8 @@ pub(crate) fn read_file<S: Shelf, D: Disk>(
     ensures journal { server.new.journal ≡ server.old.journal }
     ensures count { S.failures server.old.files.shelf ≤ S.failures server.new.files.shelf }
 {
+    server.house.lawful();
+    uploads_are_digested(server.house.uploads());
     let file = file(&server.house, site, version, path)?;
     let plan = plan_asked(head, file.info());
     let info = wanted(file.info(), &plan)?;

@@ -1,52 +1,57 @@
 //! A host, its journal, and the shelf that its files are on.
-ghost use Rattle.std.specs.Prelude.{◌≡◌, ◌≤◌, [], None};
+ghost use Rattle.std.specs.Prelude.{◌≡◌, ◌≤◌, [], None, IfOk};
 ghost use Rattle.std.specs.FinMap as map;
+ghost use Rattle.chunk_lru.specs.Caches.{empty};
 ghost use Rattle.host_server.specs.Journals.{Agrees};
 
 use crate::host::SoloHouse;
 use blob_store::{Files, Shelf};
 use change_journal::Journal;
 use host_disk::Disk;
-use std::alloc::Global;
+use node_files::NodeFiles;
+use std::alloc::{AllocError, Global};
 
-/// A host on one thread, the journal of its entries, if it has one, and the shelf that its files are on.
+/// A host on one thread, the journal of its entries, if it has one, and the shelf that its files are on, which are read through a cache.
 #[derive(Drop)]
 pub struct Server<S, D: Disk> {
     pub(crate) house: SoloHouse,
     pub(crate) journal: Option<Journal<D>>,
-    pub(crate) files: Files<S>,
+    pub(crate) files: NodeFiles<S>,
     pub ghost agrees: { Agrees journal house.entries },
 }
 
-impl<S: Shelf, D: Disk> Server<S, D> {
-    /// A server without entries, known files and a journal over a shelf. It may have as many entries as the limit says.
-    pub fn new(alloc: Global, shelf: S, limit: u64) -> Server<S, D>
+impl<S: Shelf + Drop, D: Disk> Server<S, D> {
+    /// A server without entries, known files and a journal over a shelf. It may have as many entries as the limit says, and has nothing in
+    /// its cache yet, which takes memory.
+    pub fn new(alloc: Global, shelf: S, limit: u64) -> Result<Server<S, D>, AllocError>
         requires some { 1 ≤ limit }
         requires bounded { limit ≤ 1000000 }
-        ensures house { result.house ≡ record { limit = limit; entries = []; uploads = map.empty } }
-        ensures journal { result.journal ≡ None }
-        ensures shelf { result.files.shelf ≡ shelf }
+        ensures house { IfOk result (λ server. server.house ≡ record { limit = limit; entries = []; uploads = map.empty }) }
+        ensures journal { IfOk result (λ server. server.journal ≡ None) }
+        ensures shelf { IfOk result (λ server. server.files.shelf ≡ shelf) }
+        ensures cache { IfOk result (λ server. server.files.cache ≡ empty 67108864) }
     {
-        Server {
+        let files = NodeFiles::new(alloc, Files::new(alloc, shelf)).map_err(|_| AllocError)?;
+        Ok(Server {
             house: SoloHouse::new(alloc, limit),
             journal: None,
-            files: Files::new(alloc, shelf),
-        }
+            files,
+        })
     }
 
-    /// Its host.
-    pub fn house(&self) -> &SoloHouse
-        ensures { result.now ≡ self.now.house }
-    {
-        &self.house
-    }
-}
-
-impl<S: Shelf + Drop, D: Disk> Server<S, D> {
     /// Hands out its journal, if it has one.
     pub fn into_journal(self) -> Option<Journal<D>>
         ensures { result ≡ self.journal }
     {
         self.journal
+    }
+}
+
+impl<S: Shelf, D: Disk> Server<S, D> {
+    /// Its host.
+    pub fn house(&self) -> &SoloHouse
+        ensures { result.now ≡ self.now.house }
+    {
+        &self.house
     }
 }

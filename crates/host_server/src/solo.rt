@@ -11,7 +11,7 @@ use change_undo::GREATEST_LIMIT;
 use command_line::{Refusal, Wanted, read};
 use host_disk::{Disk, FileDisk, MemDisk};
 use http_wire::{Duplex, Sink};
-use std::alloc::Global;
+use std::alloc::{AllocError, Global};
 use std::convert::AsStr;
 use std::fs::File;
 use std::rt::Files;
@@ -29,17 +29,20 @@ fn refuse<E: Sink>(errors: &mut E, refusal: Refusal) -> u8
     }
 }
 
-/// Serves one connection over an empty server in memory, and gives the exit status.
+/// Serves one connection over an empty server in memory, and gives the exit status; or there is no memory for the server.
 fn run_in_memory<D: Duplex, E: Sink>(alloc: Global, duplex: &mut D, errors: &mut E) -> u8
     ensures { IsEmptyServed ⟦<MemDisk as Disk>⟧ D.read_fails D.write_fails E.may_fail result
         (D.left duplex.old) (D.held duplex.old) (D.held duplex.new) (E.held errors.old) (E.held errors.new) }
 {
-    let server: Server<MemShelf, MemDisk> = Server::new(
+    let made: Result<Server<MemShelf, MemDisk>, AllocError> = Server::new(
         alloc,
         MemShelf::new(alloc),
         GREATEST_LIMIT,
     );
-    serve_server(alloc, server, duplex, errors)
+    match made {
+        Ok(server) => serve_server(alloc, server, duplex, errors),
+        Err(_) => fail(errors, FAILED, OUT_OF_MEMORY),
+    }
 }
 
 /// Runs the program for the words after its name, and answers its exit status: `solo` serves one connection, over

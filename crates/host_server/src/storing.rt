@@ -40,6 +40,7 @@ impl<S: Shelf, D: Disk> Server<S, D> {
         ensures journal { self.new.journal ≡ self.old.journal }
         ensures grows { Grows self.old.house self.new.house }
         ensures count { S.failures self.old.files.shelf ≤ S.failures self.new.files.shelf }
+        ensures cache { self.new.files.cache ≡ self.old.files.cache }
     {
         if bytes.len() <= MAX_SIZE && self.house.uploads().find(&digest).is_some() {
             return Ok(());

@@ -31,7 +31,7 @@ fn assert_front_answered<S: Source + Drop>(
 /// Asserts what comes of the run where this read fails: each before it gave a byte, and nothing is read after it.
 fn assert_read_fails(rt: &impl Abort, alloc: Global, asked: &str, call: usize) -> Result<(), Fail> {
     let whole = count_whole(&REQUESTS, call);
-    let mut server = new_server(alloc);
+    let mut server = new_server(alloc)?;
     let mut source = Trickle::new(asked.as_bytes(), call);
     let answered = assert_front_answered(rt, alloc, &mut server, Reading(&mut source), whole);
     assert_number(rt, source.calls, call.saturating_add(1));
@@ -59,7 +59,7 @@ fn assert_cut(
     fails: bool,
 ) -> Result<(), Fail> {
     let front = replies.get(..count).ok_or("no such front")?;
-    let mut server = new_server(alloc);
+    let mut server = new_server(alloc)?;
     let mut duplex = Pair {
         source: asked.as_bytes(),
         sink: Writing(Narrow::new(alloc, 1, count, fails)),
@@ -99,6 +99,6 @@ fn assert_answers_one_by_one(
 #[test]
 fn answers_requests_of_separate_connections_alike(rt: HostRuntime) -> Result<(), Fail> {
     let alloc = rt.alloc();
-    let mut server = new_server(alloc);
+    let mut server = new_server(alloc)?;
     assert_answers_one_by_one(&rt, alloc, &mut server)
 }

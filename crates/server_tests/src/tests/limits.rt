@@ -43,7 +43,7 @@ const OPENINGS: [&str; 3] = [OPENING, OPENING, UNDO];
 #[test]
 fn an_opening_stands_whose_publishing_finds_the_history_full(rt: HostRuntime) -> Result<(), Fail> {
     let alloc = rt.alloc();
-    let mut server: Server<MemShelf, MemDisk> = Server::new(alloc, MemShelf::new(alloc), 1);
+    let mut server: Server<MemShelf, MemDisk> = Server::new(alloc, MemShelf::new(alloc), 1)?;
     assert_talk(&rt, alloc, &mut server, &OPENINGS, &[FULL; 3], (ONE, false))
 }
 
@@ -61,7 +61,7 @@ const UPLOADED: [&str; 4] = [OPENED, FULL, FULL, WRONG_DIGEST];
 #[test]
 fn an_upload_stands_whose_publishing_finds_the_history_full(rt: HostRuntime) -> Result<(), Fail> {
     let alloc = rt.alloc();
-    let mut server: Server<MemShelf, MemDisk> = Server::new(alloc, MemShelf::new(alloc), 1);
+    let mut server: Server<MemShelf, MemDisk> = Server::new(alloc, MemShelf::new(alloc), 1)?;
     assert_talk(&rt, alloc, &mut server, &UPLOADS, &UPLOADED, (ONE, true))
 }
 
@@ -91,7 +91,7 @@ fn assert_too_large(
 #[test]
 fn a_file_of_a_byte_too_many_is_not_taken(rt: HostRuntime) -> Result<(), Fail> {
     let alloc = rt.alloc();
-    let mut server = new_server(alloc);
+    let mut server = new_server(alloc)?;
     enter(&rt, alloc, &mut server, &[OPEN_LARGE])?;
     assert_too_large(&rt, alloc, &mut server)?;
     assert_has(&rt, alloc, &server, (ONE, false))
@@ -160,7 +160,7 @@ fn assert_takes_six(
 #[test]
 fn a_full_history_takes_no_change_and_no_undo(rt: HostRuntime) -> Result<(), Fail> {
     let alloc = rt.alloc();
-    let mut server: Server<MemShelf, MemDisk> = Server::new(alloc, MemShelf::new(alloc), 6);
+    let mut server: Server<MemShelf, MemDisk> = Server::new(alloc, MemShelf::new(alloc), 6)?;
     assert_takes_six(&rt, alloc, &mut server)
 }
 
@@ -187,6 +187,6 @@ fn assert_makes_and_lists(
 #[test]
 fn lists_the_last_thousand_entries(rt: HostRuntime) -> Result<(), Fail> {
     let alloc = rt.alloc();
-    let mut server = new_server(alloc);
+    let mut server = new_server(alloc)?;
     assert_makes_and_lists(&rt, alloc, &mut server)
 }

@@ -92,7 +92,7 @@ pub(crate) fn count_whole(messages: &[&str], length: usize) -> usize {
 }
 
 /// A server whose host may have as many entries as any.
-pub(crate) fn new_server(alloc: Global) -> Server<MemShelf, MemDisk> {
+pub(crate) fn new_server(alloc: Global) -> Result<Server<MemShelf, MemDisk>, AllocError> {
     Server::new(alloc, MemShelf::new(alloc), GREATEST_LIMIT)
 }
 

@@ -1,14 +1,14 @@
 use Rattle.std.proofs.Common.{ap, subst, ◌∙◌, List, ℕ}
 use Rattle.file_reads.specs.Sending.{IsRead}
-use Rattle.file_reads.specs.Stores.{GaveOfFiles}
-use Rattle.file_reads.proofs.Stored.{fault_goes_on, read_goes_on}
+use Rattle.node_files.specs.Cached.{GaveOfNode}
+use Rattle.node_files.proofs.Stored.{fault_goes_on, read_goes_on}
 use Rattle.host_server.specs.Files.{sent_answer}
 use Rattle.host_server.proofs.reads.send.Goals as goal
 
 pub returns-in-Ok-clause-sent : goal.returns-in-Ok-clause-sent
 returns-in-Ok-clause-sent g c = (
   c.in-Ok.body,
-  subst (λ (t : List ℕ). IsRead (GaveOfFiles g.S.Shelf.did g.S.Shelf.failures) c.args.files.now c.args.info.now.value c.args.plan t c.in-Ok.body c.read_body.new.holder)
+  subst (λ (t : List ℕ). IsRead (GaveOfNode g.S.Shelf.did g.S.Shelf.failures) c.args.files.now c.args.info.now.value c.args.plan t c.in-Ok.body c.read_body.new.holder)
       c.content_type.ensures c.in-Ok.ensures.read,
   c.of_file.ensures ∙ ap (λ (f : List ℕ). sent_answer c.args.path.now f c.in-Ok.body) c.deref.ensures,
 )

@@ -19,6 +19,7 @@ returns-in-Ok-open_host-clause-opened g c =
       entries = made.entries ∙ sym found.entries.0;
       limit_is = made.limit;
       has_files = subst (λ entries. HasFiles g.S.Shelf.did c.args.shelf entries house.uploads c.in-Ok-open_host.files.shelf) (sym made.entries) made.files;
+      cache = made.cache;
     }
 
 pub returns-in-Ok-open_host-clause-any_moment : goal.returns-in-Ok-open_host-clause-any_moment

@@ -1,13 +1,13 @@
-use Rattle.std.proofs.Common.{rules, ◌≡◌, ℕ, Option, Err, sym, ap, subst, ◌∙◌}
+use Rattle.std.proofs.Common.{rules, ◌≡◌, ℕ, Option, Err, inl, inr, sym, ap, subst, ◌∙◌}
 use Rattle.host_api.specs.declared.refusals.Refusal.{Refusal}
 use Rattle.host_server.specs.Growth.{grows_then}
 use Rattle.host_server.specs.Hosts.{with_upload}
 use Rattle.host_server.specs.Journals.{IsJournaled}
 use Rattle.host_server.specs.Outcomes.{judge_upload, told_by}
-use Rattle.host_server.specs.Storing.{IsStored}
+use Rattle.host_server.specs.Storing.{IsNotStored, IsStored}
 use Rattle.host_server.specs.declared.servers.Server.{Server}
 use Rattle.host_server.proofs.Keeping.{upload_done}
-use Rattle.host_server.proofs.Journaling.{agrees_journaled}
+use Rattle.host_server.proofs.Journaling.{agrees_journaled, keeps_same}
 use Rattle.host_server.proofs.servers.Server.upload.Goals as goal
 
 pub returns-clause-grows : goal.returns-clause-grows
@@ -21,6 +21,27 @@ invariant_of-self-2 g c =
       agrees = agrees_journaled g.D.Disk.faults c.publish_if_ready.result mid.house c.publish_if_ready.new.self mid.journal c.publish_if_ready.new.journal mid.agrees
           c.publish_if_ready.ensures.journal;
     }
+
+pub returns-in_err-keep-clause-done : goal.returns-in_err-keep-clause-done
+returns-in_err-keep-clause-done g c =
+    let server = c.args.self.now in
+    let next = c.keep.new.self in
+    let reason = c.in_err-keep.field-0.0 in
+    let is : c.from_residual-in_err-keep.result ≡ Err reason = search rules in
+    let (why, not_stored, told) = c.in_err-keep.ensures.refused in
+    inr (inl (
+      why,
+      record {
+        at = (c.in_ok-site.site, c.in_ok-site.digest);
+        judged = sym (ap (λ bytes. judge_upload server.house c.args.number c.args.path.now bytes) c.as_slice.ensures.value) ∙ c.in_ok-site.ensures.ok;
+        not_stored = subst (λ bytes. IsNotStored g.S.Shelf.did g.S.Shelf.failures server.house.uploads server.files.shelf bytes why next.files.shelf)
+            c.as_slice-2.ensures.value not_stored;
+        cache = c.keep.ensures.cache;
+        same = c.in_err-keep.ensures.err;
+      },
+      is ∙ ap Err told,
+      keeps_same g.D.Disk.faults server.house next.house server.journal next.journal c.in_err-keep.ensures.err c.keep.ensures.journal,
+    ))
 
 pub returns-in_err-published-clause-done : goal.returns-in_err-published-clause-done
 returns-in_err-published-clause-done g c =
@@ -37,6 +58,7 @@ returns-in_err-published-clause-done g c =
     (sym (ap (λ bytes. judge_upload server.house c.args.number c.args.path.now bytes) c.as_slice.ensures.value) ∙ c.in_ok-site.ensures.ok)
     (c.in_ok-keep.ensures.known ∙ ap (with_upload server.house) c.as_slice-2.ensures.value)
     (subst (λ bytes. IsStored did server.house.uploads server.files.shelf bytes c.keep.new.self.files.shelf) c.as_slice-2.ensures.value c.in_ok-keep.ensures.stored)
+    c.keep.ensures.cache
     c.in_err-published.ensures.done c.in_err-published.ensures.stops c.in_err-published.ensures.err
     (subst (λ j. IsJournaled {A = Option ℕ} faults (Err why) c.keep.new.self.house j new_house new_journal) c.keep.ensures.journal c.in_err-published.ensures.journal)
     (ap told_by is) (λ (reason : Refusal) told. let same : why ≡ reason = cc told in is ∙ ap Err same)

@@ -1,0 +1,95 @@
+-- What no file is read or stored for leaves the uploads as they were.
+use Rattle.std.proofs.Common.{◌≡◌, inl, inr, ℕ, true, false, cond, List, Option, Some, None, Result, Ok, Err, refl, ap, ◌∙◌}
+use Rattle.host_names.specs.Blobs.{Contents}
+use Rattle.host_names.specs.declared.digests.Digest.{Digest}
+use Rattle.host_names.specs.declared.names.SiteName.{SiteName}
+use Rattle.host_names.specs.declared.refusals.ChangeRefusal.{ChangeRefusal}
+use Rattle.site_change.specs.declared.commands.Command.{Command}
+use Rattle.site_change.specs.declared.commands.Command.TheVariants as command
+use Rattle.change_undo.specs.Histories.{entry_at}
+use Rattle.change_undo.specs.declared.entries.Entry.TheVariants.{Change}
+use Rattle.host_api.specs.declared.bodies.Ask.{Ask}
+use Rattle.host_api.specs.declared.bodies.Ask.TheVariants as ask
+use Rattle.host_api.specs.declared.refusals.Refusal.{Refusal}
+use Rattle.host_server.specs.Asks.{HostRunsOut, HostStops, IsHostReply}
+use Rattle.host_server.specs.Hosts.{Host, next_number, with_entry}
+use Rattle.host_server.specs.Outcomes.{commit_outcome, committed, enter_outcome, is_ready, outcome_on, published_if_ready, publishing, site_of_deploy, undone}
+use Rattle.host_server.specs.Reasons.{commit_refusal, undo_refusal}
+use Rattle.host_server.specs.Replies.{Answer}
+
+publishing_same : (host : Host) (change : Command) (refusal : Option ChangeRefusal) → (publishing host change refusal).host.uploads ≡ host.uploads
+publishing_same host change None = refl
+publishing_same host change (Some why) = refl
+
+pub published_same : (host : Host) (site : SiteName) (n : ℕ) → (published_if_ready host site n).host.uploads ≡ host.uploads
+published_same host site n =
+    elim (is_ready host site n) as (λ b. (cond b (publishing host (command.Publish site n) (commit_refusal host (command.Publish site n))) (record { entry = Ok None; host = host })).host.uploads ≡ host.uploads) [
+      | true ↦ publishing_same host (command.Publish site n) (commit_refusal host (command.Publish site n))
+      | false ↦ refl
+    ]
+
+committed_same : (host : Host) (change : Command) (required : List Digest) → (committed host change required).host.uploads ≡ host.uploads
+committed_same host (command.Open site files auto) required = published_same (with_entry host (Change (command.Open site files auto))) site (next_number host)
+committed_same host change required = refl
+
+commit_same : (host : Host) (change : Command) (required : List Digest) (refusal : Option ChangeRefusal) → (commit_outcome host change required refusal).host.uploads ≡ host.uploads
+commit_same host change required None = committed_same host change required
+commit_same host change required (Some why) = refl
+
+enter_same : (host : Host) (change : Command) (refusal : Option ChangeRefusal) → (enter_outcome host change refusal).host.uploads ≡ host.uploads
+enter_same host change None = refl
+enter_same host change (Some why) = refl
+
+on_same : (host : Host) (change : SiteName → Command) (site : Option SiteName) → (outcome_on host change site).host.uploads ≡ host.uploads
+on_same host change None = refl
+on_same host change (Some site) = enter_same host (change site) (commit_refusal host (change site))
+
+undone_same : (host : Host) (site : SiteName) (k : ℕ) (refusal : Option ChangeRefusal) → (undone host site k refusal).host.uploads ≡ host.uploads
+undone_same host site k None = refl
+undone_same host site k (Some why) = refl
+
+pub uploads_of : (a b : Host) → a ≡ b → a.uploads ≡ b.uploads
+uploads_of a b is = ap (λ (h : Host). h.uploads) is
+
+-- ---- without the files
+
+pub host_same : (host next : Host) (asking : Result Ask Refusal) (answer : Answer) → IsHostReply host asking answer next → next.uploads ≡ host.uploads
+host_same host next (Err why) answer is = uploads_of next host is.1
+host_same host next (Ok (ask.Command change)) answer is = uploads_of next _ is.2.1 ∙ commit_same host change is.0 (commit_refusal host change)
+host_same host next (Ok (ask.Undo site k)) answer is = uploads_of next _ is.1 ∙ undone_same host site k (undo_refusal host site k)
+host_same host next (Ok (ask.Changes site)) answer is = uploads_of next host is.1
+host_same host next (Ok (ask.Deploy n)) answer is = uploads_of next host is.3
+host_same host next (Ok (ask.RemoveDeploy n)) answer is =
+    uploads_of next _ is.1 ∙ on_same host (λ site. command.RemoveDeploy site n) (site_of_deploy (entry_at host.entries n))
+host_same host next (Ok (ask.Cancel n)) answer is = uploads_of next _ is.1 ∙ on_same host (λ site. command.Cancel site n) (site_of_deploy (entry_at host.entries n))
+host_same host next (Ok (ask.Read site version path)) answer is = absurd is
+host_same host next (Ok (ask.Upload n path)) answer is = absurd is
+
+pub runs_out_same : (host next : Host) (asking : Result Ask Refusal) → HostRunsOut host asking next → next.uploads ≡ host.uploads
+runs_out_same host next (Err why) is = uploads_of next host is.0
+runs_out_same host next (Ok (ask.Command change)) (inl (accepted, inl is)) = uploads_of next host is
+runs_out_same host next (Ok (ask.Command change)) (inl (accepted, inr (is, published))) = uploads_of next _ is
+runs_out_same host next (Ok (ask.Command change)) (inr (required, are, is)) = uploads_of next _ is.0 ∙ commit_same host change required (commit_refusal host change)
+runs_out_same host next (Ok (ask.Undo site k)) (inl is) = uploads_of next host is.0
+runs_out_same host next (Ok (ask.Undo site k)) (inr is) = uploads_of next _ is.0 ∙ undone_same host site k (undo_refusal host site k)
+runs_out_same host next (Ok (ask.Changes site)) is = uploads_of next host is
+runs_out_same host next (Ok (ask.Deploy n)) is = uploads_of next host is.0
+runs_out_same host next (Ok (ask.RemoveDeploy n)) (inl is) = uploads_of next host is.0
+runs_out_same host next (Ok (ask.RemoveDeploy n)) (inr is) =
+    uploads_of next _ is.0 ∙ on_same host (λ site. command.RemoveDeploy site n) (site_of_deploy (entry_at host.entries n))
+runs_out_same host next (Ok (ask.Cancel n)) (inl is) = uploads_of next host is.0
+runs_out_same host next (Ok (ask.Cancel n)) (inr is) = uploads_of next _ is.0 ∙ on_same host (λ site. command.Cancel site n) (site_of_deploy (entry_at host.entries n))
+runs_out_same host next (Ok (ask.Read site version path)) is = absurd is
+runs_out_same host next (Ok (ask.Upload n path)) is = absurd is
+
+-- the same where the journal's device fails
+pub stops_same : (host next : Host) (asking : Result Ask Refusal) → HostStops host asking next → next.uploads ≡ host.uploads
+stops_same host next (Err why) is = absurd is
+stops_same host next (Ok (ask.Command change)) is = runs_out_same host next (Ok (ask.Command change)) (inl is)
+stops_same host next (Ok (ask.Undo site k)) is = uploads_of next host is.0
+stops_same host next (Ok (ask.Changes site)) is = absurd is
+stops_same host next (Ok (ask.Deploy n)) is = absurd is
+stops_same host next (Ok (ask.RemoveDeploy n)) is = uploads_of next host is.0
+stops_same host next (Ok (ask.Cancel n)) is = uploads_of next host is.0
+stops_same host next (Ok (ask.Read site version path)) is = absurd is
+stops_same host next (Ok (ask.Upload n path)) is = absurd is
