@@ -124,9 +124,13 @@ one_asked names rest file name answer named =
           ∙ ap (λ l. l ++ map Part rest) (sym (map-append (λ (a : ShelfName × Option (List ℕ)). a.0) (pieces_given file) ((Part name, answer) ∷ []))),
     )
 
-some_names : (before rest names : List Digest) (name : Digest) → before ++ name ∷ rest ≡ names → names ≢ []
-some_names [] rest names name named none = absurd (cc (named ∙ none))
-some_names (b ∷ before) rest names name named none = absurd (cc (named ∙ none))
+some_pieces : (before : List (List ℕ)) (piece : List ℕ) → before ++ piece ∷ [] ≢ []
+some_pieces [] piece none = absurd (cc none)
+some_pieces (b ∷ before) piece none = absurd (cc none)
+
+-- a file with a piece more isn't empty
+longer_file : (before piece : List ℕ) → Follows before piece → before ++ piece ≢ []
+longer_file before piece follows none = some_pieces (cut before) piece (sym follows.0 ∙ ap cut none)
 
 -- ---- a piece is read
 
@@ -164,13 +168,9 @@ module _ {S : Type 0} (did : S → Call → S → Type 0) (old now new : S) (joi
   no_more read_fault.Device rest more so fault = (joined, name, rest, now, ap (λ l. names_of joined ++ l) (sym more) ∙ so.named, so.gives, fault)
   no_more read_fault.OutOfMemory rest more so (inl fault) = inl (joined, name, rest, now, ap (λ l. names_of joined ++ l) (sym more) ∙ so.named, so.gives, fault)
   no_more read_fault.OutOfMemory rest more so (inr fault) =
-      let named = ap (λ l. names_of joined ++ l) (sym more) ∙ so.named in
-      inr (
-        pieces_given joined ++ (Part name, fault.0) ∷ [],
-        one_asked names rest joined name fault.0 named,
-        gives_then did old now new (pieces_given joined) (Part name) fault.0 so.gives fault.1,
-        some_names (names_of joined) rest names name named,
-      )
+      let piece = fault.0 in
+      let after = one_more (joined ++ piece) rest more so (piece, fault.1, refl, fault.2, fault.3) in
+      inr (joined ++ piece, rest, longer_file joined piece fault.2, after.named, after.gives)
 
 -- ---- a table is read
 
@@ -201,7 +201,7 @@ table_fails did old new digest read_fault.Damaged fault = (
 )
 table_fails did old new digest read_fault.Device fault = inl fault
 table_fails did old new digest read_fault.OutOfMemory (inl fault) = inl (inl fault)
-table_fails did old new digest read_fault.OutOfMemory (inr fault) = inr (fault.0, [], fault.2, fault.3, inl refl, (new, fault.1, refl))
+table_fails did old new digest read_fault.OutOfMemory (inr fault) = inr (inl (fault.0, fault.2, fault.3, fault.1))
 
 pub pieces_fail : {S : Type 0} (did : S → Call → S → Type 0) (old mid new : S) (digest : Digest) (text : List ℕ) (size : ℕ) (names : List Digest) (why : ReadFault)
     → Spells text size names → did old (Got (Table digest) (Some text)) mid → ArePiecesFault did mid names why new → IsFileFault did old digest why new
@@ -218,14 +218,7 @@ pieces_fail did old mid new digest text size names read_fault.Damaged spells got
 )
 pieces_fail did old mid new digest text size names read_fault.Device spells got fault = inr (text, size, names, mid, spells, got, fault)
 pieces_fail did old mid new digest text size names read_fault.OutOfMemory spells got (inl fault) = inl (inr (text, size, names, mid, spells, got, fault))
-pieces_fail did old mid new digest text size names read_fault.OutOfMemory spells got (inr fault) = inr (
-  text,
-  fault.0,
-  spelled_table text size names spells,
-  not_empty text size names spells fault.3,
-  inr (size, names, spells, fault.1),
-  (mid, got, fault.2),
-)
+pieces_fail did old mid new digest text size names read_fault.OutOfMemory spells got (inr fault) = inr (inr (text, size, names, mid, spells, got, fault))
 
 -- ---- a file is read
 

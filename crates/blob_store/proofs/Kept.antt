@@ -113,11 +113,11 @@ module _ {S : Type 0} (did : S → Call → S → Type 0) (has : S → ShelfName
 
   pub there_after_fault : (old new : S) (had things : List Thing) (fault : UploadFault) → Agree had things → HasPutSome did old things fault new → HasAll has old had
       → HasAll has new had
-  there_after_fault old new had things upload_fault.TooLarge agree same are = subst (λ s. HasAll has s had) (sym same) are
-  there_after_fault old new had things upload_fault.Device agree puts are = still_there old new had things (Some shelf_fault.Device) agree puts are
-  there_after_fault old new had things upload_fault.OutOfMemory agree (inl same) are = subst (λ s. HasAll has s had) (sym same) are
-  there_after_fault old new had things upload_fault.OutOfMemory agree (inr (inl puts)) are = still_there old new had things (Some shelf_fault.OutOfMemory) agree puts are
-  there_after_fault old new had things upload_fault.OutOfMemory agree (inr (inr puts)) are = still_there old new had things None agree puts are
+  there_after_fault old new had things upload_fault.TooLarge agree (inl same) are = subst (λ s. HasAll has s had) (sym same) are
+  there_after_fault old new had things upload_fault.Device agree (inl puts) are = still_there old new had things (Some shelf_fault.Device) agree puts are
+  there_after_fault old new had things upload_fault.OutOfMemory agree (inl (inl same)) are = subst (λ s. HasAll has s had) (sym same) are
+  there_after_fault old new had things upload_fault.OutOfMemory agree (inl (inr puts)) are = still_there old new had things (Some shelf_fault.OutOfMemory) agree puts are
+  there_after_fault old new had things fault agree (inr puts) are = still_there old new had things None agree puts.1 are
 
   -- ---- what is given
 

@@ -40,7 +40,7 @@ module _ {S : Type 0} (did : S → Call → S → Type 0) (has : S → ShelfName
       → has new name ≡ has old name
   stays_after old new file first last why name (inl (inl fault)) =
       chunk_stays fault.0 new fault.1 why name fault.4 ∙ same_after did has keeps old fault.0 (chunks_given fault.3.0) fault.3.2 name
-  stays_after old new file first last why name (inl (inr fault)) = same_after did has keeps old new (chunks_given fault.1.1.0) fault.1.1.2 name
+  stays_after old new file first last why name (inl (inr fault)) = same_after did has keeps old new (chunks_given fault.1.0) fault.1.4 name
   stays_after old new file first last why name (inr fault) = same_after did has keeps old new (chunks_given fault.1.0) fault.1.2 name
 
   module _ (s : S) (file : List ℕ) (there : HasFile has s file) where

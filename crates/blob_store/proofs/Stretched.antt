@@ -1,5 +1,5 @@
 -- Chunks that are read one after another.
-use Rattle.std.proofs.Common.{◌≡◌, inl, inr, List, [], ◌∷◌, ◌++◌, ℕ, Some, map, refl, sym, ap, subst, ◌∙◌}
+use Rattle.std.proofs.Common.{◌≡◌, ◌≢◌, inl, inr, List, [], ◌∷◌, ◌++◌, ℕ, Some, map, refl, sym, ap, subst, ◌∙◌}
 use Rattle.std.proofs.lemmas.List.{append-nil, append_assoc, map-append}
 use Rattle.host_names.specs.declared.digests.Digest.{Digest}
 use Rattle.host_names.specs.Blobs.{digest_of}
@@ -9,6 +9,10 @@ use Rattle.blob_store.specs.Calls.{Call, Got}
 use Rattle.blob_store.specs.Reads.{GivesInTurn}
 use Rattle.blob_store.specs.Stretches.{AreChunksFault, IsNextChunk, IsNextChunkFault, chunks_given}
 use Rattle.blob_store.proofs.FileReads.{given, gives_then}
+
+some_chunks : (before : List (List ℕ)) (chunk : List ℕ) → before ++ chunk ∷ [] ≢ []
+some_chunks [] chunk none = absurd (cc none)
+some_chunks (b ∷ before) chunk none = absurd (cc none)
 
 pub record ChunksSoFar {S : Type 0} (did : S → Call → S → Type 0) (old now : S) (chunks : List (List ℕ)) (left names : List Digest) : Type 0 where
   pub gives : GivesInTurn did old (chunks_given chunks) now
@@ -39,7 +43,7 @@ module _ {S : Type 0} (did : S → Call → S → Type 0) (old now new : S) (chu
       inl (now, name, rest, (chunks, ap (λ l. map digest_of chunks ++ l) (sym more) ∙ so.named, so.gives), fault)
   no_more why more so (inr fault) =
       let after = longer fault.1.0 fault.1.1 more so fault.1.2 in
-      inr (fault.0, (rest, (chunks ++ fault.1.0 ∷ [], after.named, after.gives)))
+      inr (fault.0, (chunks ++ fault.1.0 ∷ [], rest, some_chunks chunks fault.1.0, after.named, after.gives))
 
 pub all_read : {S : Type 0} (did : S → Call → S → Type 0) (old now : S) (chunks : List (List ℕ)) (left names : List Digest) → ChunksSoFar did old now chunks left names
     → left ≡ [] → map digest_of chunks ≡ names

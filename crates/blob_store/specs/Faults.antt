@@ -11,13 +11,16 @@ use Rattle.blob_store.specs.declared.reading.ReadFault.{ReadFault}
 use Rattle.blob_store.specs.declared.reading.ReadFault.TheVariants as read_fault
 use Rattle.blob_store.specs.Calls.{Call, Got, GetFails, PutsInTurn}
 
--- what was put: of a file that is too large nothing; up to a fault of the device; without memory none of it, or up to where the shelf had
--- none, or all of it
+-- what was put where a file can't be: of one that is too large nothing; up to a fault of the device; without memory none of it, or up to
+-- where the shelf had none
+abbrev pub HasPutPart : {S : Type 0} → (did : S → Call → S → Type 0) → S → List (ShelfName × List ℕ) → UploadFault → S → Type 0
+HasPutPart did old things upload_fault.TooLarge new = new ≡ old
+HasPutPart did old things upload_fault.Device new = PutsInTurn did old things (Some shelf_fault.Device) new
+HasPutPart did old things upload_fault.OutOfMemory new = (new ≡ old) ⊎ PutsInTurn did old things (Some shelf_fault.OutOfMemory) new
+
+-- what was put where a file can't be, or can't be known: that; or all of it, and then there was no memory to keep what is known of it
 abbrev pub HasPutSome : {S : Type 0} → (did : S → Call → S → Type 0) → S → List (ShelfName × List ℕ) → UploadFault → S → Type 0
-HasPutSome did old things upload_fault.TooLarge new = new ≡ old
-HasPutSome did old things upload_fault.Device new = PutsInTurn did old things (Some shelf_fault.Device) new
-HasPutSome did old things upload_fault.OutOfMemory new =
-    (new ≡ old) ⊎ PutsInTurn did old things (Some shelf_fault.OutOfMemory) new ⊎ PutsInTurn did old things None new
+HasPutSome did old things why new = HasPutPart did old things why new ⊎ ((why ≡ upload_fault.OutOfMemory) × PutsInTurn did old things None new)
 
 -- a fault at a chunk, and the answer of the one call that it comes from
 abbrev pub IsChunkFault : {S : Type 0} → (did : S → Call → S → Type 0) → S → Digest → ReadFault → S → Type 0

@@ -29,7 +29,7 @@ abbrev pub GivesInTurn : {S : Type 0} → (did : S → Call → S → Type 0) �
 GivesInTurn did old [] new = new ≡ old
 GivesInTurn {S} did old (answer ∷ answers) new = (mid : S) × did old (Got answer.0 answer.1) mid × GivesInTurn did mid answers new
 
--- these answers are the first that are given for no file of this digest that is whole
+-- these answers are the first that are given for no file of this digest that is whole, and of at most 16,777,216 bytes
 abbrev pub AreOfNone : Digest → Answers → Type 0
 AreOfNone digest answers = (file : List ℕ) (rest : Answers) → length file ≤ 16777216 → digest_of file ≡ digest → answers_of file ≡ answers ++ rest → ⊥
 
@@ -56,18 +56,24 @@ FailsAtFile {S} did old digest fault new =
 abbrev pub AreNamedBy : List ℕ → Answers → Type 0
 AreNamedBy text answers = (answers ≡ []) ⊎ ((size : ℕ) × (names : List Digest) × Spells text size names × AreAsked names answers)
 
--- why a file of this digest can't be read: the shelf has no table of it, or its answers are of no such file, or it failed; or there was
--- no memory for the names in a table, of which an empty file's has none
+-- it gave each piece of a file that isn't empty, whose names are the first of these, and was asked for nothing else
+abbrev pub GivesFirst : {S : Type 0} → (did : S → Call → S → Type 0) → S → List Digest → S → Type 0
+GivesFirst did old names new = (file : List ℕ) × (later : List Digest) × (file ≢ []) × (names_of file ++ later ≡ names) × GivesInTurn did old (pieces_given file) new
+
+-- why a file of this digest and of at most 16,777,216 bytes can't be read: the shelf has no table of it, or its answers are of no such file, or
+-- it failed; or there was no memory for the names in a table, of which an empty file's has none, or for that of the last of the pieces that were
+-- read, each what a file has there
 abbrev pub IsFileFault : {S : Type 0} → (did : S → Call → S → Type 0) → S → Digest → ReadFault → S → Type 0
 IsFileFault did old digest read_fault.Missing new = did old (Got (Table digest) None) new
 IsFileFault did old digest read_fault.Damaged new =
     (text : List ℕ) × (answers : Answers) × AreNamedBy text answers × GivesInTurn did old ((Table digest, Some text) ∷ answers) new
     × AreOfNone digest ((Table digest, Some text) ∷ answers)
 IsFileFault did old digest read_fault.Device new = FailsAtFile did old digest shelf_fault.Device new
-IsFileFault did old digest read_fault.OutOfMemory new =
+IsFileFault {S} did old digest read_fault.OutOfMemory new =
     FailsAtFile did old digest shelf_fault.OutOfMemory new
-    ⊎ ((text : List ℕ) × (answers : Answers) × IsTable text × (size_of text ≢ 0) × AreNamedBy text answers
-    × GivesInTurn did old ((Table digest, Some text) ∷ answers) new)
+    ⊎ ((text : List ℕ) × IsTable text × (size_of text ≢ 0) × did old (Got (Table digest) (Some text)) new)
+    ⊎ ((text : List ℕ) × (size : ℕ) × (names : List Digest) × (mid : S) × Spells text size names × did old (Got (Table digest) (Some text)) mid
+    × GivesFirst did mid names new)
 
 -- a file of this digest is read whole, and isn't too large
 abbrev pub IsFileRead : {S : Type 0} → (did : S → Call → S → Type 0) → S → Digest → List ℕ → S → Type 0
@@ -95,23 +101,24 @@ abbrev pub IsNoPiece : Digest → List ℕ → Option (List ℕ) → Type 0
 IsNoPiece name before None = Unit {0}
 IsNoPiece name before (Some bytes) = name ≡ digest_of bytes → ¬ (Follows before bytes)
 
--- why it gives none
+-- why none is added: what it gives is no next piece, or the device failed; or there was no memory, on the shelf, or for the name of the piece it gave
 abbrev pub IsNextFault : {S : Type 0} → (did : S → Call → S → Type 0) → S → Digest → List ℕ → ReadFault → S → Type 0
 IsNextFault did old name before read_fault.Missing new = ⊥
 IsNextFault did old name before read_fault.Damaged new = (answer : Option (List ℕ)) × IsNoPiece name before answer × did old (Got (Part name) answer) new
 IsNextFault did old name before read_fault.Device new = did old (GetFails (Part name) shelf_fault.Device) new
 IsNextFault did old name before read_fault.OutOfMemory new =
-    did old (GetFails (Part name) shelf_fault.OutOfMemory) new ⊎ ((answer : Option (List ℕ)) × did old (Got (Part name) answer) new)
+    did old (GetFails (Part name) shelf_fault.OutOfMemory) new
+    ⊎ ((piece : List ℕ) × (name ≡ digest_of piece) × Follows before piece × did old (Got (Part name) (Some piece)) new)
 
 -- these answers are the first of the pieces of no file
 abbrev pub AreNoPieces : Answers → Type 0
 AreNoPieces answers = (file : List ℕ) (rest : Answers) → length file ≤ 16777216 → pieces_given file ≡ answers ++ rest → ⊥
 
--- why the pieces of these names aren't those of a file
+-- why no file is read by these names: what was given begins none; or the shelf failed at a piece, after those before it; or there was no memory
+-- for the name of the last one given. Of no names there is no reason
 abbrev pub ArePiecesFault : {S : Type 0} → (did : S → Call → S → Type 0) → S → List Digest → ReadFault → S → Type 0
 ArePiecesFault did old names read_fault.Missing new = ⊥
 ArePiecesFault did old names read_fault.Damaged new = (answers : Answers) × AreAsked names answers × GivesInTurn did old answers new × AreNoPieces answers
 ArePiecesFault did old names read_fault.Device new = FailsAtPiece did old names shelf_fault.Device new
 ArePiecesFault did old names read_fault.OutOfMemory new =
-    FailsAtPiece did old names shelf_fault.OutOfMemory new
-    ⊎ ((answers : Answers) × AreAsked names answers × GivesInTurn did old answers new × (names ≢ []))
+    FailsAtPiece did old names shelf_fault.OutOfMemory new ⊎ GivesFirst did old names new

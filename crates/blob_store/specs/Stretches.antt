@@ -18,11 +18,17 @@ chunks_given chunks = map (λ chunk. (Part (digest_of chunk), Some chunk)) chunk
 abbrev pub GivesSome : {S : Type 0} → (did : S → Call → S → Type 0) → S → List Digest → List Digest → S → Type 0
 GivesSome did old names left new = (chunks : List (List ℕ)) × (map digest_of chunks ++ left ≡ names) × GivesInTurn did old (chunks_given chunks) new
 
--- why the chunks of these names can't be read: the next one can't, after those before it; or there was no memory to keep some of them
+-- it gives chunks of the first of these names, of any length, one at least
+abbrev pub GivesFirst : {S : Type 0} → (did : S → Call → S → Type 0) → S → List Digest → S → Type 0
+GivesFirst did old names new =
+    (chunks : List (List ℕ)) × (left : List Digest) × (chunks ≢ []) × (map digest_of chunks ++ left ≡ names) × GivesInTurn did old (chunks_given chunks) new
+
+-- why the chunks of these names can't be read: the next one can't, after those before it; or there was no memory to keep the last of those
+-- given
 abbrev pub AreChunksFault : {S : Type 0} → (did : S → Call → S → Type 0) → S → List Digest → ReadFault → S → Type 0
 AreChunksFault {S} did old names why new =
     ((mid : S) × (name : Digest) × (left : List Digest) × GivesSome did old names (name ∷ left) mid × IsChunkFault did mid name why new)
-    ⊎ ((why ≡ OutOfMemory) × ((left : List Digest) × GivesSome did old names left new))
+    ⊎ ((why ≡ OutOfMemory) × GivesFirst did old names new)
 
 -- the chunks have the names of the pieces that the stretch meets, and one is not as long as its piece
 pub record HaveWrongLengths (chunks : List (List ℕ)) (file : List ℕ) (first last : ℕ) : Type 0 where

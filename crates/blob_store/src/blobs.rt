@@ -6,7 +6,7 @@ ghost use Rattle.byte_view.specs.Cuts.{names_of};
 ghost use Rattle.blob_store.specs.declared.shelves.ShelfName.TheVariants.{Part};
 ghost use Rattle.blob_store.specs.declared.reading.ReadFault.TheVariants as read_fault;
 ghost use Rattle.blob_store.specs.Calls.{Got, PutsInTurn, things_of};
-ghost use Rattle.blob_store.specs.Faults.{HasPutSome, IsChunkFault};
+ghost use Rattle.blob_store.specs.Faults.{HasPutPart, HasPutSome, IsChunkFault};
 ghost use Rattle.blob_store.specs.Reads.{GivesInTurn};
 ghost use Rattle.blob_store.specs.Stretches.{IsStretchFault, chunks_given};
 ghost use Rattle.blob_store.specs.Openings.{IsOpenFault, IsOpened};
@@ -100,7 +100,7 @@ pub(crate) fn put_whole<S: Shelf>(
     ensures large { (result ≡ Err upload_fault.TooLarge) ↔ (16777216 < length bytes.now) }
     ensures info { IfOk result (λ info. info.value ≡ bytes.now) }
     ensures put { OnOk result (PutsInTurn S.did shelf.old (things_of bytes.now) None shelf.new) }
-    ensures not_put { IfErr result (λ fault. HasPutSome S.did shelf.old (things_of bytes.now) fault shelf.new) }
+    ensures not_put { IfErr result (λ fault. HasPutPart S.did shelf.old (things_of bytes.now) fault shelf.new) }
     ensures device { IfErr result (λ fault. fault ≡ upload_fault.Device → S.failures shelf.old < S.failures shelf.new) }
     ensures count { S.failures shelf.old ≤ S.failures shelf.new }
 {
@@ -129,8 +129,8 @@ impl<S: Shelf> Blobs<S> {
 
     /// A store over a shelf that may have files. Each wanted file is read whole, in the order of the digests, and those that
     /// the shelf gave whole are known. One that is missing or damaged isn't known, and is a fault where it must be there: the
-    /// first such one. A digest that is wanted twice must be there if it must for either. A failure
-    /// of the device is a fault at any file. After a fault nothing more is asked for, and the shelf is handed back.
+    /// first such one. A digest that is wanted twice must be there if it must for either. A failure of the device is a
+    /// fault at any file, and so is want of memory. After a fault nothing more is asked for, and the shelf is handed back.
     pub fn open(alloc: Global, shelf: S, wanted: &[Wanted]) -> Result<Blobs<S>, NotOpened<S>>
         ensures opened { IfOk result (λ blobs. IsOpened S.did shelf wanted.now blobs.known blobs.shelf) }
         ensures fault { IfErr result (λ stop. IsOpenFault S.did shelf wanted.now stop.fault stop.shelf) }
@@ -214,8 +214,8 @@ impl<S: Shelf> Blobs<S> {
         read_chunk(&mut self.shelf, *name)
     }
 
-    /// A stretch of a file, from its first to its last byte, with the chunks that it meets, as the shelf gives them now. Each chunk
-    /// is asked for once, and has the name and the length of its piece. What is known stays.
+    /// A stretch of a file, from its first to its last byte, with the chunks that it meets, as the shelf gives them now. The shelf
+    /// is asked once for each piece that it meets, and gives a chunk of its name and length. What is known stays.
     pub fn hold(
         &mut self,
         info: Arc<BlobInfo>,

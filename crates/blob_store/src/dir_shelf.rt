@@ -17,8 +17,8 @@ const MAX_TABLE: usize = 8 + 256 * 20;
 /// The name that everything is written under first.
 const TEMPORARY: &str = "blob.tmp";
 
-/// A folder with a file for each piece and each table. That it has what was put there is a premise, and is not proved: no contract
-/// can say what a file gives or takes, nor what a crash leaves of it.
+/// A folder with a file for each piece and each table. No clause says what it has, so the laws of shelves that keep what is put there
+/// (`Keeps`) don't reach it: that it keeps that is relied on, and shown by tests.
 #[derive(Drop)]
 pub struct DirShelf<'a, R> {
     rt: &'a R,

@@ -1,5 +1,5 @@
 //! The count of a device's failures, for clauses alone.
-ghost use Rattle.std.specs.Prelude.{◌≡◌, ◌<◌, ◌≤◌, IfErr};
+ghost use Rattle.std.specs.Prelude.{◌≡◌, ◌≢◌, Err, IfErr, suc};
 ghost use Rattle.blob_store.specs.Failures.{count_of};
 ghost use Rattle.blob_store.specs.declared.shelves.ShelfFault.TheVariants.{Device};
 
@@ -19,8 +19,8 @@ pub(crate) fn counted<T>(
     outcome: Result<T, ShelfFault>,
 ) -> Result<T, ShelfFault>
     ensures same { result ≡ outcome }
-    ensures device { IfErr result (λ fault. fault ≡ Device → count_of failures.old < count_of failures.new) }
-    ensures count { count_of failures.old ≤ count_of failures.new }
+    ensures device { IfErr result (λ fault. fault ≡ Device → count_of failures.new ≡ suc (count_of failures.old)) }
+    ensures unfailed { result ≢ Err Device → failures.new ≡ failures.old }
 {
     if let Err(ShelfFault::Device) = &outcome {
         *failures = Failures::OneMore(Snapshot::of(failures));

@@ -1,6 +1,6 @@
 //! Laws of tables and shelves, each the contract of a function that does nothing.
 ghost use Rattle.std.specs.FinMap as map;
-ghost use Rattle.std.specs.Prelude.{◌≡◌, Bool, ℕ, ◌≤◌, List, All, None, Option, Some, length};
+ghost use Rattle.std.specs.Prelude.{◌≡◌, Bool, ℕ, ◌≤◌, List, [], ◌∷◌, All, None, Option, Some, ⊤, length};
 ghost use Rattle.std.specs.List.{Contains};
 ghost use Rattle.host_names.specs.Blobs.{Contents, digest_of};
 ghost use Rattle.host_names.specs.declared.digests.Digest.{Digest};
@@ -10,17 +10,19 @@ ghost use Rattle.blob_store.specs.declared.reading.ReadFault.TheVariants as read
 ghost use Rattle.blob_store.specs.declared.shelves.ShelfName.{ShelfName};
 ghost use Rattle.blob_store.specs.declared.shelves.ShelfName.TheVariants.{Part};
 ghost use Rattle.blob_store.specs.Calls.{Got, PutsInTurn, things_of};
-ghost use Rattle.blob_store.specs.Faults.{HasPutSome, IsChunkFault};
-ghost use Rattle.blob_store.specs.Stretches.{IsStretchFault, chunks_given};
+ghost use Rattle.blob_store.specs.Faults.{HasPutPart, HasPutSome, IsChunkFault};
+ghost use Rattle.blob_store.specs.Stretches.{HaveWrongLengths, IsStretchFault, chunks_given};
 ghost use Rattle.blob_store.specs.declared.blobs.UploadFault.{UploadFault};
+ghost use Rattle.blob_store.specs.declared.blobs.UploadFault.TheVariants as upload_fault;
+ghost use Rattle.blob_store.specs.declared.mem_shelf.MemShelf.{MemShelf};
 ghost use Rattle.blob_store.specs.declared.reading.ReadFault.{ReadFault};
 ghost use Rattle.blob_store.specs.Keeping.{Agree, HasFile, Keeps};
 ghost use Rattle.blob_store.specs.declared.openings.OpenFault.TheVariants as open_fault;
 ghost use Rattle.blob_store.specs.declared.openings.Wanted.{Wanted};
-ghost use Rattle.blob_store.specs.Openings.{IsOpenFault, IsOpened, need_of};
-ghost use Rattle.blob_store.specs.Reads.{GivesInTurn, IsFileFault, IsFileRead};
+ghost use Rattle.blob_store.specs.Openings.{IsOpenFault, IsOpened, IsOrderOf, need_of};
+ghost use Rattle.blob_store.specs.Reads.{AreOfNone, GivesInTurn, IsFileFault, IsFileRead, answers_of};
 ghost use Rattle.blob_store.specs.Shelves.{Does, found_in};
-ghost use Rattle.blob_store.specs.Tables.{IsTable, pieces_of, size_of, text_of};
+ghost use Rattle.blob_store.specs.Tables.{IsTable, Spells, pieces_of, size_of, text_of};
 
 use crate::shelves::Shelf;
 
@@ -87,4 +89,21 @@ pub fn kept_files_are_known<S: Shelf>()
 /// A shelf in memory keeps what is put there.
 pub fn shelves_in_memory_keep()
     ensures { Keeps Does found_in }
+{}
+
+/// Of these relations each is refuted of one wrong answer, so none of them holds of everything. `agrees` says that `Agree` holds of one
+/// file; `keeps` that no shelf keeps what is put there of which nothing is known, as of a folder.
+pub fn wrong_answers_are_refused<S: Shelf>()
+    ensures table { ¬ (IsTable []) }
+    ensures spells { ¬ (Spells [] 0 []) }
+    ensures put_part { (old new : MemShelf) (name : ShelfName) (bytes : List ℕ) → ¬ (HasPutPart Does old ((name, bytes) ∷ []) upload_fault.Device new) }
+    ensures put_some { (old new : MemShelf) (name : ShelfName) (bytes : List ℕ) → ¬ (HasPutSome Does old ((name, bytes) ∷ []) upload_fault.Device new) }
+    ensures chunk { (old new : MemShelf) (name : Digest) → ¬ (IsChunkFault Does old name read_fault.Device new) }
+    ensures file { (old new : MemShelf) (digest : Digest) → ¬ (IsFileFault Does old digest read_fault.Device new) }
+    ensures of_none { (file : List ℕ) → length file ≤ 16777216 → ¬ (AreOfNone (digest_of file) (answers_of file)) }
+    ensures lengths { (file : List ℕ) (first last : ℕ) → ¬ (HaveWrongLengths (pieces_met file first last) file first last) }
+    ensures order { (digest : Digest) (must : Bool) → ¬ (IsOrderOf [] ((digest, must) ∷ [])) }
+    ensures agree { (name : ShelfName) → ¬ (Agree ((name, []) ∷ []) ((name, 0 ∷ []) ∷ [])) }
+    ensures agrees { Agree (things_of []) (things_of []) }
+    ensures keeps { (has : S → ShelfName → Option (List ℕ)) (shelf : S) (name : ShelfName) → ¬ (Keeps (λ old call new. ⊤) has) }
 {}

@@ -22,7 +22,7 @@ pub use files::read_file;
 pub use known::Known;
 pub use laws::{
     files_have_tables, kept_files_are_known, kept_files_are_read, kept_stretches_are_held,
-    shelves_in_memory_keep, uploads_are_kept,
+    shelves_in_memory_keep, uploads_are_kept, wrong_answers_are_refused,
 };
 pub use lent_shelf::LentShelf;
 pub use mem_shelf::MemShelf;

@@ -27,7 +27,7 @@ pub enum OpenFault {
     /// The shelf has no table of a file that must be there.
     #[error("a file is missing")]
     MissingBlob(Digest),
-    /// The shelf has a table of a file that must be there, and not all of the file.
+    /// The shelf has something as the table of a file that must be there, and doesn't give that file whole.
     #[error("a file is damaged")]
     DamagedBlob(Digest),
     #[error("the device failed")]

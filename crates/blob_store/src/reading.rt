@@ -17,6 +17,8 @@ use thiserror::Error;
 pub enum ReadFault {
     #[error("the shelf doesn't have it")]
     Missing,
+    /// The shelf gave other bytes than those of what is read; where a file is read whole, also no bytes for a piece that its
+    /// table names.
     #[error("the shelf has other bytes")]
     Damaged,
     #[error("the device failed")]

@@ -5,7 +5,7 @@ ghost use Rattle.blob_store.specs.declared.blobs.UploadFault.TheVariants as uplo
 ghost use Rattle.blob_store.specs.declared.reading.ReadFault.TheVariants as read_fault;
 ghost use Rattle.blob_store.specs.declared.shelves.ShelfName.TheVariants.{Part};
 ghost use Rattle.blob_store.specs.Calls.{Got, PutsInTurn, things_of};
-ghost use Rattle.blob_store.specs.Faults.{HasPutSome, IsChunkFault};
+ghost use Rattle.blob_store.specs.Faults.{HasPutPart, IsChunkFault};
 ghost use Rattle.blob_store.specs.Reads.{GivesInTurn};
 ghost use Rattle.blob_store.specs.Stretches.{IsStretchFault, chunks_given};
 
@@ -46,7 +46,7 @@ impl<S: Shelf> Files<S> {
         ensures large { (result ≡ Err upload_fault.TooLarge) ↔ (16777216 < length bytes.now) }
         ensures info { IfOk result (λ info. info.value ≡ bytes.now) }
         ensures put { OnOk result (PutsInTurn S.did self.old.shelf (things_of bytes.now) None self.new.shelf) }
-        ensures not_put { IfErr result (λ fault. HasPutSome S.did self.old.shelf (things_of bytes.now) fault self.new.shelf) }
+        ensures not_put { IfErr result (λ fault. HasPutPart S.did self.old.shelf (things_of bytes.now) fault self.new.shelf) }
         ensures device { IfErr result (λ fault. fault ≡ upload_fault.Device → S.failures self.old.shelf < S.failures self.new.shelf) }
         ensures count { S.failures self.old.shelf ≤ S.failures self.new.shelf }
     {
@@ -64,8 +64,8 @@ impl<S: Shelf> Files<S> {
         read_chunk(&mut self.shelf, *name)
     }
 
-    /// A stretch of a file, from its first to its last byte, with the chunks that it meets, as the shelf gives them now. Each chunk
-    /// is asked for once, and has the name and the length of its piece.
+    /// A stretch of a file, from its first to its last byte, with the chunks that it meets, as the shelf gives them now. The shelf
+    /// is asked once for each piece that it meets, and gives a chunk of its name and length.
     pub fn hold(
         &mut self,
         info: Arc<BlobInfo>,

@@ -1,5 +1,5 @@
 //! What a store puts its pieces and tables on.
-ghost use Rattle.std.specs.Prelude.{◌≡◌, ℕ, ◌<◌, ◌≤◌, IfErr, MatchResult, option_map};
+ghost use Rattle.std.specs.Prelude.{◌≡◌, ℕ, ◌<◌, ◌≤◌, IfErr, MatchResult, OnOk, option_map};
 ghost use Rattle.blob_store.specs.declared.shelves.ShelfFault.TheVariants.{Device};
 ghost use Rattle.blob_store.specs.Calls.{Call, Put, PutFails, Got, GetFails};
 
@@ -34,11 +34,13 @@ pub trait Shelf {
     fn put(&mut self, name: ShelfName, bytes: &[u8]) -> Result<(), ShelfFault>
         ensures put { MatchResult result (λ _. did self.old (Put name bytes.now) self.new) (λ fault. did self.old (PutFails name bytes.now fault) self.new) }
         ensures device { IfErr result (λ fault. fault ≡ Device → failures self.old < failures self.new) }
+        ensures unfailed { OnOk result (failures self.new ≡ failures self.old) }
         ensures count { failures self.old ≤ failures self.new };
 
     /// What it has under a name.
     fn get(&mut self, name: ShelfName) -> Result<Option<Vec<u8>>, ShelfFault>
         ensures got { MatchResult result (λ bytes. did self.old (Got name (option_map (λ b. b.items) bytes)) self.new) (λ fault. did self.old (GetFails name fault) self.new) }
         ensures device { IfErr result (λ fault. fault ≡ Device → failures self.old < failures self.new) }
+        ensures unfailed { OnOk result (failures self.new ≡ failures self.old) }
         ensures count { failures self.old ≤ failures self.new };
 }

@@ -48,8 +48,8 @@ fn read_chunks<S: Shelf>(
     Ok(chunks)
 }
 
-/// A stretch of a file, from its first to its last byte, with the chunks that it meets, as the shelf gives them now. Each chunk is
-/// asked for once, and has its piece's name and length.
+/// A stretch of a file, from its first to its last byte, with the chunks that it meets, as the shelf gives them now. The shelf is
+/// asked once for each piece that it meets, and gives a chunk of its name and length.
 pub(crate) fn read_stretch<S: Shelf>(
     alloc: Global,
     shelf: &mut S,

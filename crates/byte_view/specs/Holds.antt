@@ -12,7 +12,7 @@ pub record Held : Type 0 where
   pub last : ℕ
   pub chunks : List (List ℕ)
 
--- the stretch is in the file, and each chunk has the name and the length of its piece
+-- the stretch is in the file, whose size is below 2 ^ 64, and each chunk has the name and the length of its piece
 pub record IsHeld (h : Held) : Type 0 where
   pub ordered : h.first ≤ h.last
   pub within : h.last < length h.file

@@ -7,6 +7,6 @@ abbrev pub parts : List (List ℕ) → ℕ → ℕ → List (List ℕ)
 parts [] from to = []
 parts (chunk ∷ chunks) from to = slice_range chunk from to ∷ parts chunks (from - 65536) (to - 65536)
 
--- each chunk is as long as its piece, where so many bytes of the file are left from the first piece on
+-- each chunk is as long as its piece, where so many bytes of the file are left from the first piece on; past the end of the file it is empty
 abbrev pub HaveSizes : List (List ℕ) → ℕ → Type 0
 HaveSizes chunks left = (k : ℕ) → k < length chunks → length (slice_index_or chunks k []) ≡ min 65536 (left - k * 65536)

@@ -1,5 +1,5 @@
 //! What is kept of a file without its bytes.
-ghost use Rattle.std.specs.Prelude.{◌≡◌, ◌+◌, ◌<◌, ◌≤◌, IfOk, length, map, slice_range};
+ghost use Rattle.std.specs.Prelude.{◌≡◌, ◌≢◌, ◌+◌, ◌<◌, ◌≤◌, [], IfOk, OnErr, length, map, slice_range};
 ghost use Rattle.host_names.specs.Blobs.{digest_of};
 ghost use Rattle.byte_view.specs.Cuts.{names_of, pieces_met, place_of};
 
@@ -43,7 +43,8 @@ impl Model for BlobInfo {
 
 /// The names of a file's pieces.
 fn names_in(alloc: Global, bytes: &[u8]) -> Result<Vec<Digest>, AllocError>
-    ensures { IfOk result (λ names. names.items ≡ names_of bytes.now) }
+    ensures names { IfOk result (λ names. names.items ≡ names_of bytes.now) }
+    ensures memory { OnErr result (bytes.now ≢ []) }
 {
     let mut names = Vec::with_capacity(alloc, bytes.len().div_ceil(PIECE_SIZE))?;
     for piece in bytes.chunks(PIECE_SIZE) {
@@ -53,9 +54,11 @@ fn names_in(alloc: Global, bytes: &[u8]) -> Result<Vec<Digest>, AllocError>
 }
 
 impl BlobInfo {
-    /// What is kept of the file of these bytes. It takes memory for the names alone.
+    /// What is kept of the file of these bytes. It is made to take memory for the names alone; of the empty file it
+    /// never lacks any.
     pub fn of(alloc: Global, bytes: &[u8]) -> Result<BlobInfo, AllocError>
-        ensures { IfOk result (λ info. info ≡ bytes.now) }
+        ensures info { IfOk result (λ info. info ≡ bytes.now) }
+        ensures memory { OnErr result (bytes.now ≢ []) }
     {
         BlobInfo::digested(alloc, Digest::of_bytes(bytes), bytes)
     }
@@ -63,7 +66,8 @@ impl BlobInfo {
     /// The same, where their digest is known already.
     pub fn digested(alloc: Global, digest: Digest, bytes: &[u8]) -> Result<BlobInfo, AllocError>
         requires { digest ≡ digest_of bytes.now }
-        ensures { IfOk result (λ info. info ≡ bytes.now) }
+        ensures info { IfOk result (λ info. info ≡ bytes.now) }
+        ensures memory { OnErr result (bytes.now ≢ []) }
     {
         let names = names_in(alloc, bytes)?;
         Ok(BlobInfo {

@@ -15,7 +15,7 @@ pub struct WrongName {
     pub bytes: Vec<u8>,
 }
 
-/// A piece of a file, and its name, which is the SHA-1 digest (FIPS 180-4) of its bytes. Contracts see the bytes.
+/// Bytes, such as a piece of a file, and their name, which is their SHA-1 digest (FIPS 180-4). Contracts see the bytes.
 #[derive(Debug, Drop)]
 pub struct Chunk {
     name: Digest,

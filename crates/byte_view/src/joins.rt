@@ -1,7 +1,7 @@
 //! Files that are read one chunk after another.
 ghost use Rattle.std.specs.Prelude.{◌≡◌, ◌↔◌, ◌+◌, ◌%◌, ◌<◌, ◌≤◌, [], ◌++◌, IfErr, IsTrue, OnErr, OnOk};
 ghost use Rattle.byte_view.specs.Cuts.{Follows};
-ghost use Rattle.byte_view.specs.declared.joins.JoinFault.TheVariants.{Misfit};
+ghost use Rattle.byte_view.specs.declared.joins.JoinFault.TheVariants.{Misfit, OutOfMemory};
 
 use crate::blob_infos::{BlobInfo, PIECE_SIZE};
 use crate::chunks::Chunk;
@@ -12,13 +12,13 @@ use std::alloc::Global;
 use std::marker::Model;
 use thiserror::Error;
 
-/// How many bytes a file has at most.
+/// How many bytes a file on a shelf has at most.
 pub const MAX_SIZE: usize = 16_777_216;
 
 /// Why a chunk can't be added.
 #[derive(Clone, Copy, Debug, PartialEq, Eq, Error)]
 pub enum JoinFault {
-    /// It is not the next piece of a file that has the pieces before it.
+    /// It is not the next piece of a file of at most `MAX_SIZE` bytes that has the pieces before it.
     #[error("a chunk is not the next piece of a file")]
     Misfit,
     #[error("out of memory")]
@@ -81,6 +81,7 @@ impl Joined {
         ensures joined { OnOk result (self.new ≡ self.old ++ chunk.now) }
         ensures fits { OnOk result (Follows self.old chunk.now) }
         ensures misfit { IfErr result (λ fault. fault ≡ Misfit → ¬ (Follows self.old chunk.now)) }
+        ensures memory { IfErr result (λ fault. fault ≡ OutOfMemory → Follows self.old chunk.now) }
         ensures kept { OnErr result (self.new ≡ self.old) }
     {
         let bytes = chunk.view().bytes();

@@ -1,9 +1,9 @@
 -- What has been read before memory is taken is the front of an entry with paths.
-use Rattle.std.proofs.Common.{◌≡◌, sym, ℕ, Bool, true, false, cond, ◌||◌, eqb, List, [], ◌∷◌, ◌++◌, length, append_assoc, Option, Some, None, refl, ap, ◌∙◌, inl, inr, ◌⊎◌, is_some}
+use Rattle.std.proofs.Common.{◌≡◌, sym, ℕ, Bool, true, false, cond, ◌&&◌, ◌||◌, eqb, leb, ◌≤◌, List, [], ◌∷◌, ◌++◌, length, append_assoc, Option, Some, None, refl, ap, ◌∙◌, arith, inl, inr, ◌⊎◌, is_some}
 use Rattle.std.specs.Int.{w32, to_be_bytes}
 use Rattle.std.specs.Option.{IsSome}
 use Rattle.std.specs.List.{flat_map, AllByRecursion}
-use Rattle.std.proofs.lemmas.Bool.{eqb-true}
+use Rattle.std.proofs.lemmas.Bool.{and_parts, eqb-true, leb-true}
 use Rattle.std.proofs.lemmas.List.Concat.{flat_map-cons}
 use Rattle.std.proofs.lemmas.Option.{none-some}
 use Rattle.change_journal.specs.Spells.{path_text, name_text, flags, IsName, listed_text, digest_text, IsListed, BeginsWithPath, BeginsWithListing, TakesMemory}
@@ -37,16 +37,17 @@ or_given false true A z v e = (inr refl, e)
 or_given false false A z v e = absurd (none-some v e)
 
 -- what a whole list of paths begins with
-all_begin : (n : ℕ) (rest : List ℕ) (files : List Entry) → rest ≡ flat_map listed_text files → length files ≡ n → AllByRecursion IsListed files → BeginsWithPath rest ⊎ ((n ≡ 0) × (rest ≡ []))
+all_begin : (n : ℕ) (rest : List ℕ) (files : List Entry) → rest ≡ flat_map listed_text files → length files ≡ n → AllByRecursion IsListed files → ((1 ≤ n) × BeginsWithPath rest) ⊎ ((n ≡ 0) × (rest ≡ []))
 all_begin n rest [] text len listed = inr (sym len, text)
 all_begin n rest (e ∷ files) text len listed =
-    inl (e.0, digest_text e.1 ++ flat_map listed_text files, listed.0.0, text ∙ flat_map-cons listed_text e files ∙ append_assoc (path_text e.0) (digest_text e.1) (flat_map listed_text files))
+    inl (omega (arith, len), (e.0, digest_text e.1 ++ flat_map listed_text files, listed.0.0, text ∙ flat_map-cons listed_text e files ∙ append_assoc (path_text e.0) (digest_text e.1) (flat_map listed_text files)))
 
-path_or_all : (n : ℕ) (rest : List ℕ) → IsBytes rest → (IsSome (path_at rest) ⊎ IsSome (whole_files n rest)) → BeginsWithPath rest ⊎ ((n ≡ 0) × (rest ≡ []))
+path_or_all : (n : ℕ) (rest : List ℕ) → IsBytes rest → (((leb 1 n && is_some (path_at rest)) ≡ true) ⊎ IsSome (whole_files n rest)) → ((1 ≤ n) × BeginsWithPath rest) ⊎ ((n ≡ 0) × (rest ≡ []))
 path_or_all n rest fits (inl here) =
-    let a = some_of (path_at rest) here in
+    let both = and_parts (leb 1 n) (is_some (path_at rest)) here in
+    let a = some_of (path_at rest) both.1 in
     let t = path_takes rest a.0.0 a.0.1 fits a.1 in
-    inl (a.0.0, a.0.1, t.1, t.0.parts)
+    inl (leb-true 1 n both.0, (a.0.0, a.0.1, t.1, t.0.parts))
 path_or_all n rest fits (inr all) =
     let a = some_of (whole_files n rest) all in
     let w = files_whole n rest a.0 fits a.1 in
@@ -55,10 +56,10 @@ path_or_all n rest fits (inr all) =
 listing_begins : (bytes : List ℕ) → IsBytes bytes → IsSome (listing_front bytes) → BeginsWithListing bytes
 unfolding listing_front
 listing_begins bytes fits h =
-    let e = some_of (flags_at bytes >>= λ f. count_at f.1 >>= λ n. cond (is_some (path_at n.1) || is_some (whole_files n.0 n.1)) (Some n.1) None) h in
-    let b = bind_some (flags_at bytes) (λ f. count_at f.1 >>= λ n. cond (is_some (path_at n.1) || is_some (whole_files n.0 n.1)) (Some n.1) None) e.0 e.1 in
-    let d = bind_some (count_at b.0.1) (λ n. cond (is_some (path_at n.1) || is_some (whole_files n.0 n.1)) (Some n.1) None) e.0 b.2 in
-    let g = or_given (is_some (path_at d.0.1)) (is_some (whole_files d.0.0 d.0.1)) (List ℕ) (Some d.0.1) e.0 d.2 in
+    let e = some_of (flags_at bytes >>= λ f. count_at f.1 >>= λ n. cond ((leb 1 n.0 && is_some (path_at n.1)) || is_some (whole_files n.0 n.1)) (Some n.1) None) h in
+    let b = bind_some (flags_at bytes) (λ f. count_at f.1 >>= λ n. cond ((leb 1 n.0 && is_some (path_at n.1)) || is_some (whole_files n.0 n.1)) (Some n.1) None) e.0 e.1 in
+    let d = bind_some (count_at b.0.1) (λ n. cond ((leb 1 n.0 && is_some (path_at n.1)) || is_some (whole_files n.0 n.1)) (Some n.1) None) e.0 b.2 in
+    let g = or_given (leb 1 d.0.0 && is_some (path_at d.0.1)) (is_some (whole_files d.0.0 d.0.1)) (List ℕ) (Some d.0.1) e.0 d.2 in
     let f = flags_take bytes b.0.0 b.0.1 fits b.1 in
     let n = count_takes b.0.1 d.0.0 d.0.1 f.rest_fits d.1 in
     let text : bytes ≡ flags b.0.0.0 b.0.0.1 ∷ (to_be_bytes w32 d.0.0 ++ d.0.1) = f.parts ∙ ap (λ (r : List ℕ). flags b.0.0.0 b.0.0.1 ∷ r) n.0.parts in

@@ -1,5 +1,5 @@
 -- Entries and their texts.
-use Rattle.std.proofs.Common.{◌≡◌, ◌⊎◌, ℕ, ◌<◌, ◌≤◌, suc, List, [], ◌∷◌, ◌++◌, length, get_or, drop, inl, inr, ⊎_elim, refl, sym, ◌∙◌, ap, subst, arith, All}
+use Rattle.std.proofs.Common.{◌≡◌, ◌⊎◌, ℕ, ◌≤◌, suc, List, [], ◌∷◌, ◌++◌, length, get_or, drop, inl, inr, ⊎_elim, refl, sym, ◌∙◌, ap, subst, arith, All}
 use Rattle.std.proofs.lemmas.List.{map-append, length-map}
 use Rattle.std.proofs.lemmas.List.Elements.{All-cons, All-map}
 use Rattle.change_undo.specs.declared.entries.Entry.{Entry}
@@ -63,12 +63,11 @@ front_writable [] entry all = λ k d low. absurd (omega (arith, low))
 front_writable (e ∷ entries) entry all = All-cons IsWritable e entries (all 0 e (omega arith)) (front_writable entries entry (λ k d low. all (suc k) d (omega (arith, low))))
 
 -- an entry that may be put after others
-pub may_be_put : (entries : List Entry) (entry : Entry) → All IsWritable (entries ++ entry ∷ []) → length entries < 1000000 → MayBePut IsText (texts entries) (entry_text entry)
-may_be_put entries entry all few = record {
+pub may_be_put : (entries : List Entry) (entry : Entry) → All IsWritable (entries ++ entry ∷ []) → MayBePut IsText (texts entries) (entry_text entry)
+may_be_put entries entry all = record {
   lawful = texts_lawful entries (front_writable entries entry all);
   short = entry_length entry (last_writable entries entry all);
   is_lawful = (entry, (last_writable entries entry all, refl));
-  few = omega (arith, few, length-texts entries);
 }
 
 -- what a put leaves holds the entries, or those with the new one

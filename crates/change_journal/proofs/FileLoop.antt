@@ -1,10 +1,10 @@
 -- Reading paths one after another, as a loop does.
-use Rattle.std.proofs.Common.{◌≡◌, ℕ, suc, ◌-◌, ◌+◌, ◌≤◌, ◌<◌, List, [], ◌∷◌, ◌++◌, Bool, true, false, ◌||◌, Option, Some, None, Result, Ok, Err, is_some, inl, inr, refl, sym, ap, subst, ◌∙◌, append_assoc, append-nil, arith}
+use Rattle.std.proofs.Common.{◌≡◌, ℕ, suc, ◌-◌, ◌+◌, ◌≤◌, ◌<◌, List, [], ◌∷◌, ◌++◌, Option, Some, None, Result, Ok, Err, is_some, inl, inr, refl, sym, ap, subst, ◌∙◌, append_assoc, append-nil, arith}
 use Rattle.std.specs.Option.{IsSome}
 use Rattle.std.proofs.lemmas.Bool.{cases_eq}
 use Rattle.change_journal.specs.declared.decode_faults.DecodeFault.{DecodeFault}
 use Rattle.change_journal.specs.declared.decode_faults.DecodeFault.TheVariants as faults
-use Rattle.change_journal.specs.Reading.{◌>>=◌, Fails, path_at, digest_at, listed_at, files_at, flags_at, count_at, whole_files, listing_front}
+use Rattle.change_journal.specs.Reading.{◌>>=◌, Fails, path_at, digest_at, listed_at, files_at}
 use Rattle.change_journal.proofs.Taking.{bind_some}
 use Rattle.change_journal.proofs.Listed.{Entry}
 
@@ -55,19 +55,6 @@ first_path bytes rest i at_first later here =
       | inl e ↦ subst (λ (b : List ℕ). IsSome (path_at b)) (at_first e) here
       | inr other ↦ later (omega (arith, other))
     ]
-
--- the front of a listing
-pub front_by_path : (bytes : List ℕ) (f : (Bool × Bool) × List ℕ) (n : ℕ × List ℕ) → flags_at bytes ≡ Some f → count_at f.1 ≡ Some n → IsSome (path_at n.1) → IsSome (listing_front bytes)
-unfolding listing_front
-front_by_path bytes f n e g h = rw (e, g, h) refl
-
-or_true : (b : Bool) → (b || true) ≡ true
-or_true true = refl
-or_true false = refl
-
-pub front_of_all : (bytes : List ℕ) (f : (Bool × Bool) × List ℕ) (n : ℕ × List ℕ) (files : List Entry) → flags_at bytes ≡ Some f → count_at f.1 ≡ Some n → whole_files n.0 n.1 ≡ Some files → IsSome (listing_front bytes)
-unfolding listing_front
-front_of_all bytes f n files e g h = rw (e, g, h, or_true (is_some (path_at n.1))) refl
 
 -- nothing was read yet
 from_nothing : (read : Option (List Entry × List ℕ)) → with_front [] read ≡ read

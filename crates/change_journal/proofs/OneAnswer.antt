@@ -1,8 +1,8 @@
 -- What a file holds decides how it is opened.
 use Rattle.std.proofs.Common.{◌≡◌, ◌≢◌, ◌⊎◌, ℕ, ◌+◌, ◌≤◌, suc, List, [], ◌∷◌, ◌++◌, length, drop, inl, inr, sym, ◌∙◌, ap, arith, All}
 use Rattle.change_journal.specs.Frames.{framed, header, records, opened, Holds, shut, half_open, new, before, between, after}
-use Rattle.change_journal.specs.Walks.{AreLawful, IsBadRecord, IsNoRecord, IsShort}
-use Rattle.change_journal.specs.Openings.{IsFound, IsNoJournal, MayFind}
+use Rattle.change_journal.specs.Walks.{AreLawful, HasEnded, IsBadRecord, IsNoRecord, IsShort}
+use Rattle.change_journal.specs.Openings.{IsFound, IsNoJournal, IsRefused, MayFind}
 use Rattle.change_journal.proofs.NotWhole.{same_frame}
 use Rattle.change_journal.proofs.OneWalk.{first_record, no_record, opened_with, same_head, one_journal, new_or_opened}
 
@@ -84,3 +84,16 @@ left_holds bodies body file (inl (before s)) = inl (shut s)
 left_holds bodies body file (inl (between h)) = inl (half_open body h)
 left_holds bodies body file (inl (after s)) = inr (shut s)
 left_holds bodies body file (inr found) = inl (new found.0 found.1)
+
+-- a file in which some bodies were found isn't refused
+pub found_no_refusal : (IsLawful : List ℕ → Type 0) (bodies : List (List ℕ)) (file : List ℕ) → AreLawful IsLawful bodies → length bodies ≤ 1000000 → IsFound bodies file → IsRefused IsLawful file → ⊥
+found_no_refusal IsLawful bodies file lawful few (inl found) (inl none) = let so = opens_so bodies found.0 found.1.rest file found.1.is in none.not_opened so.0 so.1 so.2
+found_no_refusal IsLawful bodies file lawful few (inl found) (inr bad) = no_break_opened IsLawful bad.0 bodies found.0 found.1.rest file bad.1 lawful found.1.closed few found.1.is
+found_no_refusal IsLawful bodies file lawful few (inr found) (inl none) = none.not_new found.1
+found_no_refusal IsLawful bodies file lawful few (inr found) (inr bad) = new_or_opened file bad.1.bodies 1 bad.1.breaks.rest found.1 bad.1.breaks.is
+
+pub ended_no_refusal : (Has : List (List ℕ) → Type 0) (IsLawful : List ℕ → Type 0) (place count gate : ℕ) (file : List ℕ) → HasEnded Has IsLawful place count gate file → count ≤ 1000000 → IsRefused IsLawful file → ⊥
+ended_no_refusal Has IsLawful place count gate file ended few =
+    let taken = ended.walked.taken in
+    found_no_refusal IsLawful taken file ended.walked.lawful (omega (arith, ended.walked.count_is, few))
+    (inl (gate, record { rest = drop (place + 1) file; closed = ended.closed; is = ended.walked.is ∙ ap (λ (l : List ℕ). opened taken ++ l) ended.is }))

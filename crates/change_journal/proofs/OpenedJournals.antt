@@ -1,5 +1,5 @@
 -- What the opening of a file leaves of a journal.
-use Rattle.std.proofs.Common.{arith, ◌≡◌, ◌⊎◌, ℕ, ◌<◌, ◌≤◌, Bool, List, [], ◌∷◌, ◌++◌, length, IsTrue, inl, inr, refl, sym, ◌∙◌, ap, subst, All}
+use Rattle.std.proofs.Common.{arith, ◌≡◌, ◌⊎◌, ℕ, ◌≤◌, Bool, List, [], ◌∷◌, ◌++◌, length, IsTrue, inl, inr, refl, sym, ◌∙◌, ap, subst, All}
 use Rattle.host_disk.specs.Crashes.{LeavesOnly}
 use Rattle.change_undo.specs.declared.entries.Entry.{Entry}
 use Rattle.change_journal.specs.declared.faults.OpenFault.{OpenFault}
@@ -8,11 +8,12 @@ use Rattle.change_journal.specs.declared.places.Place.{Place}
 use Rattle.change_journal.specs.declared.records.Records.{Records}
 use Rattle.change_journal.specs.Frames.{opened}
 use Rattle.change_journal.specs.Held.{IsSound}
-use Rattle.change_journal.specs.Openings.{HasOpened, IsFound, IsNoJournal, MayBePut, MayFind}
+use Rattle.change_journal.specs.Openings.{HasOpened, IsFound, IsNoJournal, IsRefused, MayBePut, MayFind}
 use Rattle.change_journal.specs.Spells.{IsWritable, entry_text}
 use Rattle.change_journal.specs.Texts.{HoldsEntries, IsText, MayHoldNext, texts}
 use Rattle.change_journal.specs.Walks.{HasCounted, IsBadRecord}
 use Rattle.change_journal.proofs.Entrywise.{found_entries, held_no_bad, held_no_other, length-texts, may_be_put}
+use Rattle.change_journal.proofs.OneAnswer.{found_no_refusal}
 use Rattle.change_journal.proofs.Steps.{weaker}
 
 -- the bodies that were handed on are the texts of these entries
@@ -45,6 +46,9 @@ module _ (Images : List ℕ → Type 0) (log : List Entry) (gate count : ℕ) (o
   pub found_texts : IsFound (texts log) old
   found_texts = subst (λ (bs : List (List ℕ)). IsFound bs old) o.has.0 o.found
 
+  pub not_refused : count ≤ 1000000 → IsRefused IsText old → ⊥
+  not_refused few refused = found_no_refusal IsText o.bodies old o.lawful (omega (arith, o.count_is, few)) o.found refused
+
   pub found_had : (had : List Entry) → HoldsEntries had old → log ≡ had
   found_had had held = found_entries log had old o.has.1 found_texts held
 
@@ -58,10 +62,10 @@ stops_only OutOfMemory had file few held header bad = inr refl
 
 module _ {D : Type 0} (moment : D → ℕ) (left_since : D → ℕ → List ℕ → Type 0) (may_leave : D → List ℕ → Type 0) (old new : D) (seen : List ℕ) (had : List Entry) (next : Entry) where
   -- what is left while the file of such entries is opened
-  pub opening_moments : may_leave old seen → length had < 1000000 → ((c : List ℕ) → may_leave old c → MayHoldNext had next c)
+  pub opening_moments : may_leave old seen → ((c : List ℕ) → may_leave old c → MayHoldNext had next c)
       → (MayBePut IsText (texts had) (entry_text next) → ((c : List ℕ) → may_leave old c → MayFind (texts had) (entry_text next) c) → LeavesOnly moment left_since old new (MayFind (texts had) (entry_text next)))
       → LeavesOnly moment left_since old new (MayHoldNext had next)
-  opening_moments stays few left run =
+  opening_moments stays left run =
       let writable = (left seen stays).writable in
       weaker moment left_since old new (MayFind (texts had) (entry_text next)) (MayHoldNext had next) (λ c found. record { writable = writable; left = found })
-      (run (may_be_put had next writable few) (λ c there. (left c there).left))
+      (run (may_be_put had next writable) (λ c there. (left c there).left))

@@ -4,6 +4,7 @@ use Rattle.std.specs.Option.{IfSome}
 use Rattle.std.proofs.lemmas.List.{drop-drop, drop-take, take_at, take-take, length-take, length-drop}
 use Rattle.host_disk.specs.Crashes.{IsRead, LeavesOnly}
 use Rattle.change_journal.specs.Ahead.{IsUnchanged}
+use Rattle.change_journal.specs.Walks.{IsOnlyRead}
 
 -- nothing was read
 pub none_read : (file : List ℕ) → IsRead file 0 []
@@ -59,3 +60,6 @@ module _ {D : Type 0} (seen : D → List ℕ) (may_leave : D → List ℕ → Ty
 module _ {A D : Type 0} (old new : A) (inside : A → D) (moment : D → ℕ) (left_since : D → ℕ → List ℕ → Type 0) where
   pub inside_leaves : (P : List ℕ → Type 0) → LeavesOnly (λ a. moment (inside a)) (λ a. left_since (inside a)) old new P → LeavesOnly moment left_since (inside old) (inside new) P
   inside_leaves P run = record { later = run.later; each = run.each; before = run.before }
+
+  pub inside_reads : (seen : D → List ℕ) (may_leave : D → List ℕ → Type 0) → IsOnlyRead (λ a. seen (inside a)) (λ a. may_leave (inside a)) (λ a. moment (inside a)) (λ a. left_since (inside a)) old new → IsOnlyRead seen may_leave moment left_since (inside old) (inside new)
+  inside_reads seen may_leave read = record { same = read.same; crash = read.crash; time = inside_leaves (may_leave (inside old)) read.time }

@@ -53,10 +53,11 @@ walk_goes Had Has IsLawful gate count body file walked there has lawful next mor
           ∙ ap (λ (n : ℕ). opened (walked.taken ++ body ∷ []) ++ drop n file) (sym next_is);
     }
 
-pub walk_breaks : (Had : List (List ℕ) → Type 0) (IsLawful : List ℕ → Type 0) (gate count number : ℕ) (file : List ℕ) → HasWalked Had IsLawful gate count file → drop gate file ≡ 1 ∷ drop (gate + 1) file → number ≡ count + 1 → IsNoRecord IsLawful (drop (gate + 1) file) ⊎ (1000000 ≤ count) → IsBadRecord IsLawful number file
-walk_breaks Had IsLawful gate count number file walked there number_is broken = record {
+pub walk_breaks : (Had : List (List ℕ) → Type 0) (IsLawful : List ℕ → Type 0) (gate count number : ℕ) (file : List ℕ) → HasWalked Had IsLawful gate count file → count ≤ 1000000 → drop gate file ≡ 1 ∷ drop (gate + 1) file → number ≡ count + 1 → IsNoRecord IsLawful (drop (gate + 1) file) ⊎ (1000000 ≤ count) → IsBadRecord IsLawful number file
+walk_breaks Had IsLawful gate count number file walked few there number_is broken = record {
   bodies = walked.taken;
   number_is = number_is ∙ ap (λ (n : ℕ). n + 1) walked.count_is;
+  few = subst (λ (n : ℕ). n ≤ 1000000) walked.count_is few;
   lawful = walked.lawful;
   breaks = record {
     rest = drop (gate + 1) file;

@@ -32,20 +32,22 @@ pub record IsHalfOpen (bodies : List (List ℕ)) (body file : List ℕ) : Type 0
   pub neither : 2 ≤ gate
   pub is : file ≡ opened bodies ++ gate ∷ (framed body ++ 0 ∷ rest)
 
--- a file that is no journal yet: it has no header with an open gate
+-- a file that is no journal yet: it has one byte or none, or begins with 0, or is a header and a gate of 0 behind a gate that is neither 0
+-- nor open
 pub data IsNew (file : List ℕ) : Type 0 where
   short : length file ≤ 1 → IsNew file
   unopened : (rest : List ℕ) → file ≡ 0 ∷ rest → IsNew file
   half_opened : (gate : ℕ) → 2 ≤ gate → file ≡ gate ∷ (header ++ 0 ∷ []) → IsNew file
 
--- a file holds these bodies: those whose gates are open, or none if it is no journal yet
+-- a file holds these bodies: they are behind open gates, and then comes a 0, or a gate that is neither with one whole record of any body and a
+-- 0 behind it; or none, where it is no journal yet
 pub data Holds (bodies : List (List ℕ)) (file : List ℕ) : Type 0 where
   shut : IsShut bodies file → Holds bodies file
   half_open : (body : List ℕ) → IsHalfOpen bodies body file → Holds bodies file
   new : bodies ≡ [] → IsNew file → Holds bodies file
 
--- While one more body is put behind these, a file holds these, and that body isn't there or stands whole behind a gate that isn't
--- open; or it holds these and that body.
+-- While one more body is put behind these, a file holds these, with a 0 and any bytes behind them; or with that record whole behind a gate
+-- that is neither 0 nor open; or it holds these and that one.
 pub data MayHold (bodies : List (List ℕ)) (body file : List ℕ) : Type 0 where
   before : IsShut bodies file → MayHold bodies body file
   between : IsHalfOpen bodies body file → MayHold bodies body file

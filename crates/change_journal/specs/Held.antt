@@ -18,8 +18,8 @@ abbrev pub entries_of : Held → List Entry
 entries_of (Found log) = log.value
 entries_of (Put' shape before entry) = entries_of before ++ entry.value ∷ []
 
--- Each entry has a text, and there are as many records. Unless the device has failed, the disk holds these texts, and the next record
--- goes after them.
+-- Each entry has a text, and there are as many records. Unless the device has failed, a modelled disk holds these texts, and the
+-- next record goes after them.
 pub record IsSound {D : Type 0} (is_modelled : Bool) (may_leave : D → List ℕ → Type 0) (file : Records D) (entries : List Entry) : Type 0 where
   pub writable : All IsWritable entries
   pub count : file.place.count ≡ length entries

@@ -1,10 +1,10 @@
 -- What the opening of a journal's file finds and leaves.
-use Rattle.std.specs.Prelude.{◌≡◌, ◌⊎◌, ◌<◌, ◌≤◌, ℕ, List, [], ◌∷◌, ◌++◌, length}
+use Rattle.std.specs.Prelude.{◌≡◌, ◌⊎◌, ◌≤◌, ℕ, List, [], ◌∷◌, ◌++◌, length}
 use Rattle.host_disk.specs.Crashes.{Only}
 use Rattle.change_journal.specs.declared.starts.Start.{Start}
 use Rattle.change_journal.specs.declared.starts.Start.TheVariants.{Short, Unopened, HalfOpened, Opened}
 use Rattle.change_journal.specs.Frames.{opened, header, IsNew, IsShut, MayHold}
-use Rattle.change_journal.specs.Walks.{AreLawful, EndsAt, IsShort}
+use Rattle.change_journal.specs.Walks.{AreLawful, EndsAt, IsBadRecord, IsShort}
 
 -- the disk reads as this file, and a crash leaves nothing else
 pub record IsExactly (file seen : List ℕ) (images : List ℕ → Type 0) : Type 0 where
@@ -42,6 +42,10 @@ pub record IsNoJournal (file : List ℕ) : Type 0 where
   pub not_new : IsNew file → ⊥
   pub not_opened : (gate : ℕ) (rest : List ℕ) → file ≡ opened [] ++ gate ∷ rest → ⊥
 
+-- A file must not be opened: it is none that a journal has, or behind an open gate it has what is no record, or the 1,000,001st.
+abbrev pub IsRefused : (List ℕ → Type 0) → List ℕ → Type 0
+IsRefused IsLawful file = IsNoJournal file ⊎ ((number : ℕ) × IsBadRecord IsLawful number file)
+
 -- bodies that a file was found to hold: those behind open gates, or none where it was no journal yet
 abbrev pub IsFound : List (List ℕ) → List ℕ → Type 0
 IsFound bodies file = ((gate : ℕ) × EndsAt bodies gate file) ⊎ ((bodies ≡ []) × IsNew file)
@@ -56,13 +60,12 @@ pub record HasOpened (Has : List (List ℕ) → Type 0) (IsLawful : List ℕ →
   pub count_is : count ≡ length bodies
   pub exactly : IsExactly (opened bodies ++ 0 ∷ []) seen images
 
--- what stops may leave of a file: these bodies, or these and one more that is being put, or a file that is no journal yet
+-- what stops may leave of a file: these bodies, or these and one more that is being put, or, where there are none, a file that is no journal yet
 abbrev pub MayFind : List (List ℕ) → List ℕ → List ℕ → Type 0
 MayFind bodies body file = MayHold bodies body file ⊎ ((bodies ≡ []) × IsNew file)
 
--- these bodies and one more may be a file's
+-- bodies that records may have, and one more
 pub record MayBePut (IsLawful : List ℕ → Type 0) (bodies : List (List ℕ)) (body : List ℕ) : Type 0 where
   pub lawful : AreLawful IsLawful bodies
   pub short : IsShort body
   pub is_lawful : IsLawful body
-  pub few : length bodies < 1000000

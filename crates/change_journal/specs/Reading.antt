@@ -238,12 +238,12 @@ after_path bytes = do
   p ← path_at s.1
   Some p.1
 
--- what follows the kind of a listing and the number of its paths, where that begins with a path or is all of them
+-- what follows the kind of a listing and the number of its paths, where there are paths and it begins with one, or it is all of them
 unfoldable pub listing_front : List ℕ → Option (List ℕ)
 listing_front bytes = do
   f ← flags_at bytes
   n ← count_at f.1
-  if is_some (path_at n.1) || is_some (whole_files n.0 n.1) then Some n.1 else None
+  if (nat_le 1 n.0 && is_some (path_at n.1)) || is_some (whole_files n.0 n.1) then Some n.1 else None
 
 -- the same after the site
 unfoldable pub after_flags : List ℕ → Option (List ℕ)

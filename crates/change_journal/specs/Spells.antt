@@ -136,10 +136,10 @@ IsInRange (Change command) = IsCommandInRange command
 abbrev pub BeginsWithPath : List ℕ → Type 0
 BeginsWithPath bytes = (path rest : List ℕ) × IsPath path × (bytes ≡ path_text path ++ rest)
 
--- the bytes begin with the kind of a listing and the number of its paths, and then with a path, or have no more where there are none
+-- The bytes begin with the kind of a listing and the number of its paths, at most 10,000. Where there are some, a path follows; else there is no more.
 abbrev pub BeginsWithListing : List ℕ → Type 0
 BeginsWithListing bytes = (patch auto : Bool) × (n : ℕ) × (rest : List ℕ) × (bytes ≡ flags patch auto ∷ (to_be_bytes w32 n ++ rest)) × (n ≤ 10000)
-    × (BeginsWithPath rest ⊎ ((n ≡ 0) × (rest ≡ [])))
+    × (((1 ≤ n) × BeginsWithPath rest) ⊎ ((n ≡ 0) × (rest ≡ [])))
 
 -- the bytes are those of an opening, a renaming or a removal of a file up to its first path, with any bytes after that, or of an opening without paths
 abbrev pub TakesMemory : List ℕ → Type 0

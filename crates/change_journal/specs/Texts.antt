@@ -18,7 +18,8 @@ pub record IsRecordOf (entry : Entry) (bytes : List ℕ) : Type 0 where
 abbrev pub IsText : List ℕ → Type 0
 IsText body = (entry : Entry) × Spells body entry
 
--- A file holds these entries: those whose gates are open, or none if it is no journal yet.
+-- A file holds these entries: their texts are behind open gates, and then comes a 0, or a gate that is neither with one whole record of any
+-- body and a 0 behind it; or none, where it is no journal yet.
 pub record HoldsEntries (entries : List Entry) (file : List ℕ) : Type 0 where
   pub writable : All IsWritable entries
   pub holds : Holds (texts entries) file
@@ -32,8 +33,9 @@ pub record IsStored (entries : List Entry) (file : List ℕ) : Type 0 where
 abbrev pub AllStored : (List ℕ → Type 0) → List Entry → Type 0
 AllStored images entries = (c : List ℕ) → images c → IsStored entries c
 
--- What a stop may leave while an entry is put after these, or while such a file is opened: these, and the record of that entry isn't
--- there or is whole after a gate that isn't open; or these and that entry; or a file that is no journal yet, where these are none.
+-- What a stop may leave while an entry is put after these, or while such a file is opened: these, with a 0 and any bytes behind them; or with
+-- the record of that entry whole behind a gate that is neither 0 nor open; or these and that entry; or a file that is no journal yet, where
+-- these are none.
 pub record MayHoldNext (entries : List Entry) (entry : Entry) (file : List ℕ) : Type 0 where
   pub writable : All IsWritable (entries ++ entry ∷ [])
   pub left : MayFind (texts entries) (entry_text entry) file

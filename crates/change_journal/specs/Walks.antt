@@ -5,7 +5,7 @@ use Rattle.change_journal.specs.declared.faults.OpenFault.{OpenFault}
 use Rattle.change_journal.specs.declared.faults.OpenFault.TheVariants.{Device}
 use Rattle.change_journal.specs.Frames.{framed, opened}
 
--- calls that only read: the disk reads as before, and a crash leaves what it might have left before them
+-- as of calls that write nothing, be they reads or syncs: the disk reads as before, and a crash leaves what it might have left before them
 pub record IsOnlyRead {D : Type 0} (seen : D → List ℕ) (may_leave : D → List ℕ → Type 0) (moment : D → ℕ) (left_since : D → ℕ → List ℕ → Type 0) (old new : D) : Type 0 where
   pub same : seen new ≡ seen old
   pub crash : (c : List ℕ) → may_leave new c → may_leave old c
@@ -42,7 +42,7 @@ pub record EndsAt (bodies : List (List ℕ)) (gate : ℕ) (file : List ℕ) : Ty
   pub closed : gate ≢ 1
   pub is : file ≡ opened bodies ++ gate ∷ rest
 
--- a file has these bodies behind open gates, then an open gate and no record, or more records than there may be
+-- a file has these bodies behind open gates, then an open gate and no record, or 1,000,000 bodies or more are before that gate
 pub record BreaksAfter (IsLawful : List ℕ → Type 0) (bodies : List (List ℕ)) (file : List ℕ) : Type 0 where
   pub rest : List ℕ
   pub is : file ≡ opened bodies ++ 1 ∷ rest
@@ -73,9 +73,10 @@ pub record HasEnded (Has : List (List ℕ) → Type 0) (IsLawful : List ℕ → 
   pub closed : gate ≢ 1
   pub is : drop place file ≡ gate ∷ drop (place + 1) file
 
--- a record with this number is the first that is none
+-- the record with this number, behind an open gate, is the first that is none, or is the 1,000,001st
 pub record IsBadRecord (IsLawful : List ℕ → Type 0) (number : ℕ) (file : List ℕ) : Type 0 where
   pub bodies : List (List ℕ)
   pub number_is : number ≡ length bodies + 1
+  pub few : length bodies ≤ 1000000
   pub lawful : AreLawful IsLawful bodies
   pub breaks : BreaksAfter IsLawful bodies file

@@ -172,7 +172,7 @@ fn entry_of(alloc: Global, bytes: &[u8]) -> Result<Entry, DecodeFault>
     }
 }
 
-/// The entry that the bytes spell, all of them. Memory is taken for paths alone.
+/// The entry that the bytes spell, all of them. Memory is taken for paths, and for the list of an opening, alone.
 pub fn decode(alloc: Global, bytes: &[u8]) -> Result<Entry, DecodeFault>
     ensures spelled { IfOk result (λ entry. Spells bytes.now entry) }
     ensures found { (entry : entries.Entry) → Spells bytes.now entry → MatchResult result (λ read. read ≡ entry) (λ fault. fault ≡ DecodeFault.OutOfMemory) }

@@ -5,7 +5,7 @@ ghost use Rattle.change_undo.specs.declared.entries.Entry as entries;
 ghost use Rattle.change_journal.specs.declared.faults.OpenFault.TheVariants.{BadHeader, BadRecord, Device, OutOfMemory};
 ghost use Rattle.change_journal.specs.declared.records.PutFault.TheVariants as put_fault;
 ghost use Rattle.change_journal.specs.Frames.{opened};
-ghost use Rattle.change_journal.specs.Openings.{IsExactly, IsFound, IsNoJournal};
+ghost use Rattle.change_journal.specs.Openings.{IsExactly, IsFound, IsNoJournal, IsRefused};
 ghost use Rattle.change_journal.specs.Spells.{IsWritable};
 ghost use Rattle.change_journal.specs.Texts.{AllStored, HoldsEntries, IsText, MayHoldNext, texts};
 ghost use Rattle.change_journal.specs.Settled.{TellsBreak};
@@ -24,7 +24,7 @@ use std::marker::Model;
 use std::snapshot::Snapshot;
 
 /// The journal of a history: its entries, on a disk. Contracts see the entries, whether the device failed while one was put, and the
-/// disk. Unless it did, whatever a crash leaves of the disk holds these entries.
+/// disk. Unless it did, whatever a crash leaves of a modelled disk holds these entries.
 #[derive(Drop)]
 pub struct Journal<D: Disk> {
     records: Records<D>,
@@ -50,8 +50,9 @@ pub struct NotOpened<D> {
 
 impl<D: Disk> Journal<D> {
     /// Opens the journal of a disk, and answers the entries that it holds. It begins with a sync. A disk that holds no journal yet gets
-    /// one without entries. What a stop has left of an entry that was being put is cut away. Where the file is no journal, or one of
-    /// its records is none, nothing is written.
+    /// one without entries. All that stands behind the first gate that isn't open is cut away: after a stop, what it left of an entry
+    /// that was being put. On a modelled disk: where the file is no journal, or behind an open gate has what is no record or the 1,000,001st,
+    /// it isn't opened and nothing is written, whatever the fault.
     pub fn open(alloc: Global, disk: D) -> Result<(Journal<D>, Log), NotOpened<D>>
         ensures entries { IfOk result (λ answer. (answer.0.entries ≡ answer.1) × (answer.0.broken ≡ false)) }
         ensures writable { IfOk result (λ answer. All IsWritable answer.1) }
@@ -62,8 +63,9 @@ impl<D: Disk> Journal<D> {
         ensures bad_header { IsTrue D.is_modelled → IfErr result (λ stop. stop.fault ≡ BadHeader → IsNoJournal (D.seen disk)) }
         ensures bad_record { IsTrue D.is_modelled → IfErr result (λ stop. (i : ℕ) → stop.fault ≡ BadRecord i → IsBadRecord IsText i (D.seen disk)) }
         ensures unwritten { IsTrue D.is_modelled → IfErr result (λ stop. (stop.fault ≡ Device → ⊥) → IsOnlyRead D.seen D.may_leave D.moment D.left_since disk stop.disk) }
+        ensures refused { IsTrue D.is_modelled → IsRefused IsText (D.seen disk) → MatchResult result (λ _. ⊥) (λ stop. IsOnlyRead D.seen D.may_leave D.moment D.left_since disk stop.disk) }
         ensures kept { IsTrue D.is_modelled → (had : List entries.Entry) → length had ≤ 1000000 → HoldsEntries had (D.seen disk) → MatchResult result (λ answer. answer.1 ≡ had) (λ stop. (stop.fault ≡ Device) ⊎ (stop.fault ≡ OutOfMemory)) }
-        ensures any_moment { IsTrue D.is_modelled → (had : List entries.Entry) (next : entries.Entry) → length had < 1000000 → ((c : List ℕ) → D.may_leave disk c → MayHoldNext had next c) → MatchResult result (λ answer. LeavesOnly D.moment D.left_since disk answer.0.disk (MayHoldNext had next)) (λ stop. LeavesOnly D.moment D.left_since disk stop.disk (MayHoldNext had next)) }
+        ensures any_moment { IsTrue D.is_modelled → (had : List entries.Entry) (next : entries.Entry) → ((c : List ℕ) → D.may_leave disk c → MayHoldNext had next c) → MatchResult result (λ answer. LeavesOnly D.moment D.left_since disk answer.0.disk (MayHoldNext had next)) (λ stop. LeavesOnly D.moment D.left_since disk stop.disk (MayHoldNext had next)) }
         ensures cause { MatchResult result (λ answer. D.faults answer.0.disk ≡ D.faults disk) (λ stop. TellsStop stop.fault (D.faults disk) (D.faults stop.disk)) }
     {
         let mut collected = Collected::new(alloc);
@@ -97,10 +99,11 @@ impl<D: Disk> Journal<D> {
         self.records.is_broken()
     }
 
-    /// Puts an entry after the others: after Ok, whatever a crash leaves holds it. Where the device fails the disk may hold it or not, and
+    /// Puts an entry after the others. Unless the journal is broken, it has fewer than 1,000,000. After Ok, whatever a crash leaves of a
+    /// modelled disk holds it. Where the device fails the disk may hold it or not, and
     /// from then on each put answers `Broken` and does nothing. It takes no memory.
     pub fn put(&mut self, prepared: Prepared) -> Result<(), PutFault>
-        requires few { length self.old.entries < 1000000 }
+        requires few { self.old.broken ≡ false → length self.old.entries < 1000000 }
         ensures entries { MatchResult result (λ _. self.new.entries ≡ self.old.entries ++ prepared ∷ []) (λ _. self.new.entries ≡ self.old.entries) }
         ensures broken { MatchResult result (λ _. self.new.broken ≡ false) (λ _. self.new.broken ≡ true) }
         ensures refused { IsTrue self.old.broken → (result ≡ Err put_fault.Broken) × (self.new ≡ self.old) }

@@ -1,11 +1,19 @@
 //! Laws of the texts of entries and of the files that hold them, each the contract of a function that does nothing.
-ghost use Rattle.std.specs.Prelude.{◌≡◌, ◌≢◌, ◌⊎◌, ◌≤◌, ◌+◌, ◌++◌, ◌∷◌, [], ℕ, All, List, length};
+ghost use Rattle.std.specs.Prelude.{◌≡◌, ◌≢◌, ◌⊎◌, ◌≤◌, ◌+◌, ◌++◌, ◌∷◌, [], ℕ, All, List, ⊤, length};
+ghost use Rattle.host_names.specs.declared.names.SiteName.{SiteName};
 ghost use Rattle.change_undo.specs.declared.entries.Entry.{Entry};
+ghost use Rattle.change_undo.specs.declared.entries.Entry.TheVariants.{Undo};
 ghost use Rattle.host_disk.specs.Crashes.{Torn};
 ghost use Rattle.change_journal.specs.Frames.{framed, opened};
-ghost use Rattle.change_journal.specs.Openings.{IsFound};
-ghost use Rattle.change_journal.specs.Spells.{IsInRange, IsWritable, Spells, entry_text};
-ghost use Rattle.change_journal.specs.Texts.{HoldsEntries, MayHoldNext, texts};
+ghost use Rattle.change_journal.specs.Openings.{IsExactly, IsFound, IsNoJournal};
+ghost use Rattle.change_journal.specs.Settled.{TellsBreak};
+ghost use Rattle.change_journal.specs.Spells.{BeginsWithListing, BeginsWithPath, IsInRange, IsWritable, Spells, TakesMemory, entry_text};
+ghost use Rattle.change_journal.specs.Texts.{AllStored, HoldsEntries, IsText, MayHoldNext, texts};
+ghost use Rattle.change_journal.specs.Walks.{IsBadRecord, IsNoRecord, IsOnlyRead, TellsStop};
+ghost use Rattle.change_journal.specs.declared.faults.OpenFault.TheVariants as open_fault;
+ghost use Rattle.change_journal.specs.declared.records.PutFault.TheVariants as put_fault;
+
+use host_disk::Disk;
 
 /// An entry has a text exactly where each part of it is valid and in its range, and then it has one.
 pub fn an_entry_has_one_spelling()
@@ -54,4 +62,26 @@ pub fn an_open_gate_has_its_record()
     ensures unsynced { (entries : List Entry) (entry : Entry) (n : ℕ) → (d : List ℕ) × (c : List ℕ)
         × Torn (length (opened (texts entries)) + 1) n (opened (texts entries) ++ 0 ∷ []) d × Torn (length (opened (texts entries))) 1 d c
         × (MayHoldNext entries entry c → ⊥) }
+{}
+
+/// No relation that the contracts of journals name holds of everything: each is refuted of one wrong answer. `kept` says that a file which
+/// holds no more entries than it may is refused for none of its records.
+pub fn wrong_answers_are_refused<D: Disk>()
+    ensures exactly { ¬ (IsExactly [] (0 ∷ []) (λ c. ⊥)) }
+    ensures nothing_else { ¬ (IsExactly [] [] (λ c. ⊤)) }
+    ensures no_journal { ¬ (IsNoJournal []) }
+    ensures broken { ¬ (TellsBreak put_fault.Broken 0 1) }
+    ensures device { ¬ (TellsBreak put_fault.Device 0 0) }
+    ensures stop { ¬ (TellsStop open_fault.Device 0 0) }
+    ensures other_stop { ¬ (TellsStop open_fault.BadHeader 0 1) }
+    ensures in_range { (site : SiteName) → ¬ (IsInRange (Undo site 0)) }
+    ensures takes_memory { ¬ (TakesMemory []) }
+    ensures text { ¬ (IsText []) }
+    ensures path { ¬ (BeginsWithPath []) }
+    ensures listing { ¬ (BeginsWithListing []) }
+    ensures all_stored { ¬ (AllStored (λ c. ⊤) []) }
+    ensures bad_record { (file : List ℕ) → ¬ (IsBadRecord IsText 0 file) }
+    ensures kept { (entries : List Entry) (n : ℕ) (file : List ℕ) → HoldsEntries entries file → length entries ≤ 1000000 → ¬ (IsBadRecord IsText n file) }
+    ensures no_record { (rest : List ℕ) → ¬ (IsNoRecord (λ body. ⊤) (framed [] ++ 0 ∷ rest)) }
+    ensures only_read { (old new : D) → D.seen new ≢ D.seen old → ¬ (IsOnlyRead D.seen D.may_leave D.moment D.left_since old new) }
 {}

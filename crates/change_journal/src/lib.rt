@@ -1,4 +1,5 @@
-//! The journal of a host: the entries of its history on a disk, each there whole or not at all, whenever the machine stops.
+//! The journal of a host: the entries of its history on a disk. On a modelled disk each is there whole or not at all, whenever the machine
+//! stops.
 #![tactic(auto)]
 
 mod bodies;
@@ -31,6 +32,7 @@ pub use laws::{
     a_file_holds_an_entry_whose_gate_is_open, a_file_holds_one_list, an_entry_has_one_spelling,
     an_entry_with_a_text_is_in_range, an_open_gate_has_its_record,
     an_opening_ends_at_a_gate_that_is_not_open, no_bytes_spell_two_entries,
+    wrong_answers_are_refused,
 };
 pub use prepared::{Prepared, prepare};
 pub use records::PutFault;

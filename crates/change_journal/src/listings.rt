@@ -1,5 +1,5 @@
 //! What an opening lists, read from its text.
-ghost use Rattle.std.specs.Prelude.{◌≡◌, IfOk, IsErrOf, IsSome, IsTrue};
+ghost use Rattle.std.specs.Prelude.{◌≡◌, ◌≤◌, IfOk, IsErrOf, IsSome, IsTrue};
 ghost use Rattle.site_state.specs.Files.{IsByPath};
 ghost use Rattle.change_journal.specs.Reading;
 ghost use Rattle.change_journal.specs.Reading.{Gives};
@@ -32,6 +32,7 @@ fn files_at(
     bytes: &[u8],
 ) -> Result<(Vec<(FilePath, Option<Digest>)>, &[u8]), DecodeFault>
     ensures value { Gives (λ x. (x.0.items, x.1.now)) result (Reading.files_at count bytes.now) }
+    ensures some { IsErrOf result DecodeFault.OutOfMemory → 1 ≤ count }
     ensures memory { IsErrOf result DecodeFault.OutOfMemory → IsSome (Reading.path_at bytes.now) }
 {
     let mut files = Vec::new(alloc);
@@ -61,6 +62,7 @@ pub(crate) fn whole_files(
 ) -> Result<Vec<(FilePath, Option<Digest>)>, DecodeFault>
     ensures value { Gives (λ files. files.items) result (Reading.whole_files count bytes.now) }
     ensures sorted { IfOk result (λ files. IsByPath files.items) }
+    ensures some { IsErrOf result DecodeFault.OutOfMemory → 1 ≤ count }
     ensures memory { IsErrOf result DecodeFault.OutOfMemory → IsSome (Reading.path_at bytes.now) }
 {
     let (files, rest) = files_at(alloc, count, bytes)?;

@@ -4,7 +4,7 @@ ghost use Rattle.host_disk.specs.Crashes.{CountsFailure, LeavesOnly, Only};
 ghost use Rattle.change_journal.specs.declared.faults.OpenFault.TheVariants.{BadHeader, BadRecord, Device};
 ghost use Rattle.change_journal.specs.declared.starts.Start.TheVariants.{Opened};
 ghost use Rattle.change_journal.specs.Frames.{IsNew, opened};
-ghost use Rattle.change_journal.specs.Openings.{HasOpened, IsExactly, IsNoJournal, IsStart, IsStarting, MayBePut, MayFind};
+ghost use Rattle.change_journal.specs.Openings.{HasOpened, IsExactly, IsNoJournal, IsRefused, IsStart, IsStarting, MayBePut, MayFind};
 ghost use Rattle.change_journal.specs.Walks.{HasCounted, IsBadRecord, IsOnlyRead, IsOpened, TellsDevice};
 
 use crate::bodies::Bodies;
@@ -29,6 +29,7 @@ fn open_records<D: Disk, B: Bodies>(
     ensures count { B.has bodies.old [] → IfOk result (λ place. HasCounted (B.has bodies.new) place.count) }
     ensures bad { IsTrue D.is_modelled → size ≡ length (D.seen disk.old) → IsOpened (D.seen disk.old) → B.has bodies.old [] → IfErr result (λ fault. (i : ℕ) → fault ≡ BadRecord i → IsBadRecord B.is_lawful i (D.seen disk.old)) }
     ensures unwritten { IsTrue D.is_modelled → IfErr result (λ fault. (fault ≡ Device → ⊥) → IsOnlyRead D.seen D.may_leave D.moment D.left_since disk.old disk.new) }
+    ensures refused { IsTrue D.is_modelled → size ≡ length (D.seen disk.old) → IsOpened (D.seen disk.old) → B.has bodies.old [] → IsRefused B.is_lawful (D.seen disk.old) → IsOnlyRead D.seen D.may_leave D.moment D.left_since disk.old disk.new }
     ensures header { IsErrOf result BadHeader → ⊥ }
     ensures any_moment { IsTrue D.is_modelled → size ≡ length (D.seen disk.old) → IsOpened (D.seen disk.old) → Only (D.seen disk.old) (D.may_leave disk.old) → B.has bodies.old [] → (had : List (List ℕ)) (body : List ℕ) → MayBePut B.is_lawful had body → MayFind had body (D.seen disk.old) → LeavesOnly D.moment D.left_since disk.old disk.new (MayFind had body) }
     ensures cause { TellsDevice result (D.faults disk.old) (D.faults disk.new) }
@@ -63,6 +64,7 @@ fn open_started<D: Disk, B: Bodies>(
     ensures count { B.has bodies.old [] → IfOk result (λ place. HasCounted (B.has bodies.new) place.count) }
     ensures bad { IsTrue D.is_modelled → size ≡ length (D.seen disk.old) → IsStart start (D.seen disk.old) → B.has bodies.old [] → IfErr result (λ fault. (i : ℕ) → fault ≡ BadRecord i → IsBadRecord B.is_lawful i (D.seen disk.old)) }
     ensures unwritten { IsTrue D.is_modelled → IfErr result (λ fault. (fault ≡ Device → ⊥) → IsOnlyRead D.seen D.may_leave D.moment D.left_since disk.old disk.new) }
+    ensures refused { IsTrue D.is_modelled → size ≡ length (D.seen disk.old) → IsStart start (D.seen disk.old) → B.has bodies.old [] → IsRefused B.is_lawful (D.seen disk.old) → IsOnlyRead D.seen D.may_leave D.moment D.left_since disk.old disk.new }
     ensures header { IsErrOf result BadHeader → ⊥ }
     ensures any_moment { IsTrue D.is_modelled → size ≡ length (D.seen disk.old) → IsStart start (D.seen disk.old) → Only (D.seen disk.old) (D.may_leave disk.old) → B.has bodies.old [] → (had : List (List ℕ)) (body : List ℕ) → MayBePut B.is_lawful had body → MayFind had body (D.seen disk.old) → LeavesOnly D.moment D.left_since disk.old disk.new (MayFind had body) }
     ensures cause { TellsDevice result (D.faults disk.old) (D.faults disk.new) }
@@ -96,6 +98,7 @@ fn open_measured<D: Disk, B: Bodies>(
     ensures bad_header { IsTrue D.is_modelled → size ≡ length (D.seen disk.old) → IsErrOf result BadHeader → IsNoJournal (D.seen disk.old) }
     ensures bad_record { IsTrue D.is_modelled → size ≡ length (D.seen disk.old) → B.has bodies.old [] → IfErr result (λ fault. (i : ℕ) → fault ≡ BadRecord i → IsBadRecord B.is_lawful i (D.seen disk.old)) }
     ensures unwritten { IsTrue D.is_modelled → IfErr result (λ fault. (fault ≡ Device → ⊥) → IsOnlyRead D.seen D.may_leave D.moment D.left_since disk.old disk.new) }
+    ensures refused { IsTrue D.is_modelled → size ≡ length (D.seen disk.old) → B.has bodies.old [] → IsRefused B.is_lawful (D.seen disk.old) → IsOnlyRead D.seen D.may_leave D.moment D.left_since disk.old disk.new }
     ensures any_moment { IsTrue D.is_modelled → size ≡ length (D.seen disk.old) → Only (D.seen disk.old) (D.may_leave disk.old) → B.has bodies.old [] → (had : List (List ℕ)) (body : List ℕ) → MayBePut B.is_lawful had body → MayFind had body (D.seen disk.old) → LeavesOnly D.moment D.left_since disk.old disk.new (MayFind had body) }
     ensures cause { TellsDevice result (D.faults disk.old) (D.faults disk.new) }
 {
@@ -115,6 +118,7 @@ pub(crate) fn open_file<D: Disk, B: Bodies>(
     ensures bad_header { IsTrue D.is_modelled → IsErrOf result BadHeader → IsNoJournal (D.seen disk.old) }
     ensures bad_record { IsTrue D.is_modelled → B.has bodies.old [] → IfErr result (λ fault. (i : ℕ) → fault ≡ BadRecord i → IsBadRecord B.is_lawful i (D.seen disk.old)) }
     ensures unwritten { IsTrue D.is_modelled → IfErr result (λ fault. (fault ≡ Device → ⊥) → IsOnlyRead D.seen D.may_leave D.moment D.left_since disk.old disk.new) }
+    ensures refused { IsTrue D.is_modelled → B.has bodies.old [] → IsRefused B.is_lawful (D.seen disk.old) → IsOnlyRead D.seen D.may_leave D.moment D.left_since disk.old disk.new }
     ensures any_moment { IsTrue D.is_modelled → B.has bodies.old [] → (had : List (List ℕ)) (body : List ℕ) → MayBePut B.is_lawful had body → ((c : List ℕ) → D.may_leave disk.old c → MayFind had body c) → LeavesOnly D.moment D.left_since disk.old disk.new (MayFind had body) }
     ensures cause { TellsDevice result (D.faults disk.old) (D.faults disk.new) }
 {
@@ -133,6 +137,7 @@ pub(crate) fn open_ahead<D: Disk, B: Bodies>(
     ensures bad_header { IsTrue D.is_modelled → IsErrOf result.1 BadHeader → IsNoJournal (D.seen disk) }
     ensures bad_record { IsTrue D.is_modelled → B.has bodies.old [] → IfErr result.1 (λ fault. (i : ℕ) → fault ≡ BadRecord i → IsBadRecord B.is_lawful i (D.seen disk)) }
     ensures unwritten { IsTrue D.is_modelled → IfErr result.1 (λ fault. (fault ≡ Device → ⊥) → IsOnlyRead D.seen D.may_leave D.moment D.left_since disk result.0) }
+    ensures refused { IsTrue D.is_modelled → B.has bodies.old [] → IsRefused B.is_lawful (D.seen disk) → IsOnlyRead D.seen D.may_leave D.moment D.left_since disk result.0 }
     ensures any_moment { IsTrue D.is_modelled → B.has bodies.old [] → (had : List (List ℕ)) (body : List ℕ) → MayBePut B.is_lawful had body → ((c : List ℕ) → D.may_leave disk c → MayFind had body c) → LeavesOnly D.moment D.left_since disk result.0 (MayFind had body) }
     ensures cause { TellsDevice result.1 (D.faults disk) (D.faults result.0) }
 {

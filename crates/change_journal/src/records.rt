@@ -77,7 +77,7 @@ impl<D: Disk> Records<D> {
     /// Puts a body behind the others, by the bytes of its record, which end in the gate of the next one. Once the device has failed
     /// here, each further call answers `Broken` and does nothing.
     pub(crate) fn put(&mut self, bytes: &[u8]) -> Result<(), PutFault>
-        requires few { self.old.place.count < 1000000 }
+        requires few { self.old.broken ≡ false → self.old.place.count < 1000000 }
         requires long { 5 ≤ length bytes.now }
         requires short { length bytes.now ≤ 10470075 }
         ensures stored { IsTrue D.is_modelled → (bodies : List (List ℕ)) (body : List ℕ) → bytes.now ≡ framed body ++ 0 ∷ [] → IsSettled D.may_leave self.old bodies → OnOk result (IsSettled D.may_leave self.new (bodies ++ body ∷ [])) }

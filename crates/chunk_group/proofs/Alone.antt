@@ -1,5 +1,5 @@
 -- A node that is alone asks no peer.
-use Rattle.std.proofs.Common.{◌≡◌, inl, inr, ℕ, ◌<◌, List, Result, Ok, Err, length, sym, ap, subst, ◌∙◌, arith}
+use Rattle.std.proofs.Common.{◌≡◌, inl, inr, ℕ, ◌<◌, List, Result, Ok, Err, sym, ap, subst, ◌∙◌, arith}
 use Rattle.hex.specs.Hex.{encode_lower}
 use Rattle.host_names.specs.declared.digests.Digest.{Digest}
 use Rattle.blob_store.specs.declared.reading.ReadFault.{ReadFault}

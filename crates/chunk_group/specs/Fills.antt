@@ -17,12 +17,12 @@ pub record IsHit {S L C : Type 0} (old : Node S L C) (key : Digest) (answer : Re
   pub same : (new.suppliers ≡ old.suppliers) × (new.caches.coin ≡ old.caches.coin)
   pub answered : ((answer ≡ Ok chunk) × (new.caches.cache ≡ looked_up key old.caches.cache)) ⊎ ((answer ≡ Err OutOfMemory) × (new.caches.cache ≡ old.caches.cache))
 
--- what was given is answered: a chunk, which is kept; or there was no memory for it, and it isn't; or a fault
+-- what was given is passed on: a chunk, of which is kept what the rule says; or there was no memory for it, and nothing is kept; or a fault
 abbrev pub IsPassedOn : {C : Type 0} → Drew C → Giver → Result (List ℕ) ReadFault → Caches C → Result (List ℕ) ReadFault → Caches C → Type 0
 IsPassedOn drew giver (Ok chunk) old answer new = ((answer ≡ Ok chunk) × IsKept drew giver chunk old new) ⊎ ((answer ≡ Err OutOfMemory) × (new ≡ old))
 IsPassedOn drew giver (Err fault) old answer new = (answer ≡ Err fault) × (new ≡ old)
 
--- it is in neither cache: what is given for it is answered
+-- it is in neither cache: what is given for it is passed on
 pub record IsMiss {S L C : Type 0} (loaded : Loaded S) (fetched : Fetched L) (drew : Drew C) (owns : ℕ → Type 0) (me : ℕ) (old : Node S L C) (key : Digest) (answer : Result (List ℕ) ReadFault) (new : Node S L C) : Type 0 where
   pub missed : held key old.caches.cache ≡ None
   pub giver : Giver

@@ -1,5 +1,5 @@
 -- Stretches of files whose chunks are read one after another.
-use Rattle.std.specs.Prelude.{◌≡◌, ◌⊎◌, ℕ, List, [], ◌∷◌, ◌++◌, Result, Ok, Err, map, Contains, true, Bool}
+use Rattle.std.specs.Prelude.{◌≡◌, ◌≢◌, ◌⊎◌, ℕ, List, [], ◌∷◌, ◌++◌, Result, Ok, Err, map, Contains, true, Bool}
 use Rattle.host_names.specs.declared.digests.Digest.{Digest}
 use Rattle.host_names.specs.Blobs.{digest_of}
 use Rattle.byte_view.specs.Cuts.{pieces_met}
@@ -21,11 +21,17 @@ ReadsInTurn {N} reads old (chunk ∷ chunks) new = (mid : N) × reads old (diges
 abbrev pub ReadsSome : {N : Type 0} → Reads N → N → List Digest → List Digest → N → Type 0
 ReadsSome reads old names left new = (chunks : List (List ℕ)) × (map digest_of chunks ++ left ≡ names) × ReadsInTurn reads old chunks new
 
--- why the chunks of these names can't be read: the next one can't, after those before it; or there was no memory to keep some of them
+-- chunks of the first of these names are read, one at least
+abbrev pub ReadsFirst : {N : Type 0} → Reads N → N → List Digest → N → Type 0
+ReadsFirst reads old names new =
+    (chunks : List (List ℕ)) × (left : List Digest) × (chunks ≢ []) × (map digest_of chunks ++ left ≡ names) × ReadsInTurn reads old chunks new
+
+-- why the chunks of these names can't be read: the next one can't, after those before it; or there was no memory to keep the last of those
+-- that were read
 abbrev pub AreNotRead : {N : Type 0} → Reads N → N → List Digest → ReadFault → N → Type 0
 AreNotRead {N} reads old names why new =
     ((mid : N) × (name : Digest) × (left : List Digest) × ReadsSome reads old names (name ∷ left) mid × reads mid name (Err why) new)
-    ⊎ ((why ≡ OutOfMemory) × ((left : List Digest) × ReadsSome reads old names left new))
+    ⊎ ((why ≡ OutOfMemory) × ReadsFirst reads old names new)
 
 -- why a stretch of a file can't be held, from its first to its last byte: its chunks can't be read; or one isn't as long as its piece
 abbrev pub IsNotHeld : {N : Type 0} → Reads N → N → List ℕ → (first last : ℕ) → ReadFault → N → Type 0
@@ -33,7 +39,8 @@ IsNotHeld reads old file first last why new =
     AreNotRead reads old (map digest_of (pieces_met file first last)) why new
     ⊎ ((why ≡ Damaged) × ((chunks : List (List ℕ)) × HaveWrongLengths chunks file first last × ReadsInTurn reads old chunks new))
 
--- why threads can't hold it: a fault that may be answered for the name of one of its pieces; or a chunk isn't as long as its piece
+-- why threads can't hold it: want of memory; a fault that may be answered for the name of one of its pieces; or some bytes have the name of a
+-- piece and not its length
 abbrev pub MayNotHold : (allows : Digest → ReadFault → Bool) → List ℕ → (first last : ℕ) → ReadFault → Type 0
 MayNotHold allows file first last why =
     (why ≡ OutOfMemory)

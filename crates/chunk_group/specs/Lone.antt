@@ -14,6 +14,8 @@ use Rattle.chunk_group.specs.Loads.{IsGiven, Loaded}
 abbrev pub IsLone : {H S L C : Type 0} → SoloGroup H S L C → Type 0
 IsLone group = (length group.place.ring.names ≡ 1) × (group.place.me ≡ 0)
 
+-- ---- what proofs say
+
 -- what the source gave is answered: a chunk, which is kept in main, or there was no memory to keep it; or there was none to answer it, and it
 -- isn't kept; or a fault
 abbrev pub IsAnswered : Result (List ℕ) ReadFault → Cache → Result (List ℕ) ReadFault → Cache → Type 0

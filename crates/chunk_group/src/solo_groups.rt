@@ -2,7 +2,7 @@
 ghost use Rattle.std.specs.Prelude.{◌≡◌, ◌↔◌, ◌<◌, ◌≤◌, ◌≢◌, Err, IfErr, IfOk, None, Ok, OnOk, length};
 ghost use Rattle.host_names.specs.Blobs.{digest_of};
 ghost use Rattle.blob_store.specs.Calls.{PutsInTurn, things_of};
-ghost use Rattle.blob_store.specs.Faults.{HasPutSome};
+ghost use Rattle.blob_store.specs.Faults.{HasPutPart};
 ghost use Rattle.blob_store.specs.declared.blobs.UploadFault.TheVariants as upload_fault;
 ghost use Rattle.blob_store.specs.declared.reading.ReadFault.TheVariants.{OutOfMemory};
 ghost use Rattle.chunk_lru.specs.Caches.{empty};
@@ -180,7 +180,7 @@ impl<H: RingHash + Copy + Drop, S: Shelf, L, C> SoloGroup<H, FileSource<S>, L, C
         ensures large { (result ≡ Err upload_fault.TooLarge) ↔ (16777216 < length bytes.now) }
         ensures info { IfOk result (λ info. info.value ≡ bytes.now) }
         ensures put { OnOk result (PutsInTurn S.did self.old.node.suppliers.source.files.shelf (things_of bytes.now) None self.new.node.suppliers.source.files.shelf) }
-        ensures not_put { IfErr result (λ fault. HasPutSome S.did self.old.node.suppliers.source.files.shelf (things_of bytes.now) fault self.new.node.suppliers.source.files.shelf) }
+        ensures not_put { IfErr result (λ fault. HasPutPart S.did self.old.node.suppliers.source.files.shelf (things_of bytes.now) fault self.new.node.suppliers.source.files.shelf) }
         ensures device { IfErr result (λ fault. fault ≡ upload_fault.Device → S.failures self.old.node.suppliers.source.files.shelf < S.failures self.new.node.suppliers.source.files.shelf) }
         ensures count { S.failures self.old.node.suppliers.source.files.shelf ≤ S.failures self.new.node.suppliers.source.files.shelf }
         ensures caches { self.new.node.caches ≡ self.old.node.caches }

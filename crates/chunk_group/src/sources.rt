@@ -13,7 +13,7 @@ use std::sync::Arc;
 /// What a read of a chunk comes to.
 pub type Outcome = Result<Arc<Chunk>, ReadFault>;
 
-/// Where a node that owns a key has its chunk from. It is not trusted: what it gives may be the chunk of another name.
+/// Where a node has those chunks from that no peer gives it. It is not trusted: what it gives may be the chunk of another name.
 pub trait Source: Loads<Outcome> {
     ghost use Rattle.std.specs.Prelude.{Bool, List, Result, ℕ};
     ghost use Rattle.host_names.specs.declared.digests.Digest.{Digest};

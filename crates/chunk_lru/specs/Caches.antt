@@ -16,7 +16,7 @@ empty limit = record { limit = limit; main = []; hot = [] }
 abbrev pub together : ℕ → Recent → Recent → Cache
 together limit main hot = record { limit = limit; main = main.chunks; hot = hot.chunks }
 
--- the lists are within the limit, each has room for one chunk more than is, and neither has a name twice
+-- together they are within the limit, each has room for one chunk more than can be within it, and neither has a name twice
 pub record AreWithin (limit : ℕ) (main hot : Recent) : Type 0 where
   pub fits : limit < 2 ^ 64
   pub main_room : main.room ≡ limit / 40 + 1

@@ -22,7 +22,7 @@ with_chunks Hot chunks cache = record cache { hot = chunks }
 abbrev pub held : Digest → Cache → Option (List ℕ)
 held name cache = option_or (found name cache.main) (found name cache.hot)
 
--- after a look-up: the chunk that is found is the first of its list
+-- after a look-up: the chunk that is found is the first of its list; after a miss all is as it was
 abbrev pub looked_up : Digest → Cache → Cache
 looked_up name cache =
     let which = if is_some (found name cache.main) then Main else Hot in
@@ -50,7 +50,7 @@ abbrev pub evicted : Cache → Cache
 evicted cache = shrunk (length cache.main + length cache.hot) cache
 
 -- after an insertion: a name that is in that list already brings the chunk held to its front, and nothing else changes;
--- else the new chunk is the first, and then chunks go until the rest is within the limit
+-- else the new chunk is the first, and then chunks go, it too if need be, until the rest is within the limit
 abbrev pub added : Which → List ℕ → Cache → Cache
 added which chunk cache =
     let chunks = chunks_in which cache in

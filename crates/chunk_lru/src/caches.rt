@@ -71,7 +71,8 @@ impl ChunkCache {
         })
     }
 
-    /// What the entries of main and those of hot count, in bytes. Both are within the limit, and neither has a name twice.
+    /// What the entries of main and those of hot count, in bytes. Together they are within the limit, and
+    /// neither has a name twice.
     pub fn sizes(&self) -> (usize, usize)
         ensures counted { result ≡ (size_of self.now.main, size_of self.now.hot) }
         ensures within { total self.now ≤ self.now.limit }
@@ -95,8 +96,9 @@ impl ChunkCache {
         }
     }
 
-    /// Adds a chunk to one of the caches, as its first, and evicts what is over the limit. Where that cache has its
-    /// name, the chunk that is held becomes the first, and nothing else changes. Without memory nothing changes.
+    /// Adds a chunk to one of the caches, as its first, and evicts what is over the limit, which may be that chunk too.
+    /// Where that cache has its name, the chunk that is held becomes the first, and nothing else changes. Without
+    /// memory nothing changes.
     pub fn add(&mut self, which: Which, chunk: Arc<Chunk>) -> Result<(), AllocError>
         ensures ok { OnOk result (self.new ≡ added which chunk.value self.old) }
         ensures present { IsSome (found (digest_of chunk.value) (chunks_in which self.old)) → IsOk result }

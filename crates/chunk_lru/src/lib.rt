@@ -6,4 +6,6 @@ mod laws;
 mod lists;
 
 pub use caches::{ChunkCache, Which};
-pub use laws::{caches_stay_within_their_limit, the_fewest_chunks_are_evicted};
+pub use laws::{
+    caches_stay_within_their_limit, the_fewest_chunks_are_evicted, wrong_answers_are_refused,
+};

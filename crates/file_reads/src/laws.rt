@@ -6,6 +6,7 @@ ghost use Rattle.blob_store.specs.declared.shelf_files.Files.{Files};
 ghost use Rattle.blob_store.specs.declared.shelves.ShelfName.{ShelfName};
 ghost use Rattle.blob_store.specs.Keeping.{HasFile, Keeps};
 ghost use Rattle.range_spec.specs.declared.selection.Choice.{Choice};
+ghost use Rattle.range_spec.specs.declared.selection.Choice.TheVariants.{Whole};
 ghost use Rattle.file_reads.specs.declared.bodies.FileBody.{FileBody};
 ghost use Rattle.file_reads.specs.Sending.{IsExact, IsNotRead, IsRead};
 ghost use Rattle.file_reads.specs.Stores.{FailedOfFiles, GaveOfFiles};
@@ -34,4 +35,9 @@ pub fn kept_files_are_sent<S: Shelf>()
         → IsRead (GaveOfFiles S.did S.failures) old file plan content_type body new → has new.shelf name ≡ has old.shelf name }
     ensures stays_after_fault { (has : S → ShelfName → Option (List ℕ)) (old new : Files S) (file : List ℕ) (plan : Choice) (fault : ReadFault) (name : ShelfName) → Keeps S.did has
         → IsNotRead (GaveOfFiles S.did S.failures) (FailedOfFiles S.did S.failures) old file plan fault new → has new.shelf name ≡ has old.shelf name }
+{}
+
+/// Where all of a file is asked for, the body that is that of the file itself is the file.
+pub fn a_whole_file_is_its_body()
+    ensures { (file content_type : List ℕ) (body : FileBody) → IsExact file Whole content_type body → body.bytes.items ≡ file }
 {}

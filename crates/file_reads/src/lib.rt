@@ -8,4 +8,4 @@ mod stretches;
 
 pub use bodies::{FileBody, read_body};
 pub use holders::Holder;
-pub use laws::{kept_files_are_sent, reads_count_failures};
+pub use laws::{a_whole_file_is_its_body, kept_files_are_sent, reads_count_failures};

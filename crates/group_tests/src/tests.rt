@@ -4,6 +4,7 @@ mod flights;
 mod gated_nodes;
 mod gates;
 mod held;
+mod known_nodes;
 mod lone_nodes;
 mod rings;
 mod shared_nodes;

@@ -1,11 +1,11 @@
 //! Connections over memory: their replies are counted, and kept nowhere.
-ghost use Rattle.std.specs.Prelude.{◌≡◌};
+ghost use Rattle.std.specs.Prelude.{◌≡◌, None};
 
 use anyhow::{Result, anyhow};
 use blob_store::MemShelf;
 use host_disk::MemDisk;
 use host_server::{Server, serve_connection};
-use http_wire::{Counting, Pair};
+use http_wire::{Pair, Sink, WriteFailed};
 use std::alloc::{AllocError, Global};
 use std::time::{Duration, Instant};
 
@@ -28,6 +28,21 @@ const PLACES_SIZE: u64 = 65_536;
 
 /// How often a connection asks for all of these.
 pub(crate) const TURNS: u64 = 25;
+
+/// How many bytes were written. They are kept nowhere, so a write never fails.
+#[derive(Debug, Drop)]
+struct Counting(u64);
+
+impl Sink for Counting {
+    ghost held = { λ _. None };
+
+    ghost may_fail = { ⊥ };
+
+    fn write_some(&mut self, bytes: &[u8]) -> Result<usize, WriteFailed> {
+        self.0 = self.0.saturating_add(bytes.len() as u64);
+        Ok(bytes.len())
+    }
+}
 
 /// The requests of a connection: as many GETs as it may have.
 fn gets(alloc: Global) -> Result<String, AllocError> {

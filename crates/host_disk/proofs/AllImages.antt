@@ -1,9 +1,11 @@
 -- A write or a cut that is cut short leaves no image but those that a disk in memory may leave after it.
-use Rattle.std.proofs.Common.{◌≡◌, ◌⊎◌, ℕ, ◌+◌, ◌<◌, ◌≤◌, min, List, [], length, get_or, take, Some, refl, ◌∙◌, inl, inr, arith, rules}
+use Rattle.std.proofs.Common.{◌≡◌, ◌⊎◌, ◌↔◌, ℕ, ◌+◌, ◌<◌, ◌≤◌, min, List, [], length, get_or, take, Some, Result, Ok, Err, OnOk, IsErr, MatchResult, refl, sym, subst, ◌∙◌, inl, inr, arith, rules}
+use Rattle.std.proofs.lemmas.Bool.{cases_lt, false≢true}
 use Rattle.std.proofs.lemmas.List.{places, ext_get_or}
 use Rattle.std.proofs.lemmas.List.Elements.{All-pop, All-nil}
 use Rattle.host_disk.specs.declared.contents.Stretch.{Stretch}
-use Rattle.host_disk.specs.Contents.{Kept, IsOutside, IsImage, IsBetween, after_write, after_cut, after_sync}
+use Rattle.host_disk.specs.declared.faults.DeviceFault.{DeviceFault}
+use Rattle.host_disk.specs.Contents.{Kept, IsOutside, IsImage, IsBetween, FindsNoRoom, after_write, after_cut, after_sync}
 use Rattle.host_disk.specs.Crashes.{Torn, Cut}
 
 module _ (file : Kept) (at : ℕ) (bytes : List ℕ) (within : at ≤ length file.bytes) (between : IsBetween file) (c d : List ℕ) (image : IsImage file d) (torn : Torn at (length bytes) d c) where
@@ -57,3 +59,16 @@ synced_image file c image =
 
 pub image_synced : (file : Kept) (c : List ℕ) → c ≡ file.bytes → IsImage (after_sync file) c
 image_synced file c is = rw is (record { no_shorter = omega arith; no_longer = omega arith; same = λ i less outside. refl })
+
+-- Whatever a write that finds room may be torn into, a crash may leave after it.
+pub leaves_torn : (outcome result : Result (Unit {0}) DeviceFault) (old new : Kept) (at : ℕ) (bytes : List ℕ) → MatchResult outcome (λ value. result ≡ Ok value) (λ fault. IsErr result)
+    → OnOk outcome (new ≡ after_write old at bytes) → IsErr outcome ↔ FindsNoRoom old at (length bytes) → IsBetween old
+    → OnOk result ((c d : List ℕ) → IsImage old d → Torn at (length bytes) d c → IsImage new c)
+leaves_torn (Ok done) (Ok end) old new at bytes same ok full between =
+    elim (cases_lt (length old.bytes) at) [
+      | inl past ↦ absurd (false≢true (full.1 (inl past)))
+      | inr within ↦ λ c d image torn. subst (λ (file : Kept). IsImage file c) (sym ok) (is_image_after_write old at bytes within between c d image torn)
+    ]
+leaves_torn (Ok done) (Err fault) old new at bytes same ok full between = tt
+leaves_torn (Err fault) (Ok end) old new at bytes same ok full between = absurd (cc same)
+leaves_torn (Err fault) (Err end) old new at bytes same ok full between = tt

@@ -22,7 +22,7 @@ pub record IsImage (file : Kept) (c : List ℕ) : Type 0 where
   pub no_longer : length c ≤ file.greatest
   pub same : (i : ℕ) → i < file.least → IsOutside file.written i → slice_index c i ≡ slice_index file.bytes i
 
--- it is as long as it may be
+-- its length is one that a crash may leave
 pub record IsBetween (file : Kept) : Type 0 where
   pub least : file.least ≤ length file.bytes
   pub greatest : length file.bytes ≤ file.greatest

@@ -11,7 +11,8 @@ use crate::faults::DeviceFault;
 ///
 /// No call takes memory. Each call that fails is counted.
 pub trait Disk {
-    /// Whether it is proved to be such a disk. Of one that isn't, the clauses say when a failure is told, and nothing else.
+    /// Whether it is proved to be such a disk. Of one that isn't, the clauses say that each failure which is told is counted
+    /// once, up to the greatest `u64`, and no success is, that `failures` tells the count, and nothing else.
     ghost is_modelled: { Bool };
 
     /// The bytes that a read gives.
@@ -56,6 +57,7 @@ pub trait Disk {
         ensures seen { IsTrue is_modelled → Torn at (length bytes.now) (seen self.old) (seen self.new) }
         ensures past { IsTrue is_modelled → length (seen self.old) < at → IsErr result × (seen self.new ≡ seen self.old) }
         ensures crash { IsTrue is_modelled → Follows (Torn at (length bytes.now)) (may_leave self.old) (may_leave self.new) }
+        ensures torn { IsTrue is_modelled → OnOk result ((c d : List ℕ) → may_leave self.old d → Torn at (length bytes.now) d c → may_leave self.new c) }
         ensures past_crash { IsTrue is_modelled → length (seen self.old) < at → (c : List ℕ) → may_leave self.new c ↔ may_leave self.old c }
         ensures time { IsTrue is_modelled → Elapses (moment self.old) (moment self.new) (left_since self.old) (left_since self.new) (may_leave self.new) }
         ensures cause { CountsFailure result (faults self.old) (faults self.new) };
@@ -66,10 +68,11 @@ pub trait Disk {
         ensures cut { IsTrue is_modelled → OnOk result (seen self.new ≡ take size (seen self.old)) }
         ensures seen { IsTrue is_modelled → Cut size (seen self.old) (seen self.new) }
         ensures crash { IsTrue is_modelled → Follows (Cut size) (may_leave self.old) (may_leave self.new) }
+        ensures torn { IsTrue is_modelled → OnOk result ((c d : List ℕ) → may_leave self.old d → Cut size d c → may_leave self.new c) }
         ensures time { IsTrue is_modelled → Elapses (moment self.old) (moment self.new) (left_since self.old) (left_since self.new) (may_leave self.new) }
         ensures cause { CountsFailure result (faults self.old) (faults self.new) };
 
-    /// After it, a crash leaves what a read gives. After a failure a crash may leave what it might have left before.
+    /// After it, a crash leaves what a read gives. After a failure a crash leaves at most what it might have left before.
     fn sync(&mut self) -> Result<(), DeviceFault>
         ensures durable { IsTrue is_modelled → OnOk result (Only (seen self.old) (may_leave self.new)) }
         ensures seen { IsTrue is_modelled → seen self.new ≡ seen self.old }

@@ -1,5 +1,5 @@
 //! A file as a disk.
-ghost use Rattle.std.specs.Prelude.{◌≡◌, [], false};
+ghost use Rattle.std.specs.Prelude.{◌≡◌, [], IfOk, false};
 ghost use Rattle.std.proofs.lemmas.Bool.{false≢true};
 
 use crate::counts::counted;
@@ -24,8 +24,11 @@ pub struct FileDisk {
 
 impl FileDisk {
     /// Opens the file of a path, and makes it where there is none. It fails where another process has the file open as a
-    /// disk, where the path is no file, and where the folder of a new file can't be synced.
-    pub fn open<R: Files<File = File>>(rt: &R, path: &str) -> Result<FileDisk, DeviceFault> {
+    /// disk, where the path is no file, and where the folder of a new file can't be synced. It has
+    /// no failed call yet.
+    pub fn open<R: Files<File = File>>(rt: &R, path: &str) -> Result<FileDisk, DeviceFault>
+        ensures failures { IfOk result (λ disk. ⟦<FileDisk as Disk>⟧.faults disk ≡ 0) }
+    {
         let file = open_locked(rt, path).map_err(|_| DeviceFault)?;
         Ok(FileDisk { file, failures: 0 })
     }

@@ -1,10 +1,15 @@
 //! Laws of openings, each the contract of a function that does nothing.
-ghost use Rattle.std.specs.Prelude.{◌≡◌, ◌≤◌, ℕ, List, length};
+ghost use Rattle.std.specs.Prelude.{◌≡◌, ◌≤◌, ℕ, List, [], ◌∷◌, length};
 ghost use Rattle.host_names.specs.Blobs.{Contents};
+ghost use Rattle.host_names.specs.declared.digests.Digest.{Digest};
+ghost use Rattle.host_names.specs.declared.names.SiteName.{SiteName};
+ghost use Rattle.blob_store.specs.declared.openings.Wanted.{Wanted};
 ghost use Rattle.change_undo.specs.Histories.{IsLegal, Past};
 ghost use Rattle.change_undo.specs.Plans.{IsHistoryOver};
 ghost use Rattle.change_undo.specs.declared.entries.Entry.{Entry as Line};
 ghost use Rattle.host_opening.specs.Replays.{IsReplayed, StopsAt};
+ghost use Rattle.host_opening.specs.WantedFiles.{AreWanted, IsPublished, Lists};
+ghost use Rattle.host_opening.specs.declared.replays.ReplayFault.{ReplayFault};
 ghost use Rattle.host_opening.specs.declared.replays.ReplayFault.TheVariants.{NotLegal};
 
 /// Where each entry is accepted in turn and there are no more than the limit says, none is told that isn't legal.
@@ -16,4 +21,12 @@ pub fn a_legal_log_is_replayed()
 pub fn a_replayed_history_is_the_same()
     ensures { (uploads : Contents) (past opened : Past) → IsHistoryOver uploads past → IsReplayed uploads past.limit past.entries opened
         → (opened.entries ≡ past.entries) × (opened.limit ≡ past.limit) × (opened.state ≡ past.state) }
+{}
+
+/// Of no entries no file is wanted, listed or published, and none of them stops an opening.
+pub fn nothing_is_wanted_of_no_entries()
+    ensures wanted { (one : Wanted) (more : List Wanted) → ¬ (AreWanted [] (one ∷ more)) }
+    ensures listed { (site : SiteName) (n : ℕ) (digest : Digest) → ¬ (Lists [] site n digest) }
+    ensures published { (site : SiteName) (n : ℕ) → ¬ (IsPublished [] site n) }
+    ensures stopped { (uploads : Contents) (limit : ℕ) (stop : ReplayFault) → ¬ (StopsAt uploads limit [] stop) }
 {}

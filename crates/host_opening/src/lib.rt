@@ -9,6 +9,8 @@ mod published;
 mod replays;
 mod wanted_files;
 
-pub use laws::{a_legal_log_is_replayed, a_replayed_history_is_the_same};
+pub use laws::{
+    a_legal_log_is_replayed, a_replayed_history_is_the_same, nothing_is_wanted_of_no_entries,
+};
 pub use replays::{ReplayFault, replay};
 pub use wanted_files::wanted;

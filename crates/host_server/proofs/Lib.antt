@@ -25,3 +25,5 @@ pub mod TimedTrails
 pub mod TimedReads
 pub mod TimedTurns
 pub mod TimedConnections
+pub mod Refuted
+pub mod NoHead

@@ -9,7 +9,7 @@ use Rattle.blob_store.specs.declared.openings.Wanted.{Wanted}
 use Rattle.chunk_lru.specs.Caches.{empty}
 use Rattle.change_undo.specs.declared.entries.Entry.{Entry}
 use Rattle.change_journal.specs.Held.{Keeps}
-use Rattle.change_journal.specs.Openings.{IsFound, IsNoJournal}
+use Rattle.change_journal.specs.Openings.{IsFound, IsNoJournal, IsRefused}
 use Rattle.change_journal.specs.Texts.{AllStored, IsText, texts}
 use Rattle.change_journal.specs.Walks.{IsBadRecord, IsOnlyRead}
 use Rattle.change_journal.specs.declared.faults.OpenFault as of_disk
@@ -51,34 +51,42 @@ pub record IsOpened {S D : Type 0} {disk : Ghosts D} (did : S → Call → S →
 
 -- ---- why there is none, in the order in which it is told
 
--- nothing was written
+-- of a modelled disk: nothing was written
 abbrev pub IsUnwritten : {D : Type 0} → Ghosts D → D → D → Type 0
 IsUnwritten disk old new = IsTrue disk.is_modelled → IsOnlyRead disk.seen disk.may_leave disk.moment disk.left_since old new
 
--- the journal can't be opened: the file is none, and nothing was written; or the device failed
+-- of a modelled disk: nothing was written to a file that is refused
+abbrev pub IsSpared : {D : Type 0} → Ghosts D → D → D → Type 0
+IsSpared disk old new = IsTrue disk.is_modelled → IsRefused IsText (disk.seen old) → IsOnlyRead disk.seen disk.may_leave disk.moment disk.left_since old new
+
+-- the journal can't be opened: the file is none, or has a bad record, or there was no memory, and nothing was written; or the device failed, which
+-- is counted, and nothing was written to a file that is refused
 abbrev pub IsJournalFault : {D : Type 0} → Ghosts D → D → OpenFault → D → Type 0
 IsJournalFault disk old fault.BadHeader new = (IsTrue disk.is_modelled → IsNoJournal (disk.seen old)) × IsUnwritten disk old new
 IsJournalFault disk old (fault.BadRecord n) new = (IsTrue disk.is_modelled → IsBadRecord IsText n (disk.seen old)) × IsUnwritten disk old new
-IsJournalFault disk old fault.JournalDevice new = disk.faults new ≡ min (disk.faults old + 1) (2 ^ 64 - 1)
-IsJournalFault disk old fault.OutOfMemory new = Unit {0}
+IsJournalFault disk old fault.JournalDevice new = (disk.faults new ≡ min (disk.faults old + 1) (2 ^ 64 - 1)) × IsSpared disk old new
+IsJournalFault disk old fault.OutOfMemory new = IsUnwritten disk old new
 IsJournalFault disk old why new = ⊥
 
 -- the files that these entries want can't be opened, for that reason
 abbrev pub AreNotOpened : {S : Type 0} → (did : S → Call → S → Type 0) → S → List Entry → of_files.OpenFault → S → Type 0
 AreNotOpened did old entries why new = (wanted : List Wanted) × AreWanted entries wanted × blobs.IsOpenFault did old wanted why new
 
--- a file that must be there isn't, or the device of the shelf failed
+-- a file that must be there is missing or damaged, or the device of the shelf failed; or there was no memory: the shelf wasn't asked, or some files
+-- were taken and the next one lacked it, on the shelf or here
 abbrev pub IsFilesFault : {S : Type 0} → (did : S → Call → S → Type 0) → S → List Entry → OpenFault → S → Type 0
 IsFilesFault did old entries (fault.MissingBlob digest) new = AreNotOpened did old entries (blobs_fault.MissingBlob digest) new
 IsFilesFault did old entries (fault.DamagedBlob digest) new = AreNotOpened did old entries (blobs_fault.DamagedBlob digest) new
 IsFilesFault did old entries fault.BlobsDevice new = AreNotOpened did old entries blobs_fault.Device new
-IsFilesFault did old entries fault.OutOfMemory new = Unit {0}
+IsFilesFault did old entries fault.OutOfMemory new = (new ≡ old) ⊎ AreNotOpened did old entries blobs_fault.OutOfMemory new
 IsFilesFault did old entries why new = ⊥
 
--- that, or the files are there, and the entry of a number isn't accepted after those before it
+-- that; or the files were opened, and the entry of a number isn't accepted after those before it; or they were, and there was no memory, whether or
+-- not each entry would be
 abbrev pub IsHostFault : {S : Type 0} → (did : S → Call → S → Type 0) → S → ℕ → List Entry → OpenFault → S → Type 0
 IsHostFault did old limit entries (fault.NotLegal n) new =
     (known : Contents) × HasFiles did old entries known new × StopsAt known limit entries (replay_fault.NotLegal n)
+IsHostFault did old limit entries fault.OutOfMemory new = IsFilesFault did old entries fault.OutOfMemory new ⊎ ((known : Contents) × HasFiles did old entries known new)
 IsHostFault did old limit entries why new = IsFilesFault did old entries why new
 
 -- Why a server can't be opened: the journal can't be, and the shelf isn't asked; or its entries have no host.

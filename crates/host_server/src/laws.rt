@@ -1,5 +1,5 @@
 //! What follows of servers whose shelf keeps what is put there. The function does nothing: its contract is the law.
-ghost use Rattle.std.specs.Prelude.{◌≡◌, ℕ, List, Option, Ok};
+ghost use Rattle.std.specs.Prelude.{◌≡◌, ◌≢◌, ℕ, List, Option, Ok};
 ghost use Rattle.std.specs.FinMap as map;
 ghost use Rattle.host_names.specs.declared.names.SiteName.{SiteName as Site};
 ghost use Rattle.blob_store.specs.Keeping.{Keeps};
@@ -7,11 +7,12 @@ ghost use Rattle.blob_store.specs.declared.shelves.ShelfName.{ShelfName};
 ghost use Rattle.chunk_lru.specs.Caches.{empty};
 ghost use Rattle.http_wire.specs.Requests.{RequestParts};
 ghost use Rattle.host_api.specs.declared.bodies.Ask.TheVariants.{Read};
+ghost use Rattle.host_api.specs.declared.refusals.Refusal.TheVariants as reason;
 ghost use Rattle.host_api.specs.declared.versions.Version.{Version};
 ghost use Rattle.host_server.specs.Asks.{IsAnswer, asked_for};
 ghost use Rattle.host_server.specs.Hosts.{state_of};
 ghost use Rattle.host_server.specs.ReadBack.{HasKnown, IsReadBack, UploadAgrees};
-ghost use Rattle.host_server.specs.Replies.{Answer};
+ghost use Rattle.host_server.specs.Replies.{Answer, refused_answer};
 ghost use Rattle.host_server.specs.Versions.{file_of};
 ghost use Rattle.host_server.specs.declared.servers.Server.{Server};
 
@@ -19,8 +20,9 @@ use blob_store::Shelf;
 use host_disk::Disk;
 
 /// Where the shelf keeps what is put there, it has each file that is known, and what is in the cache is of such files, from an empty server on and
-/// after each request, unless an upload has a piece or a digest that other bytes of it or of a known file have too. What is then read of a file is
-/// of the file itself, and is refused only for the device and for want of memory: it is neither missing nor damaged.
+/// after each request, unless an upload has a piece or a digest that other bytes of it or of a known file have too. What is then answered to the
+/// reading of a file is of the file itself, or says that it has nothing of the range, that the device failed, or that there was no memory; it is never
+/// told as missing or damaged.
 pub fn uploads_are_read_back<S: Shelf, D: Disk>()
     ensures empty { (has : S → ShelfName → Option (List ℕ)) (server : Server S D D.Disk) (limit : ℕ) → server.house.uploads ≡ map.empty → server.files.cache ≡ empty limit
         → HasKnown has server }
@@ -30,4 +32,12 @@ pub fn uploads_are_read_back<S: Shelf, D: Disk>()
         (path file : List ℕ) → Keeps S.did has → HasKnown has old
         → asked_for parts body ≡ Ok (Read site version path) → file_of (state_of old.house) site version path ≡ Ok file
         → IsAnswer S.did S.failures D.faults old parts body answer new → IsReadBack parts path file answer }
+    ensures there { (has : S → ShelfName → Option (List ℕ)) (old new : Server S D D.Disk) (parts : RequestParts) (body : List ℕ) (answer : Answer) (site : Site) (version : Version)
+        (path file : List ℕ) → Keeps S.did has → HasKnown has old
+        → asked_for parts body ≡ Ok (Read site version path) → file_of (state_of old.house) site version path ≡ Ok file
+        → IsAnswer S.did S.failures D.faults old parts body answer new → answer ≢ refused_answer reason.Missing }
+    ensures whole { (has : S → ShelfName → Option (List ℕ)) (old new : Server S D D.Disk) (parts : RequestParts) (body : List ℕ) (answer : Answer) (site : Site) (version : Version)
+        (path file : List ℕ) → Keeps S.did has → HasKnown has old
+        → asked_for parts body ≡ Ok (Read site version path) → file_of (state_of old.house) site version path ≡ Ok file
+        → IsAnswer S.did S.failures D.faults old parts body answer new → answer ≢ refused_answer reason.Damaged }
 {}

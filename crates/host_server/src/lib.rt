@@ -20,6 +20,7 @@ mod services;
 mod solo;
 mod stores;
 mod storing;
+mod wrong_answer_laws;
 
 pub use answers::{Request, answer};
 pub use connections::{ConnectionFault, serve_connection};
@@ -31,3 +32,6 @@ pub use servers::Server;
 pub use services::Service;
 pub use solo::run_solo;
 pub use stores::run_store;
+pub use wrong_answer_laws::{
+    wrong_answers_are_refused, wrong_changes_are_refused, wrong_runs_are_refused,
+};

@@ -85,6 +85,7 @@ whole saw old new size buffer rest body full so = record {
   claimed = record {
     nothing_put = so.nothing_put;
     ends = so.goes_on;
+    leaves = tt;
     of_stream = λ left new_left gives. (full, taken so.events left new_left buffer rest body.items gives so.moved);
   };
 }
@@ -99,6 +100,7 @@ no_memory saw old new size buffer body rest less so = record {
   claimed = record {
     nothing_put = so.nothing_put;
     ends = so.goes_on;
+    leaves = tt;
     of_stream = λ left new_left gives. (body, taken so.events left new_left buffer rest body gives so.moved, less);
   };
 }
@@ -113,6 +115,7 @@ read_failed saw old mid new size buffer body rest same so none less is seen = re
   claimed = record {
     nothing_put = so.nothing_put;
     ends = refl;
+    leaves = is ∙ none;
     of_stream = λ left new_left gives. (body, taken (ReadFails ∷ so.events) left new_left buffer same body gives (ap (λ u. body ++ u) is ∙ so.moved), less);
   };
 }
@@ -131,6 +134,7 @@ input_ended saw old mid new size buffer body rest [] filled so none less longer 
       claimed = record {
         nothing_put = so.nothing_put;
         ends = refl;
+        leaves = same ∙ none;
         of_stream = λ left new_left gives. (
           (body, taken (AtEnd ∷ so.events) left new_left buffer filled body gives (ap (λ u. body ++ u) same ∙ so.moved), less),
           (at_end filled new_left (same ∙ none) (gives.end refl), short (AtEnd ∷ so.events) left new_left buffer size gives (gives.end refl) few),

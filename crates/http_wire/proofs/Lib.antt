@@ -15,3 +15,6 @@ pub mod HeadReads
 pub mod BodyReads
 pub mod StreamReads
 pub mod Writes
+pub mod OneHead
+pub mod ReadCounts
+pub mod ManyFields

@@ -1,6 +1,6 @@
+-- what public clauses say
 pub mod Timing
 pub mod HeadText
-pub mod Scanning
 pub mod Requests
 pub mod Fields
 pub mod Wires
@@ -9,3 +9,5 @@ pub mod FieldTexts
 pub mod Replies
 pub mod Connections
 pub mod Expectations
+-- what the functions that find the end of a head say of each other
+pub mod Scanning

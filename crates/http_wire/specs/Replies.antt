@@ -91,7 +91,7 @@ pub record HasLines (text : List ℕ) (lines : List (List ℕ)) : Type 0 where
 
 -- ---- what private functions say
 
--- the line of a field with its end, where its value is there
+-- the same as one text, where its value is there; `behind` has the end of the line
 abbrev pub line_of : List ℕ → Option (List ℕ) → List ℕ → List ℕ
 line_of before None behind = []
 line_of before (Some value) behind = before ++ (value ++ behind)

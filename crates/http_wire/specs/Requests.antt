@@ -21,7 +21,7 @@ pub record RequestParts : Type 0 where
 abbrev pub parts_of : RequestHead → RequestParts
 parts_of h = record { method = h.method; target = h.target; minor = h.minor; fields = map name_and_value h.fields }
 
--- the version whose minor number that is
+-- the version whose minor number that is, 0 or 1
 abbrev pub version_of : ℕ → Version
 version_of minor = if minor == 0 then HTTP_10 else HTTP_11
 

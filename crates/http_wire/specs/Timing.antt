@@ -1,5 +1,5 @@
 -- When a stream of bytes in both directions is read and written: one event for each read and each write.
-use Rattle.std.specs.Prelude.{◌≡◌, ℕ, ◌<◌, List, [], ◌∷◌, ◌++◌, length, Option}
+use Rattle.std.specs.Prelude.{◌≡◌, ℕ, ◌+◌, ◌<◌, List, [], ◌∷◌, ◌++◌, length, Option}
 use Rattle.std.specs.Io.KnownBytes.{Consumes, Keeps, Appends, IsAtEnd}
 
 -- a read gave these bytes, or the end, or failed; a write took these bytes, or failed
@@ -33,6 +33,15 @@ all_put (ReadFails ∷ past) = all_put past
 all_put (Put bytes ∷ past) = all_put past ++ bytes
 all_put (WriteFails ∷ past) = all_put past
 
+-- how many of the events are reads
+abbrev pub count_reads : List Event → ℕ
+count_reads [] = 0
+count_reads (Got bytes ∷ past) = count_reads past + 1
+count_reads (AtEnd ∷ past) = count_reads past + 1
+count_reads (ReadFails ∷ past) = count_reads past + 1
+count_reads (Put bytes ∷ past) = count_reads past
+count_reads (WriteFails ∷ past) = count_reads past
+
 -- the latest event is this one
 abbrev pub IsLatest : Event → List Event → Type 0
 IsLatest event [] = ⊥
@@ -47,8 +56,8 @@ GoesOn (ReadFails ∷ past) = ⊥
 GoesOn (Put bytes ∷ past) = Unit {0}
 GoesOn (WriteFails ∷ past) = ⊥
 
--- a read comes only where it may, after the bytes that were got and put before it; a read or a write that goes well
--- moves a byte at least
+-- a read comes only where it may, after the bytes that were got and put before it, and a write at any time; one that
+-- goes well moves a byte at least, but for a read that finds the end
 abbrev pub IsAllowed : (may_read : List ℕ → List ℕ → Type 0) → Event → (got put : List ℕ) → Type 0
 IsAllowed may_read (Got bytes) got put = (0 < length bytes) × may_read got put
 IsAllowed may_read AtEnd got put = may_read got put

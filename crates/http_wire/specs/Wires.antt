@@ -10,7 +10,7 @@ use Rattle.http_wire.specs.HeadText.{IsHeadText, CutShort, Overlong, head_limit}
 use Rattle.http_wire.specs.Requests.{RequestParts, Says, IsBadHead, HasManyFields}
 use Rattle.http_wire.specs.Timing.{Event, AtEnd, ReadFails, all_got, all_put, IsLatest, GoesOn, Gives}
 
--- the text is a head at the front of what was left, and is gone
+-- the text is a head of at most `head_limit` bytes at the front of what was left, and is gone
 pub record TakesHead (old new : Option (List ℕ)) (text : List ℕ) : Type 0 where
   pub taken : Consumes old new text
   pub head : IsHeadText text
@@ -35,7 +35,7 @@ RefusesLargeHead old new =
 
 -- ---- what is read, and when
 
--- no whole head is in the buffer and the bytes that came, and nothing was written since
+-- no whole head is in the buffer and the bytes that came, these are fewer than the limit, and nothing was written since
 abbrev pub AwaitsHead : (buffer got put : List ℕ) → Type 0
 AwaitsHead buffer got put = CutShort (buffer ++ got) × (put ≡ [])
 
@@ -87,10 +87,19 @@ BodyEnds (Err body_fault.Ended) events = IsLatest AtEnd events
 BodyEnds (Err body_fault.ReadFault) events = IsLatest ReadFails events
 BodyEnds (Err body_fault.OutOfMemory) events = GoesOn events
 
--- the same of the reading of a body of this size
+-- where the stream ended or a read failed, nothing is left in the buffer, also of what was there before
+abbrev pub BodyLeaves : {B : Type 0} → Result B BodyFault → (new_buffer : List ℕ) → Type 0
+BodyLeaves (Ok body) new_buffer = Unit {0}
+BodyLeaves (Err body_fault.Ended) new_buffer = new_buffer ≡ []
+BodyLeaves (Err body_fault.ReadFault) new_buffer = new_buffer ≡ []
+BodyLeaves (Err body_fault.OutOfMemory) new_buffer = Unit {0}
+
+-- nothing was written, the reads end and the buffer is left as the answer to a body of this size says, and it is that of each stream of which
+-- these reads are the next, the buffer before it
 pub record ReadsBody {A : Type 0} (result : Result (Vec ℕ A) BodyFault) (size : ℕ) (buffer new_buffer : List ℕ) (events : List Event) : Type 0 where
   pub nothing_put : all_put events ≡ []
   pub ends : BodyEnds result events
+  pub leaves : BodyLeaves result new_buffer
   pub of_stream : (left new_left : Option (List ℕ)) → Gives events left new_left
       → BodyIsOf result size (prepend_known buffer left) (prepend_known new_buffer new_left)
 

@@ -5,7 +5,8 @@ ghost use Rattle.http_wire.specs.Timing.{Event, ReadFails, Put, WriteFails, read
 use crate::sinks::{Sink, WriteFailed};
 use crate::sources::{ReadFailed, Source};
 
-/// A stream of bytes in both directions that is read and written in pieces, in an order that its contract tells.
+/// A stream of bytes in both directions that is read and written in pieces. Each read and each write is an event that
+/// `saw` tells of, so a call that is generic over it can say in which order it read and wrote.
 pub trait Duplex {
     // The bytes that reads will give from here on, where they are known.
     ghost left: { Self → Option (List ℕ) };

@@ -7,7 +7,7 @@ use thiserror::Error;
 /// Why no head was read.
 #[derive(Clone, Copy, Debug, PartialEq, Eq, Error)]
 pub enum HeadFault {
-    /// The input ended before the head was whole.
+    /// The input ended before the head was whole and before it was too long, perhaps before its first byte.
     #[error("the input ended before the head of a request was whole")]
     Ended,
     /// A read failed.
@@ -16,7 +16,7 @@ pub enum HeadFault {
     /// The head does not end within `HEAD_LIMIT` bytes, or has more than `FIELD_LIMIT` fields.
     #[error("the head of a request is too large")]
     HeadTooLarge,
-    /// The head is not one of the grammar, or its target begins with no slash.
+    /// The head is not one of the grammar, or it has no more than `FIELD_LIMIT` fields and its target begins with no slash.
     #[error("this is not the head of a request that is answered")]
     BadHead,
     /// No memory for the head.
@@ -37,7 +37,7 @@ impl From<AllocError> for HeadFault {
 /// Why a head announces no body that is read.
 #[derive(Clone, Copy, Debug, PartialEq, Eq, Error)]
 pub enum LengthFault {
-    /// There is a transfer coding.
+    /// There is a `Transfer-Encoding` field, whatever its value.
     #[error("the body of a request has a transfer coding")]
     CodingRefused,
     /// There is more than one length, or one that is no number of 64 bits.
@@ -72,7 +72,7 @@ impl From<AllocError> for BodyFault {
     }
 }
 
-/// A write failed: of the reply the first so many bytes went out.
+/// A write failed: of what was to be sent exactly the first so many bytes went out, and not all.
 #[derive(Clone, Copy, Debug, PartialEq, Eq, Error)]
 #[error("a write failed after {0} bytes of the reply")]
 pub struct WriteFault(pub u64);

@@ -1,10 +1,63 @@
-//! Laws of what is written, each the contract of a function that does nothing.
+//! Laws of the definitions, each the contract of a function that does nothing.
+ghost use Rattle.std.specs.Prelude.{◌≡◌, ◌≤◌, ◌-◌, ℕ, List, [], ◌∷◌, Option, Some, Result, Ok, Err, length};
+ghost use Rattle.http_wire.specs.declared.faults.BodyFault.TheVariants as body_fault;
+ghost use Rattle.http_wire.specs.declared.faults.HeadFault.TheVariants as head_fault;
+ghost use Rattle.http_wire.specs.declared.faults.LengthFault.{LengthFault};
+ghost use Rattle.http_wire.specs.Fields.{IsBodyLength};
+ghost use Rattle.http_wire.specs.HeadText.{CutShort, HasHead, head_limit};
 ghost use Rattle.http_wire.specs.Replies.{HasLines, fields_of, head_lines, head_text};
+ghost use Rattle.http_wire.specs.Requests.{RequestParts, Says, IsBadHead, HasManyFields};
+ghost use Rattle.http_wire.specs.Sending.{AppendsFront, SentFront, WritesText};
+ghost use Rattle.http_wire.specs.Timing.{AtEnd, Event, IsLatest, Moves, NoRead, Ran, ReadFails, Timely, count_reads};
+ghost use Rattle.http_wire.specs.Wires.{AwaitsBody, AwaitsHead, HasWholeHead, ReadsBody, ReadsHead, RefusesHead, RefusesLargeHead, ServesHead};
 
+use crate::duplexes::Duplex;
 use crate::replies::ReplyHead;
+
+/// A stream begins with one head at most. A head's text says one set of parts at most, and where it says one it is
+/// neither bad nor has it too many fields. Fields announce at most one length, or have at most one first reason why not, and
+/// never both.
+pub fn one_head()
+    ensures begins { (stream text rest other others : List ℕ) → HasHead stream text rest → HasHead stream other others
+        → (text ≡ other) × (rest ≡ others) }
+    ensures says { (text : List ℕ) (parts others : RequestParts) → Says text parts → Says text others → parts ≡ others }
+    ensures good { (text : List ℕ) (parts : RequestParts) → Says text parts → ¬ (IsBadHead text) }
+    ensures fits { (text : List ℕ) (parts : RequestParts) → Says text parts → ¬ (HasManyFields text) }
+    ensures announces { (fields : List (List ℕ × List ℕ)) (limit : ℕ) (one another : Result ℕ LengthFault)
+        → IsBodyLength one fields limit → IsBodyLength another fields limit → one ≡ another }
+{}
+
+/// A head and a body are read in no more reads than bytes are missing: those of the body, or of the longest head.
+pub fn few_reads()
+    ensures head { (buffer : List ℕ) (events : List Event) → Timely (AwaitsHead buffer) events
+        → count_reads events ≤ head_limit - length buffer }
+    ensures body { (buffer : List ℕ) (size : ℕ) (events : List Event) → Timely (AwaitsBody buffer size) events
+        → count_reads events ≤ size - length buffer }
+{}
 
 /// The head of a reply is the line of its status, one line for each field that is there, and the empty line that ends it:
 /// no text of a field begins another line.
 pub fn a_head_has_its_lines(head: &ReplyHead<'_>)
     ensures { HasLines (head_text (fields_of head.now)) (head_lines (fields_of head.now)) }
+{}
+
+/// Of these relations each is refuted of one wrong answer, so none of them holds of everything. Nothing is told of a head where
+/// nothing came.
+pub fn wrong_answers_are_refused<D: Duplex>()
+    ensures cut_short { (stream : List ℕ) → head_limit ≤ length stream → ¬ (CutShort stream) }
+    ensures cut_head { (stream text rest : List ℕ) → HasHead stream text rest → ¬ (CutShort stream) }
+    ensures serves { (new : Option (List ℕ)) (parts : RequestParts) → ¬ (ServesHead (Some []) new parts) }
+    ensures whole { ¬ (HasWholeHead (Some [])) }
+    ensures refuses { (new : Option (List ℕ)) → ¬ (RefusesHead (Some []) new) }
+    ensures large { (new : Option (List ℕ)) → ¬ (RefusesLargeHead (Some []) new) }
+    ensures lines { ¬ (HasLines [] []) }
+    ensures front { (start held : Option (List ℕ)) (count : ℕ) → ¬ (SentFront start held [] count) }
+    ensures appends { (held new_held : Option (List ℕ)) → ¬ (AppendsFront [] held new_held) }
+    ensures written { ¬ (WritesText (Ok tt) (0 ∷ []) []) }
+    ensures moves { (left held new_left new_held : Option (List ℕ)) → ¬ (Moves ⊥ ⊥ ReadFails left held new_left new_held) }
+    ensures no_read { (old new : D) → ¬ (Ran D.saw NoRead old new (IsLatest AtEnd)) }
+    ensures awaits_head { (buffer got : List ℕ) → ¬ (AwaitsHead buffer got (0 ∷ [])) }
+    ensures awaits_body { (buffer got put : List ℕ) → ¬ (AwaitsBody buffer 0 got put) }
+    ensures reads_head { (buffer new_buffer : List ℕ) → ¬ (ReadsHead (Err head_fault.ReadFault) buffer new_buffer []) }
+    ensures reads_body { (size : ℕ) (buffer new_buffer : List ℕ) → ¬ (ReadsBody {A = ℕ} (Err body_fault.ReadFault) size buffer new_buffer []) }
 {}

@@ -5,9 +5,9 @@ ghost use Rattle.http_wire.specs.Scanning.{step_of, is_done, rest_from};
 /// What the bytes of a head read so far end in.
 #[derive(Clone, Copy, Debug, PartialEq, Eq)]
 pub enum State {
-    /// Empty lines alone.
+    /// Nothing yet, or empty lines alone.
     Before,
-    /// Empty lines and a CR.
+    /// Empty lines, if any, and a CR.
     BeforeReturn,
     /// A part of a line of text.
     Text,

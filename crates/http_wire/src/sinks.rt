@@ -1,5 +1,5 @@
 //! Where the bytes of a connection go.
-ghost use Rattle.std.specs.Prelude.{ℕ, List, Option, None, ⊤, ◌<◌, ◌≤◌, length, IfOk, OnOk, OnErr};
+ghost use Rattle.std.specs.Prelude.{ℕ, List, Option, ⊤, ◌<◌, ◌≤◌, length, IfOk, OnOk, OnErr};
 ghost use Rattle.std.specs.Io.KnownBytes.{Appends, WriteAppends};
 ghost use Rattle.http_wire.specs.Sending.{AppendsFront};
 
@@ -27,7 +27,7 @@ pub trait Sink {
         ensures cause { OnErr result may_fail };
 }
 
-/// Writes all the bytes. Nothing is written after a write that failed.
+/// Writes all the bytes; or a write fails, after a front of them and fewer than all.
 pub fn write_all<W: Sink>(sink: &mut W, bytes: &[u8]) -> Result<(), WriteFailed>
     ensures ok { OnOk result (Appends (W.held sink.old) (W.held sink.new) bytes.now) }
     ensures cut { OnErr result (AppendsFront bytes.now (W.held sink.old) (W.held sink.new)) }
@@ -58,20 +58,5 @@ impl<W: Write> Sink for Writing<W> {
             Ok(count) => Ok(count),
             Err(_) => Err(WriteFailed),
         }
-    }
-}
-
-/// How many bytes were written. They are kept nowhere, so a write never fails.
-#[derive(Debug, Drop)]
-pub struct Counting(pub u64);
-
-impl Sink for Counting {
-    ghost held = { λ _. None };
-
-    ghost may_fail = { ⊥ };
-
-    fn write_some(&mut self, bytes: &[u8]) -> Result<usize, WriteFailed> {
-        self.0 = self.0.saturating_add(bytes.len() as u64);
-        Ok(bytes.len())
     }
 }

@@ -68,13 +68,13 @@ impl Wire {
     }
 
     /// Reads a body of `count` bytes. Reads only where what came before is fewer bytes, and writes nothing. Memory is
-    /// taken as the bytes come, for twice as many at most and no more than `count`; a body of none takes none.
+    /// taken as the bytes come, by design for twice as many at most and no more than `count`; a body of none takes none.
     pub fn read_body<D: Duplex>(&mut self, duplex: &mut D, count: u64) -> Result<Vec<u8>, BodyFault>
         ensures ok { let old = prepend_known self.old (D.left duplex.old) in
             let new = prepend_known self.new (D.left duplex.new) in
             IfOk result (λ body. (vec_len body ≡ count) × Consumes old new body.items) }
 
-        // An error takes a part of the body, and never the whole.
+        // An error takes a part of the body, and never the whole; where no more bytes come, all that came (`ran`).
         ensures part { let old = prepend_known self.old (D.left duplex.old) in
             let new = prepend_known self.new (D.left duplex.new) in
             IfErr result (λ e. (bytes : List ℕ) × Consumes old new bytes × (length bytes < count)) }

@@ -56,7 +56,7 @@ ReadsChunk did failures old name answer new = IsFound old name answer new ⊎ Is
 abbrev pub GaveOfNode : {S : Type 0} → (did : S → Call → S → Type 0) → (failures : S → ℕ) → CachedShelf S → Held → CachedShelf S → Type 0
 GaveOfNode did failures old hold new = ReadsInTurn (ReadsChunk did failures) old hold.chunks new
 
--- why a stretch of a file can't be held: one of its chunks can't be read, after those before it; or there was no memory to keep some of them; or one isn't as
+-- why a stretch of a file can't be held: one of its chunks can't be read, after those before it; or there was no memory to keep the last of those read; or one isn't as
 -- long as its piece
 abbrev pub FailedOfNode : {S : Type 0} → (did : S → Call → S → Type 0) → (failures : S → ℕ) → CachedShelf S → List ℕ → (first last : ℕ) → ReadFault → CachedShelf S → Type 0
 FailedOfNode did failures old file first last fault new = IsNotHeld (ReadsChunk did failures) old file first last fault new

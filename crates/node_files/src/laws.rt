@@ -1,11 +1,12 @@
 //! What follows for files that are read through a cache. Each function does nothing: its contract is the law.
-ghost use Rattle.std.specs.Prelude.{◌≡◌, ◌⊎◌, ◌<◌, ◌≤◌, ℕ, List, Option};
+ghost use Rattle.std.specs.Prelude.{◌≡◌, ◌⊎◌, ◌<◌, ◌≤◌, ℕ, List, [], ◌∷◌, Option, None};
 ghost use Rattle.std.specs.List.{Contains};
 ghost use Rattle.byte_view.specs.Cuts.{cut};
 ghost use Rattle.blob_store.specs.declared.reading.ReadFault.{ReadFault};
 ghost use Rattle.blob_store.specs.declared.reading.ReadFault.TheVariants.{Device, OutOfMemory};
 ghost use Rattle.blob_store.specs.declared.shelves.ShelfName.{ShelfName};
 ghost use Rattle.blob_store.specs.Keeping.{HasFile, Keeps};
+ghost use Rattle.chunk_lru.specs.Caches.{empty};
 ghost use Rattle.range_spec.specs.declared.selection.Choice.{Choice};
 ghost use Rattle.file_reads.specs.declared.bodies.FileBody.{FileBody};
 ghost use Rattle.file_reads.specs.Sending.{IsExact, IsNotRead, IsRead};
@@ -41,7 +42,8 @@ pub fn cached_files_are_sent<S: Shelf>()
         → HasFile has old.shelf file → HasCached has old → IsNotRead (GaveOfNode S.did S.failures) (FailedOfNode S.did S.failures) old file plan fault new → HasCached has new }
 {}
 
-/// What is in the cache after a read, also after one that fails, was there before, or is a piece of the file that was read.
+/// Over such a shelf, and where the file read is on it: what is in the cache after a read, also after one that fails, was there before, or is a piece
+/// of that file.
 pub fn caches_have_pieces_of_files_read<S: Shelf>()
     ensures read { (has : S → ShelfName → Option (List ℕ)) (old new : CachedShelf S) (file content_type : List ℕ) (plan : Choice) (body : FileBody) → Keeps S.did has
         → HasFile has old.shelf file → HasCached has old → IsRead (GaveOfNode S.did S.failures) old file plan content_type body new
@@ -49,4 +51,16 @@ pub fn caches_have_pieces_of_files_read<S: Shelf>()
     ensures fault { (has : S → ShelfName → Option (List ℕ)) (old new : CachedShelf S) (file : List ℕ) (plan : Choice) (fault : ReadFault) → Keeps S.did has
         → HasFile has old.shelf file → HasCached has old → IsNotRead (GaveOfNode S.did S.failures) (FailedOfNode S.did S.failures) old file plan fault new
         → AllCached (λ chunk. IsCached old.cache chunk ⊎ Contains (cut file) chunk) new.cache }
+{}
+
+/// A shelf has what is in an empty cache, so that what is said of such shelves is said of a node that is new.
+pub fn an_empty_cache_is_on_each_shelf<S: Shelf>()
+    ensures { (has : S → ShelfName → Option (List ℕ)) (shelf : S) (limit : ℕ) → HasCached has (record { shelf = shelf; cache = empty limit }) }
+{}
+
+/// Of these relations each is refuted of one wrong answer, so none of them holds of everything.
+pub fn wrong_answers_are_refused<S: Shelf>()
+    ensures cached { (limit : ℕ) (chunk : List ℕ) → ¬ (IsCached (empty limit) chunk) }
+    ensures all { ¬ (AllCached (λ chunk. ⊥) (record { limit = 100; main = [] ∷ []; hot = [] })) }
+    ensures has { (shelf : S) → ¬ (HasCached (λ shelf name. None) (record { shelf = shelf; cache = record { limit = 100; main = [] ∷ []; hot = [] } })) }
 {}

@@ -2,7 +2,7 @@
 ghost use Rattle.std.specs.Prelude.{◌≡◌, ◌↔◌, ◌<◌, ◌≤◌, Err, IfErr, IfOk, None, OnOk, length, map};
 ghost use Rattle.host_names.specs.Blobs.{digest_of};
 ghost use Rattle.blob_store.specs.Calls.{PutsInTurn, things_of};
-ghost use Rattle.blob_store.specs.Faults.{HasPutSome};
+ghost use Rattle.blob_store.specs.Faults.{HasPutPart};
 ghost use Rattle.blob_store.specs.declared.blobs.UploadFault.TheVariants as upload_fault;
 ghost use Rattle.chunk_lru.specs.Caches.{empty};
 ghost use Rattle.node_files.specs.Cached.{FailedOfNode, GaveOfNode};
@@ -48,7 +48,8 @@ fn lone_ring(alloc: Global) -> Result<Ring<DigestHash>, AllocError>
 }
 
 impl<S: Shelf> NodeFiles<S> {
-    /// The files of a shelf, with nothing in the cache yet. Where there is no memory for the cache, they are handed back.
+    /// The files of a shelf, with nothing in the cache yet. Where there is no memory for the ring or the cache, they
+    /// are handed back.
     pub fn new(alloc: Global, files: Files<S>) -> Result<NodeFiles<S>, Files<S>>
         ensures new { IfOk result (λ node. node ≡ record { shelf = files.shelf; cache = empty 67108864 }) }
         ensures back { IfErr result (λ back. back ≡ files) }
@@ -71,7 +72,7 @@ impl<S: Shelf> NodeFiles<S> {
         ensures large { (result ≡ Err upload_fault.TooLarge) ↔ (16777216 < length bytes.now) }
         ensures info { IfOk result (λ info. info.value ≡ bytes.now) }
         ensures put { OnOk result (PutsInTurn S.did self.old.shelf (things_of bytes.now) None self.new.shelf) }
-        ensures not_put { IfErr result (λ fault. HasPutSome S.did self.old.shelf (things_of bytes.now) fault self.new.shelf) }
+        ensures not_put { IfErr result (λ fault. HasPutPart S.did self.old.shelf (things_of bytes.now) fault self.new.shelf) }
         ensures device { IfErr result (λ fault. fault ≡ upload_fault.Device → S.failures self.old.shelf < S.failures self.new.shelf) }
         ensures count { S.failures self.old.shelf ≤ S.failures self.new.shelf }
         ensures cache { self.new.cache ≡ self.old.cache }

@@ -10,7 +10,7 @@ pub record IsFirstApart (texts : List (List ℕ)) (digest : Digest) (number : �
   pub apart : OccursInOne (candidate digest number) texts → ⊥
   pub least : (lower : ℕ) → lower < number → OccursInOne (candidate digest lower) texts
 
--- the text of that candidate, where there are eight
+-- the text is the first of the eight candidates, from number 0 on, that occurs in none of these texts
 abbrev pub IsBoundaryFor : List (List ℕ) → Digest → List ℕ → Type 0
 IsBoundaryFor texts digest text = (number : ℕ) × (number < 8) × (text ≡ candidate digest number) × IsFirstApart texts digest number
 

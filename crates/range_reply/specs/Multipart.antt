@@ -36,7 +36,7 @@ part_text boundary content_type file interval =
 abbrev pub last_line : List ℕ → List ℕ
 last_line boundary = codes "--" ++ (boundary ++ codes "--\r\n")
 
--- the whole body: the parts in the order asked, neither sorted nor joined (RFC 9110, section 15.3.7.2), and the last boundary
+-- the whole body: the parts in the order given, neither sorted nor joined (RFC 9110, section 15.3.7.2), and the last boundary
 abbrev pub multipart_text : List ℕ → List ℕ → List ℕ → List (ℕ × ℕ) → List ℕ
 multipart_text boundary content_type file intervals =
     flat_map (part_text boundary content_type file) intervals ++ last_line boundary

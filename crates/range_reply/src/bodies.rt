@@ -53,8 +53,8 @@ fn multipart_body(
 }
 
 /// The body that a plan sends of a file: the file, an interval of it, several in parts, or nothing. The holds are of the
-/// stretches that are sent, in order: the intervals, or the whole of a file that has a byte. It allocates once, and never
-/// where nothing is sent.
+/// stretches that are sent, in order: the intervals, or the whole of a file that has a byte. It is made to allocate once; where
+/// nothing is sent it never answers that there is no memory. A body of 2^64 bytes or more counts as one for which there is none.
 pub fn body(
     alloc: Global,
     holds: &[Hold],

@@ -14,7 +14,7 @@ pub enum IfRange {
     Absent,
     /// The file is the one that the client has a part of.
     True,
-    /// It isn't, or nobody can tell.
+    /// It isn't, or it isn't told by one field that is exactly the strong entity tag.
     False,
 }
 

@@ -16,6 +16,6 @@ pub use bodies::body;
 pub use boundaries::Boundary;
 pub use choices::boundary;
 pub use conditions::IfRange;
-pub use laws::texts_are_found_where_they_stand;
+pub use laws::{one_boundary, texts_are_found_where_they_stand, wrong_answers_are_refused};
 pub use lengths::multipart_length;
 pub use plans::{ReplyPlan, plan};

@@ -8,7 +8,7 @@ use arrayvec::ArrayVec;
 use byte_view::{Hold, Pieces};
 use memchr::memmem;
 
-/// How many bytes on either side of an edge are looked through: as many as the longest text that is looked for.
+/// How many bytes on either side of an edge are looked through: as many as the longest text that may be looked for.
 const SIDE: usize = 64;
 
 /// Whether bytes occur in a text.

@@ -10,7 +10,7 @@ use Rattle.std.specs.Str.Parse.{IsNumeral, digits_value}
 use Rattle.range_spec.specs.declared.grammar.Spec.{Spec}
 use Rattle.range_spec.specs.declared.grammar.Spec.TheVariants.{From, Suffix}
 
--- no last position is below its first
+-- no last position is below its first, each as it counts: a greater one counts as the greatest `u64`
 abbrev pub IsInOrder : Spec → Type 0
 IsInOrder (From first (Some last)) = first ≤ last
 IsInOrder (From first None) = Unit {0}

@@ -6,14 +6,14 @@ use Rattle.range_spec.specs.declared.grammar.Spec.TheVariants.{From, Suffix}
 use Rattle.range_spec.specs.declared.selection.Choice.{Choice}
 use Rattle.range_spec.specs.declared.selection.Choice.TheVariants.{Whole, One, Many, None416}
 
--- the first and the last position that a spec asks for in a file of this many bytes, at least one;
+-- the first and the last position that a spec in order asks for in a file of this many bytes, at least one;
 -- None where the spec can't be satisfied
 abbrev pub interval_of : ℕ → Spec → Option (ℕ × ℕ)
 interval_of size (From first last) =
     if nat_lt first size then Some (first, min (unwrap_or last (size - 1)) (size - 1)) else None
 interval_of size (Suffix n) = if nat_lt 0 n then Some (size - n, size - 1) else None
 
--- the spec asks for the byte at this position of a file of this many bytes
+-- the spec asks for the byte at this position, if a file of this many bytes has one there
 abbrev pub AsksFor : ℕ → Spec → ℕ → Type 0
 AsksFor size (From first None) position = first ≤ position
 AsksFor size (From first (Some last)) position = (first ≤ position) × (position ≤ last)

@@ -3,23 +3,13 @@ use Rattle.std.proofs.Common.{◌≡◌, inl, inr, ℕ, true, false, cond, List,
 use Rattle.std.specs.Prelude.{◌↔◌, ◌≢◌, ◌⊎◌}
 use Rattle.std.specs.FinMap.{empty, get, insert, get-empty, get-insert, get-remove}
 use Rattle.std.specs.List.{AllByRecursion}
-use Rattle.std.specs.Ordering.{eq_by_cmp, is_eq}
-use Rattle.std.specs.declared.cmp.Ordering.{Ordering}
-use Rattle.std.specs.declared.cmp.Ordering.TheVariants.{Less, Equal, Greater}
+use Rattle.std.specs.Ordering.{eq_by_cmp}
 use Rattle.std.proofs.lemmas.Cmp.{eq_by_cmp_equiv}
 use Rattle.host_names.specs.declared.digests.Digest.{Digest}
-use Rattle.host_names.specs.Digests.{digest_cmp, digest_cmp_total, digest_cmp-IsAntisymmetric}
+use Rattle.host_names.specs.Digests.{digest_cmp, digest_cmp_total}
 use Rattle.single_flight.specs.Open.{OpenFlights}
 use Rattle.single_flight.specs.Calls.{Call, Led, Joined, Finished, Does, DoInTurn, IsInFlight}
-
-ties : (o : Ordering) → is_eq o ≡ true → o ≡ Equal
-ties Less e = cc e
-ties Equal e = refl
-ties Greater e = cc e
-
--- keys that tie are one
-one_key : (key k : Digest) → eq_by_cmp digest_cmp key k ≡ true → key ≡ k
-one_key key k tie = digest_cmp-IsAntisymmetric key k (ties _ tie)
+use Rattle.single_flight.proofs.Opened.{one_key}
 
 -- keys that don't tie are two
 two_keys : (key k : Digest) → eq_by_cmp digest_cmp key k ≡ false → k ≢ key

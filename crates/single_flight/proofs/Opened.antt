@@ -3,11 +3,22 @@ use Rattle.std.proofs.Common.{◌≡◌, ℕ, Bool, true, false, cond, List, [],
 use Rattle.std.specs.BTreeMap.{is_at}
 use Rattle.std.specs.FinMap.{get, find, insert, remove, get-from_entries, get-insert, get-remove, same_map}
 use Rattle.std.specs.Map.{lookup}
-use Rattle.std.specs.Ordering.{eq_by_cmp}
+use Rattle.std.specs.Ordering.{eq_by_cmp, is_eq}
+use Rattle.std.specs.declared.cmp.Ordering.{Ordering}
+use Rattle.std.specs.declared.cmp.Ordering.TheVariants.{Less, Equal, Greater}
 use Rattle.std.proofs.lemmas.Cmp.{eq_by_cmp_equiv}
 use Rattle.host_names.specs.declared.digests.Digest.{Digest}
 use Rattle.host_names.specs.Digests.{digest_cmp, digest_cmp_total, digest_cmp-IsAntisymmetric}
-use Rattle.single_flight.specs.Open.{opened}
+use Rattle.single_flight.specs.Open.{AreOfTheirKeys, opened}
+
+ties : (o : Ordering) → is_eq o ≡ true → o ≡ Equal
+ties Less e = cc e
+ties Equal e = refl
+ties Greater e = cc e
+
+-- keys that tie are one
+pub one_key : (key k : Digest) → eq_by_cmp digest_cmp key k ≡ true → key ≡ k
+one_key key k tie = digest_cmp-IsAntisymmetric key k (ties _ tie)
 
 option_map-cond : {A B : Type 0} (f : A → B) (b : Bool) (w o : Option A) → option_map f (cond b w o) ≡ cond b (option_map f w) (option_map f o)
 option_map-cond f true w o = refl
@@ -43,3 +54,30 @@ module _ {Place : Type 0} (number : Place → ℕ) where
       → opened number new ≡ remove (opened number old) key
   opened-remove old new key h = same_map digest_cmp_total digest_cmp-IsAntisymmetric _ _ (λ q.
       get-changed old new key None h q ∙ sym (get-remove digest_cmp_total (opened number old) key q))
+
+module _ {Place : Type 0} (key_of : Place → Digest) where
+  -- no place is kept
+  pub of_keys-none : (places : List (Digest × Place)) → places ≡ [] → AreOfTheirKeys key_of places
+  of_keys-none places none q p here =
+      let bad : None ≡ Some p = ap (lookup (is_at (digest_cmp q))) (sym none) ∙ here in cc bad
+
+  -- places that differ at one key
+  of_keys-changed : (old new : List (Digest × Place)) (key : Digest) (w : Option Place) → AreOfTheirKeys key_of old → ((p : Place) → w ≡ Some p → key_of p ≡ key)
+      → ((q : Digest) → lookup (is_at (digest_cmp q)) new ≡ cond (is_at (digest_cmp key) q) w (lookup (is_at (digest_cmp q)) old))
+      → AreOfTheirKeys key_of new
+  of_keys-changed old new key w are own h q p here =
+      elim (is_at (digest_cmp key) q) as (λ b. is_at (digest_cmp key) q ≡ b → cond b w (lookup (is_at (digest_cmp q)) old) ≡ Some p → key_of p ≡ q) [
+        | true ↦ λ tie found. own p found ∙ one_key key q tie
+        | false ↦ λ tie found. are q p found
+      ] refl (sym (h q) ∙ here)
+
+  pub of_keys-insert : (old new : List (Digest × Place)) (key : Digest) (place : Place) → AreOfTheirKeys key_of old → key_of place ≡ key
+      → ((q : Digest) → lookup (is_at (digest_cmp q)) new ≡ cond (is_at (digest_cmp key) q) (Some place) (lookup (is_at (digest_cmp q)) old))
+      → AreOfTheirKeys key_of new
+  of_keys-insert old new key place are own h =
+      of_keys-changed old new key (Some place) are (λ p same. let is : place ≡ p = cc same in ap key_of (sym is) ∙ own) h
+
+  pub of_keys-remove : (old new : List (Digest × Place)) (key : Digest) → AreOfTheirKeys key_of old
+      → ((q : Digest) → lookup (is_at (digest_cmp q)) new ≡ cond (is_at (digest_cmp key) q) None (lookup (is_at (digest_cmp q)) old))
+      → AreOfTheirKeys key_of new
+  of_keys-remove old new key are h = of_keys-changed old new key None are (λ p none. cc none) h

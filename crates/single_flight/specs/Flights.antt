@@ -6,7 +6,8 @@ use Rattle.single_flight.specs.Open.{OpenFlights}
 use Rattle.single_flight.specs.declared.tables.Begun.{Begun}
 use Rattle.single_flight.specs.declared.tables.Begun.TheVariants.{Lead, Join}
 
--- it leads where no flight of the key was open, and that is open from then on; else it joins the one that is, and nothing changes
+-- it leads where no flight of the key was open, and that is open from then on; else it joins the one that is, and nothing changes. The place
+-- has that key. That it is new isn't said
 abbrev pub Begins : {T : Type 0} → OpenFlights → Digest → Begun T → OpenFlights → Type 0
-Begins old key (Lead lead) new = (get old key ≡ None) × (lead.key ≡ key) × (new ≡ insert old key lead.place.value.id)
-Begins old key (Join place) new = (get old key ≡ Some place.value.id) × (new ≡ old)
+Begins old key (Lead lead) new = (get old key ≡ None) × (lead.place.value.key ≡ key) × (new ≡ insert old key lead.place.value.outcome.id)
+Begins old key (Join place) new = (get old key ≡ Some place.value.outcome.id) × (place.value.key ≡ key) × (new ≡ old)

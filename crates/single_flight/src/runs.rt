@@ -1,5 +1,5 @@
 //! Flights that threads share.
-ghost use Rattle.std.specs.Prelude.{◌≡◌, true, IfOk, IsTrue};
+ghost use Rattle.std.specs.Prelude.{◌≡◌, ◌↔◌, true, IfOk, IsTrue};
 
 use crate::tables::{Begun, FlightTable, Lead, Place};
 use host_names::Digest;
@@ -29,7 +29,7 @@ struct Landed<T: Clone + Drop, L: Loads<T>> {
 impl<T: Clone + Drop, L: Loads<T>> Landed<T, L> {
     /// Whether it is of this key.
     fn is_of(&self, key: &Digest) -> bool
-        ensures { IsTrue result → self.now.key ≡ key.now }
+        ensures { IsTrue result ↔ self.now.key ≡ key.now }
     {
         self.key == *key
     }
@@ -52,18 +52,18 @@ pub struct Flights<T: Clone + Drop, L: Loads<T>> {
 fn joined<T: Clone + Drop, L: Loads<T>, R: Wait, F: FnOnce() -> T + Drop>(
     rt: &R,
     key: &Digest,
-    place: &Place<Landed<T, L>>,
+    place: &Arc<Place<Landed<T, L>>>,
     load: F,
 ) -> Result<T, AllocError>
     requires callable { F.pre load }
     requires fits { (outcome : _) → F.post load outcome → L.fits key.now outcome ≡ true }
     ensures { IfOk result (λ outcome. L.fits key.now outcome ≡ true) }
 {
-    let landed = place.wait(rt);
+    let landed = place.outcome().wait(rt);
     if landed.is_of(key) {
         landed.share()
     } else {
-        // The place is the key's, but no clause says so once the lock is released.
+        // The place is the key's, but no clause says so of what was set there.
         Ok(load())
     }
 }
@@ -76,7 +76,8 @@ impl<T: Clone + Drop, L: Loads<T>> Flights<T, L> {
         }
     }
 
-    /// Loads, ends the flight, and shares the outcome with who has joined it.
+    /// Loads, sets the outcome for who has joined the flight, and then ends it. Who joins it between the two
+    /// has the outcome at once.
     fn led<R: Wait, F: FnOnce() -> T + Drop>(
         &self,
         rt: &R,
@@ -89,25 +90,19 @@ impl<T: Clone + Drop, L: Loads<T>> Flights<T, L> {
         ensures { IfOk result (λ outcome. L.fits key.now outcome ≡ true) }
     {
         let outcome = load();
-        let place = self.table.lock(rt).finish(lead);
-        // The table has given up the place, so nobody joins any more. Where nobody has, it has no other owner, and
-        // nobody waits for the outcome.
-        let Err(place) = Arc::try_unwrap(place) else {
-            return Ok(outcome);
-        };
         let share: Result<T, AllocError> = outcome.clone();
         let landed = Landed {
             key: *key,
             outcome,
             of: PhantomData,
         };
-        let _ = place.set(rt, landed);
+        let _ = lead.place().outcome().set(rt, landed);
+        self.table.lock(rt).finish(lead);
         share
     }
 
     /// Loads a key, or waits for the load of it that is in flight. Leader and joiners share the outcome, its fault
-    /// included; where somebody joined, each may lack the memory for its own share. No lock is held during the load. Who
-    /// was given an outcome and calls again never joins the flight that it came from.
+    /// included; each may lack the memory for its own share. No lock is held during the load.
     pub fn run<R: Wait, F: FnOnce() -> T + Drop>(
         &self,
         rt: &R,

@@ -1,5 +1,5 @@
 //! Laws of changes, each the contract of a function that does nothing.
-ghost use Rattle.std.specs.Prelude.{◌≡◌, ◌≢◌, ◌↔◌, ◌⊎◌, ℕ, Bool, true, false, List, None, Some};
+ghost use Rattle.std.specs.Prelude.{◌≡◌, ◌≢◌, ◌↔◌, ◌⊎◌, ℕ, Bool, true, false, not, List, [], ◌∷◌, Option, None, Some};
 ghost use Rattle.std.specs.FinMap as map;
 ghost use Rattle.host_names.specs.Blobs.{AreDigested, Contents, digest_of};
 ghost use Rattle.host_names.specs.declared.cells.Cell.{Cell};
@@ -10,11 +10,18 @@ ghost use Rattle.site_state.specs.Files.{Paths};
 ghost use Rattle.site_state.specs.Listings.{Listed};
 ghost use Rattle.site_state.specs.States.{State, draft_at, kept_at};
 ghost use Rattle.site_state.specs.declared.values.Draft.{Draft};
+ghost use Rattle.site_state.specs.declared.values.Value.{Value};
+ghost use Rattle.site_state.specs.declared.values.Value.TheVariants as value;
 ghost use Rattle.site_change.specs.declared.commands.Command.{Command};
 ghost use Rattle.site_change.specs.declared.commands.Command.TheVariants.{Open, Publish, Cancel, Remove, Rename, MoveAlias, RemoveAlias, Restore, RemoveDeploy};
-ghost use Rattle.site_change.specs.Changes.{applied, changes, refusal, run_from, touches};
-ghost use Rattle.site_change.specs.Laws.{IsLocal, IsPartOfDeploy, IsPartOfPatch, LeavesDeploy, LeavesOut, LeavesPatch, KeepsRunning};
+ghost use Rattle.site_change.specs.Changes.{IsWithin, applied, changes, refusal, run_from, touches};
+ghost use Rattle.site_change.specs.Plans.{IsDifference, ReplacesOfKind, WritesOfKind};
+ghost use Rattle.site_change.specs.Laws.{AgreeOn, IsLocal, IsPartOfDeploy, IsPartOfPatch, LeavesDeploy, LeavesOut, LeavesPatch, KeepsRunning};
+ghost use Rattle.site_change.specs.TouchedCells.{AreTouched, is_touched};
 ghost use Rattle.site_change.specs.Uploaded.{AreUploaded, IsUploaded};
+ghost use Rattle.site_change.specs.declared.plans.Change.{Change};
+ghost use Rattle.site_change.specs.declared.touched.Touched.{Touched};
+ghost use Rattle.host_names.specs.declared.digests.Digest.{Digest};
 
 /// All that a command reads or writes is what it touches. In two states that have the same there, it gets the
 /// same answer, touches the same cells, and leaves the same in them; every other cell stays as it was, and what
@@ -134,4 +141,20 @@ pub fn commands_of_few_cells_touch_them_alone()
         (touches (MoveAlias site name m) number state c ≡ true) ↔ ((c ≡ cell.Kept site m) ⊎ (c ≡ cell.Alias site name)) }
     ensures given_up { (site : SiteName) (name : AliasName) (number : ℕ) (state : State) (c : Cell) →
         (touches (RemoveAlias site name) number state c ≡ true) ↔ (c ≡ cell.Alias site name) }
+{}
+
+/// Of these relations each is refuted of one wrong answer, so none of them holds of everything.
+pub fn wrong_answers_are_refused()
+    ensures difference { (state : State) (change : Change) (more : List Change) → ¬ (IsDifference state state (change ∷ more)) }
+    ensures writes { (site : SiteName) → ¬ (WritesOfKind (record { cell = cell.Kept site 1; before = None; after = Some (value.Alias 0) } ∷ [])) }
+    ensures replaces { (site : SiteName) → ¬ (ReplacesOfKind (record { cell = cell.Kept site 1; before = Some (value.Alias 0); after = None } ∷ [])) }
+    ensures touched { (touched : Touched) (site : SiteName) → ¬ (AreTouched site (λ c. not (is_touched touched c)) touched) }
+    ensures site { (site : SiteName) (test : Cell → Bool) (touched : Touched) → touched.site ≢ site → ¬ (AreTouched site test touched) }
+    ensures uploaded { (site : SiteName) (path file : List ℕ) → ¬ (AreUploaded map.empty (map.insert map.empty (cell.Live site path) (value.Live file))) }
+    ensures patch { (site : SiteName) (m : ℕ) (uploads : Contents) (files : Paths (Option Digest)) (before after : State) (v : Value)
+        → ¬ (LeavesPatch site m uploads files before (map.insert after (cell.Draft site m) v)) }
+    ensures deploy { (site : SiteName) (m : ℕ) (uploads : Contents) (files : Paths (Option Digest)) (before after : State) (v : Value)
+        → ¬ (LeavesDeploy site m uploads files before (map.insert after (cell.Draft site m) v)) }
+    ensures agree { (state : State) (c : Cell) (v : Value) → map.get state c ≡ None → ¬ (AgreeOn (λ c. true) state (map.insert state c v)) }
+    ensures within { (contents : Contents) (digest : Digest) (bytes : List ℕ) → ¬ (IsWithin (map.insert contents digest bytes) map.empty) }
 {}

@@ -21,7 +21,7 @@ pub use laws::{
     accepted_stays_accepted, an_opening_touches_its_draft_alone,
     changes_are_where_the_states_differ, commands_are_local,
     commands_of_few_cells_touch_them_alone, the_removal_of_a_deploy_touches_it_and_the_aliases,
-    uploaded_files_are_told_by_their_digests,
+    uploaded_files_are_told_by_their_digests, wrong_answers_are_refused,
 };
 pub use plans::{Change, Plan};
 pub use touched::{Touched, TouchedCells};

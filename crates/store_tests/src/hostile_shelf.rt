@@ -1,5 +1,5 @@
 //! A shelf in memory that does one call wrong.
-ghost use Rattle.std.specs.Prelude.{◌≡◌, ◌≢◌, ◌<◌, ◌≤◌, IfErr, true};
+ghost use Rattle.std.specs.Prelude.{◌≡◌, ◌≢◌, ◌<◌, ◌≤◌, IfErr, OnOk, false, true};
 ghost use Rattle.blob_store.specs.declared.shelves.ShelfFault.TheVariants.{Device};
 
 use blob_store::{MemShelf, Shelf, ShelfFault, ShelfName};
@@ -88,7 +88,7 @@ impl HostileShelf {
     /// Whether the device fails, which it does once at most.
     fn fails(&mut self, wrong: Wrong) -> bool
         ensures failure { result ≡ true → self.old.failures < self.new.failures }
-        ensures count { self.old.failures ≤ self.new.failures }
+        ensures unfailed { result ≡ false → self.new.failures ≡ self.old.failures }
     {
         let fails = wrong == Wrong::Failing && self.failures == 0;
         if fails {
@@ -99,6 +99,7 @@ impl HostileShelf {
 
     fn put_wrong(&mut self, wrong: Wrong, name: ShelfName, bytes: &[u8]) -> Result<(), ShelfFault>
         ensures device { IfErr result (λ fault. fault ≡ Device → self.old.failures < self.new.failures) }
+        ensures unfailed { OnOk result (self.new.failures ≡ self.old.failures) }
         ensures count { self.old.failures ≤ self.new.failures }
     {
         if self.fails(wrong) {
@@ -116,6 +117,7 @@ impl HostileShelf {
 
     fn get_wrong(&mut self, wrong: Wrong, name: ShelfName) -> Result<Option<Vec<u8>>, ShelfFault>
         ensures device { IfErr result (λ fault. fault ≡ Device → self.old.failures < self.new.failures) }
+        ensures unfailed { OnOk result (self.new.failures ≡ self.old.failures) }
         ensures count { self.old.failures ≤ self.new.failures }
     {
         if self.fails(wrong) {

@@ -139,6 +139,11 @@ fn a_chunk_has_the_name_of_its_bytes(rt: HostRuntime) -> Result<(), Fail> {
     let view = chunk.view();
     assert_holds(&rt, "abc", view.equal(b"abc"), true);
     assert_holds(&rt, "abd", view.equal(b"abd"), false);
+    if view.len() != 3 {
+        return Err(Fail::from("the view has another length"));
+    }
+    assert_holds(&rt, "its byte at 1", view.at(1) == b'b', true);
+    assert_holds(&rt, "from 1 on", view.slice(1, 3).equal(b"bc"), true);
     match Chunk::check(abc, Vec::from_slice(rt.alloc(), b"abd")?) {
         Ok(_) => Err(Fail::from("other bytes have the name")),
         Err(wrong) => {

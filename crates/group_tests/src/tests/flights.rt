@@ -133,7 +133,7 @@ fn joined(table: &mut FlightTable<u64>, key: &Digest) -> Result<Option<u64>, All
             table.finish(lead);
             Ok(None)
         }
-        Begun::Join(place) => Ok(place.get().copied()),
+        Begun::Join(place) => Ok(place.outcome().get().copied()),
     }
 }
 
@@ -141,7 +141,7 @@ fn joined(table: &mut FlightTable<u64>, key: &Digest) -> Result<Option<u64>, All
 fn fly_in_turn(table: &mut FlightTable<u64>) -> Result<(Option<u64>, bool, bool), AllocError> {
     match table.begin(&SHARED)? {
         Begun::Lead(lead) => {
-            let _ = lead.place().try_set(7);
+            let _ = lead.place().outcome().try_set(7);
             let same = joined(table, &SHARED);
             let other = leads(table, &OTHER);
             table.finish(lead);

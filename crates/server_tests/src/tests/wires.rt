@@ -1,16 +1,17 @@
 //! What a wire answers, asserted.
 
 use super::asserts::assert_text;
-use http_wire::{BodyFault, Counting, Duplex, Head, HeadFault, Pair, Wire};
+use http_wire::{BodyFault, Duplex, Head, HeadFault, Pair, Wire, Writing};
 use std::alloc::{AllocError, Global};
+use std::io;
 use std::process::Abort;
 use std::test::Fail;
 
-/// A stream that gives what this source does, and whose writes are only counted.
-pub(crate) fn given<R>(source: R) -> Pair<R, Counting> {
+/// A stream that gives what this source does, and keeps nothing of what is written.
+pub(crate) fn given<R>(source: R) -> Pair<R, Writing<io::Sink>> {
     Pair {
         source,
-        sink: Counting(0),
+        sink: Writing(io::sink()),
     }
 }
 

@@ -3,6 +3,7 @@ use Rattle.host_disk.proofs.Runs.{and_then}
 use Rattle.change_journal.specs.Frames.{opened}
 use Rattle.change_journal.specs.Openings.{IsMending, MayFind}
 use Rattle.change_journal.proofs.Steps.{weaker}
+use Rattle.change_journal.proofs.OneAnswer.{ended_no_refusal}
 use Rattle.change_journal.proofs.OpenSteps.{mending_holds}
 use Rattle.change_journal.proofs.openings.open_records.Goals as goal
 
@@ -41,3 +42,11 @@ returns-clause-any_moment g c modelled size opens only has had body put find =
     let second = weaker g.D.Disk.moment g.D.Disk.left_since mid c.mend.new.disk (IsMending (opened taken) gate rest) (MayFind had body) (mending_holds g.B.Bodies.is_lawful had body put taken ended.walked.lawful gate rest file ended.closed is find)
     (c.mend.ensures.any_moment modelled (opened taken) rest ended.walked.gate_is (read.same ∙ is) (λ f left. only f (read.crash f left) ∙ sym read.same)) in
     and_then g.D.Disk.moment g.D.Disk.left_since old mid c.mend.new.disk (MayFind had body) first second
+
+pub returns-in_err-mend-clause-refused : goal.returns-in_err-mend-clause-refused
+returns-in_err-mend-clause-refused g c modelled size opens has refused =
+    absurd (ended_no_refusal _ _ _ _ _ _ (c.in_ok-end.ensures.end modelled size opens has) c.in_ok-end.end.place.few refused)
+
+pub returns-clause-refused : goal.returns-clause-refused
+returns-clause-refused g c modelled size opens has refused =
+    absurd (ended_no_refusal _ _ _ _ _ _ (c.in_ok-end.ensures.end modelled size opens has) c.in_ok-end.end.place.few refused)

@@ -1,6 +1,7 @@
 use Rattle.std.proofs.Common.{[], ◌∷◌, inr, refl, sym, ◌∙◌, arith}
 use Rattle.change_journal.specs.Openings.{IsStarting, MayFind}
 use Rattle.change_journal.proofs.Steps.{weaker, if_ok, both_if_ok}
+use Rattle.change_journal.proofs.OneAnswer.{found_no_refusal}
 use Rattle.change_journal.proofs.OpenSteps.{new_start, starting_holds}
 use Rattle.change_journal.proofs.WalkSteps.{length-opened}
 use Rattle.change_journal.proofs.openings.open_started.Goals as goal
@@ -32,3 +33,13 @@ returns-in_default-clause-any_moment g c modelled size start only has had body p
     let file = g.D.Disk.seen c.args.disk.now in
     let new = new_start c.args.start file start c.in_default.not-Opened in
     weaker g.D.Disk.moment g.D.Disk.left_since c.args.disk.now c.open_new.new.disk IsStarting (MayFind had body) (starting_holds had body file new find) (c.open_new.ensures.any_moment modelled size start new only)
+
+pub returns-in-Opened-clause-refused : goal.returns-in-Opened-clause-refused
+returns-in-Opened-clause-refused g c modelled size start has refused =
+    let opens = rw c.in-Opened.is at start in
+    c.open_records.ensures.refused modelled size (record { rest = opens.0 ∷ opens.1; is = opens.2 }) has refused
+
+pub returns-in_default-clause-refused : goal.returns-in_default-clause-refused
+returns-in_default-clause-refused g c modelled size start has refused =
+    let file = g.D.Disk.seen c.args.disk.now in
+    absurd (found_no_refusal g.B.Bodies.is_lawful [] file (λ k d low. absurd (omega arith)) (omega arith) (inr (refl, new_start c.args.start file start c.in_default.not-Opened)) refused)

@@ -20,7 +20,7 @@ returns-in_err-gate-clause-bad g c modelled size opens has =
     let same = (c.loop-body.invariant.same modelled).same in
     same_fault c.from_residual.result c.in_err-gate.field-0.0 _ c.from_residual.ensures.1 (λ i fault.
     let bad = c.in_err-gate.ensures.bad modelled (size ∙ sym (ap length same)) i fault in
-    walk_breaks (g.B.Bodies.has c.loop-body.bodies) g.B.Bodies.is_lawful c.loop-body.place.gate c.loop-body.place.count i file (c.loop-body.invariant.walked modelled opens has)
+    walk_breaks (g.B.Bodies.has c.loop-body.bodies) g.B.Bodies.is_lawful c.loop-body.place.gate c.loop-body.place.count i file (c.loop-body.invariant.walked modelled opens has) c.loop-body.place.few
     (subst (λ f. drop c.loop-body.place.gate f ≡ 1 ∷ drop (c.loop-body.place.gate + 1) f) same bad.1) bad.0
     (subst (λ f. IsNoRecord g.B.Bodies.is_lawful (drop (c.loop-body.place.gate + 1) f) ⊎ (1000000 ≤ c.loop-body.place.count)) same bad.2))
 

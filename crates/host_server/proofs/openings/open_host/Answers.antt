@@ -1,6 +1,7 @@
-use Rattle.std.proofs.Common.{subst, sym}
+use Rattle.std.proofs.Common.{rules, ◌≡◌, inr, subst, sym}
 use Rattle.host_server.specs.Openings.{IsHostFault, of_replay}
-use Rattle.host_server.proofs.Opened.{not_replayed}
+use Rattle.host_server.specs.declared.openings.OpenFault.TheVariants.{OutOfMemory}
+use Rattle.host_server.proofs.Opened.{not_replayed, not_there}
 use Rattle.host_server.proofs.openings.open_host.Goals as goal
 
 pub returns-in-Err-clause-fault : goal.returns-in-Err-clause-fault
@@ -10,3 +11,19 @@ returns-in-Err-clause-fault g c =
     let told = not_replayed did c.args.shelf c.args.limit c.args.log.now blobs.known c.in-Err.fault blobs.shelf c.in_ok-blobs.ensures.opened c.in-Err.ensures.fault in
     let there = subst (λ shelf. IsHostFault did c.args.shelf c.args.limit c.args.log.now (of_replay c.in-Err.fault) shelf) (sym c.into_shelf.ensures) told in
     subst (λ why. IsHostFault did c.args.shelf c.args.limit c.args.log.now why c.into_shelf.result) (sym c.of_replay.ensures) there
+
+pub returns-in_err-blobs-clause-fault : goal.returns-in_err-blobs-clause-fault
+returns-in_err-blobs-clause-fault g c =
+    let stop = c.in_err-blobs.field-0.0 in
+    let told = not_there g.S.Shelf.did c.args.shelf c.args.limit c.args.log.now stop.fault stop.shelf c.in_err-blobs.ensures.fault in
+    search rules
+
+pub returns-in_err-files-in-Ok-clause-fault : goal.returns-in_err-files-in-Ok-clause-fault
+returns-in_err-files-in-Ok-clause-fault g c =
+    let did = g.S.Shelf.did in
+    let blobs = c.in_ok-blobs.blobs in
+    let stop = c.in_err-files-in-Ok.field-0.0 in
+    let same : stop.shelf ≡ blobs.shelf = search rules in
+    let told = subst (λ shelf. IsHostFault did c.args.shelf c.args.limit c.args.log.now OutOfMemory shelf) (sym same) (inr (blobs.known, c.in_ok-blobs.ensures.opened)) in
+    let there = subst (λ why. IsHostFault did c.args.shelf c.args.limit c.args.log.now why stop.shelf) (sym c.in_err-files-in-Ok.ensures.fault.0) told in
+    search rules

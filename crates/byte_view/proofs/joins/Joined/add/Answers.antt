@@ -1,7 +1,8 @@
-use Rattle.std.proofs.Common.{rules, ◌≡◌, ◌∷◌, [], ◌++◌, length, sym, ap, ◌∙◌, arith}
+use Rattle.std.proofs.Common.{rules, IfErr, Ok, Err, ◌≡◌, ◌∷◌, [], ◌++◌, length, sym, ap, ◌∙◌, arith}
 use Rattle.std.proofs.lemmas.List.{length-append}
 use Rattle.host_names.specs.Blobs.{digest_of}
-use Rattle.byte_view.specs.Cuts.{names_of}
+use Rattle.byte_view.specs.Cuts.{Follows, names_of}
+use Rattle.byte_view.specs.declared.joins.JoinFault.TheVariants.{OutOfMemory}
 use Rattle.byte_view.proofs.NextPieces.{fits_by, follows_by, names-next}
 use Rattle.byte_view.proofs.joins.Joined.add.Goals as goal
 
@@ -36,3 +37,14 @@ invariant_of-self-2 c =
       fits.3,
       pushed ∙ ap (λ n. c.self.inside.names.items ++ n ∷ []) named ∙ ap (λ l. l ++ digest_of bytes ∷ []) inv.3 ∙ sym next ∙ ap names_of (sym is),
     )
+
+pub returns-in_err-map_err-clause-memory : goal.returns-in_err-map_err-clause-memory
+returns-in_err-map_err-clause-memory c =
+    let inside = c.self.inside in
+    let size : inside.size ≡ length c.args.self.now = c.self.invariant.1 ∙ ap length c.self.view_is in
+    let count : length c.bytes-bytes.result.now ≡ length c.args.chunk.now = ap length (c.bytes-bytes.ensures ∙ c.view.ensures) in
+    let follows : Follows c.args.self.now c.args.chunk.now = follows_by c.args.self.now c.args.chunk.now inside.size (length c.bytes-bytes.result.now) size count (c.if-not-follows.ensures.0 (search rules)) in
+    elim c.from_residual.result as (λ r. IfErr r (λ fault. fault ≡ OutOfMemory → Follows c.args.self.now c.args.chunk.now)) [
+      | Ok value ↦ tt
+      | Err fault ↦ λ memory. follows
+    ]

@@ -2,7 +2,7 @@ use Rattle.std.proofs.Common.{Err, ap, sym, ◌∙◌, subst}
 use Rattle.host_disk.specs.Crashes.{LeavesOnly}
 use Rattle.change_journal.specs.Spells.{entry_text}
 use Rattle.change_journal.specs.Texts.{MayHoldNext, texts}
-use Rattle.change_journal.proofs.OpenedJournals.{found_had, found_texts, none_taken, opened_sound, opening_moments, stops_only}
+use Rattle.change_journal.proofs.OpenedJournals.{found_had, found_texts, none_taken, not_refused, opened_sound, opening_moments, stops_only}
 use Rattle.change_journal.proofs.journals.Journal.open.Goals as goal
 
 pub invariant_of-result : goal.invariant_of-result
@@ -23,10 +23,10 @@ returns-in-Ok-clause-kept g c modelled had few held =
     found_had (g.D.Disk.may_leave c.open_ahead-disk.result.0) c.open_ahead-disk.new.bodies.log _ _ (g.D.Disk.seen c.args.disk) _ (rw c.in-Ok.is at c.open_ahead-disk.ensures.opened modelled begun) had held
 
 pub returns-in-Ok-clause-any_moment : goal.returns-in-Ok-clause-any_moment
-returns-in-Ok-clause-any_moment g c modelled had next few left =
+returns-in-Ok-clause-any_moment g c modelled had next left =
     let begun = none_taken c.new-collected.result.log c.new-collected.ensures in
     subst (λ d. LeavesOnly g.D.Disk.moment g.D.Disk.left_since c.args.disk d (MayHoldNext had next)) (sym c.at.ensures.0)
-    (opening_moments g.D.Disk.moment g.D.Disk.left_since g.D.Disk.may_leave c.args.disk c.open_ahead-disk.result.0 (g.D.Disk.seen c.args.disk) had next (g.met.D.Disk.may_stay c.args.disk modelled) few left
+    (opening_moments g.D.Disk.moment g.D.Disk.left_since g.D.Disk.may_leave c.args.disk c.open_ahead-disk.result.0 (g.D.Disk.seen c.args.disk) had next (g.met.D.Disk.may_stay c.args.disk modelled) left
     (λ put finds. c.open_ahead-disk.ensures.any_moment modelled begun (texts had) (entry_text next) put finds))
 
 pub returns-in-Err-clause-kept : goal.returns-in-Err-clause-kept
@@ -35,7 +35,16 @@ returns-in-Err-clause-kept g c modelled had few held =
     stops_only c.in-Err.fault had (g.D.Disk.seen c.args.disk) few held (λ e. c.open_ahead-disk.ensures.bad_header modelled (c.in-Err.is ∙ ap Err e)) (rw c.in-Err.is at c.open_ahead-disk.ensures.bad_record modelled begun)
 
 pub returns-in-Err-clause-any_moment : goal.returns-in-Err-clause-any_moment
-returns-in-Err-clause-any_moment g c modelled had next few left =
+returns-in-Err-clause-any_moment g c modelled had next left =
     let begun = none_taken c.new-collected.result.log c.new-collected.ensures in
-    opening_moments g.D.Disk.moment g.D.Disk.left_since g.D.Disk.may_leave c.args.disk c.open_ahead-disk.result.0 (g.D.Disk.seen c.args.disk) had next (g.met.D.Disk.may_stay c.args.disk modelled) few left
+    opening_moments g.D.Disk.moment g.D.Disk.left_since g.D.Disk.may_leave c.args.disk c.open_ahead-disk.result.0 (g.D.Disk.seen c.args.disk) had next (g.met.D.Disk.may_stay c.args.disk modelled) left
     (λ put finds. c.open_ahead-disk.ensures.any_moment modelled begun (texts had) (entry_text next) put finds)
+
+pub returns-in-Ok-clause-refused : goal.returns-in-Ok-clause-refused
+returns-in-Ok-clause-refused g c modelled refused =
+    let begun = none_taken c.new-collected.result.log c.new-collected.ensures in
+    not_refused (g.D.Disk.may_leave c.open_ahead-disk.result.0) c.open_ahead-disk.new.bodies.log _ _ (g.D.Disk.seen c.args.disk) _ (rw c.in-Ok.is at c.open_ahead-disk.ensures.opened modelled begun) c.in-Ok.place.few refused
+
+pub returns-in-Err-clause-refused : goal.returns-in-Err-clause-refused
+returns-in-Err-clause-refused g c modelled refused =
+    c.open_ahead-disk.ensures.refused modelled (none_taken c.new-collected.result.log c.new-collected.ensures) refused

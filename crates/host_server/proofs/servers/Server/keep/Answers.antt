@@ -20,7 +20,7 @@ returns-in_err-keep-clause-refused g c =
         large = (λ e. absurd (cc e), λ long. absurd (cc (c.in-Ok.ensures.large.1 long)));
         unknown = λ small. sym (ap (λ bytes. map.get uploads (digest_of bytes)) c.in-Ok.ensures.info) ∙ c.in_err-keep.ensures.unknown;
         failed = λ e. absurd (cc e);
-        put = inr (inr c.in-Ok.ensures.put);
+        put = inr (refl, c.in-Ok.ensures.put);
       },
       refl,
     )

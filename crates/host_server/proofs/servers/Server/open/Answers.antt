@@ -1,9 +1,9 @@
-use Rattle.std.proofs.Common.{◌≡◌, ◌∙◌, inr, refl, subst, sym}
+use Rattle.std.proofs.Common.{◌≡◌, ◌∙◌, inl, inr, refl, subst, sym}
 use Rattle.change_journal.specs.Held.{Keeps}
 use Rattle.change_journal.specs.Texts.{MayHoldNext}
 use Rattle.host_disk.specs.Crashes.{LeavesOnly}
-use Rattle.host_server.specs.Openings.{HasFiles, IsHostFault}
-use Rattle.host_server.proofs.Opened.{has_journal}
+use Rattle.host_server.specs.Openings.{HasFiles, IsHostFault, IsJournalFault}
+use Rattle.host_server.proofs.Opened.{has_journal, journal_stops}
 use Rattle.host_server.proofs.servers.Server.open.Goals as goal
 
 pub returns-in-Ok-open_host-clause-opened : goal.returns-in-Ok-open_host-clause-opened
@@ -22,12 +22,22 @@ returns-in-Ok-open_host-clause-opened g c =
       cache = made.cache;
     }
 
+pub returns-in-Err-clause-fault : goal.returns-in-Err-clause-fault
+returns-in-Err-clause-fault g c =
+    let stop = c.in-Err.stop in
+    let told = c.in-Err.ensures in
+    inl (
+      subst (λ why. IsJournalFault g.D.Disk c.args.disk why stop.disk) (sym c.of_journal.ensures)
+          (journal_stops g.D.Disk c.args.disk stop.fault stop.disk told.bad_header told.bad_record told.unwritten told.refused told.cause),
+      refl,
+    )
+
 pub returns-in-Ok-open_host-clause-any_moment : goal.returns-in-Ok-open_host-clause-any_moment
-returns-in-Ok-open_host-clause-any_moment g c modelled had next few leaves journal is =
+returns-in-Ok-open_host-clause-any_moment g c modelled had next leaves journal is =
     let disk = g.D.Disk in
     let same : c.in-Ok.opened.0 ≡ journal = cc is in
     subst (λ (j : Keeps g.row.D.Denot). LeavesOnly disk.moment disk.left_since c.args.disk j.disk (MayHoldNext had next)) same
-    (c.in-Ok.ensures.any_moment modelled had next few leaves)
+    (c.in-Ok.ensures.any_moment modelled had next leaves)
 
 pub returns-clause-fault : goal.returns-clause-fault
 returns-clause-fault g c =
@@ -39,7 +49,7 @@ returns-clause-fault g c =
     inr (journal, held, c.into_disk.ensures, why)
 
 pub returns-clause-any_moment : goal.returns-clause-any_moment
-returns-clause-any_moment g c modelled had next few leaves =
+returns-clause-any_moment g c modelled had next leaves =
     let disk = g.D.Disk in
     subst (λ d. LeavesOnly disk.moment disk.left_since c.args.disk d (MayHoldNext had next)) (sym c.into_disk.ensures)
-    (c.in-Ok.ensures.any_moment modelled had next few leaves)
+    (c.in-Ok.ensures.any_moment modelled had next leaves)

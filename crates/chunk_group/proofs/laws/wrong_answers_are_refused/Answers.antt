@@ -1,0 +1,18 @@
+use Rattle.std.proofs.Common.{◌≡◌, ◌≢◌, inl, inr, ℕ, List, [], ◌∷◌, ◌++◌, map, refl}
+use Rattle.host_names.specs.declared.digests.Digest.{Digest}
+use Rattle.host_names.specs.Blobs.{digest_of}
+use Rattle.chunk_group.proofs.laws.wrong_answers_are_refused.Goals as goal
+
+-- of no names there is no next one
+no_next : (chunks : List (List ℕ)) (name : Digest) (left : List Digest) → map digest_of chunks ++ name ∷ left ≡ [] → ⊥
+no_next [] name left is = absurd (cc is)
+no_next (chunk ∷ chunks) name left is = absurd (cc is)
+
+-- and of none of them a chunk is read
+none_read : (chunks : List (List ℕ)) (left : List Digest) → chunks ≢ [] → map digest_of chunks ++ left ≡ [] → ⊥
+none_read [] left some is = some refl
+none_read (chunk ∷ chunks) left some is = absurd (cc is)
+
+pub returns-clause-read : goal.returns-clause-read
+returns-clause-read g c old new fault (inl (mid, name, left, (chunks, named, turns), failed)) = no_next chunks name left named
+returns-clause-read g c old new fault (inr (memory, (chunks, left, some, named, turns))) = none_read chunks left some named

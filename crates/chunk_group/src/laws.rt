@@ -1,0 +1,38 @@
+//! What the relations of the contracts refuse. The function does nothing: its contract is the law.
+ghost use Rattle.std.specs.Prelude.{◌≡◌, ◌≢◌, ◌<◌, ℕ, List, [], Result, Some, Ok, Err, false};
+ghost use Rattle.host_names.specs.Blobs.{digest_of};
+ghost use Rattle.host_names.specs.declared.digests.Digest.{Digest};
+ghost use Rattle.blob_store.specs.declared.reading.ReadFault.{ReadFault};
+ghost use Rattle.blob_store.specs.declared.reading.ReadFault.TheVariants.{Device, Missing};
+ghost use Rattle.chunk_lru.specs.Rules.{held};
+ghost use Rattle.peer_ring.specs.Rings.{Peers};
+ghost use Rattle.chunk_group.specs.declared.file_sources.FileSource.{FileSource};
+ghost use Rattle.chunk_group.specs.declared.solo_groups.Node.{Node};
+ghost use Rattle.chunk_group.specs.declared.solo_groups.SoloGroup.{SoloGroup};
+ghost use Rattle.chunk_group.specs.Fills.{Fills};
+ghost use Rattle.chunk_group.specs.Holding.{AreNotRead, MayNotHold};
+ghost use Rattle.chunk_group.specs.Loads.{IsGiven, IsGivenFault};
+ghost use Rattle.chunk_group.specs.Nodes.{ReadsOf};
+ghost use Rattle.chunk_group.specs.Owners.{IsOther, Owns};
+ghost use Rattle.chunk_group.specs.Stores.{LoadedOfFiles};
+
+use crate::coins::Coin;
+use crate::sources::Source;
+use blob_store::Shelf;
+use peer_link::PeerLink;
+use peer_ring::RingHash;
+
+/// A chunk that a cache has is what a read of its name gives, and nobody is asked for it. Of the others each is refuted of one wrong answer,
+/// so none of these relations holds of everything: of no names no read fails, and without a fault that a source may give no piece is missing.
+pub fn wrong_answers_are_refused<H: RingHash, S: Source, L: PeerLink, C: Coin, T: Shelf>()
+    ensures hit { (ring : Peers H) (me : ℕ) (old new : Node S L C) (key : Digest) (chunk other : List ℕ) → held key old.caches.cache ≡ Some chunk
+        → Fills S.loaded L.fetched C.drew (Owns H.hashed ring) me old key (Ok other) new → other ≡ chunk }
+    ensures unasked { (ring : Peers H) (me : ℕ) (old new : Node S L C) (key : Digest) (chunk : List ℕ) (answer : Result (List ℕ) ReadFault)
+        → held key old.caches.cache ≡ Some chunk → Fills S.loaded L.fetched C.drew (Owns H.hashed ring) me old key answer new → new.suppliers ≡ old.suppliers }
+    ensures device { (old new : FileSource T) (key : Digest) → IsGivenFault (LoadedOfFiles T.did T.failures) old key Device new
+        → T.failures old.files.shelf < T.failures new.files.shelf }
+    ensures may_not { (file : List ℕ) (first last : ℕ) → ¬ (MayNotHold (λ key fault. false) file first last Missing) }
+    ensures other { (ring : Peers H) (key : Digest) (me : ℕ) → ¬ (IsOther (Owns H.hashed ring key) me me) }
+    ensures given { (old new : S) (key : Digest) (bytes : List ℕ) → digest_of bytes ≢ key → ¬ (IsGiven S.loaded old key (Ok bytes) new) }
+    ensures read { (old new : SoloGroup H S L C) (fault : ReadFault) → ¬ (AreNotRead (ReadsOf S.loaded L.fetched C.drew H.hashed) old [] fault new) }
+{}

@@ -1,0 +1,2 @@
+-- what the tests' own sources and links claim
+pub mod Sources

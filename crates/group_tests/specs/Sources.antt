@@ -1,0 +1,19 @@
+-- What a source claims that has one chunk.
+use Rattle.std.specs.Prelude.{◌≡◌, ◌≢◌, ℕ, Bool, true, false, List, Result, Ok, Err}
+use Rattle.host_names.specs.declared.digests.Digest.{Digest}
+use Rattle.host_names.specs.Blobs.{digest_of}
+use Rattle.blob_store.specs.declared.reading.ReadFault.{ReadFault}
+use Rattle.blob_store.specs.declared.reading.ReadFault.TheVariants.{Damaged, Device, Missing, OutOfMemory}
+
+-- it may lack the chunk of a key; none is damaged, and there is no device to fail
+abbrev pub may_lack : Digest → ReadFault → Bool
+may_lack key Missing = true
+may_lack key fault = false
+
+-- for a key it gives these bytes where that is their name, and nothing where it isn't; or there was no memory
+abbrev pub GivesAlone : List ℕ → Digest → Result (List ℕ) ReadFault → Type 0
+GivesAlone bytes key (Ok chunk) = (chunk ≡ bytes) × (digest_of bytes ≡ key)
+GivesAlone bytes key (Err Missing) = digest_of bytes ≢ key
+GivesAlone bytes key (Err Damaged) = ⊥
+GivesAlone bytes key (Err Device) = ⊥
+GivesAlone bytes key (Err OutOfMemory) = Unit {0}

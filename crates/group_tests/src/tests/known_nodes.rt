@@ -1,0 +1,70 @@
+//! Reads through a node that threads share, over a source of which all that it may answer is known.
+ghost use Rattle.std.specs.Prelude.{◌≡◌, ◌≢◌, ◌∷◌, [], refl, IfErr, IfOk};
+ghost use Rattle.host_names.specs.Blobs.{digest_of};
+ghost use Rattle.blob_store.specs.declared.reading.ReadFault.TheVariants.{Damaged, Device};
+ghost use Rattle.chunk_group.specs.Outcomes.{clones_of_outcomes, is_outcome};
+ghost use Rattle.group_tests.specs.Sources.{GivesAlone, may_lack};
+
+use blob_store::ReadFault;
+use byte_view::Chunk;
+use chunk_group::{Counter, Group, Outcome, Source};
+use host_names::Digest;
+use peer_link::NoLink;
+use peer_ring::{DigestHash, Ring};
+use single_flight::Loads;
+use std::alloc::Global;
+use std::process::Abort;
+use std::sync::Wait;
+use std::test::Fail;
+
+/// A source that has the chunk of one byte, and no other.
+#[derive(Clone, Copy)]
+struct OneByte {
+    alloc: Global,
+    byte: u8,
+}
+
+impl Loads<Outcome> for OneByte {
+    ghost fits = { is_outcome (λ share. share.value) may_lack };
+
+    ghost clones_fit = { clones_of_outcomes (λ share. share.value) may_lack _ (λ _ _ same. same) (λ _ _ wrong. wrong) (λ _ _ wrong. wrong) (λ _ _ same. same) };
+}
+
+impl Source for OneByte {
+    ghost allows = { may_lack };
+
+    ghost loaded = { λ old key answer new. GivesAlone (old.byte ∷ []) key answer × (new ≡ old) };
+
+    ghost agrees = { λ _ _. refl };
+
+    fn load(&mut self, key: &Digest) -> Result<Chunk, ReadFault> {
+        let bytes = Vec::from_elem(self.alloc, self.byte, 1).map_err(|_| ReadFault::OutOfMemory)?;
+        Chunk::check(*key, bytes).map_err(|_| ReadFault::Missing)
+    }
+}
+
+type KnownNode = Group<DigestHash, OneByte, NoLink, Counter>;
+
+/// A read through such a node tells no chunk as damaged, and blames no device.
+fn read<R: Wait>(rt: &R, node: &KnownNode, key: &Digest) -> Outcome
+    ensures named { IfOk result (λ chunk. digest_of chunk.value ≡ key.now) }
+    ensures whole { IfErr result (λ fault. fault ≢ Damaged) }
+    ensures blameless { IfErr result (λ fault. fault ≢ Device) }
+{
+    node.get(rt, key)
+}
+
+#[test]
+fn a_known_source_gives_its_chunk_and_lacks_others(rt: HostRuntime) -> Result<(), Fail> {
+    let ring = Ring::new(rt.alloc(), &["node0"], &DigestHash)?;
+    let source = OneByte {
+        alloc: rt.alloc(),
+        byte: 7,
+    };
+    let node = Group::new(rt.alloc(), 1_000, ring, 0, source, NoLink, Counter::new())?;
+    let chunk = read(&rt, &node, &Digest::of_bytes(&[7]))?;
+    assert_eq!(rt; chunk.view().bytes(), [7].as_slice());
+    let other = read(&rt, &node, &Digest::of_bytes(&[8]));
+    assert!(rt; matches!(other, Err(ReadFault::Missing)));
+    Ok(())
+}

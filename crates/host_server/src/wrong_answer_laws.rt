@@ -1,0 +1,101 @@
+//! What the relations of the contracts refuse. Each function does nothing: its contract is the law.
+ghost use Rattle.std.specs.FinMap as map;
+ghost use Rattle.std.specs.Prelude.{◌≡◌, ◌⊎◌, ℕ, ◌<◌, ◌≤◌, ◌+◌, ◌-◌, ◌^◌, min, List, [], ◌∷◌, Option, None, Some, Ok, Err, true, false, length};
+ghost use Rattle.host_names.specs.Blobs.{Contents};
+ghost use Rattle.host_names.specs.declared.digests.Digest.{Digest};
+ghost use Rattle.host_names.specs.declared.names.SiteName.{SiteName};
+ghost use Rattle.host_names.specs.declared.refusals.ChangeRefusal.TheVariants.{HistoryFull, NoSuchDeploy};
+ghost use Rattle.blob_store.specs.declared.blobs.UploadFault.TheVariants as upload_fault;
+ghost use Rattle.range_spec.specs.declared.grammar.Asked.{Asked};
+ghost use Rattle.http_wire.specs.Requests.{RequestParts};
+ghost use Rattle.http_wire.specs.Timing.{AtEnd};
+ghost use Rattle.site_change.specs.declared.commands.Command.{Command};
+ghost use Rattle.change_undo.specs.declared.entries.Entry.{Entry};
+ghost use Rattle.change_journal.specs.Held.{Keeps};
+ghost use Rattle.host_api.specs.declared.bodies.Ask.TheVariants as ask;
+ghost use Rattle.host_api.specs.declared.refusals.HeadRefusal.TheVariants.{CodingRefused};
+ghost use Rattle.host_api.specs.declared.refusals.Refusal.{Refusal};
+ghost use Rattle.host_api.specs.declared.refusals.Refusal.TheVariants as reason;
+ghost use Rattle.host_api.specs.declared.texts.DeployState.TheVariants.{Kept};
+ghost use Rattle.host_api.specs.declared.texts.Told.{Told};
+ghost use Rattle.host_api.specs.declared.texts.Told.TheVariants.{Entered, Refused, Uploaded};
+ghost use Rattle.host_server.specs.Asks.{HostStops, IsAnswer, asked_for};
+ghost use Rattle.host_server.specs.Files.{AsksRange};
+ghost use Rattle.host_server.specs.Hosts.{Grows, Host};
+ghost use Rattle.host_server.specs.Journals.{IsJournaled, IsPut, IsPutInVain, IsStopped};
+ghost use Rattle.host_server.specs.Memory.{CommandRunsOut, DeployRunsOut, TextRunsOut, UndoRunsOut};
+ghost use Rattle.host_server.specs.Openings.{IsNoRecordFault, IsOpenFault, IsOpened};
+ghost use Rattle.host_server.specs.Outcomes.{Does, DoesCommit, refused};
+ghost use Rattle.host_server.specs.ReadBack.{IsReadBack};
+ghost use Rattle.host_server.specs.Replies.{Answer, refused_answer};
+ghost use Rattle.host_server.specs.Serving.{IsHeadBad, IsInterim, Serves, Stream};
+ghost use Rattle.host_server.specs.Shown.{ShowsDeploy, Stands};
+ghost use Rattle.host_server.specs.Solo.{IsFolderFault, Runs, RunsStore};
+ghost use Rattle.host_server.specs.Storing.{DoesUpload, IsNotStored, IsStored};
+ghost use Rattle.host_server.specs.Timing.{Connects, IsCaughtUp};
+ghost use Rattle.host_server.specs.declared.connections.ConnectionFault.TheVariants as fault;
+ghost use Rattle.host_server.specs.declared.openings.OpenFault.TheVariants as open_fault;
+ghost use Rattle.host_server.specs.declared.servers.Server.{Server};
+
+use blob_store::Shelf;
+use host_disk::{Disk, MemDisk};
+
+/// Of these relations each is refuted of one wrong answer, so none of them holds of everything. `range` says that a
+/// head asks for one list of ranges. An answer that a file is missing or damaged is none by which it is read back (`IsReadBack`).
+pub fn wrong_answers_are_refused<S: Shelf, D: Disk>()
+    ensures missing { (parts : RequestParts) (path file : List ℕ) → ¬ (IsReadBack parts path file (refused_answer reason.Missing)) }
+    ensures damaged { (parts : RequestParts) (path file : List ℕ) → ¬ (IsReadBack parts path file (refused_answer reason.Damaged)) }
+    ensures range { (parts : RequestParts) (one another : Asked) → AsksRange parts one → AsksRange parts another → one ≡ another }
+    ensures refused { (old new : Server S D D.Disk) (parts : RequestParts) (body : List ℕ) (answer : Answer) (why : Refusal) → asked_for parts body ≡ Err why
+        → IsAnswer S.did S.failures D.faults old parts body answer new → new.house ≡ old.house }
+    ensures refusal { (old new : Server S D D.Disk) (parts : RequestParts) (body : List ℕ) (answer : Answer) (why : Refusal) → asked_for parts body ≡ Err why
+        → IsAnswer S.did S.failures D.faults old parts body answer new → (answer ≡ refused_answer why) ⊎ (answer ≡ refused_answer reason.OutOfMemory) }
+    ensures stored { (uploads : Contents) (old new : S) (bytes : List ℕ) → IsStored S.did uploads old bytes new → length bytes ≤ 16777216 }
+    ensures large { (uploads : Contents) (old new : S) (bytes : List ℕ) → length bytes ≤ 16777216
+        → ¬ (IsNotStored S.did S.failures uploads old bytes upload_fault.TooLarge new) }
+    ensures device { (uploads : Contents) (old new : S) (bytes : List ℕ) → IsNotStored S.did S.failures uploads old bytes upload_fault.Device new
+        → S.failures old < S.failures new }
+    ensures upload { (old new : Server S D D.Disk) (n : ℕ) (path bytes : List ℕ) (published : Option ℕ) (digest : Digest) → 16777216 < length bytes
+        → ¬ (DoesUpload S.did S.failures D.faults old n path bytes (Ok (Uploaded published digest)) new) }
+{}
+
+/// The same of what a host and its journal do.
+pub fn wrong_changes_are_refused<D: Disk>()
+    ensures grows { (entry : Entry) → ¬ (Grows (record { limit = 1; entries = entry ∷ []; uploads = map.empty }) (record { limit = 1; entries = []; uploads = map.empty })) }
+    ensures journaled { (old new : Host) (journal : Keeps D) → ¬ (IsJournaled {A = ℕ} D.faults (Ok 0) old None new (Some journal)) }
+    ensures broken { (old new : Host) → ¬ (IsJournaled {A = ℕ} D.faults (Err reason.Device) old None new None) }
+    ensures put { (old new : Keeps D) (entry : Entry) → old.broken ≡ true → ¬ (IsPut D.faults old entry new) }
+    ensures put_in_vain { (old new : Keeps D) → new.broken ≡ false → ¬ (IsPutInVain D.faults old new) }
+    ensures stopped { ¬ (IsStopped {A = ℕ} (Ok 0)) }
+    ensures stops { (host next : Host) (site : SiteName) → ¬ (HostStops host (Ok (ask.Changes site)) next) }
+    ensures command { (command : Command) (next : Host) → ¬ (CommandRunsOut (record { limit = 0; entries = []; uploads = map.empty }) command next) }
+    ensures undo { (site : SiteName) (k : ℕ) (next : Host) → ¬ (UndoRunsOut (record { limit = 0; entries = []; uploads = map.empty }) site k next) }
+    ensures text { (host : Host) → ¬ (TextRunsOut (refused host reason.BadName) host) }
+    ensures deploy { (command : SiteName → Command) (next : Host) → ¬ (DeployRunsOut (record { limit = 0; entries = []; uploads = map.empty }) 1 command next) }
+    ensures does { (host : Host) → ¬ (Does (Ok (Entered 1)) host (record { told = Entered 2; host = host })) }
+    ensures commits { (told : Told) (next : Host) (command : Command) → DoesCommit (Ok told) next (record { limit = 0; entries = []; uploads = map.empty }) command
+        → told ≡ Refused (reason.Change HistoryFull) }
+    ensures shown { (told : Told) → ShowsDeploy (record { limit = 0; entries = []; uploads = map.empty }) 1 told → told ≡ Refused (reason.Change NoSuchDeploy) }
+    ensures stands { (uploads : Contents) → ¬ (Stands uploads None None (Ok Kept)) }
+{}
+
+/// The same of what a connection does, of openings, and of runs of the program.
+pub fn wrong_runs_are_refused<S: Shelf, D: Disk>()
+    ensures input { (host next : Server S D D.Disk) (stream held new_held : Stream)
+        → ¬ (Serves (IsAnswer S.did S.failures D.faults) ⊥ ⊥ (Err fault.InputFault) host next stream held new_held) }
+    ensures output { (host next : Server S D D.Disk) (stream held new_held : Stream)
+        → ¬ (Serves (IsAnswer S.did S.failures D.faults) ⊥ ⊥ (Err fault.OutputFault) host next stream held new_held) }
+    ensures idle { (host next : Server S D D.Disk) → ¬ (Connects (IsAnswer S.did S.failures D.faults) (Err fault.OutOfMemory) host next (AtEnd ∷ [])) }
+    ensures caught_up { (host : Server S D D.Disk) → ¬ (IsCaughtUp (IsAnswer S.did S.failures D.faults) host [] (0 ∷ [])) }
+    ensures head { (stream : Stream) → ¬ (IsHeadBad CodingRefused stream) }
+    ensures interim { (parts : RequestParts) → ¬ (IsInterim parts (0 ∷ [])) }
+    ensures opened { (old : D) (shelf : S) (limit : ℕ) (server : Server S D D.Disk) → server.journal ≡ None → ¬ (IsOpened S.did old shelf limit server) }
+    ensures open_fault { (old new : D) (shelf new_shelf : S) (limit : ℕ) → IsOpenFault D.Disk S.did old shelf limit open_fault.JournalDevice new new_shelf
+        → D.faults new ≡ min (D.faults old + 1) (2 ^ 64 - 1) }
+    ensures record_fault { ¬ (IsNoRecordFault open_fault.BadHeader) }
+    ensures folder_fault { ¬ (IsFolderFault open_fault.BadHeader) }
+    ensures store { (old : D) (shelf : S) (stream held new_held said new_said : Stream)
+        → ¬ (RunsStore D.Disk S.did S.failures ⊥ ⊥ ⊥ old shelf 1 stream held new_held said new_said) }
+    ensures run { (words : List (List ℕ)) (stream held new_held said new_said : Stream)
+        → ¬ (Runs ⟦<MemDisk as Disk>⟧ D.Disk S.Shelf ⊥ ⊥ ⊥ words 5 stream held new_held said new_said) }
+{}
