@@ -140,8 +140,18 @@ class History:
         self.entries = []
         self.known_states = {(): {}}
 
+    def copy(self):
+        """One with the same entries and uploads, over a new connection."""
+        copy = type(self)()
+        copy.uploads, copy.entries, copy.known_states = dict(self.uploads), list(self.entries), dict(self.known_states)
+        return copy
+
     def entry(self, number):
         return self.entries[number - 1] if 1 <= number <= len(self.entries) else None
+
+    def opened(self):
+        """The numbers of the entries that open deploys, also of those that are undone."""
+        return [number for number, entry in enumerate(self.entries, 1) if entry.kind == "open"]
 
     def live_changes(self):
         """The numbers of the changes that no undo names."""

@@ -260,7 +260,7 @@ class Model(History):
         return telling({"id": str(number), "required": required, "site": site, "state": state})
 
     def show_changes(self, request, site):
-        live = self.live_changes()
+        live = set(self.live_changes())
         lines = [
             {"entry": number, "kind": kind} | ({"of": parts[0]} if kind == "undo" else {"live": number in live})
             for number, (kind, where, parts) in enumerate(self.entries, 1) if where == site

@@ -8,8 +8,8 @@ import tempfile
 import journal
 from client import Client, Program, content_length, digest_of, request, run
 from plain_history import Deploy, Entry
-from plain_model import Model, Request
-from test_histories import SITES, in_json, views
+from plain_model import Request
+from test_histories import SITES, Generator, in_json, views
 
 PIECE = 65_536
 
@@ -58,7 +58,8 @@ def files_in(folder):
 
 def is_stored(folder, content):
     """Whether a store has an uploaded file whole."""
-    return files_of(content).items() <= files_in(folder).items()
+    files = [(folder / name, data) for name, data in files_of(content).items()]
+    return all(file.is_file() and file.read_bytes() == data for file, data in files)
 
 
 def write_store(folder, entries, *contents):
@@ -70,26 +71,19 @@ def write_store(folder, entries, *contents):
             (folder / name).write_bytes(data)
 
 
-def copy_of(model):
-    """A host with the same entries and uploads, over a new connection."""
-    copy = Model()
-    copy.uploads, copy.entries, copy.known_states = dict(model.uploads), list(model.entries), dict(model.known_states)
-    return copy
-
-
 def found_in(test, folder, model, asked=None):
     """The model of what a store has after a stop, where this request was in hand: what was acknowledged, all and unchanged, and after it
     none, the first or all of the entries that the request would make; and what is uploaded whole, also by that request."""
     file = folder / "journal"
     entries = [entry_of(entry) for entry in journal.read(file.read_bytes() if file.exists() else b"")]
-    done, count = copy_of(model), len(model.entries)
+    done, count = model.copy(), len(model.entries)
     if asked:
         done.answer(asked)
     test.assertEqual(entries[:count], model.entries)
     test.assertEqual(entries[count:], done.entries[count:len(entries)])
     for content in model.uploads.values():
         test.assertTrue(is_stored(folder, content), f"{content[:40]} is lost")
-    found = copy_of(model)
+    found = model.copy()
     found.entries = entries
     found.uploads = {digest: content for digest, content in done.uploads.items() if is_stored(folder, content)}
     return found
@@ -97,7 +91,7 @@ def found_in(test, folder, model, asked=None):
 
 def refused_undos(model):
     """Requests to undo what can't be undone, or not any more."""
-    trial, found = copy_of(model), []
+    trial, found = model.copy(), []
     for number in range(1, len(model.entries) + 2):
         for site in SITES:
             asked = Request("POST", f"/api/v1/sites/{site}/undo", body=in_json(change=number))
@@ -105,13 +99,13 @@ def refused_undos(model):
             if len(trial.entries) == len(model.entries):
                 found.append(asked)
             else:
-                trial = copy_of(model)
+                trial = model.copy()
     return found
 
 
-def looks(model):
+def looks(model, of=Generator):
     """Requests that read all that is visible: the changes of each site, each file of each version, and each deploy."""
-    return [Request("GET", f"/api/v1/sites/{site}/changes") for site in SITES] + views(model)
+    return [Request("GET", f"/api/v1/sites/{site}/changes") for site in of.sites] + views(model, of=of)
 
 
 def as_bytes(asked):

@@ -1,7 +1,11 @@
 """The gate ./test and the runner tests/run: nothing that failed is counted as passed, and all is counted."""
 
+import os
 import shutil
+import signal
+import subprocess
 import sys
+import time
 import unittest
 
 from sandbox import Sandbox
@@ -96,6 +100,25 @@ class Gate(unittest.TestCase):
         self.assert_ends(answer, 1, "3 passed, 1 failed")
         self.assertEqual(self.sandbox.calls(), ["repository: ci", "low: lib", "filehost: run -- --version"])
 
+    def test_ends_at_once_with_all_that_it_started_where_it_is_stopped(self):
+        self.sandbox.add_crates("filehost:\n")
+        for number in (signal.SIGINT, signal.SIGTERM):
+            with self.subTest(number):
+                environment = self.sandbox.environment(SECONDS_A_CRATE="50", CI_SAYS="", CI_STATUS="0", TMPDIR=str(self.sandbox.folder))
+                how = {"stdin": subprocess.DEVNULL, "stdout": subprocess.PIPE, "stderr": subprocess.PIPE, "start_new_session": True}
+                # Whoever began the tests in the background may have had interrupts ignored, which no trap of a shell can change.
+                how["preexec_fn"] = lambda: signal.signal(signal.SIGINT, signal.SIG_DFL)
+                gate = subprocess.Popen([str(self.sandbox.top / "test")], env=environment, **how)
+                while not self.sandbox.calls():
+                    time.sleep(0.01)
+                began = time.monotonic()
+                os.killpg(gate.pid, number)
+                # The pipes end with the last process that has them.
+                _, err = gate.communicate(timeout=40)
+                self.assertLess(time.monotonic() - began, 20)
+                self.assertEqual((gate.returncode, err.splitlines()[-1]), (130, b"test: stopped"))
+                self.assertEqual(list(self.sandbox.folder.glob("tmp.*")), [])
+
     def test_says_that_the_toolchain_is_missing(self):
         self.assert_ends(self.gate(has_toolchain=False), 1, "0 passed, 1 failed")
 
@@ -113,16 +136,34 @@ class Gate(unittest.TestCase):
                 for command in missing:
                     (tools / command).unlink()
                 self.assert_ends(self.gate(STORE=str(self.sandbox.top / "store")), 0, "5 passed, 0 failed")
-                installing = ["apt-get update", "apt-get install"] * len(missing)
-                self.assertEqual(self.sandbox.calls(), [*installing, "repository: ci"])
+                self.assertEqual(self.sandbox.calls(), ["apt-get update", "apt-get install", "repository: ci"])
                 self.assert_ends(self.gate(), 0, "5 passed, 0 failed")
                 self.assertEqual(self.sandbox.calls(), ["repository: ci"])
 
+    def test_says_in_one_line_what_cannot_be_installed(self):
+        tools = self.sandbox.tools
+        for command in ("curl", "wget", "gcc", "python3"):
+            (tools / command).unlink()
+        for there, why in ((), "apt-get"), (("apt-get",), "sudo"):
+            if os.geteuid() == 0 and why == "sudo":
+                continue
+            with self.subTest(why):
+                for name in there:
+                    (tools / name).symlink_to(shutil.which("true"))
+                environment = {"CI_SAYS": "1 passed, 0 failed\n", "CI_STATUS": "0"}
+                status, out, err = self.sandbox.run(str(self.sandbox.top / "test"), **environment)
+                self.assertEqual((status, out, len(err.splitlines())), (1, "0 passed, 1 failed\n", 1), err)
+                for word in ("python3 curl wget gcc", why):
+                    self.assertIn(word, err)
+
     def test_fails_where_what_the_tests_need_cannot_be_installed(self):
+        for name in ("apt-get", "sudo"):
+            (self.sandbox.tools / name).symlink_to(shutil.which("true"))
         for command in ("curl", "wget", "gcc", "python3"):
             with self.subTest(command):
                 (self.sandbox.tools / command).unlink()
                 self.assert_ends(self.gate(), 1, "0 passed, 1 failed")
+                self.assertEqual(self.sandbox.calls(), [])
 
     def test_works_from_any_folder_and_as_the_merge_gate(self):
         for command in ("test", ".ci/run"):

@@ -49,6 +49,10 @@ def in_json(**members):
 class Generator:
     """Draws requests for what a model of the host has, so that all kinds of answers are frequent."""
 
+    sites, paths, names = SITES, PATHS, NAMES
+    # of how many files a deploy is, each so often
+    sizes = (0, 1, 1, 2, 2, 3, 3, 4)
+
     def __init__(self, seed, model):
         self.random = random.Random(seed)
         self.model = model
@@ -73,13 +77,13 @@ class Generator:
     def deploy(self, *kinds):
         """The number of a deploy, mostly of one that is there."""
         there = [number for kind in kinds for number in self.keys(kind)]
-        opened = [number for number, entry in enumerate(self.model.entries, 1) if entry.kind == "open"]
+        opened = self.model.opened()
         return self.mostly(there, opened if opened and self.happens(0.7) else self.any_number(), 0.85)
 
     def site_of(self, number):
         """Mostly the site of the entry of this number."""
         entry = self.model.entry(number)
-        return entry.site if entry and self.happens(0.9) else self.one_of(SITES)
+        return entry.site if entry and self.happens(0.9) else self.one_of(self.sites)
 
     def written(self, number):
         """A number as a body may have it."""
@@ -88,18 +92,25 @@ class Generator:
     def target(self, path):
         return urllib.parse.quote(path) + self.one_of(("", "", "", "?a=b"))
 
+    def content(self):
+        """What a file of a deploy shall have. The last one is never uploaded."""
+        return self.one_of(CONTENTS[:self.one_of((2, 4, 6, 8))])
+
+    def content_of(self, digest):
+        return CONTENT_OF[digest]
+
     def open(self):
         is_patch = self.happens(0.4)
         files = {}
-        for path in self.random.sample(PATHS, self.one_of((0, 1, 1, 2, 2, 3, 3, 4))):
-            content = self.one_of(CONTENTS[:self.one_of((2, 4, 6, 8))])
+        for path in self.random.sample(self.paths, self.one_of(self.sizes)):
+            content = self.content()
             files[path[self.happens(0.1):]] = None if is_patch and self.happens(0.35) else digest_of(content)
         body = {"files": files}
         if is_patch or self.happens(0.1):
             body["patch"] = is_patch
         if self.happens(0.3):
             body["draft"] = True
-        return Request("POST", f"/api/v1/sites/{self.one_of(SITES)}/deploys", body=in_json(**body))
+        return Request("POST", f"/api/v1/sites/{self.one_of(self.sites)}/deploys", body=in_json(**body))
 
     def upload(self):
         """Mostly what an open deploy lacks, or something else that it lists."""
@@ -107,8 +118,8 @@ class Generator:
         entry = self.model.entry(number)
         files = entry.parts[0].files if entry and entry.kind == "open" else {}
         lacking = [path for path, digest in files.items() if digest and digest not in self.model.uploads]
-        path = self.mostly(lacking if lacking and self.happens(0.7) else files, PATHS, 0.9)
-        content = CONTENT_OF[files.get(path) or digest_of(b"")]
+        path = self.mostly(lacking if lacking and self.happens(0.7) else files, self.paths, 0.9)
+        content = self.content_of(files.get(path) or digest_of(b""))
         if self.happens(0.12) or content == CONTENTS[-1]:
             content = self.one_of(CONTENTS[:-1])
         target = f"/api/v1/deploys/{number}/files{self.one_of(('', '/'))}{self.target(path)}"
@@ -127,23 +138,23 @@ class Generator:
     def move_alias(self):
         number = self.deploy(KEPT)
         body = in_json(deploy=self.written(number))
-        return Request("PUT", f"/api/v1/sites/{self.site_of(number)}/aliases/{self.one_of(NAMES)}", body=body)
+        return Request("PUT", f"/api/v1/sites/{self.site_of(number)}/aliases/{self.one_of(self.names)}", body=body)
 
     def remove_alias(self):
-        site = self.one_of(SITES)
-        return Request("DELETE", f"/api/v1/sites/{site}/aliases/{self.mostly(self.keys(ALIAS, site), NAMES)}")
+        site = self.one_of(self.sites)
+        return Request("DELETE", f"/api/v1/sites/{site}/aliases/{self.mostly(self.keys(ALIAS, site), self.names)}")
 
     def rename(self):
-        site = self.one_of(SITES)
+        site = self.one_of(self.sites)
         served = self.keys(LIVE, site)
-        source = self.mostly(served, PATHS)
-        target = self.one_of([path for path in PATHS if path != source]) if self.happens(0.9) else source
+        source = self.mostly(served, self.paths)
+        target = self.one_of([path for path in self.paths if path != source]) if self.happens(0.9) else source
         body = {"from": source[self.happens(0.1):], "to": target}
         return Request("POST", f"/api/v1/sites/{site}/rename", body=in_json(**body))
 
     def remove(self):
-        site = self.one_of(SITES)
-        path = self.mostly(self.keys(LIVE, site), PATHS)
+        site = self.one_of(self.sites)
+        path = self.mostly(self.keys(LIVE, site), self.paths)
         return Request("DELETE", f"/api/v1/sites/{site}/files{self.one_of(('', '/'))}{self.target(path)}")
 
     def undo(self):
@@ -153,7 +164,7 @@ class Generator:
         return Request("POST", f"/api/v1/sites/{self.site_of(change)}/undo", body=in_json(change=self.written(change)))
 
     def show_changes(self):
-        return Request(self.one_of(READING), f"/api/v1/sites/{self.one_of(SITES)}/changes")
+        return Request(self.one_of(READING), f"/api/v1/sites/{self.one_of(self.sites)}/changes")
 
     def show_deploy(self):
         return Request(self.one_of(READING), f"/api/v1/deploys/{self.deploy(DRAFT, KEPT)}")
@@ -161,7 +172,7 @@ class Generator:
     def read(self):
         """A file of some version, perhaps some ranges of it, and perhaps on a condition."""
         version, files = self.one_of(self.versions())
-        path, fields = self.mostly(files, PATHS), ()
+        path, fields = self.mostly(files, self.paths), ()
         if self.happens(0.7):
             fields = (f"Range: bytes={','.join(self.positions() for _ in range(self.one_of((1, 1, 1, 2, 2, 3))))}",)
         if self.happens(0.05):
@@ -179,12 +190,12 @@ class Generator:
 
     def versions(self):
         """Versions of sites, each with the paths of its files. Some are not there."""
-        state, number, site = self.model.state(), self.one_of(self.any_number()), self.one_of(SITES)
-        found = [(f"s/{site}", self.keys(LIVE, site)) for site in SITES]
+        state, number, site = self.model.state(), self.one_of(self.any_number()), self.one_of(self.sites)
+        found = [(f"s/{site}", self.keys(LIVE, site)) for site in self.sites]
         found += [(f"d/{site}/{key}", list(value)) for (site, kind, key), value in state.items() if kind == KEPT]
         found += [(f"a/{site}/{key}", list(state[site, KEPT, value])) for (site, kind, key), value in state.items()
                   if kind == ALIAS]
-        return found + [(f"d/{site}/{number}", []), (f"a/{site}/{self.one_of(NAMES)}", [])]
+        return found + [(f"d/{site}/{number}", []), (f"a/{site}/{self.one_of(self.names)}", [])]
 
     def mistake(self):
         return self.one_of(MISTAKES)
@@ -205,15 +216,16 @@ class Generator:
             yield self.draw(self.beginnings if place < first else self.changes | self.others)
 
 
-def views(*models):
-    """Requests that read all that is visible in any of these models: each file of each version, and each deploy."""
+def views(*models, of=Generator):
+    """Requests that read all that is visible in any of these models, of the sites, paths and names that this generator draws: each file of
+    each version, and each deploy."""
     cells = sorted({cell for model in models for cell in model.state()})
-    numbers = {number for model in models for number, entry in enumerate(model.entries, 1) if entry.kind == "open"}
-    versions = [f"s/{site}" for site in SITES]
+    numbers = {number for model in models for number in model.opened()}
+    versions = [f"s/{site}" for site in of.sites]
     versions += [f"d/{site}/{number}" for site, kind, number in cells if kind == KEPT]
     versions += [f"a/{site}/{name}" for site, kind, name in cells if kind == ALIAS]
-    reads = [f"/{version}{urllib.parse.quote(path)}" for version in versions for path in PATHS]
-    reads += [f"/a/{site}/{name}/a.txt" for site in SITES for name in NAMES if (site, ALIAS, name) not in cells]
+    reads = [f"/{version}{urllib.parse.quote(path)}" for version in versions for path in of.paths]
+    reads += [f"/a/{site}/{name}/a.txt" for site in of.sites for name in of.names if (site, ALIAS, name) not in cells]
     return [Request("GET", target) for target in reads + [f"/api/v1/deploys/{number}" for number in sorted(numbers)]]
 
 
@@ -229,11 +241,6 @@ class Run:
         for asked in requests:
             self.requests.append(asked)
             self.wanted.append(self.model.answer(asked))
-
-    def copy_of_model(self):
-        copy = Model()
-        copy.uploads, copy.entries = dict(self.model.uploads), list(self.model.entries)
-        return copy
 
     def replies(self):
         """The replies of the program, which are those of the model."""
@@ -305,7 +312,7 @@ def a_change(generator, made, seed):
     kinds = list(Generator.changes)
     for turn in itertools.count():
         change = kinds[seed % len(kinds)](generator) if turn < 20 else generator.draw(Generator.changes)
-        after = made.copy_of_model()
+        after = made.model.copy()
         after.answer(change)
         added = range(len(made.model.entries) + 1, len(after.entries) + 1)
         if added:

@@ -55,6 +55,15 @@ class Launcher(unittest.TestCase):
         self.sandbox.add_crates(CRATES)
         self.assert_refuses(self.call(has_toolchain=False), "toolchain is missing", "rt on PATH")
 
+    def test_says_which_command_is_missing_for_a_build(self):
+        self.sandbox.add_crates(CRATES)
+        for command in ("python3", "find", "flock"):
+            with self.subTest(command):
+                (self.sandbox.tools / command).rename(self.sandbox.folder / command)
+                self.assert_refuses(self.call(), f"{command} is missing")
+                (self.sandbox.folder / command).rename(self.sandbox.tools / command)
+        self.assertEqual(self.sandbox.calls(), [])
+
     def test_says_that_the_program_is_not_listed(self):
         self.sandbox.add_crates(CRATES)
         self.sandbox.write("crates.txt", "low:\n")

@@ -9,7 +9,7 @@ import unittest
 
 from client import HERE, SECONDS, digest_of, refused
 from plain_model import Model, Request
-from stores import Conversation, Stored, as_bytes, copy_of, found_in, looks, told
+from stores import Conversation, Stored, as_bytes, found_in, looks, told
 from test_histories import in_json
 from worked import NO_DEPLOY
 
@@ -34,7 +34,7 @@ class Possible:
         self.hosts = kept
 
     def after(self, model, is_broken, asked, got):
-        done = copy_of(model)
+        done = model.copy()
         wanted = done.answer(asked)
         if not is_broken or asked.method == "GET":
             return [(done, is_broken)] if got == wanted else []
@@ -44,11 +44,11 @@ class Possible:
 
     def after_failure(self, model, asked):
         """A read or an upload failed at the store's files; or the journal did, at the first or the second entry of the request."""
-        done = copy_of(model)
+        done = model.copy()
         done.answer(asked)
         hosts = [(model, False)] if asked.method in ("GET", "PUT") else []
         for count in range(len(model.entries), len(done.entries)):
-            host = copy_of(model)
+            host = model.copy()
             host.entries, host.uploads = done.entries[:count], dict(done.uploads)
             hosts.append((host, True))
         return hosts

@@ -1,0 +1,592 @@
+"""The places in the bodies of a crate's functions where a bug can be planted, and each bug as an edit.
+
+Only bodies count: nothing of a contract, of ghost code, an attribute or a comment is a place, and no test. A place has one kind, and
+some changes of its text, each of which is a bug. The code is looked at word by word, as `rt fmt` lays it out, so a change need not
+compile: the check of its edit says so.
+"""
+
+import dataclasses
+import pathlib
+import re
+
+WORD = re.compile(
+    r"""(?P<space>\s+)|(?P<comment>//[^\n]*|/\*.*?\*/)
+    |(?P<string>b?r(?P<hashes>\#*)".*?"(?P=hashes)|b?"(?:\\.|[^"\\])*")
+    |(?P<letter>b?'(?:\\[^\n']+|[^'\\\n])')|(?P<lifetime>'[A-Za-z_]\w*)
+    |(?P<number>\d\w*)|(?P<name>[^\W\d]\w*)
+    |(?P<sign>\.\.=|<<=|>>=|->|=>|::|==|!=|<=|>=|&&|\|\||\.\.|[-+*/%^&|]=|.)""",
+    re.VERBOSE | re.DOTALL,
+)
+CLAUSES = {"requires", "ensures", "measure", "decreases", "invariant", "unfolding"}
+HEADS = {"if", "while", "for", "match"}
+NO_CALL = HEADS | {"in", "return", "let", "else", "as", "mut", "ref", "move", "loop", "fn"}
+TURNED = {"<": "<=", "<=": "<", ">": ">=", ">=": ">", "==": "!=", "!=": "=="}
+JOINED = {"&&": "||", "||": "&&"}
+OPENING, CLOSING = set("([{"), set(")]}")
+
+
+@dataclasses.dataclass(frozen=True)
+class Change:
+    """Texts that are put in the place of stretches of a file, which don't meet."""
+
+    parts: tuple
+
+    def of(self, text):
+        for start, end, new in sorted(self.parts, reverse=True):
+            text = text[:start] + new + text[end:]
+        return text
+
+    def shown(self, text):
+        """The two texts, of the whole stretch that is changed, in one line each."""
+        start, end = min(part[0] for part in self.parts), max(part[1] for part in self.parts)
+        moved = Change(tuple((one - start, other - start, new) for one, other, new in self.parts))
+        return in_one_line(text[start:end]), in_one_line(moved.of(text[start:end]))
+
+
+@dataclasses.dataclass(frozen=True)
+class Function:
+    """A function, by its lines."""
+
+    name: str
+    first: int
+    last: int
+    has_namesake: bool
+
+
+@dataclasses.dataclass
+class Place:
+    file: str
+    line: int
+    kind: str
+    changes: list
+    function: Function
+
+
+def words_of(text):
+    """The words of a text, as (kind, word, start, end), without spaces and comments."""
+    found = []
+    for match in WORD.finditer(text):
+        if match.lastgroup not in ("space", "comment"):
+            kind = "string" if match.lastgroup == "hashes" else match.lastgroup
+            found.append((kind, match[0], match.start(), match.end()))
+    return found
+
+
+def in_one_line(text):
+    """The text without comments, in one line."""
+    parts = [" " if match.lastgroup in ("space", "comment") else match[0] for match in WORD.finditer(text)]
+    return re.sub(r" +", " ", "".join(parts)).strip()
+
+
+def pairs_of(words):
+    """Where each bracket that opens is closed, and the other way round."""
+    pairs, opened = {}, []
+    for at, (kind, word, *_) in enumerate(words):
+        if kind == "sign" and word in OPENING:
+            opened.append(at)
+        elif kind == "sign" and word in CLOSING and opened:
+            pairs[at] = opened.pop()
+            pairs[pairs[at]] = at
+    return pairs
+
+
+class Enums:
+    """The variants of the enums of all crates."""
+
+    def __init__(self, top):
+        self.found = {("std", "Ordering"): {"Less": "", "Equal": "", "Greater": ""}}
+        for file in sorted(pathlib.Path(top, "crates").glob("*/src/**/*.rt")):
+            crate = file.relative_to(top).parts[1]
+            words = words_of(file.read_text())
+            pairs = pairs_of(words)
+            for at, (_, word, *_) in enumerate(words):
+                if word == "enum" and words[at + 1][0] == "name":
+                    opening = next(here for here in range(at, len(words)) if words[here][1] == "{")
+                    self.found[crate, words[at + 1][1]] = self.variants(words, pairs, opening)
+
+    def variants(self, words, pairs, opening):
+        """The name of each variant, and the form of what it holds."""
+        found, at = {}, opening + 1
+        while at < pairs[opening]:
+            kind, word, *_ = words[at]
+            if word == "#":
+                at = pairs[at + 1] + 1
+            elif kind == "name" and words[at + 1][1] in OPENING:
+                inside = [one[1] for one in words[at + 2:pairs[at + 1]]]
+                count = sum(one == "," for one in inside[:-1]) if words[at + 1][1] == "(" else " ".join(inside)
+                found[word], at = words[at + 1][1] + str(count), pairs[at + 1] + 1
+            else:
+                found.update({word: ""} if kind == "name" else {})
+                at += 1
+        return found
+
+    def others(self, crate, path, name, variant):
+        """The variants of the same form, of the enum of that name: the crate's own, or that of the path before it, or of any crate."""
+        owners = [owner for owner, one in self.found if one == name and variant in self.found[owner, one]]
+        chosen = next((one for one in (path, crate) if one in owners), None) or (owners[0] if owners else None)
+        forms = self.found.get((chosen, name), {})
+        return [other for other in forms if other != variant and forms[other] == forms[variant]]
+
+
+class Source:
+    """One file of a crate, and the places in it."""
+
+    def __init__(self, crate, file, text, enums):
+        self.crate, self.file, self.text, self.enums = crate, file, text, enums
+        self.words = words_of(text)
+        self.pairs = pairs_of(self.words)
+        self.places = []
+        self.blocks, self.matches = [], []
+        bodies = list(self.bodies())
+        names = [self.word(parameters + 1) for *_, parameters in bodies]
+        for (start, end, parameters), name in zip(bodies, names):
+            self.owner = Function(name, self.line(parameters), self.line(end), names.count(name) > 1)
+            self.look(start, end, parameters)
+
+    def word(self, at):
+        return self.words[at][1] if 0 <= at < len(self.words) else ""
+
+    def kind(self, at):
+        return self.words[at][0] if 0 <= at < len(self.words) else ""
+
+    def start(self, at):
+        return self.words[at][2]
+
+    def end(self, at):
+        return self.words[at][3]
+
+    def line(self, at):
+        return self.text.count("\n", 0, self.start(at)) + 1
+
+    def part(self, first, last):
+        """The text from a word to another, both with it."""
+        return self.text[self.start(first):self.end(last)]
+
+    def add(self, kind, at, changes):
+        """A place that begins at a word; of changes as lists of (first word, last word, new text)."""
+        made = [Change(tuple((self.start(first), self.end(last), new) for first, last, new in change)) for change in changes]
+        if made:
+            self.places.append(Place(self.file, self.line(at), kind, made, self.owner))
+
+    # Where the bodies are.
+
+    def bodies(self):
+        """The brackets of each body of a function that is no test, and where its parameters begin."""
+        at, tested = 0, False
+        while at < len(self.words):
+            word = self.word(at)
+            if word == "#" and self.word(at + 1) == "[":
+                names = [self.word(one) for one in range(at + 2, self.pairs[at + 1])]
+                tested = tested or names[:1] == ["test"] or names[:1] == ["cfg"] and "test" in names
+                at = self.pairs[at + 1] + 1
+            elif word == "ghost":
+                at = self.after_ghost(at)
+            elif word == "mod" and tested:
+                at, tested = self.after_block(at), False
+            elif word == "fn" and self.kind(at + 1) == "name":
+                first, last = self.body_from(at + 2)
+                if first and not tested:
+                    yield first, last, at
+                at, tested = (last or first or at) + 1, False
+            else:
+                at += 1
+
+    def after_block(self, at):
+        while self.word(at) not in ("{", ";"):
+            at += 1
+        return self.pairs.get(at, at) + 1
+
+    def after_ghost(self, at):
+        while self.word(at) not in (";", ",") and at < len(self.words):
+            if self.word(at) in OPENING:
+                at = self.pairs[at]
+            at += 1
+        return at + 1
+
+    def body_from(self, at):
+        """The brackets of the body of the function whose parameters begin there, behind its clauses."""
+        while at < len(self.words):
+            word = self.word(at)
+            if word in CLAUSES:
+                at += 1 + (self.kind(at + 1) == "name")
+                at = self.pairs[at] + 1
+            elif word == "{":
+                return at, self.pairs[at]
+            elif word == ";":
+                return None, None
+            else:
+                at = self.pairs[at] + 1 if word in OPENING else at + 1
+        return None, None
+
+    # What is in a body.
+
+    def look(self, start, end, parameters):
+        self.function = (parameters, end, self.answers(parameters, start))
+        self.skipped = self.ghost_parts(start, end)
+        self.guards = set()
+        heads = self.heads(start, end)
+        for at in range(start + 1, end):
+            if at not in self.skipped:
+                self.look_at_word(at)
+                if self.word(at) == "(":
+                    self.look_at_call(at)
+        for at in range(start, end):
+            if self.word(at) == "{" and at not in self.skipped:
+                if heads.get(at) == "match":
+                    self.look_at_arms(at)
+                elif heads.get(at) or self.is_block(at, start):
+                    self.look_at_statements(at)
+
+    def answers(self, parameters, start):
+        """Whether a function's head has an arrow, but for those in the bounds of its types."""
+        at, depth = parameters + 2, 0
+        while at < start:
+            word = self.word(at)
+            if word == "->" and not depth:
+                return True
+            if word in CLAUSES:
+                return False
+            depth += {"<": 1, ">": -1}.get(word, 0)
+            at = self.pairs[at] + 1 if word in OPENING else at + 1
+        return False
+
+    def ghost_parts(self, start, end):
+        skipped = set()
+        at = start + 1
+        while at < end:
+            last = at
+            if self.word(at) == "ghost":
+                last = self.after_ghost(at) - 1
+            elif self.word(at) in CLAUSES and self.kind(at) == "name":
+                opening = at + 1 + (self.kind(at + 1) == "name")
+                last = self.pairs[opening] if self.word(opening) == "{" else at
+            elif self.word(at) == "#" and self.word(at + 1) == "[":
+                last = self.pairs[at + 1]
+            if last > at:
+                skipped.update(range(at, last + 1))
+            at = last + 1
+        return skipped
+
+    def heads(self, start, end):
+        """Of each bracket that opens behind `if`, `while`, `for` or `match`, which word it was. Looks at each condition."""
+        found = {}
+        for at in range(start + 1, end):
+            word = self.word(at)
+            if word in HEADS and self.kind(at) == "name" and at not in self.skipped:
+                here, in_pattern = at + 1, False
+                while self.word(here) not in ("=>", "{") or in_pattern and self.word(here) == "{":
+                    in_pattern = self.word(here) in ("let", "for") or word == "for" and here == at + 1 or in_pattern and self.word(here) not in ("=", "in")
+                    here = self.pairs[here] + 1 if self.word(here) in OPENING else here + 1
+                if self.word(here) == "{":
+                    found[here] = word
+                if word in ("if", "while") and not any(self.word(one) == "let" for one in range(at, here)):
+                    self.add("condition negated", at, [[(at + 1, here - 1, self.negated(at + 1, here - 1))]])
+                if word == "if" and self.word(here) == "{":
+                    self.look_at_branches(here)
+        return found
+
+    def look_at_branches(self, opening):
+        """Where the two branches of an `if` have values: each is replaced by the other's."""
+        closing = self.pairs[opening]
+        if self.word(closing + 1) == "else" and self.word(closing + 2) == "{":
+            other = self.pairs[closing + 2]
+            one, two = self.part(opening, closing), self.part(closing + 2, other)
+            if one != two:
+                self.add("branch replaced by the other", opening, [[(opening, closing, two)], [(closing + 2, other, one)]])
+
+    def negated(self, first, last):
+        signs = [at for at in range(first, last + 1) if self.word(at) in (*TURNED, *JOINED)]
+        if not signs and self.word(first) == "!":
+            return self.part(first + 1, last)
+        if len(signs) == 1 and self.word(signs[0]) in ("==", "!="):
+            at = signs[0]
+            return self.text[self.start(first):self.start(at)] + TURNED[self.word(at)] + self.text[self.end(at):self.end(last)]
+        return f"!({self.part(first, last)})" if first < last else f"!{self.part(first, last)}"
+
+    def is_operand_end(self, at):
+        return self.kind(at) in ("name", "number", "string", "letter") and self.word(at) not in NO_CALL or self.word(at) in CLOSING or self.word(at) == "?"
+
+    def is_spaced(self, at):
+        return self.text[self.start(at) - 1].isspace() and self.text[self.end(at)].isspace() and self.is_operand_end(at - 1)
+
+    def look_at_word(self, at):
+        kind, word = self.kind(at), self.word(at)
+        if word in TURNED and self.is_spaced(at):
+            self.add("comparison turned", at, [[(at, at, TURNED[word])]])
+        elif word in JOINED and self.is_spaced(at):
+            self.add("and, or", at, [[(at, at, JOINED[word])]])
+        elif word in ("true", "false"):
+            self.add("true, false", at, [[(at, at, "false" if word == "true" else "true")]])
+        elif kind == "number" and self.word(at - 1) != ".":
+            self.look_at_number(at)
+        elif kind == "name" and re.fullmatch(r"[A-Z][A-Z0-9_]+", word) and self.word(at + 1) not in ("::", "!"):
+            first = at
+            while self.word(first - 1) == "::":
+                first -= 2
+            whole = self.part(first, at)
+            self.add("constant off by one", first, [[(first, at, f"({whole} + 1)")], [(first, at, f"({whole} - 1)")]])
+        elif word in ("..", "..="):
+            self.look_at_range(at)
+        elif word == "::" and self.kind(at - 1) == "name" and self.kind(at + 1) == "name":
+            path = self.word(at - 3) if self.word(at - 2) == "::" else None
+            others = self.enums.others(self.crate, path, self.word(at - 1), self.word(at + 1))
+            self.add("variant", at + 1, [[(at + 1, at + 1, other)] for other in others])
+
+    def look_at_number(self, at):
+        digits, kept = re.fullmatch(r"(0[xob][0-9a-fA-F_]+|[\d_]+)(\w*)", self.word(at)).groups()
+        value = int(digits, 0) if digits.strip("0_") else 0
+        as_text = hex if digits.startswith("0x") else str
+        near = [value + 1] + ([value - 1] if value else [])
+        self.add("number off by one", at, [[(at, at, as_text(one) + kept)] for one in near])
+
+    def look_at_range(self, at):
+        """A bound of a range: one more, one less, or with its last or without."""
+        changes = []
+        ends = self.operand_from(at + 1)
+        starts = self.operand_to(at - 1)
+        if ends:
+            changes += [[(at, at, "..=" if self.word(at) == ".." else "..")]]
+            changes += [[(at + 1, ends, self.moved(at + 1, ends, sign))] for sign in "+-" if self.kind(ends) != "number"]
+        if starts and self.kind(starts) != "number":
+            changes += [[(starts, at - 1, self.moved(starts, at - 1, sign))] for sign in "+-"]
+        self.add("bound off by one", at, changes)
+
+    def moved(self, first, last, sign):
+        """One more or less than an operand."""
+        text = f"{self.part(first, last)} {sign} 1"
+        return f"({text})" if {self.word(first - 1), self.word(last + 1)} & {"*", "/", "%", "-", "as"} else text
+
+    def operand_from(self, at):
+        """The last word of the operand that begins there."""
+        if self.kind(at) not in ("name", "number") and self.word(at) != "(":
+            return None
+        at = self.pairs.get(at, at)
+        while self.word(at + 1) in (".", "::", "(", "["):
+            at = self.pairs[at + 1] if self.word(at + 1) in OPENING else at + 2
+        return at
+
+    def operand_to(self, at):
+        """The first word of the operand that ends there."""
+        if not self.is_operand_end(at) or self.word(at) == "}":
+            return None
+        while True:
+            if self.word(at) in CLOSING:
+                at = self.pairs[at]
+                if self.kind(at - 1) == "name":
+                    at -= 1
+            if self.word(at - 1) not in (".", "::"):
+                return at
+            at -= 2
+
+    def look_at_call(self, opening):
+        before = self.word(opening - 1)
+        if not (self.kind(opening - 1) == "name" and before not in NO_CALL or before == ">" and self.text[self.end(opening - 1)] == "("):
+            return
+        given = self.listed(opening)
+        shown = [self.part(*one) for one in given]
+        # (no other argument has the type of the allocator)
+        pairs = [(one, other) for one in range(len(given)) for other in range(one + 1, len(given))
+                 if shown[one] != shown[other] and "alloc" not in (shown[one], shown[other])]
+        self.add("arguments swapped", opening - 1, [[(*given[one], shown[other]), (*given[other], shown[one])] for one, other in pairs])
+
+    def listed(self, opening):
+        """The parts of a list in brackets, between its commas."""
+        parts, first, at, closing = [], opening + 1, opening + 1, self.pairs[opening]
+        while at < closing:
+            if self.word(at) == "|" and (at == first or self.word(at - 1) == "move"):
+                at = next(one for one in range(at + 1, closing) if self.word(one) == "|")
+            elif self.word(at) == "<" and self.word(at - 1) == "::":
+                depth = 1
+                while depth:
+                    at += 1
+                    depth += {"<": 1, ">": -1}.get(self.word(at), 0)
+            elif self.word(at) == ",":
+                parts.append((first, at - 1))
+                first = at + 1
+            at = self.pairs[at] + 1 if self.word(at) in OPENING else at + 1
+        return parts + ([(first, closing - 1)] if first < closing else [])
+
+    # Arms and statements.
+
+    def look_at_arms(self, opening):
+        results, at, closing = [], opening + 1, self.pairs[opening]
+        while at < closing:
+            while self.word(at) != "=>":
+                at = self.pairs[at] + 1 if self.word(at) in OPENING else at + 1
+            first = at + 1
+            if self.word(first) == "{":
+                last = self.pairs[first]
+            else:
+                last = first
+                while last < closing and self.word(last) != ",":
+                    last = self.pairs[last] + 1 if self.word(last) in OPENING else last + 1
+                last -= 1
+            results.append((first, last))
+            at = last + 1 + (self.word(last + 1) == ",")
+        for first, last in results:
+            own = self.part(first, last)
+            # An arm without a block needs its comma.
+            others = dict.fromkeys(self.part(*other) for other in results)
+            changes = [[(first, last, other if not other.endswith("}") or self.word(last + 1) == "," or own.startswith("{") else f"{{ {other} }}")]
+                       for other in others if in_one_line(other) != in_one_line(own)]
+            if own.startswith("{") and self.word(last + 1) != ",":
+                changes = [[(first, last, new if new.startswith("{") else f"{{ {new} }}")] for [(_, _, new)] in changes]
+            self.add("arm's result replaced by another's", first, changes)
+
+    def is_block(self, at, start):
+        before = self.word(at - 1)
+        return at == start or before in ("else", "loop", "unsafe", "=>", "|", "||", "=", "{", "}", ";", "move")
+
+    def statements(self, opening):
+        """The statements of a block, as (first word, last word, whether it ends without a value)."""
+        found, at, closing = [], opening + 1, self.pairs[opening]
+        while at < closing:
+            first = at
+            if self.word(at) in HEADS | {"loop", "unsafe", "{"} or self.kind(at) == "lifetime":
+                at = self.after_blocks(at)
+                if self.word(at) not in (".", "?", ";") or at >= closing:
+                    found.append((first, at - 1, True))
+                    continue
+            while at < closing and self.word(at) != ";":
+                at = self.pairs[at] + 1 if self.word(at) in OPENING else at + 1
+            found.append((first, min(at, closing - 1), at < closing))
+            at += 1
+        return found
+
+    def after_blocks(self, at):
+        """The word behind an `if` with its branches, a loop, a match or a block."""
+        while True:
+            in_pattern = False
+            word = self.word(at)
+            here = at + (word != "{")
+            while self.word(here) != "{" or in_pattern:
+                in_pattern = self.word(here) == "let" or word == "for" and here == at + 1 or in_pattern and self.word(here) not in ("=", "in")
+                here = self.pairs[here] + 1 if self.word(here) in OPENING else here + 1
+            here = self.pairs[here] + 1
+            if self.word(here) != "else":
+                return here
+            at = here + 1
+
+    def look_at_statements(self, opening):
+        found = [one for one in self.statements(opening) if self.word(one[0]) not in ("use", "const", "fn", "ghost", "#")]
+        for first, last, is_whole in found:
+            if is_whole and not self.is_value(last, opening) and not self.is_needed(first, last, self.pairs[opening]):
+                self.add("statement dropped", first, [[(first, last, "")]])
+            if is_whole and self.word(last) == ";" and self.word(last - 1) == "?" and self.word(first) not in ("let", "return") and not self.is_set(first, last):
+                self.add("fault passed over", first, [[(first, last, f"let _ = {self.part(first, last - 2)};")]])
+        for one, other in zip(found, found[1:]):
+            if one[2] and other[2] and not self.is_value(other[1], opening) and not self.is_needed(one[0], one[1], other[1] + 1):
+                shown = [self.part(*both[:2]) for both in (one, other)]
+                if shown[0] != shown[1]:
+                    self.add("statements swapped", one[0], [[(*one[:2], shown[1]), (*other[:2], shown[0])]])
+
+    def is_value(self, last, opening):
+        """Whether the word ends the body of a function that answers something, and so is its answer's."""
+        return last + 1 == self.pairs[opening] == self.function[1] and self.word(last) != ";" and self.function[2]
+
+    def is_set(self, first, last):
+        return any(self.word(at) in ("=", "+=", "-=", "*=") for at in range(first, last))
+
+    def is_needed(self, first, last, end):
+        """Whether a statement binds a name that wasn't there before, and is there up to a later word."""
+        if self.word(first) != "let":
+            return False
+        equals = next(at for at in range(first, last + 1) if self.word(at) in ("=", ";"))
+        bound = {self.word(at) for at in range(first + 1, equals) if self.kind(at) == "name" and self.word(at)[0].islower()} - {"mut", "ref"}
+        before = {self.word(at) for at in range(self.function[0], first)}
+        after = {self.word(at) for at in range(last + 1, end)}
+        return any(name in after and name not in before for name in bound)
+
+
+def places_of(crate, folder, enums):
+    """The places of the crate in this folder, in the order of its files. No two changes make the same of a file."""
+    places = []
+    for file in sorted(pathlib.Path(folder, "src").glob("**/*.rt")):
+        text, seen = file.read_text(), set()
+        for place in Source(crate, str(file.relative_to(folder)), text, enums).places:
+            fresh = []
+            for change in place.changes:
+                made = in_one_line(change.of(text))
+                if made not in seen:
+                    seen.add(made)
+                    fresh.append(change)
+            if fresh:
+                places.append(dataclasses.replace(place, changes=fresh))
+    return sorted(places, key=lambda place: (place.file, place.line))
+
+
+# A change as an edit: each text is one line, and the old one stands once in the file.
+
+def pairs_for(text, change):
+    """Old and new lines that make this change, or nothing where it can't be written so."""
+    wanted = in_one_line(change.of(text))
+    for written in (in_lines, in_a_comment):
+        pairs = written(text, change)
+        if pairs and in_one_line(applied(text, pairs) or "") == wanted:
+            return pairs
+    return None
+
+
+def as_edit(file, pairs):
+    return "".join([f"file: {file}\n", *(f"old: {old}\nnew: {new}\n" for old, new in pairs)])
+
+
+def applied(text, pairs):
+    for old, new in pairs:
+        if text.count(old) != 1:
+            return None
+        text = text.replace(old, new)
+    return text
+
+
+def line_at(text, place):
+    start = text.rfind("\n", 0, place) + 1
+    end = text.find("\n", place)
+    return start, len(text) if end < 0 else end
+
+
+def in_lines(text, change):
+    """Pairs of a line each. Two statements that are swapped are first one line and none."""
+    parts = sorted(change.parts)
+    if len(parts) == 2 and "\n" in text[parts[0][0]:parts[1][1]]:
+        (one, one_end, _), (other, other_end, new) = parts
+        parts = [(one, one_end, ""), (other, other_end, f"{text[other:other_end]} {text[one:one_end]}")]
+    elif len(parts) == 2:
+        (one, one_end, first), (other, other_end, second) = parts
+        parts = [(one, other_end, first + text[one_end:other] + second)]
+    pairs = []
+    for start, end, new in parts:
+        if "\n" in text[start:end] or "//" in new:
+            return None
+        from_, to = line_at(text, start)
+        line, made = text[from_:to], text[from_:start] + in_one_line(new) + text[end:to]
+        if text.count(line.strip()) == 1:
+            line, made = line.strip(), made.strip()
+        pairs.append((line, made.rstrip()))
+    return pairs
+
+
+def in_a_comment(text, change):
+    """What is changed is written again behind a line that stands once in the file, and what was there is made a comment."""
+    start, end = min(part[0] for part in change.parts), max(part[1] for part in change.parts)
+    above, below = line_at(text, start), line_at(text, end)
+    while not is_anchor(text, above):
+        if above[0] == 0:
+            return None
+        above = line_at(text, above[0] - 1)
+    while not is_anchor(text, below) or below == above:
+        if below[1] >= len(text) - 1:
+            return None
+        below = line_at(text, below[1] + 1)
+    from_, to = above[0], max(end, below[0])
+    moved = Change(tuple((one - from_, other - from_, new) for one, other, new in change.parts))
+    made = in_one_line(moved.of(text[from_:to]))
+    if "*/" in text[from_:to]:
+        return None
+    first, last = text[above[0]:above[1]], text[below[0]:below[1]]
+    return [(last, "*/ " + text[to:below[1]].strip()), (first, made + " /*")]
+
+
+def is_anchor(text, line):
+    words = text[line[0]:line[1]]
+    return bool(words.strip()) and not words.strip().startswith("//") and text.count(words) == 1
