@@ -6,6 +6,7 @@ mod heads;
 mod hostile;
 mod journals;
 mod limits;
+mod recorders;
 mod replies;
 mod statuses;
 mod stores;

@@ -1,0 +1,2 @@
+-- what proofs by hand share
+pub mod Recorded
