@@ -3,8 +3,8 @@ use Rattle.std.proofs.Common.{◌≡◌, ℕ, ◌<◌, List, [], ◌∷◌, ◌+
 use Rattle.std.specs.Prelude.{take}
 use Rattle.std.proofs.lemmas.List.{append-nil, append_assoc}
 use Rattle.http_wire.specs.Timing.{Event, Got, AtEnd, ReadFails, Put, WriteFails, Steps, Ran, read_of}
-use Rattle.server_tests.specs.declared.tests.recorders.Step.{Step}
-use Rattle.server_tests.specs.declared.tests.recorders.Step.TheVariants as step
+use Rattle.server_tests.specs.declared.recorders.Step.{Step}
+use Rattle.server_tests.specs.declared.recorders.Step.TheVariants as step
 use Rattle.server_tests.specs.Recorders.{steps_of, put_of, Records, IsRecorded}
 
 put_of-append : (xs ys : List Step) → put_of (xs ++ ys) ≡ put_of xs ++ put_of ys

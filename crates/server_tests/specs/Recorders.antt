@@ -1,8 +1,8 @@
 -- What a stream records of its reads and writes.
 use Rattle.std.specs.Prelude.{◌≡◌, ℕ, List, [], ◌∷◌, ◌++◌, map, Some, ⊤}
 use Rattle.http_wire.specs.Timing.{Event, Got, AtEnd, ReadFails, Put, WriteFails, Timely, Moves}
-use Rattle.server_tests.specs.declared.tests.recorders.Step.{Step}
-use Rattle.server_tests.specs.declared.tests.recorders.Step.TheVariants as step
+use Rattle.server_tests.specs.declared.recorders.Step.{Step}
+use Rattle.server_tests.specs.declared.recorders.Step.TheVariants as step
 
 -- the steps of a trail, the earliest first: each byte that was got or put, and each read that found the end
 abbrev pub steps_of : List Event → List Step

@@ -6,7 +6,7 @@ mod heads;
 mod hostile;
 mod journals;
 mod limits;
-mod recorders;
+mod records;
 mod replies;
 mod statuses;
 mod stores;

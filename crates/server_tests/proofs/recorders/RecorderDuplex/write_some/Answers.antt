@@ -1,7 +1,7 @@
 use Rattle.std.proofs.Common.{rules, ◌≡◌, [], ◌∷◌, ◌++◌}
-use Rattle.server_tests.specs.declared.tests.recorders.Step.TheVariants as step
+use Rattle.server_tests.specs.declared.recorders.Step.TheVariants as step
 use Rattle.server_tests.proofs.Recorded.{put_recorded}
-use Rattle.server_tests.proofs.tests.recorders.RecorderDuplex.write_some.Goals as goal
+use Rattle.server_tests.proofs.recorders.RecorderDuplex.write_some.Goals as goal
 
 pub returns-clause-seen : goal.returns-clause-seen
 returns-clause-seen c =

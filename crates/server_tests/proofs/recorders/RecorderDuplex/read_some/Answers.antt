@@ -1,8 +1,8 @@
 use Rattle.std.proofs.Common.{rules, ◌≡◌, [], ◌∷◌, ◌++◌}
 use Rattle.std.proofs.lemmas.List.{nil_from_length}
-use Rattle.server_tests.specs.declared.tests.recorders.Step.TheVariants as step
+use Rattle.server_tests.specs.declared.recorders.Step.TheVariants as step
 use Rattle.server_tests.proofs.Recorded.{got_recorded, end_recorded}
-use Rattle.server_tests.proofs.tests.recorders.RecorderDuplex.read_some.Goals as goal
+use Rattle.server_tests.proofs.recorders.RecorderDuplex.read_some.Goals as goal
 
 pub returns-in_default-clause-seen : goal.returns-in_default-clause-seen
 returns-in_default-clause-seen c =

@@ -1,17 +1,15 @@
-//! A stream of known bytes that records in which order a connection reads and writes, and what it records of a run.
-ghost use Rattle.std.specs.Prelude.{Some, ⊤};
+//! A stream of known bytes that records in which order a connection reads and writes.
+ghost use Rattle.std.specs.Prelude.{◌≡◌, [], Some, ⊤};
 ghost use Rattle.host_server.specs.Timing.{Connects, IsCaughtUp};
 ghost use Rattle.server_tests.specs.Recorders.{IsRecorded, Records, put_of};
 
-use super::talks::{REPLIES, REQUESTS, assert_ended, joined, new_server};
 use host_server::{ConnectionFault, Service, serve_connection};
 use http_wire::{Duplex, ReadFailed, WriteFailed};
-use std::alloc::{AllocError, Global};
-use std::test::Fail;
+use std::alloc::Global;
 
 /// A byte that was got or put, or a read that found the end.
 #[derive(Clone, Copy, Debug, PartialEq, Eq)]
-enum Step {
+pub enum Step {
     Got(u8),
     AtEnd,
     Put(u8),
@@ -19,9 +17,28 @@ enum Step {
 
 /// Gives and takes one byte a call, and records each. A call fails only where there is no memory for that.
 #[derive(Drop)]
-struct Recorder<'a> {
+pub struct Recorder<'a> {
     input: &'a [u8],
     steps: Vec<Step>,
+}
+
+impl<'a> Recorder<'a> {
+    /// Nothing is recorded yet.
+    pub fn new(alloc: Global, input: &'a [u8]) -> Recorder<'a>
+        ensures { (result.input.now ≡ input.now) × (result.steps.items ≡ []) }
+    {
+        Recorder {
+            input,
+            steps: Vec::new(alloc),
+        }
+    }
+
+    /// What was recorded, the earliest first.
+    pub fn steps(&self) -> &[Step]
+        ensures { result.now ≡ self.now.steps.items }
+    {
+        self.steps.as_slice()
+    }
 }
 
 impl Duplex for Recorder<'_> {
@@ -64,7 +81,7 @@ impl Duplex for Recorder<'_> {
 }
 
 /// Serves a connection. Its record is the trail of what it did: each read came where it may.
-fn serve<S: Service>(
+pub fn serve<S: Service>(
     alloc: Global,
     recorder: &mut Recorder<'_>,
     service: &mut S,
@@ -73,35 +90,4 @@ fn serve<S: Service>(
         (Connects S.answers result service.old service.new) }
 {
     serve_connection(alloc, recorder, service)
-}
-
-/// The steps of a connection on which each request is answered before the next is read.
-fn steps_in_turn(alloc: Global) -> Result<Vec<Step>, AllocError> {
-    let mut steps = Vec::new(alloc);
-    for at in 0..5usize {
-        for byte in REQUESTS[at].as_bytes() {
-            steps.push(Step::Got(*byte))?;
-        }
-        for byte in REPLIES[at].as_bytes() {
-            steps.push(Step::Put(*byte))?;
-        }
-    }
-    steps.push(Step::AtEnd)?;
-    Ok(steps)
-}
-
-#[test]
-fn each_reply_is_written_before_more_is_read(rt: HostRuntime) -> Result<(), Fail> {
-    let alloc = rt.alloc();
-    let asked = joined(alloc, &REQUESTS)?;
-    let mut recorder = Recorder {
-        input: asked.as_bytes(),
-        steps: Vec::new(alloc),
-    };
-    let mut server = new_server(alloc)?;
-    let ended = serve(alloc, &mut recorder, &mut server);
-    assert_ended(&rt, ended, Ok(()));
-    let wanted = steps_in_turn(alloc)?;
-    assert!(rt; recorder.steps == wanted);
-    Ok(())
 }
