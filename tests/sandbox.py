@@ -25,6 +25,8 @@ class Sandbox:
         self.folder = pathlib.Path(self.room.name).resolve()
         self.top = self.folder / "repository"
         self.calls_file = self.folder / "calls"
+        # How many lines of it were told.
+        self.told = 0
         (self.top / "crates").mkdir(parents=True)
         for script in scripts:
             (self.top / script).parent.mkdir(exist_ok=True)
@@ -81,9 +83,10 @@ class Sandbox:
         return ran.returncode, ran.stdout.decode(), ran.stderr.decode()
 
     def calls(self):
-        """The calls of rt since this was last asked, each as `CRATE: WORDS`."""
+        """The calls of rt since this was last asked, each as `CRATE: WORDS`. One that is only half noted counts the next time."""
         if not self.calls_file.exists():
             return []
-        lines = self.calls_file.read_text().splitlines()
-        self.calls_file.unlink()
-        return lines
+        lines = self.calls_file.read_text().splitlines(keepends=True)[self.told:]
+        whole = [line.removesuffix("\n") for line in lines if line.endswith("\n")]
+        self.told += len(whole)
+        return whole

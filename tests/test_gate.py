@@ -109,7 +109,7 @@ class Gate(unittest.TestCase):
                 # Whoever began the tests in the background may have had interrupts ignored, which no trap of a shell can change.
                 how["preexec_fn"] = lambda: signal.signal(signal.SIGINT, signal.SIG_DFL)
                 gate = subprocess.Popen([str(self.sandbox.top / "test")], env=environment, **how)
-                while not self.sandbox.calls():
+                while gate.poll() is None and not self.sandbox.calls():
                     time.sleep(0.01)
                 began = time.monotonic()
                 os.killpg(gate.pid, number)
