@@ -3,7 +3,7 @@ ghost use Rattle.std.specs.Prelude.{◌≡◌, true, refl};
 ghost use Rattle.chunk_group.specs.Outcomes.{clones_of_outcomes, is_outcome};
 
 use super::fixtures::{chunk_of, is_chunk_of, names};
-use super::gates::{CALLERS, Gate};
+use super::gates::{ATTEMPTS, CALLERS, Gate};
 use blob_store::ReadFault;
 use byte_view::Chunk;
 use chunk_group::{Counter, Group, Outcome, Source};
@@ -102,12 +102,12 @@ fn call_all<R: Threads + Wait + Sync>(
     });
 }
 
-/// That callers of one key share its load, which is held until another key's call was answered.
-fn assert_gated<R: Threads + Wait + Abort + Sync>(
+/// Whether callers of one key share one load of it, which is held until another key's call was answered.
+fn is_gated<R: Threads + Wait + Abort + Sync>(
     rt: &R,
     alloc: Global,
     is_missing: bool,
-) -> Result<(), Fail> {
+) -> Result<bool, Fail> {
     let gate = Gate::new();
     let names = names(alloc, 2)?;
     let shared = *names.get(0).ok_or("no chunk")?;
@@ -121,7 +121,20 @@ fn assert_gated<R: Threads + Wait + Abort + Sync>(
     let ring = Ring::new(alloc, &["node0"], &DigestHash)?;
     let node = Group::new(alloc, 10_000, ring, 0, source, NoLink, Counter::new())?;
     call_all(rt, &node, source, &other);
-    gate.assert_shared(rt)
+    gate.is_shared(rt)
+}
+
+fn assert_gated<R: Threads + Wait + Abort + Sync>(
+    rt: &R,
+    alloc: Global,
+    is_missing: bool,
+) -> Result<(), Fail> {
+    for _ in 0..ATTEMPTS {
+        if is_gated(rt, alloc, is_missing)? {
+            return Ok(());
+        }
+    }
+    Err(Fail::from("no load was shared by all"))
 }
 
 #[test]

@@ -7,6 +7,9 @@ use std::thread;
 /// How many threads call the shared key.
 pub(super) const CALLERS: u64 = 8;
 
+/// How often callers are made to share a load, until none of them was late.
+pub(super) const ATTEMPTS: usize = 8;
+
 /// How often a load looks whether what it waits for has come. It comes, however busy the machine is.
 const TURNS: u64 = 30_000_000;
 
@@ -91,14 +94,13 @@ impl Gate {
         self.refused.fetch_add(1, Ordering::SeqCst);
     }
 
-    /// That all callers of the shared key were given what they should be, by one load, which overlapped the other
-    /// key's. A caller that the machine held up until that load had ended may load again, but not all of them.
-    pub(super) fn assert_shared(&self, rt: &impl Abort) -> Result<(), Fail> {
+    /// That all callers of the shared key were given what they should be, by loads one at a time, which overlapped the
+    /// other key's. Answers whether it was one load: a caller that the machine held up until that had ended loads again.
+    pub(super) fn is_shared(&self, rt: &impl Abort) -> Result<bool, Fail> {
         if self.refused.load(Ordering::SeqCst) > 0 {
             return Err(Fail::from("OutOfMemory"));
         }
         let loads = self.loads.load(Ordering::SeqCst);
-        assert!(rt; loads < CALLERS, "loads of one key are shared");
         assert_count(rt, &self.together, 0, "loads of one key at once");
         assert_count(
             rt,
@@ -107,7 +109,7 @@ impl Gate {
             "loads that overlap another key's",
         );
         assert_count(rt, &self.answered, CALLERS + 1, "callers with the answer");
-        Ok(())
+        Ok(loads == 1)
     }
 }
 
