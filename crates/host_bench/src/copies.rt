@@ -61,13 +61,25 @@ fn cancel_in_copy(history: &History, uploads: &Blobs<MemShelf>) -> Result<()>
     Ok(())
 }
 
-/// The time of so many copies of a history of so many entries and cells, with one commit on each.
+/// The time of so many copies of a history, with one commit on each.
+fn time_cancels(
+    rt: &HostRuntime,
+    history: &History,
+    uploads: &Blobs<MemShelf>,
+    times: u64,
+) -> Result<Duration>
+    requires { IsHistoryOver uploads.now.known history.now }
+{
+    let begun = Instant::now(rt)?;
+    for _ in 0..times {
+        cancel_in_copy(history, uploads)?;
+    }
+    Ok(begun.elapsed(rt)?)
+}
+
+/// The same of a history of so many entries and cells.
 pub(crate) fn time_copies(rt: &HostRuntime, entries: u64, times: u64) -> Result<Duration> {
     let uploads = empty_store(rt.alloc());
     let history = opened(rt.alloc(), &uploads, entries)?;
-    let begun = Instant::now(rt)?;
-    for _ in 0..times {
-        cancel_in_copy(&history, &uploads)?;
-    }
-    Ok(begun.elapsed(rt)?)
+    time_cancels(rt, &history, &uploads, times)
 }

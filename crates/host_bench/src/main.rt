@@ -8,6 +8,7 @@ mod copies;
 mod files;
 mod hosts;
 mod measurements;
+mod serving;
 mod stores;
 
 use anyhow::{Result, anyhow};

@@ -51,20 +51,24 @@ fn assert_items(rt: &impl Abort, list: &SharedList<u64>, rows: &str) -> Result<(
     Ok(())
 }
 
+/// Changes two items of a list, and adds one.
+fn change(list: &mut SharedList<u64>) -> Result<(), Fail> {
+    set(list, 130, 7)?;
+    set(list, 299, 9)?;
+    Ok(list.push(11)?)
+}
+
 #[test]
 fn a_list_over_several_blocks(rt: HostRuntime) -> Result<(), Fail> {
     let list = evens(rt.alloc(), 300)?;
     let mut copy = list.copy()?;
-    set(&mut copy, 130, 7)?;
-    set(&mut copy, 299, 9)?;
-    copy.push(11)?;
-    assert_eq!(&rt; list.len(), 300);
+    change(&mut copy)?;
+    assert_eq!(&rt; (list.len(), copy.len()), (300, 301));
     assert_items(
         &rt,
         &list,
         "0 0, 127 254, 128 256, 130 260, 255 510, 256 512, 299 598, 300 none",
     )?;
-    assert_eq!(&rt; copy.len(), 301);
     assert_items(
         &rt,
         &copy,

@@ -68,15 +68,19 @@ fn what_is_added_to_a_copy_leaves_the_log(rt: HostRuntime) -> Result<(), Fail> {
     Ok(())
 }
 
+/// Asserts that the second of two entries undoes the first.
+fn assert_undone(rt: &impl Abort, log: &Log) {
+    assert_eq!(rt; log.len(), 2);
+    assert_eq!(rt; undone_by(log, 1), 0);
+    assert_eq!(rt; undone_by(log, 2), 1);
+}
+
 #[test]
 fn a_history_lends_its_log(rt: HostRuntime) -> Result<(), Fail> {
     let rows = "\
 one open /a=hello -> 1
 one undo 1 -> 2";
     let host = host_of(&rt, rt.alloc(), rows)?;
-    let log = host.history.log();
-    assert_eq!(rt; log.len(), 2);
-    assert_eq!(rt; undone_by(log, 1), 0);
-    assert_eq!(rt; undone_by(log, 2), 1);
+    assert_undone(&rt, host.history.log());
     Ok(())
 }

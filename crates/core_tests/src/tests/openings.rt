@@ -9,6 +9,7 @@ use host_names::SiteName;
 use host_opening::{ReplayFault, replay, wanted};
 use site_change::Command;
 use std::alloc::{AllocError, Global};
+use std::process::Abort;
 use std::test::Fail;
 
 /// A deploy of `one` is published, and that is taken back. One of `two` is cancelled, and a patch stays open.
@@ -29,20 +30,28 @@ fn told_wanted(alloc: Global, log: &Log) -> Result<String, AllocError> {
     Ok(text)
 }
 
+/// Asserts which files the entries of a log want.
+fn assert_wanted(rt: &impl Abort, alloc: Global, log: &Log, wanted: &str) -> Result<(), Fail> {
+    let text = told_wanted(alloc, log)?;
+    assert_text(rt, "wanted", text.as_str(), wanted);
+    Ok(())
+}
+
 #[test]
 fn files_of_published_deploys_must_be_there(rt: HostRuntime) -> Result<(), Fail> {
     let host = host_of(&rt, rt.alloc(), ENTRIES)?;
-    let text = told_wanted(rt.alloc(), host.history.log())?;
     let files = "\
 a9993e364706816aba3e25717850c26c9cd0d89d true
 aaf4c61ddcc5e8a2dabede0f3b482cd9aea9434d true
 c00dbbc9dadfbe1e232e93a729dd4752fade0abf false
 c2a6b03f190dfb2b4aa91f8af8d477a9bc3401dc false
 ";
-    assert_text(&rt, "wanted", text.as_str(), files);
-    let none = told_wanted(rt.alloc(), &Log::new(rt.alloc()))?;
-    assert_text(&rt, "wanted by no entries", none.as_str(), "");
-    Ok(())
+    assert_wanted(&rt, rt.alloc(), host.history.log(), files)
+}
+
+#[test]
+fn no_entries_want_no_files(rt: HostRuntime) -> Result<(), Fail> {
+    assert_wanted(&rt, rt.alloc(), &Log::new(rt.alloc()), "")
 }
 
 /// What comes of the entries over these uploads: the number of them, or why they are no history.
@@ -62,25 +71,54 @@ fn told_replay(
     }
 }
 
+/// Asserts what comes of the entries of a log.
+fn assert_replayed(
+    rt: &impl Abort,
+    alloc: Global,
+    log: &Log,
+    limit: u64,
+    uploads: &Blobs<MemShelf>,
+    wanted: &str,
+) -> Result<(), Fail>
+    requires some { 1 ≤ limit }
+    requires bounded { limit ≤ GREATEST_LIMIT }
+{
+    let text = told_replay(alloc, log, limit, uploads)?;
+    assert_text(rt, "replayed", text.as_str(), wanted);
+    Ok(())
+}
+
+/// Asserts when the six entries of a log are accepted.
+fn assert_accepted(
+    rt: &impl Abort,
+    alloc: Global,
+    log: &Log,
+    uploads: &Blobs<MemShelf>,
+) -> Result<(), Fail> {
+    assert_replayed(rt, alloc, log, 6, uploads, "6 entries")?;
+    // More than fit.
+    assert_replayed(rt, alloc, log, 5, uploads, "entry 6 is not legal")?;
+    let none = no_uploads(alloc);
+    assert_replayed(rt, alloc, log, 6, &none, "entry 2 is not legal")
+}
+
 #[test]
 fn entries_are_accepted_in_turn(rt: HostRuntime) -> Result<(), Fail> {
     let host = host_of(&rt, rt.alloc(), ENTRIES)?;
-    let log = host.history.log();
-    let text = told_replay(rt.alloc(), log, 6, &host.uploads)?;
-    assert_text(&rt, "replayed", text.as_str(), "6 entries");
-    let text = told_replay(rt.alloc(), log, 5, &host.uploads)?;
-    assert_text(&rt, "more than fit", text.as_str(), "entry 6 is not legal");
-    let text = told_replay(rt.alloc(), log, 6, &no_uploads(rt.alloc()))?;
-    assert_text(&rt, "without files", text.as_str(), "entry 2 is not legal");
-    Ok(())
+    assert_accepted(&rt, rt.alloc(), host.history.log(), &host.uploads)
+}
+
+/// Adds a cancel of the first deploy of `one`.
+fn push_cancel(log: &mut Log) -> Result<(), Fail> {
+    let site = SiteName::new("one")?;
+    Ok(log.push(Entry::Change(Command::Cancel { site, number: 1 }))?)
 }
 
 #[test]
 fn a_cancel_of_no_deploy_is_not_legal(rt: HostRuntime) -> Result<(), Fail> {
     let mut log = Log::new(rt.alloc());
-    let site = SiteName::new("one")?;
-    log.push(Entry::Change(Command::Cancel { site, number: 1 }))?;
-    let text = told_replay(rt.alloc(), &log, GREATEST_LIMIT, &no_uploads(rt.alloc()))?;
-    assert_text(&rt, "a cancel", text.as_str(), "entry 1 is not legal");
-    Ok(())
+    push_cancel(&mut log)?;
+    let none = no_uploads(rt.alloc());
+    let wanted = "entry 1 is not legal";
+    assert_replayed(&rt, rt.alloc(), &log, GREATEST_LIMIT, &none, wanted)
 }

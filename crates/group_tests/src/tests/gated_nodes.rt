@@ -2,7 +2,7 @@
 ghost use Rattle.std.specs.Prelude.{◌≡◌, true, refl};
 ghost use Rattle.chunk_group.specs.Outcomes.{clones_of_outcomes, is_outcome};
 
-use super::fixtures::{chunk_of, is_chunk_of, names};
+use super::fixtures::{bytes_of, chunk_of, is_chunk_of};
 use super::gates::{ATTEMPTS, CALLERS, Gate};
 use blob_store::ReadFault;
 use byte_view::Chunk;
@@ -102,6 +102,26 @@ fn call_all<R: Threads + Wait + Sync>(
     });
 }
 
+/// All callers through a node over this source.
+fn call_node<R: Threads + Wait + Sync>(
+    rt: &R,
+    source: GatedSource<'_>,
+    other: &Digest,
+) -> Result<(), Fail> {
+    let ring = Ring::new(source.alloc, &["node0"], &DigestHash)?;
+    let node = Group::new(
+        source.alloc,
+        10_000,
+        ring,
+        0,
+        source,
+        NoLink,
+        Counter::new(),
+    )?;
+    call_all(rt, &node, source, other);
+    Ok(())
+}
+
 /// Whether callers of one key share one load of it, which is held until another key's call was answered.
 fn is_gated<R: Threads + Wait + Abort + Sync>(
     rt: &R,
@@ -109,18 +129,15 @@ fn is_gated<R: Threads + Wait + Abort + Sync>(
     is_missing: bool,
 ) -> Result<bool, Fail> {
     let gate = Gate::new();
-    let names = names(alloc, 2)?;
-    let shared = *names.get(0).ok_or("no chunk")?;
-    let other = *names.get(1).ok_or("no chunk")?;
+    let shared = Digest::of_bytes(bytes_of(alloc, 0)?.as_slice());
+    let other = Digest::of_bytes(bytes_of(alloc, 1)?.as_slice());
     let source = GatedSource {
         alloc,
         gate: &gate,
         shared,
         is_missing,
     };
-    let ring = Ring::new(alloc, &["node0"], &DigestHash)?;
-    let node = Group::new(alloc, 10_000, ring, 0, source, NoLink, Counter::new())?;
-    call_all(rt, &node, source, &other);
+    call_node(rt, source, &other)?;
     gate.is_shared(rt)
 }
 

@@ -50,50 +50,83 @@ fn assert_bytes(rt: &impl Abort, bytes: &Vec<u8>, wanted: &[u8]) {
     assert_eq!(rt; bytes.as_slice(), wanted);
 }
 
+type StoredNode = SoloGroup<DigestHash, FileSource<MemShelf>, NoLink, Counter>;
+
+/// A node over a shelf with this file, and what is kept of the file.
+fn stored(alloc: Global, file: &[u8]) -> Result<(StoredNode, Arc<BlobInfo>), Fail> {
+    let mut blobs = Blobs::new(alloc, MemShelf::new(alloc));
+    let info = blobs.upload(file)?;
+    let ring = Ring::new(alloc, &["node0", "node1"], &DigestHash)?;
+    let source = FileSource::new(blobs.into_parts().1);
+    let node = SoloGroup::new(alloc, 100_000, ring, 0, source, NoLink, Counter::new())?;
+    Ok((node, info))
+}
+
+/// Asserts the bytes of a stretch.
+fn assert_stretch<H: Holder>(
+    rt: &impl Abort,
+    alloc: Global,
+    node: &mut H,
+    info: &Arc<BlobInfo>,
+) -> Result<(), Fail> {
+    let bytes = held(alloc, &hold(node, info, 65_535, 65_536)?)?;
+    assert_bytes(rt, &bytes, &[24, 25]);
+    Ok(())
+}
+
+/// Asserts that a file that wasn't uploaded is missing.
+fn assert_missing<H: Holder>(rt: &impl Abort, alloc: Global, node: &mut H) -> Result<(), Fail> {
+    let other = Arc::new(alloc, BlobInfo::of(alloc, b"not there")?)?;
+    let fault = hold(node, &other, 0, 8).err();
+    assert_eq!(rt; fault, Some(ReadFault::Missing));
+    Ok(())
+}
+
 #[test]
 fn a_stretch_of_a_stored_file_is_held_across_the_edge_of_a_chunk(
     rt: HostRuntime,
 ) -> Result<(), Fail> {
     let file = file_of(rt.alloc(), 65_537)?;
-    let mut blobs = Blobs::new(rt.alloc(), MemShelf::new(rt.alloc()));
-    let info = blobs.upload(file.as_slice())?;
-    let ring = Ring::new(rt.alloc(), &["node0", "node1"], &DigestHash)?;
-    let source = FileSource::new(blobs.into_parts().1);
-    let mut node = SoloGroup::new(rt.alloc(), 100_000, ring, 0, source, NoLink, Counter::new())?;
+    let (mut node, info) = stored(rt.alloc(), file.as_slice())?;
     // From the shelf, and then from the cache.
-    for _ in 0..2 {
-        let bytes = held(rt.alloc(), &hold(&mut node, &info, 65_535, 65_536)?)?;
-        assert_bytes(&rt, &bytes, &[24, 25]);
+    assert_stretch(&rt, rt.alloc(), &mut node, &info)?;
+    assert_stretch(&rt, rt.alloc(), &mut node, &info)?;
+    assert_missing(&rt, rt.alloc(), &mut node)
+}
+
+type SharedNode<'a> = Group<DigestHash, Giver<'a>, NoLink, Counter>;
+
+/// Asserts the bytes of a stretch of this file, which has one chunk.
+fn assert_sevens<R: Abort + Wait>(
+    rt: &R,
+    alloc: Global,
+    node: &SharedNode<'_>,
+    file: &[u8],
+) -> Result<(), Fail> {
+    let info = Arc::new(alloc, BlobInfo::of(alloc, file)?)?;
+    if info.len() < 9 {
+        return Err(Fail::from("the file has no such stretch"));
     }
-    let other = Arc::new(rt.alloc(), BlobInfo::of(rt.alloc(), b"not there")?)?;
-    assert_eq!(rt;
-        hold(&mut node, &other, 0, 8).err(),
-        Some(ReadFault::Missing)
-    );
+    let bytes = held(alloc, &node.hold(rt, info, 5, 8)?)?;
+    assert_bytes(rt, &bytes, &[7, 7, 7, 7]);
     Ok(())
 }
 
-/// Asserts that two holds of one stretch of a file of one chunk give its bytes, and load it once.
-fn assert_held<R: Abort + Wait>(rt: &R, alloc: Global) -> Result<(), Fail> {
-    let names = names(alloc, 8)?;
-    let calls = AtomicU64::new(0);
-    let source = Giver::new(alloc, names.as_slice(), &[], &calls);
+/// Asserts that two holds of one stretch of a file through a node give its bytes.
+fn assert_held<R: Abort + Wait>(rt: &R, alloc: Global, source: Giver<'_>) -> Result<(), Fail> {
+    let file = bytes_of(alloc, 7)?;
     let ring = Ring::new(alloc, &["node0"], &DigestHash)?;
     let node = Group::new(alloc, 10_000, ring, 0, source, NoLink, Counter::new())?;
-    let file = bytes_of(alloc, 7)?;
-    for _ in 0..2 {
-        let info = Arc::new(alloc, BlobInfo::of(alloc, file.as_slice())?)?;
-        if info.len() < 9 {
-            return Err(Fail::from("the file has no such stretch"));
-        }
-        let bytes = held(alloc, &node.hold(rt, info, 5, 8)?)?;
-        assert_bytes(rt, &bytes, &[7, 7, 7, 7]);
-    }
-    assert_count(rt, &calls, 1, "loads");
-    Ok(())
+    assert_sevens(rt, alloc, &node, file.as_slice())?;
+    assert_sevens(rt, alloc, &node, file.as_slice())
 }
 
 #[test]
 fn a_stretch_is_held_through_a_node_that_threads_share(rt: HostRuntime) -> Result<(), Fail> {
-    assert_held(&rt, rt.alloc())
+    let names = names(rt.alloc(), 8)?;
+    let calls = AtomicU64::new(0);
+    let source = Giver::new(rt.alloc(), names.as_slice(), &[], &calls);
+    assert_held(&rt, rt.alloc(), source)?;
+    assert_count(&rt, &calls, 1, "loads");
+    Ok(())
 }

@@ -54,17 +54,28 @@ fn read<R: Wait>(rt: &R, node: &KnownNode, key: &Digest) -> Outcome
     node.get(rt, key)
 }
 
+/// A node over the source of the byte 7.
+fn known_node(alloc: Global) -> Result<KnownNode, Fail> {
+    let ring = Ring::new(alloc, &["node0"], &DigestHash)?;
+    let source = OneByte { alloc, byte: 7 };
+    Ok(Group::new(alloc, 1_000, ring, 0, source, NoLink, Counter::new())?)
+}
+
+fn assert_given<R: Abort + Wait>(rt: &R, node: &KnownNode) -> Result<(), Fail> {
+    let chunk = read(rt, node, &Digest::of_bytes(&[7]))?;
+    assert_eq!(rt; chunk.view().bytes(), [7].as_slice());
+    Ok(())
+}
+
+fn assert_missing<R: Abort + Wait>(rt: &R, node: &KnownNode) {
+    let other = read(rt, node, &Digest::of_bytes(&[8]));
+    assert!(rt; matches!(other, Err(ReadFault::Missing)));
+}
+
 #[test]
 fn a_known_source_gives_its_chunk_and_lacks_others(rt: HostRuntime) -> Result<(), Fail> {
-    let ring = Ring::new(rt.alloc(), &["node0"], &DigestHash)?;
-    let source = OneByte {
-        alloc: rt.alloc(),
-        byte: 7,
-    };
-    let node = Group::new(rt.alloc(), 1_000, ring, 0, source, NoLink, Counter::new())?;
-    let chunk = read(&rt, &node, &Digest::of_bytes(&[7]))?;
-    assert_eq!(rt; chunk.view().bytes(), [7].as_slice());
-    let other = read(&rt, &node, &Digest::of_bytes(&[8]));
-    assert!(rt; matches!(other, Err(ReadFault::Missing)));
+    let node = known_node(rt.alloc())?;
+    assert_given(&rt, &node)?;
+    assert_missing(&rt, &node);
     Ok(())
 }

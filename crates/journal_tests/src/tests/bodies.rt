@@ -69,16 +69,18 @@ fn count_shorter(rt: &impl Abort, alloc: Global, bytes: &[u8]) -> Result<usize, 
     Ok(count)
 }
 
+/// How many texts there are among the bytes of which one is changed, added or cut.
+fn counts(rt: &impl Abort, alloc: Global, bytes: &[u8]) -> Result<(usize, usize, usize), Fail> {
+    let changed = count_changed(rt, alloc, bytes)?;
+    let longer = count_longer(rt, alloc, bytes)?;
+    Ok((changed, longer, count_shorter(rt, alloc, bytes)?))
+}
+
 fn assert_counts(rt: &impl Abort, alloc: Global, row: &str, changed: usize) -> Result<(), Fail> {
     let (digits, _) = halves(row, " -> ")?;
     let bytes = bytes_of(alloc, digits)?;
-    assert_eq!(rt;
-        count_changed(rt, alloc, bytes.as_slice())?,
-        changed,
-        "{row}"
-    );
-    assert_eq!(rt; count_longer(rt, alloc, bytes.as_slice())?, 0, "{row}");
-    assert_eq!(rt; count_shorter(rt, alloc, bytes.as_slice())?, 0, "{row}");
+    let counts = counts(rt, alloc, bytes.as_slice())?;
+    assert_eq!(rt; counts, (changed, 0, 0), "{row}");
     Ok(())
 }
 

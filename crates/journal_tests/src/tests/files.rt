@@ -115,6 +115,17 @@ impl<D: Disk + Drop> Filled<D> {
     }
 }
 
+/// Puts the entry that these digits spell, where there is memory to prepare it.
+pub(crate) fn put_text<D: Disk + Drop>(
+    alloc: Global,
+    journal: &mut Filled<D>,
+    digits: &str,
+) -> Result<(), Fail> {
+    let text = bytes_of(alloc, digits)?;
+    let entry = prepared(alloc, text.as_slice())?;
+    Ok(journal.put(entry)?)
+}
+
 /// Asserts that the disk has these bytes.
 pub(crate) fn assert_bytes(
     rt: &impl Abort,

@@ -76,21 +76,32 @@ fn what_is_larger_is_refused(rt: HostRuntime) -> Result<(), Fail> {
     Ok(())
 }
 
+/// Puts the entry of this text into a journal on a disk.
+fn put(alloc: Global, disk: &mut MemDisk, text: &[u8]) -> Result<(), Fail> {
+    let entry = prepared(alloc, text)?;
+    Ok(Filled::open(alloc, LentDisk::new(disk))?.put(entry)?)
+}
+
+/// Asserts that the largest entry is the one of the journal on a disk.
+fn assert_largest(rt: &impl Abort, alloc: Global, disk: MemDisk) -> Result<(), Fail> {
+    let (_, log) = Journal::open(alloc, disk).map_err(|stop| stop.fault)?;
+    assert!(rt; log.len() == 1 && listed(&log) == 10_000);
+    Ok(())
+}
+
 #[test]
 fn the_largest_entry_is_put_and_read_again(rt: HostRuntime) -> Result<(), Fail> {
-    let text = opening(rt.alloc(), 10_000, 1_024)?;
-    let file = file_of(rt.alloc(), text.as_slice())?;
-    let mut disk = MemDisk::new(rt.alloc(), file.len())?;
-    let entry = prepared(rt.alloc(), text.as_slice())?;
-    Filled::open(rt.alloc(), LentDisk::new(&mut disk))?.put(entry)?;
+    let alloc = rt.alloc();
+    let text = opening(alloc, 10_000, 1_024)?;
+    let file = file_of(alloc, text.as_slice())?;
+    let mut disk = MemDisk::new(alloc, file.len())?;
+    put(alloc, &mut disk, text.as_slice())?;
     assert_bytes(
         &rt,
-        rt.alloc(),
+        alloc,
         &mut disk,
         file.as_slice(),
         "the largest file of one entry",
     )?;
-    let (_, log) = Journal::open(rt.alloc(), disk).map_err(|stop| stop.fault)?;
-    assert!(rt; log.len() == 1 && listed(&log) == 10_000);
-    Ok(())
+    assert_largest(&rt, alloc, disk)
 }

@@ -3,10 +3,10 @@
 ghost use Rattle.std.specs.Prelude.{◌≡◌};
 
 use super::entries::{ENTRIES, read, written_again};
-use super::files::{Filled, assert_bytes, disk_of, opened, prepared, told_log};
+use super::files::{Filled, assert_bytes, disk_of, opened, put_text, told_log};
 use super::words::{assert_text, bytes_of, halves};
 use change_journal::{Journal, OpenFault};
-use host_disk::{Disk, LentDisk, MemDisk};
+use host_disk::{LentDisk, MemDisk};
 use std::alloc::{AllocError, Global};
 use std::process::Abort;
 use std::test::Fail;
@@ -62,17 +62,6 @@ fn memory_for_each_entry_that_is_read_and_written(rt: HostRuntime) -> Result<(),
         assert!(rt; again == bytes, "{wanted}");
     }
     Ok(())
-}
-
-/// Puts an entry by the bytes that spell it, where there is memory to prepare it.
-fn put_text<D: Disk + Drop>(
-    alloc: Global,
-    journal: &mut Filled<D>,
-    digits: &str,
-) -> Result<(), Fail> {
-    let text = bytes_of(alloc, digits)?;
-    let entry = prepared(alloc, text.as_slice())?;
-    Ok(journal.put(entry)?)
 }
 
 /// Opens a disk and puts two entries.

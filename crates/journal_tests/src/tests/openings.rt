@@ -210,7 +210,23 @@ fn each_gate_may_be_any_byte_and_each_end_be_cut(rt: HostRuntime) -> Result<(), 
     Ok(())
 }
 
-/// Files of the three entries with this byte at the third gate, cut to each of these numbers of bytes: what is opened of them.
+/// Asserts what is opened of a file that is cut to each of these numbers of bytes.
+fn assert_sizes(
+    rt: &impl Abort,
+    alloc: Global,
+    file: &[u8],
+    sizes: RangeInclusive<usize>,
+    wanted: Answer,
+) -> Result<(), Fail> {
+    let mut disk = MemDisk::new(alloc, 100)?;
+    for size in sizes {
+        fill(&mut disk, file.get(..size).unwrap_or(b""))?;
+        assert_eq!(rt; answered(alloc, &mut disk)?, wanted, "{size} bytes");
+    }
+    Ok(())
+}
+
+/// The same of a file of the three entries with this byte at the third gate.
 fn assert_third(
     rt: &impl Abort,
     alloc: Global,
@@ -219,19 +235,10 @@ fn assert_third(
     wanted: Answer,
 ) -> Result<(), Fail> {
     let mut file = three_entries(alloc)?;
-    let mut disk = MemDisk::new(alloc, 100)?;
     if let Some(gate) = file.get_mut(44) {
         *gate = byte;
     }
-    for size in sizes {
-        fill(&mut disk, file.get(..size).unwrap_or(b""))?;
-        assert_eq!(rt;
-            answered(alloc, &mut disk)?,
-            wanted,
-            "{byte} and {size} bytes"
-        );
-    }
-    Ok(())
+    assert_sizes(rt, alloc, file.as_slice(), sizes, wanted)
 }
 
 #[test]

@@ -2,27 +2,31 @@
 ghost use Rattle.std.specs.Prelude.{◌≡◌};
 
 use super::entries::ENTRIES;
-use super::files::{CANCEL, Filled, HEADER, assert_bytes, opened, prepared};
+use super::files::{CANCEL, Filled, HEADER, assert_bytes, opened, prepared, put_text};
 use super::words::{assert_text, bytes_of, halves};
-use change_journal::{Prepared, PutFault};
+use change_journal::{Journal, Prepared, PutFault};
 use host_disk::{Disk, LentDisk, MemDisk};
 use std::alloc::Global;
 use std::process::Abort;
 use std::test::Fail;
 
-/// Opens a journal, and puts the entry that these bytes spell, unless they are none.
-fn open_and_put(alloc: Global, disk: &mut impl Disk, text: &[u8]) -> Result<(), Fail> {
-    let entry = prepared(alloc, text)?;
-    Ok(Filled::open(alloc, LentDisk::new(disk))?.put(entry)?)
+/// Puts the entry of a row of `ENTRIES`.
+fn put_row<D: Disk + Drop>(alloc: Global, journal: &mut Filled<D>, row: &str) -> Result<(), Fail> {
+    let (digits, _) = halves(row, " -> ")?;
+    put_text(alloc, journal, digits)
+}
+
+/// Opens a journal, and puts the entry of a row.
+fn open_and_put(alloc: Global, disk: &mut impl Disk, row: &str) -> Result<(), Fail> {
+    let mut journal = Filled::open(alloc, LentDisk::new(disk))?;
+    put_row(alloc, &mut journal, row)
 }
 
 /// Puts all of `ENTRIES` into one journal that is opened once.
 fn put_all(alloc: Global, disk: &mut impl Disk) -> Result<(), Fail> {
     let mut journal = Filled::open(alloc, LentDisk::new(disk))?;
     for row in ENTRIES.lines() {
-        let (digits, _) = halves(row, " -> ")?;
-        let text = bytes_of(alloc, digits)?;
-        journal.put(prepared(alloc, text.as_slice())?)?;
+        put_row(alloc, &mut journal, row)?;
     }
     Ok(())
 }
@@ -82,9 +86,7 @@ fn what_is_put_is_read_again_in_order(rt: HostRuntime) -> Result<(), Fail> {
 fn what_is_put_over_many_openings_is_read_again(rt: HostRuntime) -> Result<(), Fail> {
     let mut disk = MemDisk::new(rt.alloc(), 2_000)?;
     for row in ENTRIES.lines() {
-        let (digits, _) = halves(row, " -> ")?;
-        let text = bytes_of(rt.alloc(), digits)?;
-        open_and_put(rt.alloc(), &mut disk, text.as_slice())?;
+        open_and_put(rt.alloc(), &mut disk, row)?;
     }
     assert_all(&rt, rt.alloc(), &mut disk)
 }
@@ -99,22 +101,32 @@ fn assert_refused(
     assert_eq!(rt; journal.put(entry), Err(fault));
 }
 
+/// Asserts that of two entries the first finds no room, and breaks the journal for the second.
+fn assert_breaks(
+    rt: &impl Abort,
+    alloc: Global,
+    journal: &mut Filled<MemDisk>,
+) -> Result<(), Fail> {
+    let text = bytes_of(alloc, CANCEL)?;
+    let entry = prepared(alloc, text.as_slice())?;
+    let again = prepared(alloc, text.as_slice())?;
+    assert_refused(rt, journal, entry, PutFault::Device);
+    assert_refused(rt, journal, again, PutFault::Broken);
+    Ok(())
+}
+
+/// Asserts that a journal is broken, and that its file has no entries.
+fn assert_broken(rt: &impl Abort, alloc: Global, journal: Journal<MemDisk>) -> Result<(), Fail> {
+    assert!(rt; journal.is_broken());
+    let file = empty_file(alloc)?;
+    let mut disk = journal.into_disk();
+    assert_bytes(rt, alloc, &mut disk, file.as_slice(), "a put without room")
+}
+
 #[test]
 fn a_full_disk_breaks_the_journal(rt: HostRuntime) -> Result<(), Fail> {
-    let text = bytes_of(rt.alloc(), CANCEL)?;
-    let entry = prepared(rt.alloc(), text.as_slice())?;
-    let again = prepared(rt.alloc(), text.as_slice())?;
-    let mut journal = Filled::open(rt.alloc(), MemDisk::new(rt.alloc(), 26)?)?;
-    assert_refused(&rt, &mut journal, entry, PutFault::Device);
-    assert_refused(&rt, &mut journal, again, PutFault::Broken);
-    let journal = journal.into_journal();
-    assert!(rt; journal.is_broken());
-    let file = empty_file(rt.alloc())?;
-    assert_bytes(
-        &rt,
-        rt.alloc(),
-        &mut journal.into_disk(),
-        file.as_slice(),
-        "a put without room",
-    )
+    let alloc = rt.alloc();
+    let mut journal = Filled::open(alloc, MemDisk::new(alloc, 26)?)?;
+    assert_breaks(&rt, alloc, &mut journal)?;
+    assert_broken(&rt, alloc, journal.into_journal())
 }

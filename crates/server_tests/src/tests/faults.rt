@@ -28,14 +28,24 @@ fn assert_front_answered<S: Source + Drop>(
     assert_history(rt, alloc, server, count)
 }
 
+/// Asserts that the run over a source that fails answers so many requests, and no more.
+fn assert_source_fails(
+    rt: &impl Abort,
+    alloc: Global,
+    source: &mut Trickle<'_>,
+    count: usize,
+) -> Result<(), Fail> {
+    let mut server = new_server(alloc)?;
+    assert_front_answered(rt, alloc, &mut server, Reading(source), count)
+}
+
 /// Asserts what comes of the run where this read fails: each before it gave a byte, and nothing is read after it.
 fn assert_read_fails(rt: &impl Abort, alloc: Global, asked: &str, call: usize) -> Result<(), Fail> {
     let whole = count_whole(&REQUESTS, call);
-    let mut server = new_server(alloc)?;
     let mut source = Trickle::new(asked.as_bytes(), call);
-    let answered = assert_front_answered(rt, alloc, &mut server, Reading(&mut source), whole);
+    assert_source_fails(rt, alloc, &mut source, whole)?;
     assert_number(rt, source.calls, call.saturating_add(1));
-    answered
+    Ok(())
 }
 
 #[test]
@@ -46,6 +56,24 @@ fn a_read_fails_at_each_call(rt: HostRuntime) -> Result<(), Fail> {
         assert_read_fails(&rt, alloc, asked.as_str(), call)?;
     }
     Ok(())
+}
+
+/// Serves the run with a writer that fails, asserts that it ends so, and gives the writer back.
+fn cut(
+    rt: &impl Abort,
+    alloc: Global,
+    server: &mut Server<MemShelf, MemDisk>,
+    asked: &str,
+    writer: Narrow,
+) -> Narrow {
+    let mut duplex = Pair {
+        source: asked.as_bytes(),
+        sink: Writing(writer),
+    };
+    let ended = serve_connection(alloc, &mut duplex, server);
+    assert_ended(rt, ended, Err(ConnectionFault::OutputFault));
+    let Pair { sink, .. } = duplex;
+    sink.0
 }
 
 /// Asserts what comes of the run where the write after so many bytes fails, or takes none: nothing is written after
@@ -59,16 +87,12 @@ fn assert_cut(
     fails: bool,
 ) -> Result<(), Fail> {
     let front = replies.get(..count).ok_or("no such front")?;
-    let mut server = new_server(alloc)?;
-    let mut duplex = Pair {
-        source: asked.as_bytes(),
-        sink: Writing(Narrow::new(alloc, 1, count, fails)),
-    };
-    let ended = serve_connection(alloc, &mut duplex, &mut server);
-    assert_ended(rt, ended, Err(ConnectionFault::OutputFault));
-    assert_text(rt, duplex.sink.0.held.as_slice(), front);
-    assert_number(rt, duplex.sink.0.calls, count.saturating_add(1));
     let answered = count_whole(&REPLIES, count).saturating_add(1);
+    let mut server = new_server(alloc)?;
+    let writer = Narrow::new(alloc, 1, count, fails);
+    let writer = cut(rt, alloc, &mut server, asked, writer);
+    assert_text(rt, writer.held.as_slice(), front);
+    assert_number(rt, writer.calls, count.saturating_add(1));
     assert_history(rt, alloc, &server, answered)
 }
 

@@ -121,7 +121,37 @@ fn replies(
     Ok(text)
 }
 
-/// Asserts the replies of a run for each call that is done wrong: each row has the calls, and the replies then.
+/// Asserts the replies of a run one call of which is done wrong.
+fn assert_run(
+    rt: &impl Abort,
+    alloc: Global,
+    shelf: HostileShelf,
+    asked: &str,
+    wanted: &str,
+) -> Result<(), Fail> {
+    let mut server: Server<_, MemDisk> = Server::new(alloc, shelf, GREATEST_LIMIT)?;
+    assert_serves(rt, alloc, &mut server, asked.as_bytes(), wanted, Ok(()));
+    Ok(())
+}
+
+/// Asserts the replies of a run for each of these calls that is done wrong.
+fn assert_calls(
+    rt: &impl Abort,
+    alloc: Global,
+    wrong: Wrong,
+    calls: &str,
+    asked: &str,
+    wanted: &str,
+) -> Result<(), Fail> {
+    for call in calls.split(' ') {
+        let call = call.parse::<usize>()?;
+        let shelf = HostileShelf::new(alloc, MemShelf::new(alloc), wrong, call);
+        assert_run(rt, alloc, shelf, asked, wanted)?;
+    }
+    Ok(())
+}
+
+/// The same where each row has the calls, and the replies then.
 fn assert_runs(
     rt: &impl Abort,
     alloc: Global,
@@ -134,13 +164,7 @@ fn assert_runs(
     for row in rows.lines() {
         let (calls, row) = row.split_once(": ").ok_or("a row has two halves")?;
         let wanted = replies(alloc, row, words, file.as_str())?;
-        for call in calls.split(' ') {
-            let call = call.parse::<usize>()?;
-            let shelf = HostileShelf::new(alloc, MemShelf::new(alloc), wrong, call);
-            let mut server: Server<_, MemDisk> = Server::new(alloc, shelf, GREATEST_LIMIT)?;
-            let source = asked.as_bytes();
-            assert_serves(rt, alloc, &mut server, source, wanted.as_str(), Ok(()));
-        }
+        assert_calls(rt, alloc, wrong, calls, asked.as_str(), wanted.as_str())?;
     }
     Ok(())
 }

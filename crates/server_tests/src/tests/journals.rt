@@ -56,16 +56,30 @@ const MORE_REPLIES: [&str; 3] = [
     "HTTP/1.1 200 OK\r\nContent-Type: application/json\r\nContent-Length: 11\r\n\r\n{\"entry\":5}",
 ];
 
+/// Makes five entries, over two connections.
+fn make_entries(
+    rt: &impl Abort,
+    alloc: Global,
+    server: &mut Server<MemShelf, MemDisk>,
+) -> Result<(), Fail> {
+    let first = REPLIES.get(..2).ok_or("no such replies")?;
+    assert_answers(rt, alloc, server, &[OPEN, UPLOAD], first)?;
+    assert_answers(rt, alloc, server, &MORE, &MORE_REPLIES)
+}
+
+/// What is told of the entries of a server's journal, once it is opened again.
+fn told_again(alloc: Global, server: Server<MemShelf, MemDisk>) -> Result<String, Fail> {
+    let journal = server.into_journal().ok_or("the journal is gone")?;
+    let log = entries_on(alloc, journal.into_disk())?;
+    words(alloc, &log)
+}
+
 #[test]
 fn the_journal_has_the_entries_when_it_is_opened_again(rt: HostRuntime) -> Result<(), Fail> {
     let alloc = rt.alloc();
     let mut server = new_server(alloc, 1_000)?;
-    let first = REPLIES.get(..2).ok_or("no such replies")?;
-    assert_answers(&rt, alloc, &mut server, &[OPEN, UPLOAD], first)?;
-    assert_answers(&rt, alloc, &mut server, &MORE, &MORE_REPLIES)?;
-    let journal = server.into_journal().ok_or("the journal is gone")?;
-    let log = entries_on(alloc, journal.into_disk())?;
-    let told = words(alloc, &log)?;
+    make_entries(&rt, alloc, &mut server)?;
+    let told = told_again(alloc, server)?;
     assert_text(&rt, told.as_bytes(), "open publish rename remove undo 4 ");
     Ok(())
 }
@@ -101,15 +115,22 @@ const HELD_UP_REPLIES: [&str; 6] = [
      {\"error\":\"NoSuchFile\"}",
 ];
 
-/// The opening finds room, and the publishing none.
+/// Asserts what is held up where the opening finds room, and the publishing none.
+fn assert_held_up(
+    rt: &impl Abort,
+    alloc: Global,
+    server: &mut Server<MemShelf, MemDisk>,
+) -> Result<(), Fail> {
+    assert_answers(rt, alloc, server, &[OPEN, UPLOAD], &[OPENED, DEVICE])?;
+    assert_answers(rt, alloc, server, &HELD_UP, &HELD_UP_REPLIES)?;
+    let listed = entries(alloc, server)?;
+    assert_text(rt, listed.as_bytes(), ONE);
+    Ok(())
+}
+
 #[test]
 fn what_changes_is_held_up_where_the_device_has_failed(rt: HostRuntime) -> Result<(), Fail> {
     let alloc = rt.alloc();
     let mut server = new_server(alloc, 60)?;
-    let replies = [OPENED, DEVICE];
-    assert_answers(&rt, alloc, &mut server, &[OPEN, UPLOAD], &replies)?;
-    assert_answers(&rt, alloc, &mut server, &HELD_UP, &HELD_UP_REPLIES)?;
-    let listed = entries(alloc, &server)?;
-    assert_text(&rt, listed.as_bytes(), ONE);
-    Ok(())
+    assert_held_up(&rt, alloc, &mut server)
 }

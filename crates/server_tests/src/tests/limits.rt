@@ -88,13 +88,22 @@ fn assert_too_large(
     Ok(())
 }
 
+/// Opens its deploy, and asserts so, and that nothing is kept of it.
+fn assert_keeps_no_large(
+    rt: &impl Abort,
+    alloc: Global,
+    server: &mut Server<MemShelf, MemDisk>,
+) -> Result<(), Fail> {
+    enter(rt, alloc, server, &[OPEN_LARGE])?;
+    assert_too_large(rt, alloc, server)?;
+    assert_has(rt, alloc, server, (ONE, false))
+}
+
 #[test]
 fn a_file_of_a_byte_too_many_is_not_taken(rt: HostRuntime) -> Result<(), Fail> {
     let alloc = rt.alloc();
     let mut server = new_server(alloc)?;
-    enter(&rt, alloc, &mut server, &[OPEN_LARGE])?;
-    assert_too_large(&rt, alloc, &mut server)?;
-    assert_has(&rt, alloc, &server, (ONE, false))
+    assert_keeps_no_large(&rt, alloc, &mut server)
 }
 
 /// A request of each kind that makes an entry.

@@ -3,6 +3,7 @@
 use super::talks::{REPLIES, REQUESTS, assert_ended, joined, new_server};
 use crate::{Recorder, Step, serve};
 use std::alloc::{AllocError, Global};
+use std::process::Abort;
 use std::test::Fail;
 
 /// The steps of a connection on which each request is answered before the next is read.
@@ -20,15 +21,25 @@ fn steps_in_turn(alloc: Global) -> Result<Vec<Step>, AllocError> {
     Ok(steps)
 }
 
+/// Asserts that the connection ends well, and what was recorded of it.
+fn assert_recorded(
+    rt: &impl Abort,
+    alloc: Global,
+    recorder: &mut Recorder<'_>,
+    wanted: &[Step],
+) -> Result<(), Fail> {
+    let mut server = new_server(alloc)?;
+    let ended = serve(alloc, recorder, &mut server);
+    assert_ended(rt, ended, Ok(()));
+    assert!(rt; recorder.steps() == wanted);
+    Ok(())
+}
+
 #[test]
 fn each_reply_is_written_before_more_is_read(rt: HostRuntime) -> Result<(), Fail> {
     let alloc = rt.alloc();
     let asked = joined(alloc, &REQUESTS)?;
-    let mut recorder = Recorder::new(alloc, asked.as_bytes());
-    let mut server = new_server(alloc)?;
-    let ended = serve(alloc, &mut recorder, &mut server);
-    assert_ended(&rt, ended, Ok(()));
     let wanted = steps_in_turn(alloc)?;
-    assert!(rt; recorder.steps() == wanted.as_slice());
-    Ok(())
+    let mut recorder = Recorder::new(alloc, asked.as_bytes());
+    assert_recorded(&rt, alloc, &mut recorder, wanted.as_slice())
 }

@@ -71,41 +71,56 @@ fn published(rt: &impl Abort, alloc: Global) -> Result<Store, Fail> {
     Ok(store)
 }
 
+/// Asserts the replies to the rest of the run, each of which is a run of its own.
+fn assert_serves_on(rt: &impl Abort, alloc: Global, store: &mut Store) -> Result<(), Fail> {
+    for number in 2..5 {
+        let asked = REQUESTS.get(number).ok_or("no such request")?;
+        let reply = REPLIES.get(number).ok_or("no such reply")?;
+        store.assert_runs(rt, alloc, &[*asked], &[*reply], (0, ""))?;
+    }
+    Ok(())
+}
+
 #[test]
 fn what_was_served_is_served_again(rt: HostRuntime) -> Result<(), Fail> {
     let alloc = rt.alloc();
     let mut store = published(&rt, alloc)?;
-    for number in 2..5 {
-        let asked = REQUESTS.get(number).ok_or("no such request")?;
-        let reply = REPLIES.get(number).ok_or("no such reply")?;
-        store.assert_runs(&rt, alloc, &[*asked], &[*reply], (0, ""))?;
-    }
-    Ok(())
+    assert_serves_on(&rt, alloc, &mut store)
+}
+
+/// Loses all files, and then all but a table, and asserts that each is told.
+fn assert_loss_is_told(rt: &impl Abort, alloc: Global, store: &mut Store) -> Result<(), Fail> {
+    let table = ShelfName::Table(Digest::of_bytes(b"hello"));
+    let text = store.shelf.get(table)?.ok_or("there is no table")?;
+    store.shelf = MemShelf::new(alloc);
+    let line = "filehost: blobs: MissingBlob aaf4c61ddcc5e8a2dabede0f3b482cd9aea9434d\n";
+    store.assert_refused(rt, alloc, (4, line))?;
+    store.shelf.put(table, text.as_slice())?;
+    let line = "filehost: blobs: DamagedBlob aaf4c61ddcc5e8a2dabede0f3b482cd9aea9434d\n";
+    store.assert_refused(rt, alloc, (4, line))
 }
 
 #[test]
 fn a_file_that_is_lost_is_told(rt: HostRuntime) -> Result<(), Fail> {
     let alloc = rt.alloc();
     let mut store = published(&rt, alloc)?;
-    let table = ShelfName::Table(Digest::of_bytes(b"hello"));
-    let text = store.shelf.get(table)?.ok_or("there is no table")?;
+    assert_loss_is_told(&rt, alloc, &mut store)
+}
+
+/// Loses all files and damages the journal's record, and then its header, and asserts which of these is told.
+fn assert_journal_is_told(rt: &impl Abort, alloc: Global, store: &mut Store) -> Result<(), Fail> {
     store.shelf = MemShelf::new(alloc);
-    let line = "filehost: blobs: MissingBlob aaf4c61ddcc5e8a2dabede0f3b482cd9aea9434d\n";
-    store.assert_refused(&rt, alloc, (4, line))?;
-    store.shelf.put(table, text.as_slice())?;
-    let line = "filehost: blobs: DamagedBlob aaf4c61ddcc5e8a2dabede0f3b482cd9aea9434d\n";
-    store.assert_refused(&rt, alloc, (4, line))
+    store.disk.write_at(13, b"\xff")?;
+    store.assert_refused(rt, alloc, (3, "filehost: journal: BadRecord 1\n"))?;
+    store.disk.write_at(1, b"G")?;
+    store.assert_refused(rt, alloc, (3, "filehost: journal: BadHeader\n"))
 }
 
 #[test]
 fn a_journal_that_is_none_is_told_before_a_lost_file(rt: HostRuntime) -> Result<(), Fail> {
     let alloc = rt.alloc();
     let mut store = published(&rt, alloc)?;
-    store.shelf = MemShelf::new(alloc);
-    store.disk.write_at(13, b"\xff")?;
-    store.assert_refused(&rt, alloc, (3, "filehost: journal: BadRecord 1\n"))?;
-    store.disk.write_at(1, b"G")?;
-    store.assert_refused(&rt, alloc, (3, "filehost: journal: BadHeader\n"))
+    assert_journal_is_told(&rt, alloc, &mut store)
 }
 
 /// The file of a journal with a cancel of a deploy that no entry opens.
@@ -120,15 +135,17 @@ fn an_entry_that_is_not_accepted_is_told(rt: HostRuntime) -> Result<(), Fail> {
     store.assert_refused(&rt, alloc, (3, "filehost: journal: NotLegal 1\n"))
 }
 
+/// Why a store isn't opened whose history may have one entry.
+fn refused(alloc: Global, store: Store) -> Option<OpenFault> {
+    Server::open(alloc, store.disk, store.shelf, 1)
+        .err()
+        .map(|stop| stop.fault)
+}
+
 #[test]
 fn more_entries_than_the_limit_are_not_accepted(rt: HostRuntime) -> Result<(), Fail> {
     let alloc = rt.alloc();
     let store = published(&rt, alloc)?;
-    match Server::open(alloc, store.disk, store.shelf, 1) {
-        Ok(_) => Err(Fail::from("two entries were accepted where there may be one")),
-        Err(stop) => {
-            assert_eq!(&rt; stop.fault, OpenFault::NotLegal(2));
-            Ok(())
-        }
-    }
+    assert_eq!(&rt; refused(alloc, store), Some(OpenFault::NotLegal(2)));
+    Ok(())
 }

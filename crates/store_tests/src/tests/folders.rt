@@ -46,31 +46,54 @@ fn make_folder<R: Files + AllocGlobal>(rt: &R, folder: &str) -> Result<(), Fail>
     Ok(())
 }
 
+/// Uploads a file to a store in a folder.
+fn upload_into<R: Files + AllocGlobal>(rt: &R, folder: &str, file: &[u8]) -> Result<(), Fail> {
+    let shelf = DirShelf::new(rt, rt.alloc(), folder)?;
+    let mut blobs = Blobs::new(rt.alloc(), shelf);
+    blobs.upload(file)?;
+    Ok(())
+}
+
+/// Asserts the bytes of a file.
+fn assert_file<R: Abort + Files + AllocGlobal>(
+    rt: &R,
+    path: &str,
+    wanted: &str,
+) -> Result<(), Fail> {
+    let bytes = fs::read(rt, path)?;
+    let text = format!(in rt.alloc(); "{:?}", bytes.as_slice())?;
+    assert_text(rt, path, text.as_str(), wanted);
+    Ok(())
+}
+
 #[test]
 fn a_folder_has_a_file_of_each_piece_and_table(rt: HostRuntime) -> Result<(), Fail> {
     make_folder(&rt, "shelf_of_hello")?;
-    let mut blobs = Blobs::new(
-        rt.alloc(),
-        DirShelf::new(&rt, rt.alloc(), "shelf_of_hello")?,
-    );
-    blobs.upload(b"hello")?;
-    let piece = fs::read_to_string(
+    upload_into(&rt, "shelf_of_hello", b"hello")?;
+    assert_file(
         &rt,
         "shelf_of_hello/c-aaf4c61ddcc5e8a2dabede0f3b482cd9aea9434d",
+        "[104, 101, 108, 108, 111]",
     )?;
-    assert_text(&rt, "the piece", piece.as_str(), "hello");
-    let table = fs::read(
+    assert_file(
         &rt,
         "shelf_of_hello/t-aaf4c61ddcc5e8a2dabede0f3b482cd9aea9434d",
-    )?;
-    let wanted = format!(in rt.alloc(); "{:?}", table.as_slice())?;
-    assert_text(
-        &rt,
-        "the table",
-        wanted.as_str(),
         "[0, 0, 0, 0, 0, 0, 0, 5, 170, 244, 198, 29, 220, 197, 232, 162, 218, 190, 222, 15, 59, 72, 44, 217, 174, 169, 67, 77]",
-    );
+    )?;
     fs::remove_dir_all(&rt, "shelf_of_hello")?;
+    Ok(())
+}
+
+/// Asserts that a store that is opened in a folder knows a file, which must be there.
+fn assert_known<R: Abort + Files + AllocGlobal>(
+    rt: &R,
+    folder: &str,
+    file: &[u8],
+) -> Result<(), Fail> {
+    let digest = Digest::of_bytes(file);
+    let shelf = DirShelf::new(rt, rt.alloc(), folder)?;
+    let text = opened(rt.alloc(), shelf, &[Wanted { digest, must: true }])?;
+    assert_text(rt, folder, text.as_str(), "knows 1");
     Ok(())
 }
 
@@ -78,19 +101,8 @@ fn a_folder_has_a_file_of_each_piece_and_table(rt: HostRuntime) -> Result<(), Fa
 fn a_folder_keeps_a_file_for_the_next_opening(rt: HostRuntime) -> Result<(), Fail> {
     make_folder(&rt, "shelf_that_is_kept")?;
     let file = file_of(rt.alloc(), 131_073)?;
-    let mut blobs = Blobs::new(
-        rt.alloc(),
-        DirShelf::new(&rt, rt.alloc(), "shelf_that_is_kept")?,
-    );
-    blobs.upload(file.as_slice())?;
-    drop(blobs);
-    let wanted = [Wanted {
-        digest: Digest::of_bytes(file.as_slice()),
-        must: true,
-    }];
-    let shelf = DirShelf::new(&rt, rt.alloc(), "shelf_that_is_kept")?;
-    let text = opened(rt.alloc(), shelf, &wanted)?;
-    assert_text(&rt, "three pieces", text.as_str(), "knows 1");
+    upload_into(&rt, "shelf_that_is_kept", file.as_slice())?;
+    assert_known(&rt, "shelf_that_is_kept", file.as_slice())?;
     fs::remove_dir_all(&rt, "shelf_that_is_kept")?;
     Ok(())
 }
@@ -149,30 +161,38 @@ fn assert_put<S: Shelf>(
     Ok(())
 }
 
-#[test]
-fn a_put_replaces_a_file_and_fails_without_a_folder(rt: HostRuntime) -> Result<(), Fail> {
-    make_folder(&rt, "shelf_that_goes")?;
-    let mut shelf = DirShelf::new(&rt, rt.alloc(), "shelf_that_goes")?;
-    assert_given(
-        &rt,
-        rt.alloc(),
-        &mut shelf,
-        "an empty folder",
-        "nothing nothing ",
-    )?;
+/// Puts other bytes in the place of the piece, and a folder in that of the table.
+fn fill_folder<R: Files + AllocGlobal>(rt: &R) -> Result<(), Fail> {
     fs::write(
-        &rt,
+        rt,
         "shelf_that_goes/c-aaf4c61ddcc5e8a2dabede0f3b482cd9aea9434d",
         "other bytes",
     )?;
     fs::create_dir(
-        &rt,
+        rt,
         "shelf_that_goes/t-aaf4c61ddcc5e8a2dabede0f3b482cd9aea9434d",
     )?;
-    assert_put(&rt, &mut shelf, Ok(()))?;
-    assert_given(&rt, rt.alloc(), &mut shelf, "a folder as a table", "5 0 ")?;
-    fs::remove_dir_all(&rt, "shelf_that_goes")?;
-    assert_put(&rt, &mut shelf, Err(ShelfFault::Device))
+    Ok(())
+}
+
+/// Asserts what a shelf in this folder does: empty, filled, and once it is gone.
+fn assert_goes<R: Abort + Files + AllocGlobal, S: Shelf>(
+    rt: &R,
+    shelf: &mut S,
+) -> Result<(), Fail> {
+    assert_given(rt, rt.alloc(), shelf, "empty", "nothing nothing ")?;
+    fill_folder(rt)?;
+    assert_put(rt, shelf, Ok(()))?;
+    assert_given(rt, rt.alloc(), shelf, "a folder as a table", "5 0 ")?;
+    fs::remove_dir_all(rt, "shelf_that_goes")?;
+    assert_put(rt, shelf, Err(ShelfFault::Device))
+}
+
+#[test]
+fn a_put_replaces_a_file_and_fails_without_a_folder(rt: HostRuntime) -> Result<(), Fail> {
+    make_folder(&rt, "shelf_that_goes")?;
+    let mut shelf = DirShelf::new(&rt, rt.alloc(), "shelf_that_goes")?;
+    assert_goes(&rt, &mut shelf)
 }
 
 #[test]

@@ -2,15 +2,25 @@
 use super::fixtures::{assert_text, file_of};
 use crate::hostile_shelf::{HostileShelf, Wrong};
 use blob_store::{Blobs, MemShelf, ReadFault, Shelf};
-use byte_view::BlobInfo;
+use byte_view::{BlobInfo, Hold};
 use file_reads::{FileBody, read_body};
 use range_reply::{IfRange, plan};
 use range_spec::{Choice, parse};
-use std::alloc::Global;
+use std::alloc::{AllocError, Global};
 use std::process::Abort;
 use std::str;
 use std::sync::Arc;
 use std::test::Fail;
+
+/// What is told of what is held: its bytes.
+fn bytes_of(alloc: Global, hold: &Hold) -> Result<String, AllocError> {
+    let (first, last) = hold.stretch();
+    let mut bytes: Vec<u8> = Vec::new(alloc);
+    for piece in hold.pieces(first, last) {
+        bytes.extend_from_slice(piece)?;
+    }
+    format!(in alloc; "{:?}", bytes.as_slice())
+}
 
 /// What is told of a stretch that is held: its bytes, or why it can't be.
 fn held<S: Shelf>(
@@ -24,16 +34,23 @@ fn held<S: Shelf>(
         return Err(Fail::from("the file has no such stretch"));
     }
     match blobs.hold(Arc::try_clone(info)?, first, last) {
-        Ok(hold) => {
-            let mut bytes: Vec<u8> = Vec::new(alloc);
-            for piece in hold.pieces(first, last) {
-                bytes.extend_from_slice(piece)?;
-            }
-            Ok(format!(in alloc; "{:?}", bytes.as_slice())?)
-        }
+        Ok(hold) => Ok(bytes_of(alloc, &hold)?),
         Err(ReadFault::OutOfMemory) => Err(Fail::from(ReadFault::OutOfMemory)),
         Err(fault) => Ok(format!(in alloc; "{fault:?}")?),
     }
+}
+
+/// Asserts what is told of the two bytes at the edge of the first chunk.
+fn assert_edge<S: Shelf>(
+    rt: &impl Abort,
+    alloc: Global,
+    blobs: &mut Blobs<S>,
+    info: &Arc<BlobInfo>,
+    wanted: &str,
+) -> Result<(), Fail> {
+    let text = held(alloc, blobs, info, 65_535, 65_536)?;
+    assert_text(rt, "the bytes 65535 and 65536", text.as_str(), wanted);
+    Ok(())
 }
 
 #[test]
@@ -41,23 +58,18 @@ fn a_stretch_is_held_across_the_edge_of_a_chunk(rt: HostRuntime) -> Result<(), F
     let file = file_of(rt.alloc(), 65_537)?;
     let mut blobs = Blobs::new(rt.alloc(), MemShelf::new(rt.alloc()));
     let info = blobs.upload(file.as_slice())?;
-    let text = held(rt.alloc(), &mut blobs, &info, 65_535, 65_536)?;
-    assert_text(&rt, "the bytes 65535 and 65536", text.as_str(), "[24, 25]");
-    Ok(())
+    assert_edge(&rt, rt.alloc(), &mut blobs, &info, "[24, 25]")
 }
 
 #[test]
 fn a_stretch_is_missing_where_a_chunk_of_it_is_lost(rt: HostRuntime) -> Result<(), Fail> {
     let file = file_of(rt.alloc(), 65_537)?;
-    // The upload puts two pieces and a table, so the call 4 gives the second piece.
+    // The upload puts two pieces and a table, so the call 4 gives the second piece, which is there again later.
     let shelf = HostileShelf::new(rt.alloc(), MemShelf::new(rt.alloc()), Wrong::Lost, 4);
     let mut blobs = Blobs::new(rt.alloc(), shelf);
     let info = blobs.upload(file.as_slice())?;
-    let text = held(rt.alloc(), &mut blobs, &info, 65_535, 65_536)?;
-    assert_text(&rt, "the second piece is lost", text.as_str(), "Missing");
-    let text = held(rt.alloc(), &mut blobs, &info, 65_535, 65_536)?;
-    assert_text(&rt, "it is there again", text.as_str(), "[24, 25]");
-    Ok(())
+    assert_edge(&rt, rt.alloc(), &mut blobs, &info, "Missing")?;
+    assert_edge(&rt, rt.alloc(), &mut blobs, &info, "[24, 25]")
 }
 
 /// What is told of a body: how much of the file is sent, and the text.

@@ -18,20 +18,30 @@ fn uploaded(alloc: Global, blobs: &mut Blobs<MemShelf>, file: &[u8]) -> Result<S
     }
 }
 
-#[test]
-fn zeros_of_the_largest_file_have_one_name(rt: HostRuntime) -> Result<(), Fail> {
-    let zeros = Vec::from_elem(rt.alloc(), 0u8, 16_777_217)?;
-    let mut blobs = Blobs::new(rt.alloc(), MemShelf::new(rt.alloc()));
-    let largest = uploaded(rt.alloc(), &mut blobs, &zeros.as_slice()[1..])?;
+/// Asserts what is told of uploads of the largest file, and of one that has a byte more.
+fn assert_largest(
+    rt: &impl Abort,
+    alloc: Global,
+    blobs: &mut Blobs<MemShelf>,
+    zeros: &[u8],
+) -> Result<(), Fail> {
+    let largest = uploaded(alloc, blobs, zeros.get(1..).ok_or("no byte")?)?;
     assert_text(
-        &rt,
+        rt,
         "the largest file",
         largest.as_str(),
         "256 pieces, one name: true",
     );
-    let larger = uploaded(rt.alloc(), &mut blobs, zeros.as_slice())?;
-    assert_text(&rt, "a byte more", larger.as_str(), "too large");
+    let larger = uploaded(alloc, blobs, zeros)?;
+    assert_text(rt, "a byte more", larger.as_str(), "too large");
     Ok(())
+}
+
+#[test]
+fn zeros_of_the_largest_file_have_one_name(rt: HostRuntime) -> Result<(), Fail> {
+    let zeros = Vec::from_elem(rt.alloc(), 0u8, 16_777_217)?;
+    let mut blobs = Blobs::new(rt.alloc(), MemShelf::new(rt.alloc()));
+    assert_largest(&rt, rt.alloc(), &mut blobs, zeros.as_slice())
 }
 
 /// Asserts that each piece of a file is given as it was uploaded.
@@ -51,15 +61,20 @@ fn assert_chunks(
     Ok(())
 }
 
-#[test]
-fn a_store_that_is_opened_again_knows_what_was_uploaded(rt: HostRuntime) -> Result<(), Fail> {
-    let three = file_of(rt.alloc(), 131_073)?;
-    let mut blobs = Blobs::new(rt.alloc(), MemShelf::new(rt.alloc()));
-    assert_chunks(&rt, rt.alloc(), &mut blobs, three.as_slice())?;
+/// Uploads three files: one of a piece, one of none, and this one again.
+fn upload_all(blobs: &mut Blobs<MemShelf>, file: &[u8]) -> Result<[Wanted; 3], Fail> {
     let one = blobs.upload(b"hello")?.digest();
     let none = blobs.upload(b"")?.digest();
-    let all = blobs.upload(three.as_slice())?.digest();
-    let wanted = [one, none, all].map(|digest| Wanted { digest, must: true });
+    let all = blobs.upload(file)?.digest();
+    Ok([one, none, all].map(|digest| Wanted { digest, must: true }))
+}
+
+#[test]
+fn a_store_that_is_opened_again_knows_what_was_uploaded(rt: HostRuntime) -> Result<(), Fail> {
+    let file = file_of(rt.alloc(), 131_073)?;
+    let mut blobs = Blobs::new(rt.alloc(), MemShelf::new(rt.alloc()));
+    assert_chunks(&rt, rt.alloc(), &mut blobs, file.as_slice())?;
+    let wanted = upload_all(&mut blobs, file.as_slice())?;
     let known = opened(rt.alloc(), blobs.into_shelf(), &wanted)?;
     assert_text(&rt, "all", known.as_str(), "knows 3");
     Ok(())
