@@ -2,6 +2,7 @@
 ghost use Rattle.std.specs.Prelude.{◌≡◌, true, refl};
 ghost use Rattle.chunk_group.specs.Outcomes.{clones_of_outcomes, is_outcome};
 
+use anyhow::anyhow;
 use blob_store::ReadFault;
 use byte_view::Chunk;
 use chunk_group::{Outcome, Source};
@@ -78,4 +79,12 @@ impl Source for ChunkMaker<'_> {
         let number = number_of(self.names, key).ok_or(ReadFault::Missing)?;
         chunk_of(self.alloc, number)
     }
+}
+
+/// Fails where a source was asked for more chunks than there are.
+pub(crate) fn assert_loaded_once(loads: &AtomicU64, chunks: usize) -> anyhow::Result<()> {
+    if loads.load(Ordering::SeqCst) != chunks as u64 {
+        return Err(anyhow!("a chunk was loaded while reads were timed"));
+    }
+    Ok(())
 }

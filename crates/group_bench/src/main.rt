@@ -48,24 +48,39 @@ fn keys(alloc: Global) -> Result<Vec<Digest>, AllocError> {
     Ok(keys)
 }
 
-/// Makes the measurement of this name: over so many rounds, or by so many threads.
+/// Makes the measurement of this name: over so many rounds of these keys or of chunks, or by so many threads.
 fn measure<R: Threads + Wait + Clock + Sync>(
     rt: &R,
     alloc: Global,
+    keys: &[Digest],
     name: &str,
-    count: &str,
+    count: u64,
 ) -> Result<Measured> {
-    let count = count.parse::<u64>().ok().ok_or(anyhow!("no such number"))?;
-    let keys = keys(alloc)?;
     match name {
         "hit" => caches::time_hits(rt, alloc, count),
-        "owner" => rings::time_owners(rt, alloc, keys.as_slice(), count),
-        "run" => flights::time_runs(rt, alloc, keys.as_slice(), count),
+        "owner" => rings::time_owners(rt, alloc, keys, count),
+        "run" => flights::time_runs(rt, alloc, keys, count),
         "hot" => reads::time_reads(rt, alloc, count),
         "share" => reads::time_shares(rt, alloc, count),
         "threads" => thread_reads::time_threads(rt, alloc, count),
         _ => Err(anyhow!("no such measurement")),
     }
+}
+
+fn say<R: Print>(rt: &R, measured: &Measured) -> Result<()> {
+    Ok(println!(rt; "{} {}", measured.took.as_nanos(), measured.sum)?)
+}
+
+/// Prints what this measurement gives.
+fn measure_and_say<R: Threads + Wait + Clock + Print + Sync>(
+    rt: &R,
+    alloc: Global,
+    name: &str,
+    count: &str,
+) -> Result<()> {
+    let count = count.parse::<u64>().ok().ok_or(anyhow!("no such number"))?;
+    let keys = keys(alloc)?;
+    say(rt, &measure(rt, alloc, keys.as_slice(), name, count)?)
 }
 
 /// Prints what these words ask for.
@@ -75,14 +90,10 @@ fn answer<R: Threads + Wait + Clock + Print + Sync>(
     words: &[String],
 ) -> Result<()> {
     match words {
-        [word] if word.as_str() == "list" => println!(rt; "{LIST}")?,
-        [name, count] => {
-            let measured = measure(rt, alloc, name.as_str(), count.as_str())?;
-            println!(rt; "{} {}", measured.took.as_nanos(), measured.sum)?;
-        }
-        _ => return Err(anyhow!("a measurement and its number are wanted, or list")),
+        [word] if word.as_str() == "list" => Ok(println!(rt; "{LIST}")?),
+        [name, count] => measure_and_say(rt, alloc, name.as_str(), count.as_str()),
+        _ => Err(anyhow!("a measurement and its number are wanted, or list")),
     }
-    Ok(())
 }
 
 fn main(rt: HostRuntime) -> Result<()> {

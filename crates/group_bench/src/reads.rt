@@ -1,7 +1,7 @@
 //! Reads of chunks through a node that has them in its cache.
 use crate::Measured;
-use crate::chunks::{CHUNK, ChunkMaker, chunk_of, names};
-use anyhow::{Result, anyhow};
+use crate::chunks::{CHUNK, ChunkMaker, assert_loaded_once, chunk_of, names};
+use anyhow::Result;
 use byte_view::Chunk;
 use chunk_group::{Counter, SoloGroup};
 use host_names::Digest;
@@ -9,7 +9,7 @@ use peer_link::NoLink;
 use peer_ring::{DigestHash, Ring};
 use std::alloc::Global;
 use std::sync::Arc;
-use std::sync::atomic::{AtomicU64, Ordering};
+use std::sync::atomic::AtomicU64;
 use std::time::{Clock, Instant};
 
 /// How many chunks are read in turn.
@@ -34,6 +34,7 @@ fn read_all(node: &mut Node<'_>, names: &[Digest]) -> Result<u64> {
     Ok(sum)
 }
 
+/// The time of so many reads of all these chunks.
 fn time_rounds<R: Clock>(
     rt: &R,
     node: &mut Node<'_>,
@@ -51,16 +52,26 @@ fn time_rounds<R: Clock>(
     })
 }
 
+/// The same through a node over this source, by which each chunk is read once before.
+fn time_node<R: Clock>(
+    rt: &R,
+    alloc: Global,
+    source: ChunkMaker<'_>,
+    names: &[Digest],
+    rounds: u64,
+) -> Result<Measured> {
+    let mut node = lone_node(alloc, source)?;
+    let _ = read_all(&mut node, names)?;
+    time_rounds(rt, &mut node, names, rounds)
+}
+
 /// The time of reads of chunks that were each read once before.
 pub(crate) fn time_reads<R: Clock>(rt: &R, alloc: Global, rounds: u64) -> Result<Measured> {
     let names = names(alloc, CHUNKS)?;
     let loads = AtomicU64::new(0);
-    let mut node = lone_node(alloc, ChunkMaker::new(alloc, names.as_slice(), &loads))?;
-    let _ = read_all(&mut node, names.as_slice())?;
-    let measured = time_rounds(rt, &mut node, names.as_slice(), rounds)?;
-    if loads.load(Ordering::SeqCst) != CHUNKS as u64 {
-        return Err(anyhow!("a chunk was loaded while reads were timed"));
-    }
+    let source = ChunkMaker::new(alloc, names.as_slice(), &loads);
+    let measured = time_node(rt, alloc, source, names.as_slice(), rounds)?;
+    assert_loaded_once(&loads, CHUNKS)?;
     Ok(measured)
 }
 

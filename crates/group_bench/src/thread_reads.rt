@@ -1,6 +1,6 @@
 //! Reads of chunks by threads that share a node.
 use crate::Measured;
-use crate::chunks::{CHUNK, ChunkMaker, names};
+use crate::chunks::{CHUNK, ChunkMaker, assert_loaded_once, names};
 use anyhow::{Result, anyhow};
 use chunk_group::{Counter, Group};
 use host_names::Digest;
@@ -91,6 +91,49 @@ fn run_threads<R: Threads + Wait + Sync>(
     });
 }
 
+impl Tally {
+    fn new() -> Tally {
+        Tally {
+            copied: AtomicU64::new(0),
+            failed: AtomicU64::new(0),
+        }
+    }
+}
+
+/// The time of the reads of so many threads through a node that has all chunks.
+fn time_all<R: Threads + Wait + Clock + Sync>(
+    rt: &R,
+    alloc: Global,
+    node: &Node<'_>,
+    names: &[Digest],
+    threads: u64,
+) -> Result<Measured> {
+    let tally = Tally::new();
+    let begun = Instant::now(rt)?;
+    run_threads(rt, alloc, node, names, &tally, threads);
+    let took = begun.elapsed(rt)?;
+    if tally.failed.load(Ordering::SeqCst) > 0 {
+        return Err(anyhow!("a thread failed"));
+    }
+    Ok(Measured {
+        took,
+        sum: tally.copied.load(Ordering::SeqCst),
+    })
+}
+
+/// The same through a node over this source, by which each chunk is read once before.
+fn time_node<R: Threads + Wait + Clock + Sync>(
+    rt: &R,
+    alloc: Global,
+    source: ChunkMaker<'_>,
+    names: &[Digest],
+    threads: u64,
+) -> Result<Measured> {
+    let node = lone_node(alloc, source)?;
+    let _ = copy_all(rt, &node, names, &mut Vec::new(alloc))?;
+    time_all(rt, alloc, &node, names, threads)
+}
+
 /// The time of the reads of so many threads, of chunks that were each read once before.
 pub(crate) fn time_threads<R: Threads + Wait + Clock + Sync>(
     rt: &R,
@@ -99,24 +142,8 @@ pub(crate) fn time_threads<R: Threads + Wait + Clock + Sync>(
 ) -> Result<Measured> {
     let names = names(alloc, CHUNKS)?;
     let loads = AtomicU64::new(0);
-    let node = lone_node(alloc, ChunkMaker::new(alloc, names.as_slice(), &loads))?;
-    let mut buffer = Vec::new(alloc);
-    let _ = copy_all(rt, &node, names.as_slice(), &mut buffer)?;
-    let tally = Tally {
-        copied: AtomicU64::new(0),
-        failed: AtomicU64::new(0),
-    };
-    let begun = Instant::now(rt)?;
-    run_threads(rt, alloc, &node, names.as_slice(), &tally, threads);
-    let took = begun.elapsed(rt)?;
-    if tally.failed.load(Ordering::SeqCst) > 0 {
-        return Err(anyhow!("a thread failed"));
-    }
-    if loads.load(Ordering::SeqCst) != CHUNKS as u64 {
-        return Err(anyhow!("a chunk was loaded while reads were timed"));
-    }
-    Ok(Measured {
-        took,
-        sum: tally.copied.load(Ordering::SeqCst),
-    })
+    let source = ChunkMaker::new(alloc, names.as_slice(), &loads);
+    let measured = time_node(rt, alloc, source, names.as_slice(), threads)?;
+    assert_loaded_once(&loads, CHUNKS)?;
+    Ok(measured)
 }

@@ -59,12 +59,17 @@ pub(crate) fn put_same(rt: &HostRuntime, path: &str, entry: &Entry, times: u64) 
     put_again(rt, &mut journal, entry, times)
 }
 
+/// Puts the entry of a number.
+fn put_one(rt: &HostRuntime, journal: &mut Filled, number: u64) -> Result<()> {
+    let entry = numbered(rt.alloc(), number)?;
+    journal.put(prepare(rt.alloc(), &entry)?)
+}
+
 /// Opens a journal, and puts the entries of the numbers from 1 on.
 pub(crate) fn put_numbered(rt: &HostRuntime, path: &str, entries: u64) -> Result<()> {
     let mut journal = Filled::open(rt, path)?;
     for number in 1..=entries {
-        let entry = numbered(rt.alloc(), number)?;
-        journal.put(prepare(rt.alloc(), &entry)?)?;
+        put_one(rt, &mut journal, number)?;
     }
     Ok(())
 }

@@ -39,20 +39,30 @@ impl<'a> Measurement<'a> {
     /// Does it, and prints what came of it.
     pub(crate) fn run(&self, rt: &HostRuntime) -> Result<()> {
         match self {
-            Measurement::Put(path, entries) => {
-                let entry = cancelling(1)?;
-                let took = put_same(rt, path, &entry, *entries)?;
-                Ok(println!(rt; "{}", each(took, *entries))?)
-            }
-            Measurement::Write(path, entries) => {
-                put_numbered(rt, path, *entries)?;
-                let (said, _) = open(rt, path)?;
-                Ok(println!(rt; "{said}")?)
-            }
+            Measurement::Put(path, entries) => put(rt, path, *entries),
+            Measurement::Write(path, entries) => write(rt, path, *entries),
             Measurement::Open(path, times) => opened(rt, path, *times),
             Measurement::Decode(paths, bytes) => decoded(rt, *paths, *bytes),
         }
     }
+}
+
+fn say_number(rt: &HostRuntime, number: u128) -> Result<()> {
+    Ok(println!(rt; "{number}")?)
+}
+
+/// Puts the same small entry so often, and prints the time of a put.
+fn put(rt: &HostRuntime, path: &str, entries: u64) -> Result<()> {
+    let entry = cancelling(1)?;
+    let took = put_same(rt, path, &entry, entries)?;
+    say_number(rt, each(took, entries))
+}
+
+/// Puts so many entries of all kinds, and prints how many there are when the journal is opened again.
+fn write(rt: &HostRuntime, path: &str, entries: u64) -> Result<()> {
+    put_numbered(rt, path, entries)?;
+    let (said, _) = open(rt, path)?;
+    Ok(println!(rt; "{said}")?)
 }
 
 /// The nanoseconds of one of so many calls.
@@ -69,17 +79,23 @@ fn opened(rt: &HostRuntime, path: &str, times: u64) -> Result<()> {
     Ok(println!(rt; "{} {said}", took.as_nanos())?)
 }
 
-/// Reads the text of an opening of a deploy, and prints how fast that was.
-fn decoded(rt: &HostRuntime, paths: u32, bytes: usize) -> Result<()> {
-    let text = opening_text(rt.alloc(), paths, bytes)?;
+/// How long it takes to read the text of an entry.
+fn time_decode(rt: &HostRuntime, text: &[u8]) -> Result<Duration> {
     let begun = Instant::now(rt)?;
-    let entry = decode(rt.alloc(), text.as_slice());
+    let entry = decode(rt.alloc(), text);
     let took = begun.elapsed(rt)?;
     if entry.is_err() {
         return Err(anyhow!("the text is that of no entry"));
     }
+    Ok(took)
+}
+
+/// Reads the text of an opening of a deploy, and prints how fast that was.
+fn decoded(rt: &HostRuntime, paths: u32, bytes: usize) -> Result<()> {
+    let text = opening_text(rt.alloc(), paths, bytes)?;
+    let took = time_decode(rt, text.as_slice())?;
     let speed = (text.len() as u128)
         .saturating_mul(1_000)
         .checked_div(took.as_nanos());
-    Ok(println!(rt; "{}", speed.unwrap_or(0))?)
+    say_number(rt, speed.unwrap_or(0))
 }
