@@ -39,13 +39,14 @@ class Text:
     """The bytes of an entry that aren't read yet."""
 
     def __init__(self, text):
-        self.rest = text
+        # A view, since what remains of a long text would else be copied at each step.
+        self.rest = memoryview(text)
 
     def take(self, count):
         if len(self.rest) < count:
             raise BadEntry
         taken, self.rest = self.rest[:count], self.rest[count:]
-        return taken
+        return bytes(taken)
 
     def integer(self, count):
         return int.from_bytes(self.take(count), "big")

@@ -1,11 +1,14 @@
 """Journals in files: what the crates write is what docs/STORAGE.md says, and what is opened of a file; and which calls of the system a
 put and an opening make.
 
-The program is journal_bench, which opens a journal at a path. The reader and the writer are in journal.py.
+The program is journal_bench, which opens a journal at a path. The reader and the writer are in journal.py. Files that are written by
+hand are in test_journal_files.py.
 """
 
+import concurrent.futures
 import fcntl
 import hashlib
+import itertools
 import pathlib
 import random
 import subprocess
@@ -18,6 +21,7 @@ from client import HERE, SECONDS, TOP
 CRATE = TOP / "crates/journal_bench"
 PROGRAM = CRATE / "out/journal_bench"
 SOURCE = HERE / "trace_files.c"
+FILES_AT_ONCE = 4
 CANCEL = ("cancel", "one", 2)
 
 
@@ -102,6 +106,21 @@ class Journals(unittest.TestCase):
         """What the program says of the file that it opens, after the time that it took."""
         return self.run_program("open", path or self.file, "1").partition(" ")[2]
 
+    def opened(self, file, number):
+        """What the program says of a file with these bytes, which gets a number for its name, and what it then is."""
+        path = self.folder / str(number)
+        path.write_bytes(file)
+        return self.open(path), path.read_bytes()
+
+    def assert_opened(self, rows):
+        """Each row is a file, what the program has to say of it, and what the file then has to be."""
+        files = [file for file, _, _ in rows]
+        with concurrent.futures.ThreadPoolExecutor(FILES_AT_ONCE) as pool:
+            for (file, answer, after), (said, found) in zip(rows, pool.map(self.opened, files, itertools.count())):
+                shown = file[:1_000].hex()
+                self.assertEqual(said, answer, shown)
+                self.assertTrue(found == after, f"{shown} becomes {found[:1_000].hex()}")
+
 
 class Files(Journals):
     def test_writes_what_the_format_says(self):
@@ -118,14 +137,17 @@ class Files(Journals):
 
     def test_opens_what_the_format_says(self):
         entry = journal.write([("cancel", "one", 1)])
-        for file in [journal.EMPTY, journal.write(ENTRIES), b"", *(entry[:size] for size in range(len(entry)))]:
-            self.assert_opened(file)
+        files = [journal.EMPTY, journal.write(ENTRIES), b"", *(entry[:size] for size in range(len(entry)))]
+        self.assert_opened([(file, *told(file)) for file in files])
 
     def test_opens_files_that_were_changed_by_chance(self):
         draw = random.Random(8)
+        rows = []
         for _ in range(400):
             first = draw.randrange(len(ENTRIES))
-            self.assert_opened(changed(draw, journal.write(ENTRIES[first:first + draw.randrange(4)])))
+            file = changed(draw, journal.write(ENTRIES[first:first + draw.randrange(4)]))
+            rows.append((file, *told(file)))
+        self.assert_opened(rows)
 
     def test_opens_the_most_records_and_no_more(self):
         most = 1_000_000
@@ -133,10 +155,6 @@ class Files(Journals):
         for records, answer in ((most, f"{most} entries"), (most + 1, f"BadRecord {most + 1}")):
             self.file.write_bytes(journal.HEADER + record * records + journal.SHUT)
             self.assertEqual(self.open(), answer)
-
-    def assert_opened(self, file):
-        self.file.write_bytes(file)
-        self.assertEqual((self.open(), self.file.read_bytes()), told(file), file)
 
     def test_leaves_a_file_that_another_process_has_open(self):
         self.file.write_bytes(journal.EMPTY)

@@ -1,13 +1,14 @@
 """A store whose files are lost or damaged while the program runs: what is read of them is refused, unless it was read before and is still in memory, and
 all else goes on."""
 
+import itertools
 import unittest
 
-from client import HELLO, digest_of, refused, request, sent, to_head
-from stores import PIECE, Conversation, Stored, opening_of, pieces_of
-from worked import NO_FILE, entry, reading, removing, renaming, undoing
+from client import HELLO, digest_of, opened, opening, refused, request, sent, to_head, upload, uploaded
+from stores import PIECE, Conversation, Stored, files_of, opening_of, pieces_of
+from worked import NO_FILE, entry, reading, removing, renaming, showing, stands, undoing
 
-MISSING, DAMAGED = refused("Missing"), refused("Damaged")
+MISSING, DAMAGED, DEVICE = refused("Missing"), refused("Damaged"), refused("Device")
 BINARY = "application/octet-stream"
 
 
@@ -71,6 +72,32 @@ class Damage(Stored):
         self.piece(1).mkdir()
         self.assert_is_told(talk, DAMAGED)
 
+    def test_a_piece_that_cannot_be_read_is_a_failure_of_the_device(self):
+        talk = self.begin()
+        self.piece(1).unlink()
+        self.piece(1).symlink_to(self.piece(1))
+        self.assert_is_told(talk, DEVICE)
+        self.assert_fails(4, "blobs: Device")
+
+    def test_two_pieces_that_are_swapped_are_damaged(self):
+        talk = self.begin()
+        self.swap(self.piece(1), self.folder / f"c-{HELLO}")
+        for target in ("d", "a.txt"):
+            talk.ask(reading(f"/s/one/{target}"), DAMAGED)
+        self.swap(self.piece(1), self.folder / f"c-{HELLO}")
+        talk.ask(reading("/s/one/a.txt"), sent(b"hello"))
+        self.swap(self.piece(0), self.piece(2))
+        talk.ask(reading("/s/one/d"), DAMAGED)
+        talk.ask(request("GET", "/s/one/d", f"Range: bytes={2 * PIECE}-{2 * PIECE}"), DAMAGED)
+        self.swap(self.piece(0), self.piece(2))
+        talk.ask(reading("/s/one/d"), sent(self.content, kind=BINARY))
+        talk.end()
+
+    def swap(self, one, other):
+        data = one.read_bytes()
+        one.write_bytes(other.read_bytes())
+        other.write_bytes(data)
+
     def test_a_table_that_is_lost_is_not_looked_for(self):
         talk = self.begin()
         (self.folder / f"t-{HELLO}").unlink()
@@ -86,6 +113,67 @@ class Damage(Stored):
         self.piece(1).write_bytes(data)
         talk.ask(reading("/s/one/d"), sent(self.content, kind=BINARY))
         talk.end()
+
+
+class Uploaded(Stored):
+    """Files that are lost or damaged after they were uploaded, and before they are read; and uploads that fail."""
+
+    # in three pieces and in one, no two of which are the same
+    contents = {"/a.txt": b"abcdefghijklmnopqrstuvwxyz" * 5_042, "/b.txt": b"abc"}
+    ways = {
+        "lost": (lambda data: None, MISSING), "changed": (lambda data: data[:-1] + bytes([255 - data[-1]]), DAMAGED),
+        "cut": (lambda data: data[:-1], DAMAGED), "lengthened": (lambda data: data + b"\x00", DAMAGED),
+    }
+
+    def begin(self):
+        """A program with an open deploy of both files."""
+        self.write([])
+        talk = Conversation(self)
+        digests = {path: digest_of(content) for path, content in self.contents.items()}
+        talk.ask(opening(digests), opened(1, *sorted(digests.values())))
+        return talk
+
+    def upload_both(self, talk, published=None):
+        """Uploads both files, after which the deploy is published, or was before."""
+        for path, content in self.contents.items():
+            talk.ask(upload(1, path[1:], content), uploaded(content, published if path == "/b.txt" else None))
+
+    def read_both(self, talk, wrong="", wanted=None):
+        """Reads both files twice, of which the wrong one is refused."""
+        for path, content in [*self.contents.items()] * 2:
+            talk.ask(reading(f"/s/one{path}"), wanted if path == wrong else sent(content))
+
+    def test_damage_is_told_at_each_read_until_it_is_mended(self):
+        files = [(path, *file) for path, content in self.contents.items() for file in files_of(content).items()]
+        self.assertEqual([name[0] for _, name, _ in files], ["c", "c", "c", "t", "c", "t"])
+        for path, name, data in files:
+            for way, (spoil, wanted) in self.ways.items():
+                with self.subTest(path=path, name=name, way=way):
+                    talk = self.begin()
+                    self.upload_both(talk, published=2)
+                    (self.folder / name).unlink()
+                    if spoil(data) is not None:
+                        (self.folder / name).write_bytes(spoil(data))
+                    # What is known is not stored again, and no read looks at a table.
+                    self.upload_both(talk)
+                    self.read_both(talk, path if name[0] == "c" else "", wanted)
+                    (self.folder / name).write_bytes(data)
+                    self.read_both(talk)
+                    talk.end()
+
+    def test_a_file_whose_upload_failed_can_be_uploaded_again(self):
+        for (path, content), (other, kept) in itertools.permutations(self.contents.items()):
+            for name in files_of(content):
+                with self.subTest(path=path, name=name):
+                    talk = self.begin()
+                    # No put replaces a folder.
+                    (self.folder / name).mkdir()
+                    talk.ask_all([(upload(1, path[1:], content), DEVICE), (upload(1, other[1:], kept), uploaded(kept))])
+                    talk.ask(showing(1), stands(1, "open", digest_of(content)))
+                    (self.folder / name).rmdir()
+                    talk.ask_all([(upload(1, path[1:], content), uploaded(content, published=2)), (upload(1, other[1:], kept), uploaded(kept))])
+                    self.read_both(talk)
+                    talk.end()
 
 
 class Cached(Stored):

@@ -10,7 +10,7 @@ import subprocess
 import unittest
 
 import journal
-from client import HELLO, asking, done, opening, refused, request, sent, upload, uploaded
+from client import HELLO, asking, done, opened, opening, refused, request, sent, upload, uploaded
 from stores import Conversation, Stored, opening_of, write_store
 from worked import (
     LISTING, NO_DEPLOY, NO_FILE, aliasing, cancelling, deleting, entry, patching, reading, removing, renaming, restoring, serves, showing,
@@ -104,6 +104,19 @@ class FullDisk(Stored):
         talk.ask_all([(cancelling(3), BROKEN), *serves("/a.txt", among=("/a.txt", "/b.txt"))])
         talk.end()
         self.assert_converses([(showing(3), stands(3, "open")), (upload(3, "b.txt", b"hello"), uploaded(b"hello", published=4))])
+
+    def test_an_upload_remains_whose_publishing_finds_no_room(self):
+        self.write([])
+        size = len(journal.write([opening_of({"/a.txt": b"hello"})]))
+        talk = Conversation(self, **limited(size))
+        talk.ask_all([(opening({"/a.txt": HELLO}), opened(1, HELLO)), (upload(1, "a.txt", b"hello"), DEVICE)])
+        talk.ask_all([
+            (removing("/b.txt"), BROKEN), (undoing(1), BROKEN), (upload(1, "a.txt", b"hello"), BROKEN), (upload(9, "a.txt", b"hello"), NO_DEPLOY),
+            (showing(1), stands(1, "open")), (reading("/s/one/a.txt"), NO_FILE),
+            (LISTING, done(changes=[{"entry": 1, "kind": "open", "live": True}])),
+        ])
+        talk.end()
+        self.assert_converses([(showing(1), stands(1, "open")), (upload(1, "a.txt", b"hello"), uploaded(b"hello", published=2)), *READS[:2]])
 
     def test_an_upload_that_finds_no_room_breaks_nothing(self):
         content = bytes(60_000)

@@ -268,6 +268,8 @@ class Order(Stored):
         file = (self.folder / "journal").read_bytes()
         (self.folder / "journal").write_bytes(file[:-1])
         self.assert_fails(3, "journal: BadRecord 3")
+        (self.folder / "journal").write_bytes(file[:1] + b"G" + file[2:])
+        self.assert_fails(3, "journal: BadHeader")
 
     def test_the_blobs_go_before_the_entries(self):
         self.write([*DEPLOYED, CANCEL])

@@ -4,13 +4,15 @@ What is expected follows from docs/HTTP.md and docs/DECISIONS.md.
 """
 
 import os
+import pathlib
 import resource
 import socket
+import subprocess
 import tempfile
 import unittest
 
 from client import (
-    PUBLISHED, Client, Program, closing, digest_of, opened, opening, refused, run, sent, to_head, upload, uploaded,
+    HERE, PUBLISHED, SECONDS, Client, Program, closing, digest_of, opened, opening, refused, run, sent, to_head, upload, uploaded,
 )
 
 LINE = b"GET /s/one/a.txt HTTP/1.1"
@@ -72,11 +74,12 @@ class Pieces(Program):
                 self.assertEqual(client.receive(len(wanted)), wanted, f"{size} bytes")
 
 
-class Faults(Program):
-    """Reads and writes that fail."""
+INPUT_FAULT = b"filehost: input fault\n"
+OUTPUT_FAULT = b"filehost: output fault\n"
 
-    input_fault = b"filehost: input fault\n"
-    output_fault = b"filehost: output fault\n"
+
+class Faults(Program):
+    """Reads and writes that fail from some byte on."""
 
     def run_within(self, room, **how):
         """Runs the program where no file may have more than so many bytes."""
@@ -92,7 +95,7 @@ class Faults(Program):
             with tempfile.TemporaryFile() as out:
                 status, _, errors = self.run_within(room, given=ASKED, stdout=out)
                 out.seek(0)
-                ended = (2, self.output_fault) if room < len(WANTED) else (0, b"")
+                ended = (2, OUTPUT_FAULT) if room < len(WANTED) else (0, b"")
                 self.assertEqual((out.read(), status, errors), (WANTED[:room], *ended), f"after {room} bytes")
 
     def test_of_a_write_come_where_the_reader_goes(self):
@@ -105,7 +108,7 @@ class Faults(Program):
             self.assertEqual(client.receive(len(front)), front)
             self.assertEqual(client.receive(count), sent(content)[:count])
             client.program.stdout.close()
-            self.assertEqual((client.program.wait(), client.program.stderr.read()), (2, self.output_fault), count)
+            self.assertEqual((client.program.wait(), client.program.stderr.read()), (2, OUTPUT_FAULT), count)
 
     def test_of_a_read_after_each_byte_leave_the_replies_to_whole_requests(self):
         stream = ASKED[:-len(closing(NEXT))]
@@ -117,19 +120,70 @@ class Faults(Program):
                 near.sendall(stream[:length])
                 near.close()
                 ended = run("solo", given=None, stdin=far)
-            self.assertEqual(ended, (2, replies_within(length), self.input_fault), f"after {length} bytes")
+            self.assertEqual(ended, (2, replies_within(length), INPUT_FAULT), f"after {length} bytes")
 
     def test_have_the_same_status_where_nobody_listens(self):
         folder = os.open("/", os.O_RDONLY)
         self.addCleanup(os.close, folder)
-        self.assertEqual(run("solo", given=None, stdin=folder), (2, b"", self.input_fault))
+        self.assertEqual(run("solo", given=None, stdin=folder), (2, b"", INPUT_FAULT))
         with tempfile.TemporaryFile() as errors:
             self.assertEqual(self.run_within(3, given=None, stdin=folder, stderr=errors), (2, b"", None))
             errors.seek(0)
-            self.assertEqual(errors.read(), self.input_fault[:3])
+            self.assertEqual(errors.read(), INPUT_FAULT[:3])
 
     def test_are_none_where_the_options_end_behind_the_command(self):
         self.assertEqual(run("solo", "--", given=ASKED), (0, WANTED, b""))
+
+
+class SingleFaults(Program):
+    """One read or write fails, and those after it would not: a library in C is before these calls (refuse_device.c)."""
+
+    content = bytes(range(256)) * 400
+    talk = [
+        (opening({"/a.txt": digest_of(content)}), opened(1, digest_of(content))),
+        (upload(1, "a.txt", content), uploaded(content, 2)), (NEXT, sent(content)),
+    ]
+
+    def setUp(self):
+        super().setUp()
+        room = tempfile.TemporaryDirectory()
+        self.addCleanup(room.cleanup)
+        self.room = pathlib.Path(room.name).resolve()
+        self.streams = self.room / "streams"
+        self.streams.mkdir()
+        self.library = self.room / "refuse_device.so"
+        command = ["gcc", "-O1", "-shared", "-fPIC", "-o", self.library, HERE / "refuse_device.c", "-ldl"]
+        subprocess.run(command, check=True, timeout=SECONDS)
+
+    def run_refusing(self, place, is_late=False):
+        """The status, output and words of a run of which this call on its streams is refused, and how many calls there were."""
+        told_in = self.room / "calls"
+        names = {
+            "LD_PRELOAD": str(self.library), "REFUSED_FOLDER": str(self.streams), "REFUSED_PLACE": str(place),
+            "REFUSED_LATE": str(int(is_late)), "CALLS_FILE": str(told_in),
+        }
+        (self.streams / "in").write_bytes(b"".join(asked for asked, _ in self.talk))
+        with (self.streams / "in").open("rb") as given, (self.streams / "out").open("w+b") as out:
+            status, _, errors = run("solo", given=None, stdin=given, stdout=out, env=os.environ | names)
+            out.seek(0)
+            return (status, out.read(), errors), int(told_in.read_text())
+
+    def test_end_the_connection_and_no_call_is_made_again(self):
+        replies = [wanted for _, wanted in self.talk]
+        fronts = {b"".join(replies[:count]) for count in range(len(replies) + 1)}
+        whole, calls = self.run_refusing(0)
+        self.assertEqual(whole, (0, b"".join(replies), b""))
+        self.assertGreater(calls, 10)
+        seen = set()
+        for place in range(1, calls + 1):
+            for is_late in (False, True):
+                with self.subTest(place=place, is_late=is_late):
+                    (status, out, errors), made = self.run_refusing(place, is_late)
+                    self.assertEqual((status, made), (2, place))
+                    self.assertIn(errors, (INPUT_FAULT, OUTPUT_FAULT))
+                    self.assertTrue(out in fronts if errors == INPUT_FAULT else whole[1].startswith(out), out[-200:])
+                    seen.add(errors)
+        self.assertEqual(seen, {INPUT_FAULT, OUTPUT_FAULT})
 
 
 if __name__ == "__main__":

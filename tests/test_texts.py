@@ -172,8 +172,8 @@ class Refusals(Interface):
         }
         for name, (status, given) in of_heads.items():
             self.assert_answers(given, told(status, {"error": name}, "Connection: close"), name)
-        # A connection is too short for HistoryFull, and its bodies for TooLarge; test_memory.py meets OutOfMemory, and server_tests what
-        # a wrong shelf leads to, and a journal whose device fails.
+        # A connection is too short for HistoryFull, which test_limits.py meets, and its bodies for TooLarge; test_memory.py meets OutOfMemory,
+        # and test_store_damage.py and test_store_devices.py what damage leads to, and a journal whose device fails.
         others = {*of_heads, "HistoryFull", "TooLarge", "OutOfMemory", "Missing", "Damaged", "Device", "Broken"}
         self.assertEqual({name for name, _ in met if name} | others, set(STATUS_OF))
 

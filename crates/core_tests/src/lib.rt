@@ -1,4 +1,4 @@
-//! Tests of the libraries from `host_names` to `change_undo`, by their public calls.
+//! Tests of calls below the server that no connection makes, or makes so that nothing is seen of it.
 #![tactic(auto)]
 
 #[cfg(test)]

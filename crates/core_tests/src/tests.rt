@@ -1,16 +1,11 @@
-//! One file of tests for each library, and what they share.
-mod blocks;
+//! One file of tests for each kind of thing, and what they share.
+mod boundaries;
 mod caches;
-mod commands;
-mod copies;
+mod cells;
+mod disks;
+mod files;
 mod fixtures;
-mod growths;
 mod histories;
-mod hosts;
-mod logs;
-mod names;
-mod openings;
 mod ranges;
-mod states;
-mod values;
+mod stores;
 mod views;

@@ -6,6 +6,5 @@ mod gates;
 mod held;
 mod known_nodes;
 mod lone_nodes;
-mod plain_node;
 mod rings;
 mod shared_nodes;

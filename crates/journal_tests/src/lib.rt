@@ -1,8 +1,5 @@
-//! Tests of `change_journal` by its public calls, and a disk whose calls fail from one on.
+//! Tests of `change_journal` by its public calls: what no file shows that the program opens.
 #![tactic(auto)]
 
-mod failing_disk;
 #[cfg(test)]
 mod tests;
-
-pub use failing_disk::{FailingDisk, Leaves};

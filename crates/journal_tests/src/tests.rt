@@ -1,10 +1,5 @@
-//! Entries as bytes, and journals on disks.
-mod bodies;
-mod entries;
+//! Journals on disks in memory, without memory and over a device that fails.
+mod failing_disk;
 mod files;
-mod largest;
 mod memory;
-mod openings;
-mod puts;
 mod stops;
-mod words;

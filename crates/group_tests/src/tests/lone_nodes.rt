@@ -1,14 +1,12 @@
-//! Reads through a node of one thread: from peers that lie, and against a plain model of its caches.
-ghost use Rattle.std.specs.Prelude.{◌≡◌, IfOk};
+//! Reads through a node of one thread, from peers that lie.
 
 use super::fixtures::{Gift, Giver, is_chunk_of, names};
 use super::gates::assert_count;
-use super::plain_node::{FETCHES, LOADS, PlainNode};
 use blob_store::ReadFault;
-use chunk_group::{Counter, Outcome, SoloGroup};
+use chunk_group::{Counter, SoloGroup};
 use host_names::Digest;
 use peer_ring::{DigestHash, Ring};
-use std::alloc::{AllocError, Global};
+use std::alloc::Global;
 use std::process::Abort;
 use std::sync::atomic::AtomicU64;
 use std::test::Fail;
@@ -94,91 +92,4 @@ fn assert_read(
         "the chunk {number}"
     );
     Ok(())
-}
-
-/// Whether a read answers what it should: the chunk of a number, or a fault.
-fn is_told(
-    alloc: Global,
-    given: &Outcome,
-    number: usize,
-    wanted: Option<ReadFault>,
-) -> Result<bool, AllocError> {
-    match (given, wanted) {
-        (Err(fault), Some(wanted)) => Ok(*fault == wanted),
-        (given, None) => is_chunk_of(alloc, given, number),
-        _ => Ok(false),
-    }
-}
-
-/// Whether a read answers the same by both means.
-fn is_same_read(
-    alloc: Global,
-    node: &mut Node<'_>,
-    plain: &mut PlainNode,
-    ring: &Ring<DigestHash>,
-    name: &Digest,
-    number: usize,
-) -> Result<bool, Fail> {
-    let is_mine = ring.owner(name.to_hex().as_bytes()) == 0;
-    let wanted = plain.read(number, is_mine)?;
-    let given = node.get(name);
-    Ok(is_told(alloc, &given, number, wanted)?)
-}
-
-/// Asserts that 5,000 generated reads answer the same by both means.
-fn read_both(
-    rt: &impl Abort,
-    alloc: Global,
-    node: &mut Node<'_>,
-    plain: &mut PlainNode,
-    names: &[Digest],
-) -> Result<(), Fail> {
-    let ring = Ring::new(alloc, &PEERS, &DigestHash)?;
-    let mut state: u32 = 1;
-    for place in 0..5000u32 {
-        state = state.wrapping_mul(1_664_525).wrapping_add(1_013_904_223);
-        let number = (state >> 16) as usize % names.len().max(1);
-        let name = names.get(number).ok_or("no such chunk")?;
-        let is_same = is_same_read(alloc, node, plain, &ring, name, number)?;
-        assert_eq!(rt; is_same, true, "read {place}");
-    }
-    Ok(())
-}
-
-/// Makes the node, and these reads through it.
-fn read_through(
-    rt: &impl Abort,
-    alloc: Global,
-    source: Giver<'_>,
-    link: Giver<'_>,
-    plain: &mut PlainNode,
-    names: &[Digest],
-) -> Result<(), Fail> {
-    let mut node = node(alloc, plain.limit, source, link)?;
-    read_both(rt, alloc, &mut node, plain, names)
-}
-
-/// Asserts that the reads of 40 chunks under a limit answer the same by both means, and ask the peers and the source as often.
-fn assert_same_reads(
-    rt: &impl Abort,
-    alloc: Global,
-    limit: usize,
-    names: &[Digest],
-) -> Result<(), Fail> {
-    let fetches = AtomicU64::new(0);
-    let loads = AtomicU64::new(0);
-    let source = Giver::new(alloc, names, &LOADS, &loads);
-    let link = Giver::new(alloc, names, &FETCHES, &fetches);
-    let mut plain = PlainNode::new(alloc, limit);
-    read_through(rt, alloc, source, link, &mut plain, names)?;
-    assert_count(rt, &fetches, plain.fetches, "calls of peers");
-    assert_count(rt, &loads, plain.loads, "calls of the source");
-    Ok(())
-}
-
-#[test]
-fn thousands_of_reads_give_what_a_plain_node_gives(rt: HostRuntime) -> Result<(), Fail> {
-    let names = names(rt.alloc(), 40)?;
-    assert_same_reads(&rt, rt.alloc(), 900, names.as_slice())?;
-    assert_same_reads(&rt, rt.alloc(), 2500, names.as_slice())
 }

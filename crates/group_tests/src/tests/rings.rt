@@ -1,8 +1,8 @@
-//! Rings against a look at every point, and against numbers that a Python script made with `hashlib` and `bisect`.
+//! Rings: who owns a key, by hashes that are worked out by hand, and against numbers that a Python script made with `hashlib` and `bisect`.
 ghost use Rattle.std.specs.Prelude.{length, ◌^◌, ◌%◌};
 
 use peer_ring::{DigestHash, Ring, RingFault, RingHash};
-use std::alloc::{AllocError, Global};
+use std::alloc::Global;
 use std::process::Abort;
 use std::test::Fail;
 
@@ -37,59 +37,6 @@ impl RingHash for Constant {
 /// The bytes of a key.
 fn key_of(number: u32) -> [u8; 4] {
     number.to_be_bytes()
-}
-
-/// Each point of the peers of these names, with its peer, in their order.
-fn points_of<H: RingHash>(
-    alloc: Global,
-    names: &[&str],
-    hash: &H,
-) -> Result<Vec<(u32, usize)>, AllocError> {
-    let mut points = Vec::new(alloc);
-    for (peer, name) in names.iter().enumerate() {
-        for number in 0..50 {
-            let text = format!(in alloc; "{number}{name}")?;
-            points.push((hash.hash(text.as_bytes()), peer))?;
-        }
-    }
-    Ok(points)
-}
-
-/// The peer of the point that is nearest from a hash on, and of those at one hash the last.
-fn nearest(points: &[(u32, usize)], hash: u32) -> usize {
-    let mut found = (u32::MAX, 0);
-    for (point, peer) in points {
-        let distance = point.wrapping_sub(hash);
-        if distance <= found.0 {
-            found = (distance, *peer);
-        }
-    }
-    found.1
-}
-
-/// That a ring gives each of 1,000 keys the owner that a look at every point gives.
-fn assert_nearest<H: RingHash + Copy + Drop>(
-    rt: &impl Abort,
-    alloc: Global,
-    names: &[&str],
-    hash: &H,
-) -> Result<(), Fail> {
-    let ring = Ring::new(alloc, names, hash)?;
-    let points = points_of(alloc, names, hash)?;
-    for number in 0..1000 {
-        let key = key_of(number);
-        let wanted = nearest(points.as_slice(), hash.hash(&key));
-        assert_eq!(rt; ring.owner(&key), wanted, "key {number}");
-    }
-    Ok(())
-}
-
-#[test]
-fn owners_are_those_of_the_nearest_points(rt: HostRuntime) -> Result<(), Fail> {
-    for count in 1..9 {
-        assert_nearest(&rt, rt.alloc(), &NAMES[..count], &DigestHash)?;
-    }
-    assert_nearest(&rt, rt.alloc(), &NAMES, &TextLength)
 }
 
 fn assert_owner<H: RingHash + Copy + Drop>(rt: &impl Abort, ring: &Ring<H>, key: &str, name: &str) {

@@ -1,81 +1,58 @@
-//! Files of journals, on disks in memory, and what is opened of them.
+//! Files of journals by their hexadecimal digits, on disks in memory, and what is opened of them.
 ghost use Rattle.std.specs.Prelude.{◌≡◌, ◌≤◌, length};
 
-use super::words::{bytes_of, told};
-use change_journal::{Journal, OpenFault, Prepared, PutFault, decode, prepare};
-use change_undo::Log;
+use change_journal::{
+    Journal, OpenFault, Prepared, PutFault, an_entry_with_a_text_is_in_range, decode, prepare,
+};
 use host_disk::{Disk, LentDisk, MemDisk};
-use std::alloc::{AllocError, Global};
+use std::alloc::Global;
 use std::process::Abort;
 use std::test::Fail;
 
-/// The first eight bytes of a journal.
-pub(crate) const HEADER: &str = "0146484a524e4c01";
-
-/// The text of an entry that cancels the deploy 1 of the site `one`.
-pub(crate) const CANCEL: &str = "03036f6e650000000000000001";
-
-/// A file whose three entries are the same: it has 63 bytes, and its gates are at 8, 26, 44 and 62.
-pub(crate) fn three_entries(alloc: Global) -> Result<Vec<u8>, Fail> {
-    let record = "01 0000000d 03036f6e650000000000000001";
-    let text = format!(in alloc; "{HEADER} {record} {record} {record} 00")?;
-    bytes_of(alloc, text.as_str())
+/// The bytes of hexadecimal digits, in words.
+pub(crate) fn bytes_of(alloc: Global, digits: &str) -> Result<Vec<u8>, Fail> {
+    let mut bytes = Vec::new(alloc);
+    for word in digits.split(' ') {
+        bytes.extend_from_slice(hex::decode(alloc, word)?.as_slice())?;
+    }
+    Ok(bytes)
 }
 
 /// The bytes of a disk.
-pub(crate) fn bytes_on(alloc: Global, disk: &mut impl Disk) -> Result<Vec<u8>, Fail> {
+fn bytes_on(alloc: Global, disk: &mut impl Disk) -> Result<Vec<u8>, Fail> {
     let mut bytes = Vec::new(alloc);
     bytes.resize(disk.len()?, 0)?;
     disk.read(0, bytes.as_mut_slice())?;
     Ok(bytes)
 }
 
-/// Makes these the bytes of a disk.
-pub(crate) fn fill(disk: &mut impl Disk, bytes: &[u8]) -> Result<(), Fail> {
-    disk.cut(0)?;
+/// Makes these the bytes of an empty disk.
+fn fill(disk: &mut impl Disk, bytes: &[u8]) -> Result<(), Fail> {
     disk.write_at(0, bytes)?;
     Ok(disk.sync()?)
 }
 
 /// A disk that has these bytes, and room for some more.
-pub(crate) fn disk_of(alloc: Global, bytes: &[u8]) -> Result<MemDisk, Fail> {
+pub(crate) fn disk_of(alloc: Global, digits: &str) -> Result<MemDisk, Fail> {
+    let bytes = bytes_of(alloc, digits)?;
     let mut disk = MemDisk::new(alloc, bytes.len().saturating_add(1_000))?;
-    fill(&mut disk, bytes)?;
+    fill(&mut disk, bytes.as_slice())?;
     Ok(disk)
 }
 
-/// The entries of a log in words, a line each.
-pub(crate) fn told_log(alloc: Global, log: &Log) -> Result<String, AllocError> {
-    let mut text = String::new(alloc);
-    for number in 1..=log.len() {
-        if let Some(entry) = log.entry(number) {
-            text.push_str(told(alloc, entry)?.as_str())?;
-            text.push('\n')?;
-        }
-    }
-    Ok(text)
-}
-
-/// Why a journal isn't opened, in words.
-pub(crate) fn told_fault(alloc: Global, fault: OpenFault) -> Result<String, AllocError> {
-    match fault {
-        OpenFault::OutOfMemory => Err(AllocError),
-        fault => format!(in alloc; "{fault:?}"),
-    }
-}
-
-/// What is opened of a lent disk: its entries, a line each, or the fault.
-pub(crate) fn opened(alloc: Global, disk: &mut impl Disk) -> Result<String, AllocError> {
+/// How many entries are opened of a lent disk.
+pub(crate) fn opened(alloc: Global, disk: &mut impl Disk) -> Result<u64, OpenFault> {
     match Journal::open(alloc, LentDisk::new(disk)) {
-        Ok((_, log)) => told_log(alloc, &log),
-        Err(stop) => told_fault(alloc, stop.fault),
+        Ok((_, log)) => Ok(log.len()),
+        Err(stop) => Err(stop.fault),
     }
 }
 
 /// The entry that these bytes spell, ready to be put.
-#[tactic(auto, using(crate::proofs::InRange::in_range))]
 pub(crate) fn prepared(alloc: Global, bytes: &[u8]) -> Result<Prepared, Fail> {
     let entry = decode(alloc, bytes)?;
+    // A law by which what was read may be put.
+    an_entry_with_a_text_is_in_range();
     Ok(prepare(alloc, &entry)?)
 }
 
@@ -115,25 +92,14 @@ impl<D: Disk + Drop> Filled<D> {
     }
 }
 
-/// Puts the entry that these digits spell, where there is memory to prepare it.
-pub(crate) fn put_text<D: Disk + Drop>(
-    alloc: Global,
-    journal: &mut Filled<D>,
-    digits: &str,
-) -> Result<(), Fail> {
-    let text = bytes_of(alloc, digits)?;
-    let entry = prepared(alloc, text.as_slice())?;
-    Ok(journal.put(entry)?)
-}
-
-/// Asserts that the disk has these bytes.
+/// Asserts that a disk has these bytes.
 pub(crate) fn assert_bytes(
     rt: &impl Abort,
     alloc: Global,
     disk: &mut impl Disk,
-    wanted: &[u8],
-    asked: &str,
+    digits: &str,
 ) -> Result<(), Fail> {
-    assert_eq!(rt; bytes_on(alloc, disk)?.as_slice(), wanted, "{asked}");
+    let wanted = bytes_of(alloc, digits)?;
+    assert_eq!(rt; bytes_on(alloc, disk)?.as_slice(), wanted.as_slice());
     Ok(())
 }

@@ -2,82 +2,110 @@
 //! allocation of these in turn.
 ghost use Rattle.std.specs.Prelude.{◌≡◌};
 
-use super::entries::{ENTRIES, read, written_again};
-use super::files::{Filled, assert_bytes, disk_of, opened, put_text, told_log};
-use super::words::{assert_text, bytes_of, halves};
-use change_journal::{Journal, OpenFault};
-use host_disk::{LentDisk, MemDisk};
-use std::alloc::{AllocError, Global};
+use super::files::{Filled, assert_bytes, bytes_of, disk_of, opened, prepared};
+use change_journal::{OpenFault, an_entry_with_a_text_is_in_range, decode, encode};
+use host_disk::{Disk, LentDisk, MemDisk};
+use std::alloc::Global;
 use std::process::Abort;
 use std::test::Fail;
+
+/// The texts of entries of all kinds, which docs/STORAGE.md describes. tests/test_journal_files.py has the entries.
+const ENTRIES: &str = "\
+00 03 6f6e65 0000000000000005
+01 03 6f6e65 00 00000000
+01 03 6f6e65 01 00000000
+01 03 6f6e65 02 00000000
+01 03 6f6e65 03 00000001 0002 2f61 00
+01 03 6f6e65 00 00000002 0002 2f61 01 aaf4c61ddcc5e8a2dabede0f3b482cd9aea9434d 0004 2f612f62 01 a9993e364706816aba3e25717850c26c9cd0d89d
+01 02 612d 01 00000002 0003 2fc3a9 01 da39a3ee5e6b4b0d3255bfef95601890afd80709 0003 2fc3aa 00
+02 01 39 00000000000f4240
+03 03 6f6e65 0000000000000001
+04 03 6f6e65 04 6e657874 0000000000000100
+05 03 6f6e65 04 6e657874
+06 03 6f6e65 0006 2f612e747874 0006 2f632e747874
+07 03 6f6e65 0006 2f612e747874
+08 03 6f6e65 0000000000000002
+09 03 6f6e65 0000000000010000";
 
 /// Three entries, a gate that isn't shut, and bytes after it.
 const FILE: &str = "\
 0146484a524e4c01 01 0000000d 03036f6e650000000000000001 01 00000015 06036f6e6500062f612e74787400062f632e747874 \
 01 0000000f 01036f6e65010000000100022f6100 07 0000000d 03";
 
-/// Its entries in words.
-const WORDS: &str = "cancel one 1\nrename one /a.txt /c.txt\nopen one patch /a\n";
+/// The same file after it was opened.
+const OPENED: &str = "\
+0146484a524e4c01 01 0000000d 03036f6e650000000000000001 01 00000015 06036f6e6500062f612e74787400062f632e747874 \
+01 0000000f 01036f6e65010000000100022f6100 00";
 
-/// What is opened of a disk, unless there is no memory.
-fn open(alloc: Global, disk: &mut MemDisk) -> Result<Option<String>, AllocError> {
-    match Journal::open(alloc, LentDisk::new(disk)) {
-        Ok(opened) => Ok(Some(told_log(alloc, &opened.1)?)),
-        Err(stop) => match stop.fault {
-            OpenFault::OutOfMemory => Ok(None),
-            _ => Ok(Some(String::from_str(alloc, "a fault")?)),
-        },
+/// The same after a removal of `/a.txt` and one of the alias `next` were put.
+const PUT: &str = "\
+0146484a524e4c01 01 0000000d 03036f6e650000000000000001 01 00000015 06036f6e6500062f612e74787400062f632e747874 \
+01 0000000f 01036f6e65010000000100022f6100 01 0000000d 07036f6e6500062f612e747874 01 0000000a 05036f6e65046e657874 00";
+
+/// Asserts what is opened of a disk that has `FILE`: its entries, or nothing, and then the disk is as before.
+fn assert_opened_or_kept(rt: &impl Abort, alloc: Global, disk: &mut MemDisk) -> Result<(), Fail> {
+    let outcome = opened(alloc, disk);
+    if outcome == Err(OpenFault::OutOfMemory) {
+        return assert_bytes(rt, alloc, disk, FILE);
     }
+    assert_eq!(rt; outcome, Ok(3));
+    Ok(())
+}
+
+/// Asserts that so many entries are opened of a disk, which then has these bytes.
+fn assert_opened(
+    rt: &impl Abort,
+    alloc: Global,
+    disk: &mut MemDisk,
+    count: u64,
+    digits: &str,
+) -> Result<(), Fail> {
+    assert_eq!(rt; opened(alloc, disk)?, count);
+    assert_bytes(rt, alloc, disk, digits)
 }
 
 #[test]
 fn an_opening_without_memory_writes_nothing(rt: HostRuntime) -> Result<(), Fail> {
-    let file = bytes_of(rt.alloc(), FILE)?;
-    let mut disk = disk_of(rt.alloc(), file.as_slice())?;
-    match open(rt.alloc(), &mut disk)? {
-        Some(words) => assert_text(&rt, "opened", words.as_str(), WORDS),
-        None => {
-            assert_bytes(
-                &rt,
-                rt.alloc(),
-                &mut disk,
-                file.as_slice(),
-                "without memory",
-            )?;
-            let words = opened(rt.alloc(), &mut disk)?;
-            assert_text(&rt, "opened again", words.as_str(), WORDS);
-        }
-    }
-    Ok(())
+    let mut disk = disk_of(rt.alloc(), FILE)?;
+    assert_opened_or_kept(&rt, rt.alloc(), &mut disk)?;
+    assert_opened(&rt, rt.alloc(), &mut disk, 3, OPENED)
+}
+
+/// The text of the entry that these bytes spell.
+fn written_again(alloc: Global, bytes: &[u8]) -> Result<Vec<u8>, Fail> {
+    let entry = decode(alloc, bytes)?;
+    // A law by which what was read may be written.
+    an_entry_with_a_text_is_in_range();
+    Ok(encode(alloc, &entry)?)
 }
 
 #[test]
 fn memory_for_each_entry_that_is_read_and_written(rt: HostRuntime) -> Result<(), Fail> {
     for row in ENTRIES.lines() {
-        let (digits, wanted) = halves(row, " -> ")?;
-        let bytes = bytes_of(rt.alloc(), digits)?;
-        let text = read(rt.alloc(), bytes.as_slice())?;
-        assert_text(&rt, "read", text.as_str(), wanted);
+        let bytes = bytes_of(rt.alloc(), row)?;
         let again = written_again(rt.alloc(), bytes.as_slice())?;
-        assert!(rt; again == bytes, "{wanted}");
+        assert!(rt; again == bytes, "{row}");
     }
     Ok(())
+}
+
+/// Puts the entry that these digits spell.
+fn put<D: Disk + Drop>(alloc: Global, journal: &mut Filled<D>, digits: &str) -> Result<(), Fail> {
+    let text = bytes_of(alloc, digits)?;
+    let entry = prepared(alloc, text.as_slice())?;
+    Ok(journal.put(entry)?)
 }
 
 /// Opens a disk and puts two entries.
 fn put_both(alloc: Global, disk: &mut MemDisk) -> Result<(), Fail> {
     let mut journal = Filled::open(alloc, LentDisk::new(disk))?;
-    put_text(alloc, &mut journal, "07036f6e6500062f612e747874")?;
-    put_text(alloc, &mut journal, "05036f6e65046e657874")
+    put(alloc, &mut journal, "07036f6e6500062f612e747874")?;
+    put(alloc, &mut journal, "05036f6e65046e657874")
 }
 
 #[test]
 fn memory_for_entries_that_are_put(rt: HostRuntime) -> Result<(), Fail> {
-    let file = bytes_of(rt.alloc(), FILE)?;
-    let mut disk = disk_of(rt.alloc(), file.as_slice())?;
+    let mut disk = disk_of(rt.alloc(), FILE)?;
     put_both(rt.alloc(), &mut disk)?;
-    let words = opened(rt.alloc(), &mut disk)?;
-    let wanted = format!(in rt.alloc(); "{WORDS}remove one /a.txt\nno-alias one next\n")?;
-    assert_text(&rt, "put", words.as_str(), wanted.as_str());
-    Ok(())
+    assert_opened(&rt, rt.alloc(), &mut disk, 5, PUT)
 }

@@ -1,15 +1,3 @@
-mod asserts;
-mod bodies;
-mod fakes;
-mod faults;
-mod heads;
-mod hostile;
-mod journals;
-mod limits;
+//! A connection whose reads and writes are recorded.
 mod records;
-mod replies;
-mod statuses;
-mod stores;
 mod talks;
-mod texts;
-mod wires;
