@@ -43,5 +43,5 @@ def kept_of(crate, room):
 
 
 def is_refusal(rt, outcome):
-    """Whether the prover refused an edit, by a verdict or at one of its limits, as the gate counts it."""
-    return outcome in (rt.REFUSED, rt.AT_LIMIT)
+    """Whether the prover refused an edit, as the gate counts it: some versions of the toolchain say also whether it was at one of its limits."""
+    return outcome is True or outcome in [getattr(rt, name) for name in ("REFUSED", "AT_LIMIT") if hasattr(rt, name)]
