@@ -1,5 +1,6 @@
-//! Journals on disks in memory, without memory and over a device that fails.
+//! Journals on disks in memory: without memory, over a device that fails, and which files their entries want.
 mod failing_disk;
 mod files;
 mod memory;
 mod stops;
+mod wanted;
