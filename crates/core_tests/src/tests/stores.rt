@@ -222,7 +222,7 @@ fn a_stretch_is_held_across_the_edge_of_a_chunk(rt: HostRuntime) -> Result<(), F
     assert_edge(&rt, &mut blobs, info)
 }
 
-/// Asserts what is read of `hello world` for a value of Range, past the files that are known.
+/// Asserts what is read of `hello world`, by the files of a store alone, for a value of Range.
 fn assert_read(
     rt: &impl Abort,
     alloc: Global,
