@@ -1,16 +1,18 @@
 //! The clash of a change: what is in the way of leaving it out.
 ghost use Rattle.std.specs.Prelude.{◌≡◌, ◌+◌, Some, drop, find, option_copied, option_map};
 ghost use Rattle.site_change.specs.TouchedCells.{is_touched};
+ghost use Rattle.site_state.specs.Changes.{cells_of};
 ghost use Rattle.std.specs.FinMap as map;
 ghost use Rattle.host_names.specs.Blobs.{Contents};
 ghost use Rattle.change_undo.specs.Clashes.{clash_in};
 ghost use Rattle.change_undo.specs.Kept as spec;
-ghost use Rattle.change_undo.specs.Kept.{ArePlanned, cells_of, plan_of};
+ghost use Rattle.change_undo.specs.Kept.{ArePlanned, plan_of};
 ghost use Rattle.change_undo.specs.PlannedEntries.{marked_live};
 
 use crate::records::Records;
 use host_names::Cell;
-use site_change::{Change, Plan, Touched};
+use site_change::{Plan, Touched};
+use site_state::Change;
 
 /// The first cell of some changes that is touched.
 fn first_touched<'a>(changes: &'a [Change], touched: &Touched) -> Option<&'a Cell>

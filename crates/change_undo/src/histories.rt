@@ -19,10 +19,9 @@ ghost use Rattle.change_undo.specs.Plans.{IsHistoryOver};
 use crate::entries::Entry;
 use crate::logs::Log;
 use crate::records::Records;
-use crate::writes::decided;
 use byte_view::Uploads;
 use host_names::{Cell, ChangeError, ChangeRefusal, SiteName};
-use site_change::{Command, uploads_are_digested};
+use site_change::{Command, decide, uploads_are_digested};
 use site_state::State;
 use std::alloc::{AllocError, Global};
 use std::marker::Model;
@@ -161,9 +160,8 @@ impl History {
         self.files_were_uploaded(uploads);
         let number = self.len() + 1;
         let alloc = self.records.allocator();
-        let decision = decided(alloc, &self.state, uploads, number, &command)?;
-        self.records
-            .append_change(command, &mut self.state, decision)?;
+        let plan = decide(alloc, &self.state, uploads, number, &command)?;
+        self.records.append_change(command, &mut self.state, plan)?;
         Ok(number)
     }
 

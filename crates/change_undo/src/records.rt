@@ -1,22 +1,20 @@
 //! The entries of a history with their marks.
-ghost use Rattle.std.specs.Prelude.{◌≡◌, ◌-◌, ◌<◌, ◌≤◌, [], ◌∷◌, ◌++◌, length, All, false, None, Some, IfOk, OnOk, OnErr, IsTrue, option_copied};
-ghost use Rattle.std.specs.List.Sorted.{IsStrictlySortedBy};
-ghost use Rattle.std.specs.Map.{keys_of};
-ghost use Rattle.host_names.specs.Cells.{cell_cmp};
-ghost use Rattle.site_state.specs.Named.{AliasesNamed};
-ghost use Rattle.site_state.specs.States.{may_stand, with_cells};
+ghost use Rattle.std.specs.Prelude.{◌≡◌, ◌-◌, ◌<◌, ◌≤◌, [], ◌∷◌, ◌++◌, length, false, None, Some, IfOk, OnOk, OnErr, option_copied, slice_get};
+ghost use Rattle.site_state.specs.Changes.{writes};
+ghost use Rattle.site_state.specs.States.{with_cells};
+ghost use Rattle.site_state.specs.declared.changes.Side.TheVariants.{After, Before};
 ghost use Rattle.change_undo.specs.declared.entries.Entry.TheVariants as entry;
-ghost use Rattle.change_undo.specs.Kept.{AreWritable, befores_of as befores_in, plan_at, plan_of};
-ghost use Rattle.change_undo.specs.PlannedEntries.{entries_of, mark_at, marks_of, with_undone};
+ghost use Rattle.change_undo.specs.Kept.{AreWritable, changes_of, plan_at, plan_of};
+ghost use Rattle.change_undo.specs.PlannedEntries.{entries_of, mark_at, marks_of, plan_in, with_undone};
 
 use crate::entries::Entry;
 use crate::logs::Log;
 use crate::marks::Mark;
-use crate::writes::{Decision, befores_of};
+use crate::shared::Shared;
 use host_names::SiteName;
 use shared_blocks::SharedList;
 use site_change::{Command, Plan};
-use site_state::State;
+use site_state::{Change, Side, State};
 use std::alloc::{AllocError, Global};
 use std::marker::Model;
 
@@ -40,6 +38,17 @@ impl Model for Records {
     ghost view = { λ r. with_marks r.log r.marks.items };
 
     ghost invariant = { λ r. length r.log ≡ length r.marks.items };
+}
+
+/// What the change of a number, from 1 on, changes in its place; nothing where it has no plan.
+fn changes_in(marks: &SharedList<Mark>, number: u64) -> &[Change]
+    requires some { 0 < number }
+    ensures { result.now ≡ changes_of (plan_in (slice_get marks.now.items (number - 1))) }
+{
+    match marks.get(number as usize - 1) {
+        Some(mark) => mark.changes(),
+        None => &[],
+    }
 }
 
 impl Records {
@@ -92,25 +101,24 @@ impl Records {
         }
     }
 
-    /// Appends a change, and writes into the state what was decided. Without memory nothing changes.
+    /// Appends a change with its plan, and writes into the state what the plan leaves. Without memory nothing changes.
     pub(crate) fn append_change(
         &mut self,
         command: Command,
         state: &mut State,
-        decision: Decision,
+        plan: Plan,
     ) -> Result<(), AllocError>
-        requires rising { IsStrictlySortedBy cell_cmp (keys_of decision.writes.items) }
-        requires of_kind { All (λ e. IsTrue (may_stand e.0 e.1)) decision.writes.items }
-        requires named { AliasesNamed (with_cells state.old decision.writes.items) }
-        ensures entries { OnOk result (self.new ≡ self.old ++ record { entry = entry.Change command; is_undone = false; plan = Some decision.plan } ∷ []) }
-        ensures state { OnOk result (state.new ≡ with_cells state.old decision.writes.items) }
+        requires writable { AreWritable state.old After plan.changes.items }
+        ensures entries { OnOk result (self.new ≡ self.old ++ record { entry = entry.Change command; is_undone = false; plan = Some plan } ∷ []) }
+        ensures state { OnOk result (state.new ≡ with_cells state.old (writes After plan.changes.items)) }
         ensures err { OnErr result ((self.new ≡ self.old) × (state.new ≡ state.old)) }
     {
-        let Decision { plan, writes } = decision;
-        let mark = Mark::of_change(self.log.allocator(), plan)?;
+        let plan = Shared::new(self.log.allocator(), plan)?;
         self.marks.reserve()?;
-        self.log.append(Entry::Change(command), state, writes)?;
-        self.marks.push_reserved(mark);
+        let changes = plan.get().changes.as_slice();
+        self.log
+            .append(Entry::Change(command), state, changes, Side::After)?;
+        self.marks.push_reserved(Mark::of_change(plan));
         Ok(())
     }
 
@@ -136,18 +144,18 @@ impl Records {
     ) -> Result<(), AllocError>
         requires some { 0 < change }
         requires within { change ≤ length self.old }
-        requires writable { AreWritable state.old (befores_in (plan_at self.old (change - 1))) }
+        requires writable { AreWritable state.old Before (changes_of (plan_at self.old (change - 1))) }
         ensures entries { OnOk result (self.new ≡ with_undone (change - 1) self.old ++ record { entry = entry.Undo site.now change; is_undone = false; plan = None } ∷ []) }
-        ensures state { OnOk result (state.new ≡ with_cells state.old (befores_in (plan_at self.old (change - 1)))) }
+        ensures state { OnOk result (state.new ≡ with_cells state.old (writes Before (changes_of (plan_at self.old (change - 1))))) }
         ensures err { OnErr result ((self.new ≡ self.old) × (state.new ≡ state.old)) }
     {
-        let writes = befores_of(self.log.allocator(), self.plan(change))?;
         let marks = self.marks_after_undo(change)?;
         let entry = Entry::Undo {
             site: site.copied(),
             change,
         };
-        self.log.append(entry, state, writes)?;
+        let changes = changes_in(&self.marks, change);
+        self.log.append(entry, state, changes, Side::Before)?;
         self.marks = marks;
         Ok(())
     }

@@ -18,7 +18,7 @@ use Rattle.site_state.specs.Values.{same_value, are_alike, one_digest, paths_eq,
 use Rattle.site_state.specs.declared.values.Draft.{Draft}
 use Rattle.site_state.specs.declared.values.Value.{Value}
 use Rattle.site_state.specs.declared.values.Value.TheVariants as value
-use Rattle.site_change.specs.declared.plans.Change.{Change}
+use Rattle.site_state.specs.declared.changes.Change.{Change}
 use Rattle.site_change.specs.Changes.{same_cell}
 use Rattle.site_change.specs.Differences.{AreSides, Comparable, change_at, in_list}
 use Rattle.site_change.specs.Uploaded.{IsUploaded, IsUploadedTree, HasUploaded, HoldsUploaded, AreUploaded}

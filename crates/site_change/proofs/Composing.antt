@@ -11,7 +11,8 @@ use Rattle.site_state.specs.SameValues.{same_value-decides}
 use Rattle.site_state.specs.States.{State}
 use Rattle.site_state.specs.Values.{same_value}
 use Rattle.site_state.specs.declared.values.Value.{Value}
-use Rattle.site_change.specs.declared.plans.Change.{Change}
+use Rattle.site_state.specs.Changes.{cells_of}
+use Rattle.site_state.specs.declared.changes.Change.{Change}
 use Rattle.site_change.specs.Changes.{same_cell}
 use Rattle.site_change.specs.Differences.{Reading, IsChangeIn, AreChangesIn, change_at}
 use Rattle.site_change.specs.Plans.{IsChange, IsDifference}
@@ -58,9 +59,6 @@ module _ (at : Cell) (f g : Reading) where
   change_in_cell = in_one (f at) (g at) refl refl (same_value (f at) (g at)) refl
 
 -- ---- two parts, the one before the other
-
-abbrev cells_of : List Change → List Cell
-cells_of changes = map (λ change. change.cell) changes
 
 module _ (s t : Cell → Bool) (f g : Reading) (parted : (c d : Cell) → s c ≡ true → t d ≡ true → cell_cmp c d ≡ Less) where
   before_second : (c : Cell) → s c ≡ true → (ys : List Change) → AllByRecursion (IsChangeIn t f g) ys → AllByRecursion (λ d. cell_cmp c d ≡ Less) (cells_of ys)

@@ -16,7 +16,7 @@ use Rattle.host_names.specs.declared.cells.Cell.{Cell}
 use Rattle.host_names.specs.declared.cells.Cell.TheVariants as cell
 use Rattle.site_state.specs.States.{is_live_of}
 use Rattle.site_state.specs.declared.values.Value.{Value}
-use Rattle.site_change.specs.declared.plans.Change.{Change}
+use Rattle.site_state.specs.declared.changes.Change.{Change}
 use Rattle.site_change.specs.Changes.{same_cell}
 use Rattle.site_change.specs.Differences.{Reading, IsChangeIn, AreChangesIn, in_list}
 use Rattle.site_change.proofs.Effects.{one_cell, same_cell-itself}

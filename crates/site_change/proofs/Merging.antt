@@ -17,7 +17,7 @@ use Rattle.site_state.specs.SameValues.{same_value-decides}
 use Rattle.site_state.specs.Values.{value_eq}
 use Rattle.site_state.specs.declared.values.Value.{Value}
 use Rattle.site_state.specs.declared.values.Value.TheVariants as value
-use Rattle.site_change.specs.declared.plans.Change.{Change}
+use Rattle.site_state.specs.declared.changes.Change.{Change}
 use Rattle.site_change.specs.Differences.{AreSides, AreLiveChanges, IsStep, in_list, live_cells, change_at}
 use Rattle.site_change.proofs.Effects.{bytes_eq-itself}
 use Rattle.site_change.proofs.Differences.{AllLater, Sets, Sets-cons, Sets-later, differ_later, with_first, without_first}

@@ -4,14 +4,16 @@ use Rattle.std.specs.List.{AllByRecursion}
 use Rattle.std.proofs.lemmas.List.Elements.{All-from_recursion}
 use Rattle.host_names.specs.Blobs.{Contents}
 use Rattle.host_names.specs.declared.cells.Cell.{Cell}
+use Rattle.site_state.specs.Changes.{AreOfKindOn}
+use Rattle.site_state.specs.declared.changes.Side.TheVariants.{Before, After}
 use Rattle.site_state.specs.States.{State, AreOfKind, may_stand}
 use Rattle.site_change.specs.declared.commands.Command.{Command}
 use Rattle.host_names.specs.declared.refusals.ChangeError.{ChangeError}
-use Rattle.site_change.specs.declared.plans.Change.{Change}
+use Rattle.site_state.specs.declared.changes.Change.{Change}
 use Rattle.site_change.specs.declared.plans.Plan.{Plan}
 use Rattle.site_change.specs.Decisions.{IsDecision}
 use Rattle.site_change.specs.Changes.{refusal, site_of_command, touches, applied}
-use Rattle.site_change.specs.Plans.{IsChange, IsDifference, ReplacesOfKind, WritesOfKind}
+use Rattle.site_change.specs.Plans.{IsChange, IsDifference}
 use Rattle.site_state.specs.Named.{AliasesNamed}
 use Rattle.site_change.proofs.Named.{named_applied}
 use Rattle.site_change.proofs.Fitting.{IsLeftOrFits}
@@ -34,16 +36,16 @@ module _ (command : Command) (n : ℕ) (state : State) (uploads : Contents) wher
   abbrev pub IsDecided : Result Plan ChangeError → Type 0
   IsDecided = IsDecision (refusal command n state uploads) (site_of_command command) (touches command n state) state (applied command n state uploads)
 
-  pub writes_of_kind : (changes : List Change) → IsDifference state (applied command n state uploads) changes → WritesOfKind changes
+  pub writes_of_kind : (changes : List Change) → IsDifference state (applied command n state uploads) changes → AreOfKindOn After changes
   writes_of_kind changes is =
       All-from_recursion (λ (change : Change). IsTrue (may_stand change.cell change.after)) changes
       (changes_fit state (applied command n state uploads) (command_laws command n state uploads).fits changes is.each)
 
-  pub decided_of_kind : (result : Result Plan ChangeError) → IsDecided result → IfOk result (λ plan. WritesOfKind plan.changes.items)
+  pub decided_of_kind : (result : Result Plan ChangeError) → IsDecided result → IfOk result (λ plan. AreOfKindOn After plan.changes.items)
   decided_of_kind (Ok plan) is = writes_of_kind plan.changes.items is.1
   decided_of_kind (Err e) is = tt
 
-  pub decided_of_kind_before : AreOfKind state → (result : Result Plan ChangeError) → IsDecided result → IfOk result (λ plan. ReplacesOfKind plan.changes.items)
+  pub decided_of_kind_before : AreOfKind state → (result : Result Plan ChangeError) → IsDecided result → IfOk result (λ plan. AreOfKindOn Before plan.changes.items)
   decided_of_kind_before kinds (Ok plan) is =
       All-from_recursion (λ (change : Change). IsTrue (may_stand change.cell change.before)) plan.changes.items
       (replaced_fit state (applied command n state uploads) kinds plan.changes.items is.1.each)

@@ -15,7 +15,7 @@ use Rattle.site_state.specs.States.{State, is_live_of}
 use Rattle.site_state.specs.Values.{same_value, are_alike}
 use Rattle.site_state.specs.declared.values.Value.{Value}
 use Rattle.site_state.specs.declared.values.Value.TheVariants as value
-use Rattle.site_change.specs.declared.plans.Change.{Change}
+use Rattle.site_state.specs.declared.changes.Change.{Change}
 use Rattle.site_change.specs.Changes.{same_cell, is_listed, with_listed}
 use Rattle.site_change.specs.Uploaded.{HasUploaded, IsUploadedTree, AreUploaded}
 

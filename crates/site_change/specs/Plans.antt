@@ -1,12 +1,12 @@
 -- The difference of two states.
-use Rattle.std.specs.Prelude.{◌≡◌, ◌≢◌, List, map, not, true, All, IsTrue}
+use Rattle.std.specs.Prelude.{◌≡◌, ◌≢◌, List, map, not, true}
 use Rattle.std.specs.FinMap as map
 use Rattle.std.specs.List.{AllByRecursion, list_all}
 use Rattle.std.specs.List.Sorted.{IsStrictlySortedBy}
 use Rattle.host_names.specs.Cells.{cell_cmp}
 use Rattle.host_names.specs.declared.cells.Cell.{Cell}
-use Rattle.site_state.specs.States.{State, may_stand}
-use Rattle.site_change.specs.declared.plans.Change.{Change}
+use Rattle.site_state.specs.States.{State}
+use Rattle.site_state.specs.declared.changes.Change.{Change}
 use Rattle.site_change.specs.Changes.{same_cell}
 
 -- the cell has one thing in the one state and another in the other
@@ -18,11 +18,3 @@ pub record IsDifference (state after : State) (changes : List Change) : Type 0 w
   pub ordered : IsStrictlySortedBy cell_cmp (map (λ change. change.cell) changes)
   pub each : AllByRecursion (IsChange state after) changes
   pub others : (c : Cell) → list_all (λ change. not (same_cell c change.cell)) changes ≡ true → map.get after c ≡ map.get state c
-
--- each value that was in a cell before the changes is of the cell's kind
-abbrev pub ReplacesOfKind : List Change → Type 0
-ReplacesOfKind = All (λ change. IsTrue (may_stand change.cell change.before))
-
--- each value that the changes write is of its cell's kind
-abbrev pub WritesOfKind : List Change → Type 0
-WritesOfKind = All (λ change. IsTrue (may_stand change.cell change.after))

@@ -15,10 +15,10 @@ ghost use Rattle.site_change.specs.Differences.{Comparable};
 ghost use Rattle.site_change.specs.Plans.{IsDifference};
 ghost use Rattle.site_change.specs.TouchedCells.{AreTouched, is_among};
 
-use crate::plans::{Change, Plan, push_change};
+use crate::plans::{Plan, push_change};
 use crate::touched::{Touched, TouchedCells};
 use host_names::{AliasName, Cell, CellRef, ChangeError, ChangeRefusal, FilePath, SiteName};
-use site_state::{File, State, Value};
+use site_state::{Change, File, State, Value};
 use std::alloc::{AllocError, Global};
 use std::cmp::Ordering;
 

@@ -1,15 +1,17 @@
 //! Deciding a command: whether it is refused, and else what it changes and touches.
 ghost use Rattle.std.specs.Prelude.{◌≡◌, IfOk, OnOk, Some, None, nat_lt, length, if◌then◌else◌};
 ghost use Rattle.host_names.specs.declared.cells.Cell.TheVariants as cell;
+ghost use Rattle.site_state.specs.Changes.{AreOfKindOn};
 ghost use Rattle.site_state.specs.Named.{AliasesNamed};
 ghost use Rattle.site_state.specs.States.{with_cell};
+ghost use Rattle.site_state.specs.declared.changes.Side.TheVariants.{Before, After};
 ghost use Rattle.site_state.specs.declared.values.Value.TheVariants as value;
 ghost use Rattle.host_names.specs.declared.refusals.ChangeRefusal.TheVariants.{TooManyFiles};
 ghost use Rattle.site_change.specs.declared.commands.Command.TheVariants as command_of;
 ghost use Rattle.site_change.specs.Changes.{applied, refusal, site_of_command, touches};
 ghost use Rattle.host_names.specs.Refusals.{IsRefusedBy};
 ghost use Rattle.site_change.specs.Decisions.{IsDecision};
-ghost use Rattle.site_change.specs.Plans.{IsDifference, ReplacesOfKind, WritesOfKind};
+ghost use Rattle.site_change.specs.Plans.{IsDifference};
 ghost use Rattle.site_change.specs.TouchedCells.{AreTouched};
 ghost use Rattle.site_change.specs.Uploaded.{AreUploaded};
 
@@ -110,8 +112,8 @@ pub fn decide<U: Uploads>(
         (applied command.now number state.now (U.contents uploads.now)) plan.changes.items) }
     ensures touched { IfOk result (λ plan. AreTouched (site_of_command command.now)
         (touches command.now number state.now) plan.touched) }
-    ensures of_kind { IfOk result (λ plan. WritesOfKind plan.changes.items) }
-    ensures of_kind_before { IfOk result (λ plan. ReplacesOfKind plan.changes.items) }
+    ensures of_kind { IfOk result (λ plan. AreOfKindOn After plan.changes.items) }
+    ensures of_kind_before { IfOk result (λ plan. AreOfKindOn Before plan.changes.items) }
     ensures named { OnOk result (AliasesNamed (applied command.now number state.now (U.contents uploads.now))) }
 {
     state.aliases_are_named();

@@ -15,11 +15,11 @@ ghost use Rattle.site_state.specs.declared.values.Value.TheVariants as value;
 ghost use Rattle.site_change.specs.declared.commands.Command.{Command};
 ghost use Rattle.site_change.specs.declared.commands.Command.TheVariants.{Open, Publish, Cancel, Remove, Rename, MoveAlias, RemoveAlias, Restore, RemoveDeploy};
 ghost use Rattle.site_change.specs.Changes.{IsWithin, applied, changes, refusal, run_from, touches};
-ghost use Rattle.site_change.specs.Plans.{IsDifference, ReplacesOfKind, WritesOfKind};
+ghost use Rattle.site_change.specs.Plans.{IsDifference};
 ghost use Rattle.site_change.specs.Laws.{AgreeOn, IsLocal, IsPartOfDeploy, IsPartOfPatch, LeavesDeploy, LeavesOut, LeavesPatch, KeepsRunning};
 ghost use Rattle.site_change.specs.TouchedCells.{AreTouched, is_touched};
 ghost use Rattle.site_change.specs.Uploaded.{AreUploaded, IsUploaded};
-ghost use Rattle.site_change.specs.declared.plans.Change.{Change};
+ghost use Rattle.site_state.specs.declared.changes.Change.{Change};
 ghost use Rattle.site_change.specs.declared.touched.Touched.{Touched};
 ghost use Rattle.host_names.specs.declared.digests.Digest.{Digest};
 
@@ -146,8 +146,6 @@ pub fn commands_of_few_cells_touch_them_alone()
 /// Of these relations each is refuted of one wrong answer, so none of them holds of everything.
 pub fn wrong_answers_are_refused()
     ensures difference { (state : State) (change : Change) (more : List Change) → ¬ (IsDifference state state (change ∷ more)) }
-    ensures writes { (site : SiteName) → ¬ (WritesOfKind (record { cell = cell.Kept site 1; before = None; after = Some (value.Alias 0) } ∷ [])) }
-    ensures replaces { (site : SiteName) → ¬ (ReplacesOfKind (record { cell = cell.Kept site 1; before = Some (value.Alias 0); after = None } ∷ [])) }
     ensures touched { (touched : Touched) (site : SiteName) → ¬ (AreTouched site (λ c. not (is_touched touched c)) touched) }
     ensures site { (site : SiteName) (test : Cell → Bool) (touched : Touched) → touched.site ≢ site → ¬ (AreTouched site test touched) }
     ensures uploaded { (site : SiteName) (path file : List ℕ) → ¬ (AreUploaded map.empty (map.insert map.empty (cell.Live site path) (value.Live file))) }

@@ -23,6 +23,6 @@ pub use laws::{
     commands_of_few_cells_touch_them_alone, the_removal_of_a_deploy_touches_it_and_the_aliases,
     uploaded_files_are_told_by_their_digests, wrong_answers_are_refused,
 };
-pub use plans::{Change, Plan};
+pub use plans::Plan;
 pub use touched::{Touched, TouchedCells};
 pub use uploads::uploads_are_digested;

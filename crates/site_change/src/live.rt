@@ -7,10 +7,10 @@ ghost use Rattle.site_state.specs.Values.{value_alike};
 ghost use Rattle.site_state.specs.declared.values.Value.TheVariants as value;
 ghost use Rattle.site_change.specs.Differences.{AreLiveChanges, AreSides, Comparable, IsStep, change_at};
 
-use crate::plans::{Change, push_some};
+use crate::plans::push_some;
 use host_names::{Cell, CellRef, FilePath, SiteName};
 use shared_blocks::Range;
-use site_state::{File, Value};
+use site_state::{Change, File, Value};
 use std::alloc::{AllocError, Global};
 use std::cmp::Ordering;
 

@@ -6,19 +6,8 @@ ghost use Rattle.site_change.specs.Differences.{Comparable, change_at};
 
 use crate::touched::Touched;
 use host_names::Cell;
-use site_state::{State, Value};
+use site_state::{Change, State, Value};
 use std::alloc::AllocError;
-
-/// What changes in one cell. That nothing is there counts as a value.
-#[derive(Drop)]
-pub struct Change {
-    /// The cell.
-    pub cell: Cell,
-    /// What is there before.
-    pub before: Option<Value>,
-    /// What is there afterwards.
-    pub after: Option<Value>,
-}
 
 /// What a command changes and touches, in the state and with the number for which it was decided. A plan is not carried
 /// out yet. Each cell that it changes is among those that it touches.

@@ -17,13 +17,13 @@ ghost use Rattle.site_change.specs.TouchedCells.{AreTouched, is_of_deploy};
 ghost use Rattle.site_change.specs.Uploaded.{AreUploaded};
 
 use crate::live::live_changes;
-use crate::plans::{Change, Plan, push_change};
+use crate::plans::{Plan, push_change};
 use crate::touched::{Touched, TouchedCells};
 use crate::trees::{file_at, tree_of};
 use crate::uploads::uploads_are_digested;
 use byte_view::Uploads;
 use host_names::{Cell, CellRef, ChangeError, ChangeRefusal, Digest, FilePath, SiteName};
-use site_state::{Draft, Listing, State, Tree, Value, least_missing};
+use site_state::{Change, Draft, Listing, State, Tree, Value, least_missing};
 use std::alloc::{AllocError, Global};
 
 /// What changes where a site comes to serve the files of this tree, and no others, as the deploy of this number.

@@ -1,5 +1,6 @@
 pub mod AtError
 pub mod Items
+pub mod Sides
 pub mod Written
 pub mod LackingDigests
 pub mod FirstLacking

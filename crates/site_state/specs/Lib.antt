@@ -2,6 +2,7 @@
 pub mod Files
 pub mod Listings
 pub mod States
+pub mod Changes
 pub mod Named
 pub mod Aliases
 pub mod Values

@@ -1,16 +1,18 @@
 //! Laws of what is found in a state and a draft, each the contract of a function that does nothing.
 ghost use Rattle.std.specs.FinMap as map;
-ghost use Rattle.std.specs.Prelude.{ℕ, [], ◌∷◌, Option, Some};
+ghost use Rattle.std.specs.Prelude.{ℕ, [], ◌∷◌, Option, None, Some};
 ghost use Rattle.host_names.specs.Blobs.{Contents};
 ghost use Rattle.host_names.specs.declared.cells.Cell.TheVariants as cell;
 ghost use Rattle.host_names.specs.declared.digests.Digest.{Digest};
 ghost use Rattle.host_names.specs.declared.names.AliasName.{AliasName};
 ghost use Rattle.host_names.specs.declared.names.SiteName.{SiteName};
 ghost use Rattle.site_state.specs.Aliases.{IsLeastAlias, alias_for};
+ghost use Rattle.site_state.specs.Changes.{AreOfKindOn};
 ghost use Rattle.site_state.specs.Files.{IsByPath, Paths};
 ghost use Rattle.site_state.specs.Missing.{AreMissing, IsLeastMissing, least_missing_of};
 ghost use Rattle.site_state.specs.Named.{AliasesNamed};
 ghost use Rattle.site_state.specs.States.{AreOfKind, State};
+ghost use Rattle.site_state.specs.declared.changes.Side.TheVariants.{Before, After};
 ghost use Rattle.site_state.specs.declared.values.Value.TheVariants as value;
 
 /// The least missing digest is listed and lacking, and no other such is below it; there is none only where nothing is
@@ -32,5 +34,7 @@ pub fn wrong_answers_are_refused()
     ensures missing { (contents : Contents) (digest : Digest) → ¬ (AreMissing contents [] (digest ∷ [])) }
     ensures least_missing { (contents : Contents) (digest : Digest) → ¬ (IsLeastMissing contents [] (Some digest)) }
     ensures of_kind { (site : SiteName) (n : ℕ) → ¬ (AreOfKind (map.insert map.empty (cell.Kept site n) (value.Alias 0))) }
+    ensures after { (site : SiteName) → ¬ (AreOfKindOn After (record { cell = cell.Kept site 1; before = None; after = Some (value.Alias 0) } ∷ [])) }
+    ensures before { (site : SiteName) → ¬ (AreOfKindOn Before (record { cell = cell.Kept site 1; before = Some (value.Alias 0); after = None } ∷ [])) }
     ensures named { (site : SiteName) (name : AliasName) (m : ℕ) → ¬ (AliasesNamed (map.insert map.empty (cell.Alias site name) (value.Alias m))) }
 {}

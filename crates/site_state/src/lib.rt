@@ -1,6 +1,7 @@
 //! The state of the host: a finite map from cells to values.
 #![tactic(auto)]
 
+mod changes;
 mod drafts;
 mod files;
 mod laws;
@@ -10,6 +11,7 @@ mod site_cells;
 mod states;
 mod values;
 
+pub use changes::{Change, Side};
 pub use drafts::{first_lacking, least_missing, missing};
 pub use files::File;
 pub use laws::{

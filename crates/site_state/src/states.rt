@@ -1,11 +1,11 @@
 //! The state: a finite map from cells to values.
-ghost use Rattle.std.specs.Prelude.{◌≡◌, ◌⊎◌, true, option_copied, All, IfOk, IfSome, IsSome, IsTrue, OnOk, OnErr};
+ghost use Rattle.std.specs.Prelude.{◌≡◌, ◌⊎◌, true, option_copied, IfOk, IfSome, IsSome, IsTrue, OnOk, OnErr};
 ghost use Rattle.std.specs.FinMap as map;
-ghost use Rattle.std.specs.List.Sorted.{IsStrictlySortedBy};
-ghost use Rattle.std.specs.Map.{keys_of};
-ghost use Rattle.host_names.specs.Cells.{cell_cmp, cell_of};
+ghost use Rattle.host_names.specs.Cells.{cell_of};
+ghost use Rattle.site_state.specs.Changes.{AreOfKindOn, writes};
 ghost use Rattle.site_state.specs.Named.{AliasesNamed};
 
+use crate::changes::{Change, Side, are_rising, writes_of, written_in_turn};
 use crate::files::File;
 use crate::site_cells::{AliasesOf, LiveOf, Sought, first_alias};
 use crate::values::{Draft, Tree, Value};
@@ -18,6 +18,7 @@ use std::marker::Model;
 /// deploy of its site that is kept.
 #[derive(Drop)]
 pub struct State {
+    alloc: Global,
     cells: SharedMap<Cell, Value>,
 }
 
@@ -46,6 +47,7 @@ impl State {
         ensures { result ≡ map.empty }
     {
         State {
+            alloc,
             cells: SharedMap::new(alloc),
         }
     }
@@ -180,16 +182,21 @@ impl State {
         self.cells.write(cell, value)
     }
 
-    /// Writes into each of these cells, which strictly rise, a value of its kind, or nothing. All are written, or, out of
-    /// memory, none. The work is that of copying what lies around each cell, and else a count for each hundred cells.
-    pub fn set_cells(&mut self, cells: Vec<(Cell, Option<Value>)>) -> Result<(), AllocError>
-        requires rising { IsStrictlySortedBy cell_cmp (keys_of cells.items) }
-        requires of_kind { All (λ e. IsTrue (may_stand e.0 e.1)) cells.items }
-        requires named { AliasesNamed (with_cells self.old cells.items) }
-        ensures ok { OnOk result (self.new ≡ with_cells self.old cells.items) }
+    /// Writes into the cell of each change, in their order, what the change has on a side: a value of the cell's kind, or
+    /// nothing. All are written, or, out of memory, none. Where the cells strictly rise, the work is that of copying what lies
+    /// around each cell, and else a count for each hundred cells; in another order it is that for each change.
+    pub fn set_cells(&mut self, changes: &[Change], side: Side) -> Result<(), AllocError>
+        requires of_kind { AreOfKindOn side changes.now }
+        requires named { AliasesNamed (with_cells self.old (writes side changes.now)) }
+        ensures ok { OnOk result (self.new ≡ with_cells self.old (writes side changes.now)) }
         ensures err { OnErr result (self.new ≡ self.old) }
     {
-        self.cells.write_all(cells)
+        if are_rising(changes, side) {
+            let all = writes_of(self.alloc, changes, side)?;
+            return self.cells.write_all(all);
+        }
+        self.cells = written_in_turn(&self.cells, changes, side)?;
+        Ok(())
     }
 
     /// A copy, which shares all that neither writes into later. The work is a count for each hundred cells.
@@ -197,6 +204,7 @@ impl State {
         ensures { IfOk result (λ copy. copy ≡ self.now) }
     {
         Ok(State {
+            alloc: self.alloc,
             cells: self.cells.copy()?,
         })
     }

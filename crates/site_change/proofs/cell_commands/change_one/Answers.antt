@@ -1,7 +1,7 @@
 use Rattle.std.proofs.Common.{◌++◌, List, option_to_list, sym, ap, subst, ◌∙◌}
 use Rattle.std.specs.FinMap as finmap
 use Rattle.site_state.specs.States.{with_cell}
-use Rattle.site_change.specs.declared.plans.Change.{Change}
+use Rattle.site_state.specs.declared.changes.Change.{Change}
 use Rattle.site_change.specs.Differences.{change_at}
 use Rattle.site_change.specs.Plans.{IsDifference}
 use Rattle.site_change.proofs.Deciding.{one_change}

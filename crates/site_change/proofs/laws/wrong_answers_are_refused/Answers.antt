@@ -13,7 +13,6 @@ use Rattle.site_state.specs.States.{State}
 use Rattle.site_state.specs.declared.values.Value.{Value}
 use Rattle.site_state.specs.declared.values.Value.TheVariants as value
 use Rattle.site_change.specs.TouchedCells.{is_touched}
-use Rattle.site_change.specs.declared.plans.Change.{Change}
 use Rattle.site_change.specs.Uploaded.{HoldsUploaded}
 use Rattle.site_change.proofs.laws.wrong_answers_are_refused.Goals as goal
 
@@ -30,16 +29,6 @@ uploaded contents digest bytes = map.get-insert digest_cmp_total contents digest
 not_itself : (b : Bool) → b ≡ not b → ⊥
 not_itself true same = cc same
 not_itself false same = cc same
-
-pub returns-clause-writes : goal.returns-clause-writes
-returns-clause-writes c site all =
-    let other : Change = record { cell = cell.Kept site 1; before = None; after = None } in
-    absurd (cc (all 0 other (omega arith)))
-
-pub returns-clause-replaces : goal.returns-clause-replaces
-returns-clause-replaces c site all =
-    let other : Change = record { cell = cell.Kept site 1; before = None; after = None } in
-    absurd (cc (all 0 other (omega arith)))
 
 pub returns-clause-touched : goal.returns-clause-touched
 returns-clause-touched c touched site are =

@@ -1,6 +1,6 @@
 use Rattle.std.proofs.Common.{◌+◌, List, ◌++◌, length}
 use Rattle.site_change.specs.Differences.{AreLiveChanges, AreSides}
-use Rattle.site_change.specs.declared.plans.Change.{Change}
+use Rattle.site_state.specs.declared.changes.Change.{Change}
 use Rattle.site_change.proofs.live.live_changes.Given as goal
 
 -- what is left changes the rest, after what is changed already

@@ -1,4 +1,4 @@
-use Rattle.std.proofs.Common.{◌≡◌, Bool, true, false, cond, Option, Some, sym, ap, ◌∙◌, refl, arith}
+use Rattle.std.proofs.Common.{◌≡◌, Bool, true, false, cond, Option, None, Some, sym, ap, ◌∙◌, refl, arith}
 use Rattle.std.specs.FinMap as map
 use Rattle.std.specs.Option.{is_some}
 use Rattle.std.specs.Ordering.{eq_by_cmp, is_eq}
@@ -9,6 +9,7 @@ use Rattle.host_names.specs.CellOrder.{cell_cmp_total}
 use Rattle.host_names.specs.declared.cells.Cell.{Cell}
 use Rattle.host_names.specs.declared.cells.Cell.TheVariants as cell
 use Rattle.site_state.specs.States.{as_number, as_tree, may_stand}
+use Rattle.site_state.specs.declared.changes.Change.{Change}
 use Rattle.site_state.specs.declared.values.Value.{Value}
 use Rattle.site_state.specs.declared.values.Value.TheVariants as value
 use Rattle.site_state.proofs.Items.{get-with_cell}
@@ -34,6 +35,16 @@ returns-clause-missing c contents digest missing =
 pub returns-clause-of_kind : goal.returns-clause-of_kind
 returns-clause-of_kind c site n all =
     absurd (cc (sym (ap (may_stand (cell.Kept site n)) (there (cell.Kept site n) (value.Alias 0))) ∙ all (cell.Kept site n)))
+
+pub returns-clause-after : goal.returns-clause-after
+returns-clause-after c site all =
+    let other : Change = record { cell = cell.Kept site 1; before = None; after = None } in
+    absurd (cc (all 0 other (omega arith)))
+
+pub returns-clause-before : goal.returns-clause-before
+returns-clause-before c site all =
+    let other : Change = record { cell = cell.Kept site 1; before = None; after = None } in
+    absurd (cc (all 0 other (omega arith)))
 
 pub returns-clause-named : goal.returns-clause-named
 returns-clause-named c site name m named =

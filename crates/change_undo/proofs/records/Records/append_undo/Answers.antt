@@ -1,10 +1,33 @@
-use Rattle.std.proofs.Common.{List, [], ◌∷◌, ◌++◌, ◌-◌, length, false, None, arith, sym, ap, ◌∙◌}
+use Rattle.std.proofs.Common.{◌≡◌, ℕ, List, [], ◌∷◌, ◌++◌, ◌-◌, length, slice_get, false, None, arith, sym, ap, subst, ◌∙◌}
+use Rattle.site_state.specs.Changes.{writes}
+use Rattle.site_state.specs.States.{with_cells}
+use Rattle.site_state.specs.declared.changes.Change.{Change as CellChange}
+use Rattle.site_state.specs.declared.changes.Side.TheVariants.{Before}
 use Rattle.change_undo.specs.declared.entries.Entry.{Entry}
 use Rattle.change_undo.specs.declared.entries.Entry.TheVariants as entry
 use Rattle.change_undo.specs.declared.marks.Mark.{Mark}
-use Rattle.change_undo.specs.PlannedEntries.{PlannedEntry, entries_of, with_marks}
-use Rattle.change_undo.proofs.WithMarks.{entries_of-with_marks, length-with_marks, lengths-undone, with_marks-undone}
+use Rattle.change_undo.specs.Kept.{AreWritable, changes_of, plan_at}
+use Rattle.change_undo.specs.PlannedEntries.{PlannedEntry, entries_of, marks_of, plan_in, with_marks}
+use Rattle.change_undo.proofs.WithMarks.{entries_of-with_marks, length-with_marks, lengths-undone, marks_of-with_marks, plan_at-mark, with_marks-undone}
 use Rattle.change_undo.proofs.records.Records.append_undo.Goals as goal
+
+-- what the change changes, as it is found next to the marks
+found : (log : List Entry) (marks : List Mark) (logged : List PlannedEntry) (i : ℕ) → length log ≡ length marks → with_marks log marks ≡ logged
+    → changes_of (plan_in (slice_get marks i)) ≡ changes_of (plan_at logged i)
+found log marks logged i lengths is =
+    ap (λ (ms : List Mark). changes_of (plan_in (slice_get ms i))) (sym (marks_of-with_marks log marks lengths) ∙ ap marks_of is)
+    ∙ ap changes_of (sym (plan_at-mark logged i))
+
+pub append-requires : goal.append-requires
+append-requires c =
+    let changes = c.changes_in-changes.ensures ∙ found c.self.inside.log c.self.inside.marks.items c.args.self.now (c.args.change - 1) c.self.invariant c.self.view_is in
+    let P : List CellChange → Type 0 = AreWritable c.args.state.now Before in
+    record { writable = subst P (sym changes) c.requires.writable }
+
+pub returns-clause-state : goal.returns-clause-state
+returns-clause-state c =
+    let changes = c.changes_in-changes.ensures ∙ found c.self.inside.log c.self.inside.marks.items c.args.self.now (c.args.change - 1) c.self.invariant c.self.view_is in
+    c.in_ok-append.ensures.state ∙ ap (λ (cs : List CellChange). with_cells c.args.state.now (writes Before cs)) changes
 
 pub invariant_of-self-2 : goal.invariant_of-self-2
 invariant_of-self-2 c =
