@@ -19,3 +19,4 @@ pub mod WritingBack
 pub mod Sound
 pub mod Drafts
 pub mod Opened
+pub mod Recorded

@@ -14,14 +14,14 @@ ghost use Rattle.change_undo.specs.Clashes;
 ghost use Rattle.change_undo.specs.Effects.{UndoesChange};
 ghost use Rattle.change_undo.specs.Histories;
 ghost use Rattle.change_undo.specs.Openings.{Opens, OpensDraft};
-ghost use Rattle.change_undo.specs.Plans.{IsHistoryOver};
+ghost use Rattle.change_undo.specs.Plans.{IsHistoryOver, IsRecorded};
 
 use crate::entries::Entry;
 use crate::logs::Log;
 use crate::records::Records;
 use byte_view::Uploads;
 use host_names::{Cell, ChangeError, ChangeRefusal, SiteName};
-use site_change::{Command, decide, uploads_are_digested};
+use site_change::{Command, Plan, decide, uploads_are_digested};
 use site_state::State;
 use std::alloc::{AllocError, Global};
 use std::marker::Model;
@@ -132,6 +132,16 @@ impl History {
             → option_map (λ found. (found.0, found.1.now)) result ≡ Clashes.clash uploads self.now.entries change }
     {
         self.records.clash(change)
+    }
+
+    /// What the change of a number changes and touches in its place among the changes that live, so that what was undone
+    /// has no part in it. None for each number that isn't that of a change, and for a change that was undone. That takes no
+    /// memory.
+    pub fn record(&self, number: u64) -> Option<&Plan>
+        ensures value { option_copied result ≡ Histories.recorded self.now number }
+        ensures over { (uploads : Contents) → IsHistoryOver uploads self.now → IsRecorded uploads self.now.entries number (option_copied result) }
+    {
+        self.records.plan(number)
     }
 
     /// Each file that is served or kept is among these uploads, over which the history is what it is.
