@@ -1,0 +1,4 @@
+pub mod Next
+pub mod LookUps
+pub mod Posted
+pub mod Covered
