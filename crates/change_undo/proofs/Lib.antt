@@ -14,6 +14,8 @@ pub mod Planned
 pub mod Sites
 pub mod WithMarks
 pub mod KeptClash
+pub mod Indexed
+pub mod NextTouch
 pub mod LeavingOut
 pub mod WritingBack
 pub mod Sound

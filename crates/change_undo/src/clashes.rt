@@ -48,15 +48,18 @@ impl Records {
         }
     }
 
-    /// The first entry after a change that touches a cell which its plan changes, with the first such cell.
+    /// The first entry after a change that touches a cell which its plan changes, with the first such cell. Each number that
+    /// the index gives is tested, since keys may collide.
     fn kept_touch<'a>(&self, change: u64, plan: &'a Plan) -> Option<(u64, &'a Cell)>
         ensures { option_map (λ found. (found.0, found.1.now)) result ≡ spec.kept_touch plan.now (change + 1) (drop change self.now) }
     {
-        'entries: for place in change..self.len() {
-            let number = place + 1;
+        let changes = plan.changes.as_slice();
+        let mut after = change;
+        'entries: while let Some(number) = self.index().next(changes, after) {
             if let Some(cell) = self.touched_by(number, plan) {
                 return Some((number, cell));
             }
+            after = number;
         }
         None
     }

@@ -125,8 +125,8 @@ impl History {
     /// The clash of the change of a number: the number of the first later change that was not undone and reads or writes
     /// a cell which that change changed; and the first such cell, in the order of cells. None where no later change does
     /// so, and for each number that isn't that of a change, or that of one that was undone. Numbers count over all sites.
-    /// The work is a look at each later entry, and at most a look-up of each changed cell for each later change of the
-    /// same site.
+    /// The work is two look-ups in an index for each changed cell, and one in the cells that the clash touches. It grows
+    /// with the logarithm of the entries.
     pub fn clash(&self, change: u64) -> Option<(u64, &Cell)>
         ensures { (uploads : Contents) → IsHistoryOver uploads self.now
             → option_map (λ found. (found.0, found.1.now)) result ≡ Clashes.clash uploads self.now.entries change }
@@ -171,14 +171,16 @@ impl History {
         let number = self.len() + 1;
         let alloc = self.records.allocator();
         let plan = decide(alloc, &self.state, uploads, number, &command)?;
-        self.records.append_change(command, &mut self.state, plan)?;
+        self.records
+            .append_change(number, command, &mut self.state, plan)?;
         Ok(number)
     }
 
     /// Undoes the change of a number, which belongs to this site, by the next entry. Answers that entry's number. Each cell
     /// that the change changed has then what it had before the change, and every other cell what it has now. Where a later
     /// change that was not undone reads or writes what this one changed, the undo is refused by its clash. On an error
-    /// nothing changes. The work is that of `State::set_cells` with these cells, and a count for each block of the entries.
+    /// nothing changes. The work is that of `clash`, that of `State::set_cells` with these cells, one write of the index with
+    /// the cells that the change touched, and a count for each block of the entries and of the index.
     pub fn undo(&mut self, site: &SiteName, change: u64) -> Result<u64, ChangeError>
         ensures refused { (uploads : Contents) → IsHistoryOver uploads self.old
             → Histories.IsUndoRefusedBy (Histories.undo_refusal uploads self.old.limit self.old.entries site.now change) result }

@@ -1,9 +1,10 @@
 //! The entries of a history with their marks.
-ghost use Rattle.std.specs.Prelude.{◌≡◌, ◌-◌, ◌<◌, ◌≤◌, [], ◌∷◌, ◌++◌, length, false, None, Some, IfOk, OnOk, OnErr, option_copied, slice_get};
+ghost use Rattle.std.specs.Prelude.{◌≡◌, ◌+◌, ◌-◌, ◌<◌, ◌≤◌, [], ◌∷◌, ◌++◌, length, false, None, Some, IfOk, OnOk, OnErr, option_copied, slice_get};
 ghost use Rattle.site_state.specs.Changes.{writes};
 ghost use Rattle.site_state.specs.States.{with_cells};
 ghost use Rattle.site_state.specs.declared.changes.Side.TheVariants.{After, Before};
 ghost use Rattle.change_undo.specs.declared.entries.Entry.TheVariants as entry;
+ghost use Rattle.change_undo.specs.Indexed.{IsIndexOf};
 ghost use Rattle.change_undo.specs.Kept.{AreWritable, changes_of, plan_at, plan_of};
 ghost use Rattle.change_undo.specs.PlannedEntries.{entries_of, mark_at, marks_of, plan_in, with_undone};
 
@@ -17,18 +18,22 @@ use site_change::{Command, Plan};
 use site_state::{Change, Side, State};
 use std::alloc::{AllocError, Global};
 use std::marker::Model;
+use touch_index::Index;
 
-/// Entries, numbered from 1, each with its mark. Contracts see them together. Copies share both.
+/// Entries, numbered from 1, each with its mark. Contracts see them together. By the index the changes that live and may
+/// touch a cell are found without a look at each. Copies share all three.
 #[derive(Drop)]
 pub(crate) struct Records {
     log: Log,
     marks: SharedList<Mark>,
+    index: Index,
 }
 
 impl Model for Records {
-    ghost use Rattle.std.specs.Prelude.{◌≡◌, List, length};
+    ghost use Rattle.std.specs.Prelude.{List};
     ghost use Rattle.change_undo.specs.contracts.entries.Entry as entry;
     ghost use Rattle.site_change.specs.contracts.plans.Plan as plan;
+    ghost use Rattle.change_undo.specs.Indexed.{BelongTogether};
     ghost use Rattle.change_undo.specs.PlannedEntries.{PlannedEntry, coded_planned, with_marks};
 
     ghost Value = { List PlannedEntry };
@@ -37,7 +42,7 @@ impl Model for Records {
 
     ghost view = { λ r. with_marks r.log r.marks.items };
 
-    ghost invariant = { λ r. length r.log ≡ length r.marks.items };
+    ghost invariant = { λ r. BelongTogether r.log r.marks.items r.index };
 }
 
 /// What the change of a number, from 1 on, changes in its place; nothing where it has no plan.
@@ -59,6 +64,7 @@ impl Records {
         Records {
             log: Log::new(alloc),
             marks: SharedList::new(alloc),
+            index: Index::new(alloc),
         }
     }
 
@@ -101,24 +107,37 @@ impl Records {
         }
     }
 
-    /// Appends a change with its plan, and writes into the state what the plan leaves. Without memory nothing changes.
+    /// Under which keys the changes that live are posted.
+    pub(crate) fn index(&self) -> &Index
+        ensures { IsIndexOf self.now result.now }
+    {
+        &self.index
+    }
+
+    /// Appends a change under the next number, with its plan, and writes into the state what the plan leaves. Without
+    /// memory nothing changes.
     pub(crate) fn append_change(
         &mut self,
+        number: u64,
         command: Command,
         state: &mut State,
         plan: Plan,
     ) -> Result<(), AllocError>
+        requires next { number ≡ length self.old + 1 }
         requires writable { AreWritable state.old After plan.changes.items }
         ensures entries { OnOk result (self.new ≡ self.old ++ record { entry = entry.Change command; is_undone = false; plan = Some plan } ∷ []) }
         ensures state { OnOk result (state.new ≡ with_cells state.old (writes After plan.changes.items)) }
         ensures err { OnErr result ((self.new ≡ self.old) × (state.new ≡ state.old)) }
     {
-        let plan = Shared::new(self.log.allocator(), plan)?;
+        let alloc = self.log.allocator();
+        let index = self.index.with(alloc, &plan.touched, number)?;
+        let plan = Shared::new(alloc, plan)?;
         self.marks.reserve()?;
         let changes = plan.get().changes.as_slice();
         self.log
             .append(Entry::Change(command), state, changes, Side::After)?;
         self.marks.push_reserved(Mark::of_change(plan));
+        self.index = index;
         Ok(())
     }
 
@@ -132,6 +151,18 @@ impl Records {
         marks.set(change as usize - 1, Mark::undone())?;
         marks.push(Mark::of_undo())?;
         Ok(marks)
+    }
+
+    /// The index after the undo of the change of this number. It is a copy as well.
+    fn index_after_undo(&self, change: u64) -> Result<Index, AllocError>
+        requires some { 0 < change }
+        ensures { IfOk result (λ index. IsIndexOf (with_undone (change - 1) self.now) index) }
+    {
+        let index = self.index();
+        match self.plan(change) {
+            Some(plan) => index.without(self.log.allocator(), &plan.touched, change),
+            None => index.copy(),
+        }
     }
 
     /// Appends the undo of the change of this number, marks that change, and gives each cell that it changed what it had
@@ -150,6 +181,7 @@ impl Records {
         ensures err { OnErr result ((self.new ≡ self.old) × (state.new ≡ state.old)) }
     {
         let marks = self.marks_after_undo(change)?;
+        let index = self.index_after_undo(change)?;
         let entry = Entry::Undo {
             site: site.copied(),
             change,
@@ -157,16 +189,18 @@ impl Records {
         let changes = changes_in(&self.marks, change);
         self.log.append(entry, state, changes, Side::Before)?;
         self.marks = marks;
+        self.index = index;
         Ok(())
     }
 
-    /// A copy, which shares the entries and the marks.
+    /// A copy, which shares the entries, the marks and the index.
     pub(crate) fn copy(&self) -> Result<Records, AllocError>
         ensures { IfOk result (λ copy. copy ≡ self.now) }
     {
         Ok(Records {
             log: self.log.copy()?,
             marks: self.marks.copy()?,
+            index: self.index.copy()?,
         })
     }
 }

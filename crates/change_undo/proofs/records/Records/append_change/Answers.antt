@@ -1,19 +1,46 @@
-use Rattle.std.proofs.Common.{List, [], ◌∷◌, ◌++◌, false, Some, ap, ◌∙◌}
+use Rattle.std.proofs.Common.{◌≡◌, ◌+◌, List, [], ◌∷◌, ◌++◌, length, false, Some, arith, refl, sym, ap, subst, ◌∙◌}
+use Rattle.std.proofs.lemmas.List.{length-append}
 use Rattle.site_change.specs.declared.plans.Plan.{Plan}
+use Rattle.change_undo.specs.declared.entries.Entry.{Entry}
 use Rattle.change_undo.specs.declared.entries.Entry.TheVariants as entry
 use Rattle.change_undo.specs.declared.marks.Mark.{Mark}
+use Rattle.change_undo.specs.Indexed.{IsIndexOf}
 use Rattle.change_undo.specs.PlannedEntries.{PlannedEntry, with_marks}
+use Rattle.change_undo.proofs.Indexed.{indexed-change}
 use Rattle.change_undo.proofs.WithMarks.{with_marks-push}
 use Rattle.change_undo.proofs.records.Records.append_change.Goals as goal
+
+-- the mark of a change with this plan
+abbrev kept : Plan → Mark
+kept plan = record { is_undone = false; plan = Some plan }
+
+pub invariant_of-self-2 : goal.invariant_of-self-2
+invariant_of-self-2 c =
+    let log = c.self.inside.log in
+    let marks = c.self.inside.marks.items in
+    let plan = c.args.plan in
+    let mark : Mark = record { is_undone = false; plan = Some plan } in
+    let l : PlannedEntry = record { entry = entry.Change c.args.command; is_undone = false; plan = Some plan } in
+    let pushed = c.push_reserved.ensures ∙ ap (λ (ms : List Mark). ms ++ c.of_change.result ∷ []) c.in_ok-reserve.ensures.items
+    ∙ ap (λ (m : Mark). marks ++ m ∷ []) (c.of_change.ensures ∙ ap kept c.in_ok-plan.ensures) in
+    let whole = (λ i. with_marks (c.in_ok-append.ensures.entries i) (pushed i)) ∙ with_marks-push log marks (entry.Change c.args.command) mark c.self.invariant.lengths in
+    let P : List PlannedEntry → Type 0 = λ ls. IsIndexOf ls c.in_ok-index.index in
+    record {
+      lengths =
+          ap (λ (es : List Entry). length es) c.in_ok-append.ensures.entries
+          ∙ omega (arith, c.self.invariant.lengths, length-append log (entry.Change c.args.command ∷ []), length-append marks (mark ∷ []))
+          ∙ sym (ap (λ (ms : List Mark). length ms) pushed);
+      indexed = subst P (sym whole) (indexed-change c.in_ok-index.index c.self.inside.index (with_marks log marks) l plan c.args.number
+          (c.requires.next ∙ ap (λ (ls : List PlannedEntry). length ls + 1) (sym c.self.view_is)) refl c.self.invariant.indexed c.in_ok-index.ensures);
+    }
 
 pub returns-clause-entries : goal.returns-clause-entries
 returns-clause-entries c =
     let log = c.self.inside.log in
     let marks = c.self.inside.marks.items in
-    let kept : Plan → Mark = λ plan. record { is_undone = false; plan = Some plan } in
     let mark = kept c.args.plan in
     let pushed = c.push_reserved.ensures ∙ ap (λ (ms : List Mark). ms ++ c.of_change.result ∷ []) c.in_ok-reserve.ensures.items
     ∙ ap (λ (m : Mark). marks ++ m ∷ []) (c.of_change.ensures ∙ ap kept c.in_ok-plan.ensures) in
     (λ i. with_marks (c.in_ok-append.ensures.entries i) (pushed i))
-    ∙ with_marks-push log marks (entry.Change c.args.command) mark c.self.invariant
+    ∙ with_marks-push log marks (entry.Change c.args.command) mark c.self.invariant.lengths
     ∙ ap (λ (ls : List PlannedEntry). ls ++ record { entry = entry.Change c.args.command; is_undone = false; plan = Some c.args.plan } ∷ []) c.self.view_is

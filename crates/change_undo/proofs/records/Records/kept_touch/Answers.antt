@@ -1,22 +1,46 @@
-use Rattle.std.proofs.Common.{◌+◌, drop, Option, arith, sym, ap, ◌∙◌}
+use Rattle.std.proofs.Common.{◌≡◌, ◌+◌, ◌-◌, ◌<◌, List, length, drop, Option, Some, None, arith, sym, ap, subst, ◌∙◌}
 use Rattle.host_names.specs.declared.cells.Cell.{Cell}
+use Rattle.site_state.specs.declared.changes.Change.{Change as CellChange}
+use Rattle.touch_index.specs.Next.{IsNext}
+use Rattle.touch_index.specs.Postings.{may_touch_any}
 use Rattle.change_undo.specs.Clashes.{in_cell}
 use Rattle.change_undo.specs.Kept.{kept_touch}
-use Rattle.change_undo.proofs.KeptClash.{kept_touch-at}
+use Rattle.change_undo.proofs.NextTouch.{next_one, no_next, within}
 use Rattle.change_undo.proofs.records.Records.kept_touch.Goals as goal
 
-pub returns-in-Some : goal.returns-in-Some
-returns-in-Some c =
+pub returns-in-Some-touched_by : goal.returns-in-Some-touched_by
+returns-in-Some-touched_by c =
     let logged = c.args.self.now in
-    let place = c.entries.place in
-    let rest = kept_touch c.args.plan.now (place + 1 + 1) (drop (place + 1) logged) in
-    ap (λ (o : Option Cell). in_cell (place + 1) o rest) c.in-Some.ensures ∙ sym (kept_touch-at c.args.plan.now place logged (omega (arith, c.len-place-end.ensures)))
+    let n = c.in-Some.number in
+    let rest = kept_touch c.args.plan.now (n + 1) (drop n logged) in
+    let P : List CellChange → Type 0 = λ cs. IsNext (may_touch_any c.index.result.now cs) c.entries.after (Some n) in
+    let next = subst P c.as_slice-changes.ensures.value c.in-Some.ensures in
+    ap (λ (o : Option Cell). in_cell n o rest) c.in-Some-touched_by.ensures
+    ∙ sym (next_one c.index.result.now logged c.args.plan.now c.entries.after n c.index.ensures next)
     ∙ c.entries.invariant
 
 pub entries-preserved : goal.entries-preserved
 entries-preserved c =
     let logged = c.args.self.now in
-    let place = c.entries.place in
-    let rest = kept_touch c.args.plan.now (place + 1 + 1) (drop (place + 1) logged) in
-    ap (λ (o : Option Cell). in_cell (place + 1) o rest) c.in_default.ensures ∙ sym (kept_touch-at c.args.plan.now place logged (omega (arith, c.len-place-end.ensures)))
+    let n = c.in-Some.number in
+    let rest = kept_touch c.args.plan.now (n + 1) (drop n logged) in
+    let P : List CellChange → Type 0 = λ cs. IsNext (may_touch_any c.index.result.now cs) c.entries.after (Some n) in
+    let next = subst P c.as_slice-changes.ensures.value c.in-Some.ensures in
+    ap (λ (o : Option Cell). in_cell n o rest) c.in_default-touched_by.ensures
+    ∙ sym (next_one c.index.result.now logged c.args.plan.now c.entries.after n c.index.ensures next)
     ∙ c.entries.invariant
+
+pub entries-smaller : goal.entries-smaller
+entries-smaller c =
+    let n = c.in-Some.number in
+    let P : List CellChange → Type 0 = λ cs. IsNext (may_touch_any c.index.result.now cs) c.entries.after (Some n) in
+    let next = subst P c.as_slice-changes.ensures.value c.in-Some.ensures in
+    let last = within c.index.result.now c.args.self.now c.args.plan.now.changes.items n c.index.ensures next.1 in
+    omega (arith, next.0, last)
+
+pub returns : goal.returns
+returns c =
+    let logged = c.args.self.now in
+    let P : List CellChange → Type 0 = λ cs. IsNext (may_touch_any c.index.result.now cs) c.entries.after None in
+    let none = subst P c.as_slice-changes.ensures.value c.in_default.ensures in
+    sym (no_next c.index.result.now logged c.args.plan.now c.entries.after c.index.ensures none) ∙ c.entries.invariant

@@ -1,0 +1,106 @@
+-- The next change that is posted under a key of the changed cells is the next that can touch one of them.
+use Rattle.std.proofs.Common.{◌≡◌, ◌⊎◌, inl, inr, ℕ, zero, suc, ◌+◌, ◌-◌, ◌<◌, ◌≤◌, ◌==◌, Bool, true, false, cond, ◌||◌, List, [], ◌∷◌, drop, length, find, Option, Some, None, refl, sym, ap, subst, ◌∙◌, arith}
+use Rattle.std.specs.List.{list_any}
+use Rattle.std.proofs.lemmas.Bool.{cases_lt}
+use Rattle.host_names.specs.declared.cells.Cell.{Cell}
+use Rattle.site_state.specs.declared.changes.Change.{Change as CellChange}
+use Rattle.site_state.specs.Changes.{cells_of}
+use Rattle.site_change.specs.declared.plans.Plan.{Plan}
+use Rattle.site_change.specs.declared.touched.Touched.{Touched}
+use Rattle.site_change.specs.TouchedCells.{is_touched}
+use Rattle.touch_index.specs.Keys.{covering, touched_keys}
+use Rattle.touch_index.specs.Next.{IsNext}
+use Rattle.touch_index.specs.Postings.{Postings, is_posted, may_touch_any}
+use Rattle.touch_index.proofs.Covered.{meet, touched-covered}
+use Rattle.change_undo.specs.Clashes.{in_cell}
+use Rattle.change_undo.specs.Histories.{same_site}
+use Rattle.change_undo.specs.Indexed.{IsIndexOf, has_key}
+use Rattle.change_undo.specs.Kept.{first_touched, kept_touch, plan_of}
+use Rattle.change_undo.specs.PlannedEntries.{PlannedEntry}
+use Rattle.change_undo.proofs.Indexed.{plan_of-beyond}
+use Rattle.change_undo.proofs.KeptClash.{kept_touch-at}
+
+or_none : (a b : Bool) → (a || b) ≡ false → (a ≡ false) × (b ≡ false)
+or_none true b e = cc e
+or_none false b e = (refl, e)
+
+none-touched : (later : Touched) (changes : List CellChange) → list_any (λ change. meet (covering change.cell) (touched_keys later)) changes ≡ false → find (is_touched later) (cells_of changes) ≡ None
+none-touched later [] none = refl
+none-touched later (change ∷ changes) none =
+    let both = or_none (meet (covering change.cell) (touched_keys later)) (list_any (λ change. meet (covering change.cell) (touched_keys later)) changes) none in
+    elim (is_touched later change.cell) as (λ b. is_touched later change.cell ≡ b → cond b (Some change.cell) (find (is_touched later) (cells_of changes)) ≡ None) [
+      | true ↦ λ e. cc (sym (touched-covered later change.cell e) ∙ both.0)
+      | false ↦ λ e. none-touched later changes both.1
+    ] refl
+
+-- a change that is posted under none of the keys touches none of the cells
+pub untouched : (index : Postings) (logged : List PlannedEntry) (plan : Plan) (i : ℕ) → IsIndexOf logged index → may_touch_any index plan.changes.items i ≡ false
+    → first_touched plan (plan_of logged i) ≡ None
+untouched index logged plan i indexed none = one (plan_of logged i) (λ key. indexed key i)
+  where
+    one : (its : Option Plan) → ((key : ℕ) → is_posted index key i ≡ has_key its key) → first_touched plan its ≡ None
+    one None same = refl
+    one (Some later) same =
+        let told = sym (λ j. list_any (λ (change : CellChange). list_any (λ key. same key j) (covering change.cell)) plan.changes.items) ∙ none in
+        let no = none-touched later.touched plan.changes.items told in
+        elim (same_site later.touched.site plan.touched.site) as (λ b. cond b (find (is_touched later.touched) (cells_of plan.changes.items)) None ≡ None) [ true ↦ no | false ↦ refl ]
+
+none_any : {X : Type 0} (xs : List X) → list_any (λ x. false) xs ≡ false
+none_any [] = refl
+none_any (x ∷ xs) = none_any xs
+
+-- what is posted is one of the entries
+pub within : (index : Postings) (logged : List PlannedEntry) (changes : List CellChange) (i : ℕ) → IsIndexOf logged index → may_touch_any index changes i ≡ true → i ≤ length logged
+within index logged changes i indexed posted = elim (cases_lt (length logged) i) [
+  | inl beyond ↦
+      let none : (key : ℕ) → is_posted index key i ≡ false = λ key. indexed key i ∙ ap (λ o. has_key o key) (plan_of-beyond logged i beyond) in
+      let empty : (change : CellChange) → list_any (λ key. is_posted index key i) (covering change.cell) ≡ false =
+      λ change. (λ j. list_any (λ key. none key j) (covering change.cell)) ∙ none_any (covering change.cell) in
+      cc (sym posted ∙ (λ j. list_any (λ (change : CellChange). empty change j) changes) ∙ none_any changes)
+  | inr no_more ↦ no_more
+]
+
+drop_beyond : {X : Type 0} (i : ℕ) (xs : List X) → length xs ≤ i → drop i xs ≡ []
+drop_beyond zero [] le = refl
+drop_beyond zero (x ∷ xs) le = absurd (omega (arith, le))
+drop_beyond (suc i) [] le = refl
+drop_beyond (suc i) (x ∷ xs) le = drop_beyond i xs (omega (arith, le))
+
+-- entries of which none touches a cell are passed over
+skip : (plan : Plan) (logged : List PlannedEntry) (a d : ℕ) → ((i : ℕ) → a < i → i ≤ a + d → first_touched plan (plan_of logged i) ≡ None)
+    → kept_touch plan (a + 1) (drop a logged) ≡ kept_touch plan (a + d + 1) (drop (a + d) logged)
+skip plan logged a zero none = let e : a + 0 ≡ a = omega arith in λ j. kept_touch plan (sym e j + 1) (drop (sym e j) logged)
+skip plan logged a (suc d) none =
+    let e : a + 1 + d ≡ a + suc d = omega arith in
+    one ∙ skip plan logged (a + 1) d (λ i above upto. none i (omega (arith, above)) (omega (arith, upto)))
+    ∙ (λ j. kept_touch plan (e j + 1) (drop (e j) logged))
+  where
+    one : kept_touch plan (a + 1) (drop a logged) ≡ kept_touch plan (a + 1 + 1) (drop (a + 1) logged)
+    one = elim (cases_lt a (length logged)) [
+      | inl here ↦
+          kept_touch-at plan a logged here
+          ∙ ap (λ o. in_cell (a + 1) o (kept_touch plan (a + 1 + 1) (drop (a + 1) logged))) (none (a + 1) (omega arith) (omega arith))
+      | inr beyond ↦
+          ap (kept_touch plan (a + 1)) (drop_beyond a logged beyond) ∙ sym (ap (kept_touch plan (a + 1 + 1)) (drop_beyond (a + 1) logged (omega (arith, beyond))))
+    ]
+
+-- where there is no next one, none touches a cell
+pub no_next : (index : Postings) (logged : List PlannedEntry) (plan : Plan) (a : ℕ) → IsIndexOf logged index → IsNext (may_touch_any index plan.changes.items) a None
+    → kept_touch plan (a + 1) (drop a logged) ≡ None
+no_next index logged plan a indexed none =
+    let d = length logged in
+    skip plan logged a d (λ i above upto. untouched index logged plan i indexed (none i above))
+    ∙ ap (kept_touch plan (a + d + 1)) (drop_beyond (a + d) logged (omega arith))
+
+-- the next one is looked at, and those before it are passed over
+pub next_one : (index : Postings) (logged : List PlannedEntry) (plan : Plan) (a n : ℕ) → IsIndexOf logged index → IsNext (may_touch_any index plan.changes.items) a (Some n)
+    → kept_touch plan (a + 1) (drop a logged) ≡ in_cell n (first_touched plan (plan_of logged n)) (kept_touch plan (n + 1) (drop n logged))
+next_one index logged plan a n indexed next =
+    let d = n - 1 - a in
+    let before : a + d ≡ n - 1 = omega (arith, next.0) in
+    let last = within index logged plan.changes.items n indexed next.1 in
+    let at : n - 1 + 1 ≡ n = omega (arith, next.0) in
+    skip plan logged a d (λ i above upto. untouched index logged plan i indexed (next.2 i above (omega (arith, before, upto, next.0))))
+    ∙ (λ j. kept_touch plan (before j + 1) (drop (before j) logged))
+    ∙ kept_touch-at plan (n - 1) logged (omega (arith, last, next.0))
+    ∙ (λ j. in_cell (at j) (first_touched plan (plan_of logged (at j))) (kept_touch plan (at j + 1) (drop (at j) logged)))

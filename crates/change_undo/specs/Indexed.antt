@@ -1,0 +1,23 @@
+-- What the index of a history tells of its plans.
+use Rattle.std.specs.Prelude.{◌≡◌, ℕ, Bool, false, List, length, Option, Some, None}
+use Rattle.site_change.specs.declared.plans.Plan.{Plan}
+use Rattle.touch_index.specs.Keys.{touched_keys}
+use Rattle.touch_index.specs.Postings.{Postings, is_among, is_posted}
+use Rattle.change_undo.specs.declared.entries.Entry.{Entry}
+use Rattle.change_undo.specs.declared.marks.Mark.{Mark}
+use Rattle.change_undo.specs.Kept.{plan_of}
+use Rattle.change_undo.specs.PlannedEntries.{PlannedEntry, with_marks}
+
+-- whether what the plan touches has the key
+abbrev pub has_key : Option Plan → ℕ → Bool
+has_key None key = false
+has_key (Some plan) key = is_among key (touched_keys plan.touched)
+
+-- The change of a number is posted under the keys of what its plan touches, and under no other key.
+abbrev pub IsIndexOf : List PlannedEntry → Postings → Type 0
+IsIndexOf logged index = (key i : ℕ) → is_posted index key i ≡ has_key (plan_of logged i) key
+
+-- Each entry has its mark, and the index is that of both.
+pub record BelongTogether (log : List Entry) (marks : List Mark) (index : Postings) : Type 0 where
+  pub lengths : length log ≡ length marks
+  pub indexed : IsIndexOf (with_marks log marks) index
