@@ -2,7 +2,6 @@ pub mod Live
 pub mod Runs
 pub mod Marked
 pub mod PlanWrites
-pub mod Found
 pub mod Clashing
 pub mod ChangedCells
 pub mod WithoutClash
@@ -19,6 +18,6 @@ pub mod NextTouch
 pub mod LeavingOut
 pub mod WritingBack
 pub mod Sound
-pub mod Drafts
 pub mod Opened
 pub mod Recorded
+pub mod LiveEntries

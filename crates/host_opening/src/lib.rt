@@ -1,7 +1,6 @@
 //! What an opening needs of the entries of a history: which files they want, and the history itself.
 #![tactic(auto)]
 
-mod copies;
 mod laws;
 mod needs;
 mod places;

@@ -1,10 +1,10 @@
 //! The history of some entries.
-ghost use Rattle.std.specs.Prelude.{◌≡◌, ◌≢◌, ◌++◌, ◌∷◌, [], ◌≤◌, IfErr, IfOk, OnOk};
+ghost use Rattle.std.specs.Prelude.{◌≡◌, ◌≢◌, ◌≤◌, IfErr, IfOk, OnOk};
+ghost use Rattle.change_undo.specs.Logs.{with_entry};
 ghost use Rattle.change_undo.specs.Plans.{IsHistoryOver};
 ghost use Rattle.host_opening.specs.Replays.{IsAppendFault, IsReplayed, StopsAt};
 ghost use Rattle.host_opening.specs.declared.replays.ReplayFault.TheVariants as replay_fault;
 
-use crate::copies::copy_of;
 use crate::places::entry_of;
 use byte_view::Uploads;
 use change_undo::{Entry, History, Log};
@@ -35,14 +35,14 @@ fn fault_at(number: u64, error: ChangeError) -> ReplayFault
 /// Appends a copy of an entry to a history, with these uploads, over which the history is what it is.
 fn append<U: Uploads>(history: &mut History, entry: &Entry, uploads: &U) -> Result<(), ChangeError>
     requires over { IsHistoryOver (U.contents uploads.now) history.old }
-    ensures entries { OnOk result (history.new.entries ≡ history.old.entries ++ entry.now ∷ []) }
+    ensures entries { OnOk result (history.new.entries ≡ with_entry history.old.entries entry.now) }
     ensures over { OnOk result (IsHistoryOver (U.contents uploads.now) history.new) }
     ensures limit { history.new.limit ≡ history.old.limit }
     ensures fault { IfErr result (λ error. IsAppendFault (U.contents uploads.now) history.old entry.now error) }
 {
     match entry {
         Entry::Change(command) => {
-            let copy = copy_of(command)?;
+            let copy = command.clone()?;
             match history.commit(uploads, copy) {
                 Ok(_) => Ok(()),
                 Err(error) => Err(error),

@@ -9,8 +9,8 @@ use Rattle.change_undo.specs.declared.entries.Entry.{Entry}
 use Rattle.change_undo.specs.declared.entries.Entry.TheVariants.{Change, Undo}
 use Rattle.change_undo.specs.Histories.{Past, run, IsLegal, IsLegalAfter, is_allowed}
 use Rattle.change_undo.proofs.Runs.{history-grows, is_accepted, run-undone_at_once}
-use Rattle.change_undo.proofs.Found.{IsWithin-itself, kept-with_file}
-use Rattle.host_server.specs.Hosts.{Grows, Host, host_of, state_of, with_entries, with_entry, with_upload}
+use Rattle.site_change.proofs.MoreUploads.{IsWithin-itself, kept-with_file}
+use Rattle.host_server.specs.Hosts.{Grows, Host, host_of, state_of, with_log, with_entry, with_upload}
 use Rattle.host_server.specs.Growth.{itself}
 
 pub grows_same : (old new : Host) → new ≡ old → Grows old new
@@ -61,7 +61,7 @@ ends uploads seen (e ∷ before) entry legal =
 -- its state is the one before the change, whatever was uploaded meanwhile
 pub undone_at_once : (old new : Host) (before : List Entry) (command : Command) (site : SiteName) → IsLegal old.uploads old.entries → Grows old new
     → old.entries ≡ before ++ Change command ∷ [] → new.entries ≡ old.entries ++ Undo site (length before + 1) ∷ []
-    → state_of new ≡ state_of (with_entries old before)
+    → state_of new ≡ state_of (with_log old before)
 undone_at_once old new before command site legal grown is undone =
     let there : IsLegal old.uploads (before ++ Change command ∷ []) = subst (IsLegal old.uploads) is legal in
     let first = ends old.uploads [] before (Change command) there in

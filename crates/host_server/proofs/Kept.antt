@@ -2,7 +2,7 @@
 use Rattle.std.proofs.Common.{◌≡◌, ℕ, List, Result, Ok, Err, OnOk, OnErr, sym, subst}
 use Rattle.host_names.specs.Blobs.{Contents, with_file}
 use Rattle.change_undo.specs.Histories.{Past}
-use Rattle.change_undo.proofs.Found.{kept-with_file}
+use Rattle.site_change.proofs.MoreUploads.{kept-with_file}
 use Rattle.change_undo.proofs.Sound.{over-grows}
 use Rattle.host_server.specs.Hosts.{IsKept}
 

@@ -21,7 +21,7 @@ use Rattle.node_files.specs.Cached.{AllCached, CachedShelf, HasCached}
 use Rattle.node_files.proofs.Stored.{fault_cached, fault_stays, read_cached, read_stays}
 use Rattle.range_spec.specs.declared.selection.Choice.{Choice}
 use Rattle.http_wire.specs.Requests.{RequestParts}
-use Rattle.change_undo.proofs.Found.{kept-with_file}
+use Rattle.site_change.proofs.MoreUploads.{kept-with_file}
 use Rattle.host_api.specs.Types.{type_of}
 use Rattle.host_api.specs.declared.bodies.Ask.{Ask}
 use Rattle.host_api.specs.declared.bodies.Ask.TheVariants as ask

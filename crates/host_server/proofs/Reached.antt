@@ -11,7 +11,7 @@ use Rattle.site_state.proofs.FirstLacking.{first_lacking-grows}
 use Rattle.site_change.specs.Changes.{IsWithin}
 use Rattle.change_undo.specs.declared.entries.Entry.{Entry}
 use Rattle.change_undo.specs.Histories.{Past, entry_at}
-use Rattle.change_undo.proofs.Found.{kept-with_file}
+use Rattle.site_change.proofs.MoreUploads.{kept-with_file}
 use Rattle.host_server.specs.Readiness.{AreReached, listed_by, place_of}
 
 -- ---- an entry more

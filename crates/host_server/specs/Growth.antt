@@ -2,7 +2,7 @@
 use Rattle.std.specs.Prelude.{◌++◌, [], refl}
 use Rattle.std.proofs.Common.{ap, sym, ◌∙◌}
 use Rattle.std.proofs.lemmas.List.{append-nil, append_assoc}
-use Rattle.change_undo.proofs.Found.{IsWithin-itself, IsWithin-trans}
+use Rattle.site_change.proofs.MoreUploads.{IsWithin-itself, IsWithin-trans}
 use Rattle.host_server.specs.Hosts.{Grows, Host}
 
 pub itself : (host : Host) → Grows host host

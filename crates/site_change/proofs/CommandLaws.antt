@@ -1,8 +1,9 @@
 -- What is proved of each command: all of it in one place.
-use Rattle.std.proofs.Common.{◌≡◌, ℕ, false, Some, None, option_map, refl, ap, ◌∙◌, ◌||◌, sym, cond}
+use Rattle.std.proofs.Common.{◌≡◌, ℕ, true, false, Some, None, option_map, refl, ap, ◌∙◌, ◌||◌, sym, cond}
 use Rattle.std.specs.FinMap as map
 use Rattle.std.specs.Str.{bytes_eq}
 use Rattle.host_names.specs.Blobs.{Contents, AreDigested}
+use Rattle.host_names.specs.Cells.{site_of}
 use Rattle.host_names.specs.declared.cells.Cell.{Cell}
 use Rattle.host_names.specs.declared.cells.Cell.TheVariants as cell
 use Rattle.site_state.specs.Aliases.{alias_for, first_alias}
@@ -13,10 +14,12 @@ use Rattle.site_state.proofs.Named.{named_live, named_draft, named_without_alias
 use Rattle.site_change.specs.declared.commands.Command.{Command}
 use Rattle.site_change.specs.declared.commands.Command.TheVariants.{Open, Publish, Cancel, Remove, Rename, MoveAlias, RemoveAlias, Restore, RemoveDeploy}
 use Rattle.host_names.specs.declared.refusals.ChangeRefusal.TheVariants.{NoSuchDraft, NoSuchDeploy, NoSuchFile, NoSuchAlias}
-use Rattle.site_change.specs.Changes.{same_cell, needed, rename_refusal, publish_refusal, restore_refusal, removal_refusal, published, restored, refusal, applied, publish_touches, restore_touches, touches, IsWithin}
+use Rattle.site_change.specs.Changes.{same_cell, needed, rename_refusal, publish_refusal, restore_refusal, removal_refusal, published, restored, refusal, applied, site_of_command, publish_touches, restore_touches, touches, IsWithin}
 use Rattle.site_change.specs.Laws.{AgreeOn, SameEffect}
 use Rattle.site_change.specs.Uploaded.{AreUploaded}
 use Rattle.site_change.proofs.Deploys.{DeploysFrom, without_new, none_by_removal, none_by_live, none_by_alias, none_by_publishing, none_by_restoring, from_opening}
+use Rattle.site_change.proofs.Drafts.{DraftsFrom, stay_all, stay_then, stay_by_write, stay_by_removal, stay_by_live, stay_by_publishing, stay_by_restoring, from_opening as from_draft}
+use Rattle.site_change.proofs.SitesTouched.{either, at_cell, at_alias, at_publish, at_restore}
 use Rattle.site_change.proofs.Effects.{same_cell-itself, get-with_two}
 use Rattle.site_change.proofs.Fitting.{IsLeftOrFits, live_fits, write_fits, both_fit, publish_fits, restore_fits}
 use Rattle.site_change.proofs.NamedAliases.{named_publish, named_restore, is_there, no_alias}
@@ -41,6 +44,10 @@ pub record KeepsLaws (command : Command) (n : ℕ) (state : State) (uploads : Co
   pub uploaded : AreDigested uploads → AreUploaded uploads state → refusal command n state uploads ≡ None → AreUploaded uploads (applied command n state uploads)
   -- the deploys after it were there before, or it opens them
   pub deploys : DeploysFrom command n state (applied command n state uploads)
+  -- so were the drafts, with what they list
+  pub drafts : DraftsFrom command n state (applied command n state uploads)
+  -- what it touches is of its site
+  pub of_site : (c : Cell) → touches command n state c ≡ true → site_of c ≡ site_of_command command
 
 pub command_laws : (command : Command) (n : ℕ) (state : State) (uploads : Contents) → KeepsLaws command n state uploads
 command_laws (Open site files auto) n state uploads =
@@ -57,6 +64,8 @@ command_laws (Open site files auto) n state uploads =
       grows = λ more within accepted. (accepted, refl);
       uploaded = λ digested all accepted. write_uploaded uploads state at (Some draft) tt all;
       deploys = from_opening state site n files auto draft;
+      drafts = from_draft state site n files auto;
+      of_site = λ c. at_cell c at;
     }
 command_laws (Publish site m) n state uploads =
     let draft = draft_at state site m in record {
@@ -73,6 +82,8 @@ command_laws (Publish site m) n state uploads =
       grows = λ more. publish_grows site m uploads more state draft;
       uploaded = λ digested all accepted. publish_uploaded uploads digested site m state draft accepted all;
       deploys = without_new (Publish site m) n state _ (none_by_publishing site m uploads state);
+      drafts = stay_all (Publish site m) n state _ (stay_by_publishing site m uploads state draft);
+      of_site = λ c. either (site_of c ≡ site) (same_cell c (cell.Draft site m)) (publish_touches site m draft c) (at_cell c (cell.Draft site m)) (at_publish site m draft c);
     }
 command_laws (Cancel site m) n state uploads =
     let at = cell.Draft site m in record {
@@ -87,6 +98,8 @@ command_laws (Cancel site m) n state uploads =
       grows = λ more within accepted. (accepted, refl);
       uploaded = λ digested all accepted. write_uploaded uploads state at None tt all;
       deploys = without_new (Cancel site m) n state _ (none_by_removal state at);
+      drafts = stay_all (Cancel site m) n state _ (stay_by_removal state at);
+      of_site = λ c. at_cell c at;
     }
 command_laws (Remove site path) n state uploads =
     let at = cell.Live site path in record {
@@ -101,6 +114,8 @@ command_laws (Remove site path) n state uploads =
       grows = λ more within accepted. (accepted, refl);
       uploaded = λ digested all accepted. write_uploaded uploads state at None tt all;
       deploys = without_new (Remove site path) n state _ (none_by_removal state at);
+      drafts = stay_all (Remove site path) n state _ (stay_by_removal state at);
+      of_site = λ c. at_cell c at;
     }
 command_laws (Rename site source target) n state uploads =
     let a = cell.Live site source in
@@ -123,6 +138,8 @@ command_laws (Rename site source target) n state uploads =
       grows = λ more within accepted. (accepted, refl);
       uploaded = λ digested all accepted. write_uploaded uploads gone b file (served_uploaded uploads (map.get state a) (all a)) (write_uploaded uploads state a None tt all);
       deploys = without_new (Rename site source target) n state _ (λ own m there. none_by_removal state a own m (none_by_live gone site target file own m there));
+      drafts = stay_all (Rename site source target) n state _ (stay_then state gone _ (stay_by_removal state a) (stay_by_live gone site target file));
+      of_site = λ c. either (site_of c ≡ site) (same_cell c a) (same_cell c b) (at_cell c a) (at_cell c b);
     }
 command_laws (MoveAlias site name m) n state uploads =
     let k = cell.Kept site m in
@@ -138,6 +155,8 @@ command_laws (MoveAlias site name m) n state uploads =
       grows = λ more within accepted. (accepted, refl);
       uploaded = λ digested all accepted. write_uploaded uploads state at (Some (value.Alias m)) tt all;
       deploys = without_new (MoveAlias site name m) n state _ (none_by_alias state site name (Some (value.Alias m)));
+      drafts = stay_all (MoveAlias site name m) n state _ (stay_by_write state at (Some (value.Alias m)) (λ other j is. cc is));
+      of_site = λ c. either (site_of c ≡ site) (same_cell c k) (same_cell c at) (at_cell c k) (at_cell c at);
     }
 command_laws (RemoveAlias site name) n state uploads =
     let at = cell.Alias site name in record {
@@ -152,6 +171,8 @@ command_laws (RemoveAlias site name) n state uploads =
       grows = λ more within accepted. (accepted, refl);
       uploaded = λ digested all accepted. write_uploaded uploads state at None tt all;
       deploys = without_new (RemoveAlias site name) n state _ (none_by_removal state at);
+      drafts = stay_all (RemoveAlias site name) n state _ (stay_by_removal state at);
+      of_site = λ c. at_cell c at;
     }
 command_laws (Restore site m) n state uploads =
     let k = cell.Kept site m in
@@ -175,6 +196,9 @@ command_laws (Restore site m) n state uploads =
       grows = λ more. restore_grows site m uploads more state kept draft;
       uploaded = λ digested all accepted. restore_uploaded uploads digested site m state kept draft (kept_uploaded uploads (map.get state k) (all k)) accepted all;
       deploys = without_new (Restore site m) n state _ (none_by_restoring site m uploads state kept);
+      drafts = stay_all (Restore site m) n state _ (stay_by_restoring site m uploads state kept draft);
+      of_site = λ c. either (site_of c ≡ site) (same_cell c d) (same_cell c k || others c) (at_cell c d)
+          (either (site_of c ≡ site) (same_cell c k) (others c) (at_cell c k) (at_restore site m kept draft c));
     }
 command_laws (RemoveDeploy site m) n state uploads =
     let k = cell.Kept site m in record {
@@ -191,4 +215,6 @@ command_laws (RemoveDeploy site m) n state uploads =
       grows = λ more within accepted. (accepted, refl);
       uploaded = λ digested all accepted. write_uploaded uploads state k None tt all;
       deploys = without_new (RemoveDeploy site m) n state _ (none_by_removal state k);
+      drafts = stay_all (RemoveDeploy site m) n state _ (stay_by_removal state k);
+      of_site = λ c. either (site_of c ≡ site) (same_cell c k) (is_alias_of site c) (at_cell c k) (at_alias site c);
     }

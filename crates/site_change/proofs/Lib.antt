@@ -14,6 +14,8 @@ pub mod SameFiles
 pub mod Uploading
 mod Comparing
 pub mod Deploys
+pub mod Drafts
+mod SitesTouched
 -- all laws of each command, and what follows of them
 pub mod CommandLaws
 pub mod Locality
@@ -21,6 +23,7 @@ pub mod OfKind
 pub mod Named
 pub mod LeftOut
 pub mod Growing
+pub mod MoreUploads
 pub mod UploadedRuns
 pub mod Touching
 pub mod Leaving

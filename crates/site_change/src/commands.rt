@@ -1,9 +1,11 @@
 //! Commands: the changes that can be asked for.
-ghost use Rattle.std.specs.Prelude.{◌≡◌};
+ghost use Rattle.std.specs.Prelude.{◌≡◌, IfOk};
 ghost use Rattle.site_change.specs.Changes.{site_of_command};
+ghost use Rattle.site_change.specs.declared.commands.Command.TheVariants.{Open, Rename};
 
 use host_names::{AliasName, FilePath, SiteName};
 use site_state::Listing;
+use std::alloc::AllocError;
 
 /// A change that is asked for. The number of the entry that it becomes is told with it.
 #[derive(Drop)]
@@ -76,5 +78,66 @@ impl Command {
             | Command::Restore { site, .. }
             | Command::RemoveDeploy { site, .. } => site,
         }
+    }
+}
+
+/// The opening of a deploy that lists the same.
+fn opening(site: SiteName, files: &Listing, auto: bool) -> Result<Command, AllocError>
+    ensures { IfOk result (λ command. command ≡ Open site files.now auto) }
+{
+    let files = files.clone()?;
+    Ok(Command::Open { site, files, auto })
+}
+
+/// The renaming of a path to another.
+fn renaming(site: SiteName, source: &FilePath, target: &FilePath) -> Result<Command, AllocError>
+    ensures { IfOk result (λ command. command ≡ Rename site source.now target.now) }
+{
+    Ok(Command::Rename {
+        site,
+        source: source.clone()?,
+        target: target.clone()?,
+    })
+}
+
+/// A copy shares its paths and what it lists.
+impl Clone for Command {
+    ghost is_clone = { λ command copy. copy ≡ command };
+
+    fn clone(&self) -> Result<Command, AllocError> {
+        let site = self.site().copied();
+        Ok(match *self {
+            Command::Open {
+                ref files,
+                auto,
+                ..
+            } => opening(site, files, auto)?,
+            Command::Publish { number, .. } => Command::Publish { site, number },
+            Command::Cancel { number, .. } => Command::Cancel { site, number },
+            Command::Remove { ref path, .. } => Command::Remove {
+                site,
+                path: path.clone()?,
+            },
+            Command::Rename {
+                ref source,
+                ref target,
+                ..
+            } => renaming(site, source, target)?,
+            Command::MoveAlias {
+                ref name,
+                number,
+                ..
+            } => Command::MoveAlias {
+                site,
+                name: name.copied(),
+                number,
+            },
+            Command::RemoveAlias { ref name, .. } => Command::RemoveAlias {
+                site,
+                name: name.copied(),
+            },
+            Command::Restore { number, .. } => Command::Restore { site, number },
+            Command::RemoveDeploy { number, .. } => Command::RemoveDeploy { site, number },
+        })
     }
 }

@@ -38,6 +38,16 @@ fn opened(files: &Listing, auto: bool) -> Result<Value, AllocError>
     Ok(Value::Draft(Draft { auto, files }))
 }
 
+/// The first reason to refuse the opening of a deploy of these files, in any state. It takes no memory.
+pub fn opening_refusal(files: &Listing) -> Option<ChangeRefusal>
+    ensures { result ≡ (if nat_lt 10000 (length files.now.1) then Some TooManyFiles else None) }
+{
+    if files.entries().len() > MOST_FILES {
+        return Some(ChangeRefusal::TooManyFiles);
+    }
+    None
+}
+
 /// What the opening of a deploy changes and touches.
 fn open(
     alloc: Global,
@@ -53,8 +63,8 @@ fn open(
         (Some (value.Draft (record { auto = auto; files = files.now }))))
         result }
 {
-    if files.entries().len() > MOST_FILES {
-        return Err(ChangeError::Refused(ChangeRefusal::TooManyFiles));
+    if let Some(reason) = opening_refusal(files) {
+        return Err(ChangeError::Refused(reason));
     }
     let cell = Cell::Draft(site.copied(), number);
     let draft = opened(files, auto)?;

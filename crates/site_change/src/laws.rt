@@ -1,7 +1,7 @@
 //! Laws of changes, each the contract of a function that does nothing.
 ghost use Rattle.std.specs.Prelude.{◌≡◌, ◌≢◌, ◌↔◌, ◌⊎◌, ℕ, Bool, true, false, not, List, [], ◌∷◌, Option, None, Some};
 ghost use Rattle.std.specs.FinMap as map;
-ghost use Rattle.host_names.specs.Blobs.{AreDigested, Contents, digest_of};
+ghost use Rattle.host_names.specs.Blobs.{AreDigested, Contents, digest_of, with_file};
 ghost use Rattle.host_names.specs.declared.cells.Cell.{Cell};
 ghost use Rattle.host_names.specs.declared.cells.Cell.TheVariants as cell;
 ghost use Rattle.host_names.specs.declared.names.AliasName.{AliasName};
@@ -43,6 +43,13 @@ pub fn a_change_can_be_left_out()
 pub fn accepted_stays_accepted()
     ensures { (uploads more : Contents) (state : State) (commands : List (ℕ × Command)) →
         KeepsRunning uploads more state commands }
+{}
+
+/// Uploads are within themselves, within those with one file more, and within what those are within that they are within.
+pub fn uploads_are_within_more()
+    ensures itself { (uploads : Contents) → IsWithin uploads uploads }
+    ensures file { (uploads : Contents) (bytes : List ℕ) → IsWithin uploads (with_file uploads bytes) }
+    ensures on { (uploads more most : Contents) → IsWithin uploads more → IsWithin more most → IsWithin uploads most }
 {}
 
 /// Two files that were uploaded to one place are the same exactly where their digests are. Of other files nothing is said.

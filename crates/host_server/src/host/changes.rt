@@ -20,7 +20,7 @@ use change_journal::Journal;
 use host_api::{Items, Refusal, Told};
 use host_disk::Disk;
 use host_names::{ChangeRefusal, SiteName};
-use site_change::{Command, MOST_FILES};
+use site_change::{Command, opening_refusal};
 use site_state::{Draft, Listing, missing};
 
 /// Whether a deploy of these files may be opened, or the first reason why not. It takes no memory.
@@ -32,10 +32,10 @@ fn judge_opening<H: HostView>(host: &H, files: &Listing) -> Result<(), ChangeRef
     if host.is_full() {
         return Err(ChangeRefusal::HistoryFull);
     }
-    if files.entries().len() > MOST_FILES {
-        return Err(ChangeRefusal::TooManyFiles);
+    match opening_refusal(files) {
+        Some(reason) => Err(reason),
+        None => Ok(()),
     }
-    Ok(())
 }
 
 impl SoloHouse {
