@@ -14,7 +14,7 @@ use Rattle.site_state.specs.Files.{Paths}
 use Rattle.site_change.specs.declared.commands.Command.TheVariants.{Open, Publish, Restore}
 use Rattle.change_undo.specs.declared.entries.Entry.{Entry}
 use Rattle.change_undo.specs.declared.entries.Entry.TheVariants.{Change}
-use Rattle.change_undo.specs.Histories.{entry_at}
+use Rattle.change_undo.specs.Logs.{Log, own_entries, entry_at}
 
 -- ---- which deploys are published
 
@@ -29,8 +29,8 @@ abbrev pub publishes : Cell → Entry → Bool
 publishes c entry = option_map_or (λ p. is_at (cell_cmp p) c) (published_by entry) false
 
 -- the set has the cells of the deploys that these entries publish
-abbrev pub HasPublished : List Entry → BTreeSet Cell → Type 0
-HasPublished entries published = (c : Cell) → contains cell_cmp published c ≡ list_any (publishes c) entries
+abbrev pub HasPublished : Log → BTreeSet Cell → Type 0
+HasPublished log published = (c : Cell) → contains cell_cmp published c ≡ list_any (publishes c) (own_entries log)
 
 -- ---- which digests are needed
 
@@ -52,15 +52,15 @@ need_if is_needed must = if is_needed then Some must else None
 abbrev pub need_in : Bool → Paths (Option Digest) → Digest → Option Bool
 need_in must files q = need_if (list_any (λ f. is_listed q f.1) files) must
 
--- what the entry of a number needs of a digest, where all these are the entries
-abbrev pub need_at : List Entry → ℕ → Option Entry → Digest → Option Bool
-need_at entries n (Some (Change (Open site files auto))) q = need_in (list_any (publishes (cell.Kept site n)) entries) files.1 q
-need_at entries n _ q = None
+-- what the entry of a number needs of a digest, where this is the log
+abbrev pub need_at : Log → ℕ → Option Entry → Digest → Option Bool
+need_at log n (Some (Change (Open site files auto))) q = need_in (list_any (publishes (cell.Kept site n)) (own_entries log)) files.1 q
+need_at log n _ q = None
 
--- what the first k of the entries need of a digest
-abbrev pub need_up_to : List Entry → ℕ → Digest → Option Bool
-need_up_to entries zero q = None
-need_up_to entries (suc k) q = more (need_at entries (k + 1) (entry_at entries (k + 1)) q) (need_up_to entries k q)
+-- what the entries up to the number k need of a digest
+abbrev pub need_up_to : Log → ℕ → Digest → Option Bool
+need_up_to log zero q = None
+need_up_to log (suc k) q = more (need_at log (k + 1) (entry_at log (k + 1)) q) (need_up_to log k q)
 
 -- the map tells of each digest what is needed of it
 abbrev pub HasNeeds : (Digest → Option Bool) → BTreeMap Digest Bool → Type 0

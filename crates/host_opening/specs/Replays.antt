@@ -1,5 +1,5 @@
 -- Entries taken in turn.
-use Rattle.std.specs.Prelude.{◌≡◌, ℕ, ◌+◌, ◌≤◌, List, [], ◌∷◌, ◌++◌, length, Some}
+use Rattle.std.specs.Prelude.{◌≡◌, ℕ, ◌≤◌, List, ◌∷◌, Some}
 use Rattle.host_names.specs.Blobs.{Contents}
 use Rattle.host_names.specs.declared.refusals.ChangeRefusal.{ChangeRefusal}
 use Rattle.host_names.specs.declared.refusals.ChangeError.{ChangeError}
@@ -8,36 +8,37 @@ use Rattle.site_state.specs.States.{State}
 use Rattle.change_undo.specs.declared.entries.Entry.{Entry}
 use Rattle.change_undo.specs.declared.entries.Entry.TheVariants.{Change, Undo}
 use Rattle.change_undo.specs.Histories.{IsLegal, Past, commit_refusal, run, undo_refusal}
+use Rattle.change_undo.specs.Logs.{Log, last_number, next_number, with_entries}
 use Rattle.change_undo.specs.Plans.{IsHistoryOver}
 use Rattle.host_opening.specs.declared.replays.ReplayFault.{ReplayFault}
 use Rattle.host_opening.specs.declared.replays.ReplayFault.TheVariants as fault
 
 -- a history of these entries over these uploads, which may have as many as the limit says
-pub record IsReplayed (uploads : Contents) (limit : ℕ) (entries : List Entry) (past : Past) : Type 0 where
-  pub entries_are : past.entries ≡ entries
+pub record IsReplayed (uploads : Contents) (limit : ℕ) (log : Log) (past : Past) : Type 0 where
+  pub entries_are : past.entries ≡ log
   pub limit_is : past.limit ≡ limit
   pub over : IsHistoryOver uploads past
 
 -- why the entry isn't accepted as the one after these, in a history of this limit
-abbrev pub IsRefusedAfter : Contents → ℕ → List Entry → Entry → ChangeRefusal → Type 0
+abbrev pub IsRefusedAfter : Contents → ℕ → Log → Entry → ChangeRefusal → Type 0
 IsRefusedAfter uploads limit before (Change command) reason =
     (state : State) × (run uploads before ≡ Some state) × (commit_refusal uploads limit before state command ≡ Some reason)
 IsRefusedAfter uploads limit before (Undo site k) reason = undo_refusal uploads limit before site k ≡ Some reason
 
 -- why the entry after these wasn't taken: there is a reason to refuse it, or there was no memory
-abbrev pub IsStoppedBy : Contents → ℕ → List Entry → Entry → ReplayFault → Type 0
+abbrev pub IsStoppedBy : Contents → ℕ → Log → Entry → ReplayFault → Type 0
 IsStoppedBy uploads limit before entry (fault.NotLegal n) =
-    (n ≡ length before + 1) × ((reason : ChangeRefusal) × IsRefusedAfter uploads limit before entry reason)
+    (n ≡ next_number before) × ((reason : ChangeRefusal) × IsRefusedAfter uploads limit before entry reason)
 IsStoppedBy uploads limit before entry fault.OutOfMemory = Unit {0}
 
 -- the first ones are accepted in turn, within the limit, and the next one wasn't taken
-pub record StopsAt (uploads : Contents) (limit : ℕ) (entries : List Entry) (stop : ReplayFault) : Type 0 where
-  pub before : List Entry
+pub record StopsAt (uploads : Contents) (limit : ℕ) (log : Log) (stop : ReplayFault) : Type 0 where
+  pub before : Log
   pub entry : Entry
   pub after : List Entry
-  pub parts : entries ≡ before ++ entry ∷ after
+  pub parts : log ≡ with_entries before (entry ∷ after)
   pub legal : IsLegal uploads before
-  pub within : length before ≤ limit
+  pub within : last_number before ≤ limit
   pub stopped : IsStoppedBy uploads limit before entry stop
 
 -- ---- what private functions say

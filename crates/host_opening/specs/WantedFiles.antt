@@ -8,19 +8,18 @@ use Rattle.blob_store.specs.declared.openings.Wanted.{Wanted}
 use Rattle.site_state.specs.Listings.{Listed}
 use Rattle.site_state.specs.Missing.{digests_of}
 use Rattle.site_change.specs.declared.commands.Command.TheVariants.{Open, Publish, Restore}
-use Rattle.change_undo.specs.declared.entries.Entry.{Entry}
 use Rattle.change_undo.specs.declared.entries.Entry.TheVariants.{Change}
-use Rattle.change_undo.specs.Histories.{entry_at}
+use Rattle.change_undo.specs.Logs.{Log, entry_at}
 
 -- the entry of this number opens a deploy of the site, and lists the digest
-abbrev pub Lists : List Entry → SiteName → ℕ → Digest → Type 0
-Lists entries site n digest =
-    (files : Listed) × (auto : Bool) × (entry_at entries n ≡ Some (Change (Open site files auto))) × Contains (digests_of files.1) digest
+abbrev pub Lists : Log → SiteName → ℕ → Digest → Type 0
+Lists log site n digest =
+    (files : Listed) × (auto : Bool) × (entry_at log n ≡ Some (Change (Open site files auto))) × Contains (digests_of files.1) digest
 
 -- some entry publishes or restores the deploy of this site and number; it may come before or after any other, and it may be undone
-abbrev pub IsPublished : List Entry → SiteName → ℕ → Type 0
-IsPublished entries site n =
-    (k : ℕ) × ((entry_at entries k ≡ Some (Change (Publish site n))) ⊎ (entry_at entries k ≡ Some (Change (Restore site n))))
+abbrev pub IsPublished : Log → SiteName → ℕ → Type 0
+IsPublished log site n =
+    (k : ℕ) × ((entry_at log k ≡ Some (Change (Publish site n))) ⊎ (entry_at log k ≡ Some (Change (Restore site n))))
 
 -- the digests, in the order in which they are wanted
 abbrev pub wanted_digests : List Wanted → List Digest
@@ -28,8 +27,8 @@ wanted_digests wanted = map (λ one. one.digest) wanted
 
 -- Each digest that a deploy lists is wanted, no other, and each once, in their order. Its file must be there exactly where a deploy that
 -- lists it is published or restored.
-pub record AreWanted (entries : List Entry) (wanted : List Wanted) : Type 0 where
+pub record AreWanted (log : Log) (wanted : List Wanted) : Type 0 where
   pub rising : IsStrictlySortedBy digest_cmp (wanted_digests wanted)
-  pub listed : (digest : Digest) → Contains (wanted_digests wanted) digest ↔ ((site : SiteName) × (n : ℕ) × Lists entries site n digest)
+  pub listed : (digest : Digest) → Contains (wanted_digests wanted) digest ↔ ((site : SiteName) × (n : ℕ) × Lists log site n digest)
   pub must : (one : Wanted) → Contains wanted one
-      → IsTrue one.must ↔ ((site : SiteName) × (n : ℕ) × Lists entries site n one.digest × IsPublished entries site n)
+      → IsTrue one.must ↔ ((site : SiteName) × (n : ℕ) × Lists log site n one.digest × IsPublished log site n)

@@ -1,12 +1,12 @@
 //! Laws of openings, each the contract of a function that does nothing.
-ghost use Rattle.std.specs.Prelude.{◌≡◌, ◌≤◌, ℕ, List, [], ◌∷◌, length};
+ghost use Rattle.std.specs.Prelude.{◌≡◌, ◌≤◌, ℕ, List, ◌∷◌};
 ghost use Rattle.host_names.specs.Blobs.{Contents};
 ghost use Rattle.host_names.specs.declared.digests.Digest.{Digest};
 ghost use Rattle.host_names.specs.declared.names.SiteName.{SiteName};
 ghost use Rattle.blob_store.specs.declared.openings.Wanted.{Wanted};
 ghost use Rattle.change_undo.specs.Histories.{IsLegal, Past};
+ghost use Rattle.change_undo.specs.Logs.{Log, empty_log, last_number};
 ghost use Rattle.change_undo.specs.Plans.{IsHistoryOver};
-ghost use Rattle.change_undo.specs.declared.entries.Entry.{Entry as Line};
 ghost use Rattle.host_opening.specs.Replays.{IsReplayed, StopsAt};
 ghost use Rattle.host_opening.specs.WantedFiles.{AreWanted, IsPublished, Lists};
 ghost use Rattle.host_opening.specs.declared.replays.ReplayFault.{ReplayFault};
@@ -14,7 +14,7 @@ ghost use Rattle.host_opening.specs.declared.replays.ReplayFault.TheVariants.{No
 
 /// Where each entry is accepted in turn and there are no more than the limit says, none is told that isn't legal.
 pub fn a_legal_log_is_replayed()
-    ensures { (uploads : Contents) (limit : ℕ) (entries : List Line) (n : ℕ) → IsLegal uploads entries → length entries ≤ limit → ¬ (StopsAt uploads limit entries (NotLegal n)) }
+    ensures { (uploads : Contents) (limit : ℕ) (log : Log) (n : ℕ) → IsLegal uploads log → last_number log ≤ limit → ¬ (StopsAt uploads limit log (NotLegal n)) }
 {}
 
 /// The history of the entries of a history is that history again, over the same uploads: its entries, its limit and its state.
@@ -25,8 +25,8 @@ pub fn a_replayed_history_is_the_same()
 
 /// Of no entries no file is wanted, listed or published, and none of them stops an opening.
 pub fn nothing_is_wanted_of_no_entries()
-    ensures wanted { (one : Wanted) (more : List Wanted) → ¬ (AreWanted [] (one ∷ more)) }
-    ensures listed { (site : SiteName) (n : ℕ) (digest : Digest) → ¬ (Lists [] site n digest) }
-    ensures published { (site : SiteName) (n : ℕ) → ¬ (IsPublished [] site n) }
-    ensures stopped { (uploads : Contents) (limit : ℕ) (stop : ReplayFault) → ¬ (StopsAt uploads limit [] stop) }
+    ensures wanted { (one : Wanted) (more : List Wanted) → ¬ (AreWanted empty_log (one ∷ more)) }
+    ensures listed { (site : SiteName) (n : ℕ) (digest : Digest) → ¬ (Lists empty_log site n digest) }
+    ensures published { (site : SiteName) (n : ℕ) → ¬ (IsPublished empty_log site n) }
+    ensures stopped { (uploads : Contents) (limit : ℕ) (stop : ReplayFault) → ¬ (StopsAt uploads limit empty_log stop) }
 {}

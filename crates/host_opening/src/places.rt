@@ -1,13 +1,13 @@
 //! Entries by their numbers.
-ghost use Rattle.std.specs.Prelude.{◌≡◌, ◌≤◌, Some, length};
-ghost use Rattle.change_undo.specs.Histories.{entry_at};
+ghost use Rattle.std.specs.Prelude.{◌≡◌, ◌≤◌, Some};
+ghost use Rattle.change_undo.specs.Logs.{entry_at, last_number};
 
 use change_undo::{Entry, Log};
 
 /// The entry of a number, from 1 on, that there is.
 pub(crate) fn entry_of(log: &Log, number: u64) -> &Entry
     requires some { 1 ≤ number }
-    requires within { number ≤ length log.now }
+    requires within { number ≤ last_number log.now }
     ensures { entry_at log.now number ≡ Some result.now }
 {
     log.entry(number).unwrap()

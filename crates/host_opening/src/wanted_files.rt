@@ -1,9 +1,9 @@
 //! Which files a store has to be opened with.
-ghost use Rattle.std.specs.Prelude.{◌≡◌, ◌≤◌, IfOk, OnOk, length, map};
+ghost use Rattle.std.specs.Prelude.{◌≡◌, ◌≤◌, IfOk, OnOk, map};
 ghost use Rattle.std.specs.BTreeMap.{get};
 ghost use Rattle.std.specs.List.Sorted.{IsStrictlySortedBy};
 ghost use Rattle.std.specs.Map.{keys_of};
-ghost use Rattle.change_undo.specs.Histories.{entry_at};
+ghost use Rattle.change_undo.specs.Logs.{entry_at, last_number};
 ghost use Rattle.host_names.specs.Digests.{digest_cmp};
 ghost use Rattle.host_names.specs.declared.digests.Digest.{Digest as Name};
 ghost use Rattle.host_opening.specs.Needs.{HasNeeds, HasPublished, more, need_at, need_up_to, one_wanted};
@@ -27,7 +27,7 @@ fn add_entry(
     number: u64,
 ) -> Result<(), AllocError>
     requires some { 1 ≤ number }
-    requires within { number ≤ length log.now }
+    requires within { number ≤ last_number log.now }
     requires published { HasPublished log.now published.now }
     ensures { OnOk result ((q : Name) → get digest_cmp needs.new q ≡ more (need_at log.now number (entry_at log.now number) q) (get digest_cmp needs.old q)) }
 {
@@ -42,7 +42,7 @@ fn add_entry(
 
 /// What is needed of each digest.
 fn needs_of(alloc: Global, log: &Log) -> Result<BTreeMap<Digest, bool>, AllocError>
-    ensures { IfOk result (λ needs. HasNeeds (need_up_to log.now (length log.now)) needs) }
+    ensures { IfOk result (λ needs. HasNeeds (need_up_to log.now (last_number log.now)) needs) }
 {
     let published = published(alloc, log)?;
     let mut needs = BTreeMap::new(alloc);
