@@ -2,12 +2,11 @@
 --
 -- What is above this crate speaks of a log in these words alone. A log that begins after a number, with the cells that a state had then, is
 -- planned: so far each log has its entries from the first one on, after the number 0 and no cells.
-use Rattle.std.specs.Prelude.{◌≡◌, ℕ, ◌+◌, List, [], ◌∷◌, ◌++◌, length}
+use Rattle.std.specs.Prelude.{◌≡◌, ℕ, ◌+◌, ◌-◌, ◌==◌, List, [], ◌∷◌, ◌++◌, length, slice_get, Option, None, if◌then◌else◌}
 use Rattle.std.specs.FinMap as map
 use Rattle.std.specs.List.{enumerate_from}
 use Rattle.site_state.specs.States.{State}
 use Rattle.change_undo.specs.declared.entries.Entry.{Entry}
-pub use Rattle.change_undo.specs.Histories.{IsLegal, entry_at, live_changes, marked_entry, run, undone}
 
 abbrev pub Log : Type 0
 Log = List Entry
@@ -20,9 +19,13 @@ base log = 0
 abbrev pub base_cells : Log → State
 base_cells log = map.empty
 
--- a log without entries
+-- a log without entries, from the number 0 on
 abbrev pub empty_log : Log
 empty_log = []
+
+-- the log without its own entries
+abbrev pub at_base : Log → Log
+at_base log = []
 
 -- its own entries, those after its base, the oldest first
 abbrev pub own_entries : Log → List Entry
@@ -35,6 +38,10 @@ last_number log = length (own_entries log)
 -- the number that its next entry has
 abbrev pub next_number : Log → ℕ
 next_number log = last_number log + 1
+
+-- the entry of this number
+abbrev pub entry_at : Log → ℕ → Option Entry
+entry_at log k = if k == base log then None else slice_get (own_entries log) (k - (base log + 1))
 
 -- its entries, each with its number
 abbrev pub numbered : Log → List (ℕ × Entry)

@@ -1,19 +1,16 @@
 //! Histories: changes are committed at their end, and undone by an entry of their own.
-ghost use Rattle.std.specs.Prelude.{◌≡◌, ◌+◌, ◌≤◌, ◌<◌, [], ◌∷◌, ◌++◌, length, nat_le, Some, None, Err, List, ℕ, IfOk, OnOk, OnErr, option_copied, option_map};
+ghost use Rattle.std.specs.Prelude.{◌≡◌, ◌≤◌, [], nat_le, Some, IfOk, OnOk, OnErr, option_copied, option_map};
 ghost use Rattle.std.specs.FinMap as map;
 ghost use Rattle.host_names.specs.Blobs.{Contents};
 ghost use Rattle.host_names.specs.Refusals.{IsRefusedBy};
-ghost use Rattle.host_names.specs.declared.names.SiteName.{SiteName as Site};
-ghost use Rattle.site_state.specs.Files.{Paths};
-ghost use Rattle.site_state.specs.States.{draft_at, kept_at};
-ghost use Rattle.site_state.specs.declared.values.Draft.{Draft as Opened};
 ghost use Rattle.site_change.specs.Changes.{applied};
 ghost use Rattle.site_change.specs.Uploaded.{AreUploaded};
 ghost use Rattle.change_undo.specs.declared.entries.Entry.TheVariants as entry;
 ghost use Rattle.change_undo.specs.Clashes;
 ghost use Rattle.change_undo.specs.Effects.{UndoesChange};
 ghost use Rattle.change_undo.specs.Histories;
-ghost use Rattle.change_undo.specs.Openings.{Opens, OpensDraft};
+ghost use Rattle.change_undo.specs.Logs;
+ghost use Rattle.change_undo.specs.Logs.{empty_log, last_number, next_number, with_entry};
 ghost use Rattle.change_undo.specs.Plans.{IsHistoryOver, IsRecorded};
 
 use crate::entries::Entry;
@@ -61,7 +58,7 @@ impl History {
     pub fn new(alloc: Global, limit: u64) -> History
         requires some { 1 ≤ limit }
         requires bounded { limit ≤ 1000000 }
-        ensures { result ≡ record { limit = limit; entries = []; plans = []; state = map.empty } }
+        ensures { result ≡ record { limit = limit; entries = empty_log; plans = []; state = map.empty } }
     {
         History {
             limit,
@@ -70,21 +67,19 @@ impl History {
         }
     }
 
-    /// The state: what the changes that no undo names give from nothing. The number of an open or kept deploy is that of
-    /// the entry that opened it, and an open deploy lists what that entry did.
+    /// The state: what the changes that no undo names give from nothing. `deploys_were_opened_by_their_entries` says what that
+    /// tells of its deploys.
     pub fn state(&self) -> &State
         ensures value { result.now ≡ self.now.state }
         ensures over { (uploads : Contents) × IsHistoryOver uploads self.now }
-        ensures opened { (site : Site) (number : ℕ) (draft : Opened) → draft_at result.now site number ≡ Some draft → OpensDraft self.now.entries site number draft }
-        ensures kept { (site : Site) (number : ℕ) (tree : Paths (List ℕ)) → kept_at result.now site number ≡ Some tree → Opens self.now.entries site number }
     {
         &self.state
     }
 
     /// The number of entries, of which there are no more than the limit says.
     pub fn len(&self) -> u64
-        ensures number { result ≡ length self.now.entries }
-        ensures room { length self.now.entries ≤ self.now.limit }
+        ensures number { result ≡ last_number self.now.entries }
+        ensures room { last_number self.now.entries ≤ self.now.limit }
         ensures some { 1 ≤ self.now.limit }
         ensures bounded { self.now.limit ≤ 1000000 }
     {
@@ -93,7 +88,7 @@ impl History {
 
     /// Whether it has as many entries as its limit says.
     pub fn is_full(&self) -> bool
-        ensures { result ≡ nat_le self.now.limit (length self.now.entries) }
+        ensures { result ≡ nat_le self.now.limit (last_number self.now.entries) }
     {
         self.limit <= self.records.len()
     }
@@ -157,9 +152,9 @@ impl History {
     pub fn commit<U: Uploads>(&mut self, uploads: &U, command: Command) -> Result<u64, ChangeError>
         requires over { IsHistoryOver (U.contents uploads.now) self.old }
         ensures refused { IsRefusedBy (Histories.commit_refusal (U.contents uploads.now) self.old.limit self.old.entries self.old.state command) result }
-        ensures number { IfOk result (λ number. number ≡ length self.old.entries + 1) }
-        ensures entries { OnOk result (self.new.entries ≡ self.old.entries ++ entry.Change command ∷ []) }
-        ensures state { OnOk result (self.new.state ≡ applied command (length self.old.entries + 1) self.old.state (U.contents uploads.now)) }
+        ensures number { IfOk result (λ number. number ≡ next_number self.old.entries) }
+        ensures entries { OnOk result (self.new.entries ≡ with_entry self.old.entries (entry.Change command)) }
+        ensures state { OnOk result (self.new.state ≡ applied command (next_number self.old.entries) self.old.state (U.contents uploads.now)) }
         ensures over { IsHistoryOver (U.contents uploads.now) self.new }
         ensures err { OnErr result (self.new ≡ self.old) }
         ensures limit { self.new.limit ≡ self.old.limit }
@@ -184,12 +179,12 @@ impl History {
     pub fn undo(&mut self, site: &SiteName, change: u64) -> Result<u64, ChangeError>
         ensures refused { (uploads : Contents) → IsHistoryOver uploads self.old
             → Histories.IsUndoRefusedBy (Histories.undo_refusal uploads self.old.limit self.old.entries site.now change) result }
-        ensures number { IfOk result (λ number. number ≡ length self.old.entries + 1) }
-        ensures entries { OnOk result (self.new.entries ≡ self.old.entries ++ entry.Undo site.now change ∷ []) }
+        ensures number { IfOk result (λ number. number ≡ next_number self.old.entries) }
+        ensures entries { OnOk result (self.new.entries ≡ with_entry self.old.entries (entry.Undo site.now change)) }
         ensures over { OnOk result ((uploads : Contents) → IsHistoryOver uploads self.old → IsHistoryOver uploads self.new) }
         ensures effect { OnOk result ((uploads : Contents) → IsHistoryOver uploads self.old → UndoesChange uploads self.old self.new change) }
-        ensures at_once { OnOk result ((uploads : Contents) (before : List Entry) (command : Command) → IsHistoryOver uploads self.old
-            → self.old.entries ≡ before ++ entry.Change command ∷ [] → change ≡ length before + 1
+        ensures at_once { OnOk result ((uploads : Contents) (before : Logs.Log) (command : Command) → IsHistoryOver uploads self.old
+            → self.old.entries ≡ with_entry before (entry.Change command) → change ≡ next_number before
             → Histories.run uploads before ≡ Some self.new.state) }
         ensures err { OnErr result (self.new ≡ self.old) }
         ensures limit { self.new.limit ≡ self.old.limit }
