@@ -1,5 +1,5 @@
 -- An entry that is read is the one that was written, and what was written is read again.
-use Rattle.std.proofs.Common.{◌≡◌, ◌⊎◌, ℕ, ◌≤◌, zero, suc, Bool, true, false, cond, eqb, List, [], ◌∷◌, ◌++◌, length, Option, Some, Result, Ok, Err, refl, sym, ap, subst, ◌∙◌, inl, inr}
+use Rattle.std.proofs.Common.{◌≡◌, ◌⊎◌, ℕ, ◌≤◌, zero, suc, Bool, true, false, cond, eqb, List, [], ◌∷◌, ◌++◌, length, Option, Some, Result, Ok, Err, refl, sym, ap, subst, ◌∙◌, inl, inr, arith}
 use Rattle.std.specs.Int.{w32, to_be_bytes}
 use Rattle.std.specs.List.{flat_map}
 use Rattle.std.specs.Result.{IfOk, IsErrOf, MatchResult}
@@ -13,11 +13,12 @@ use Rattle.change_undo.specs.declared.entries.Entry.{Entry}
 use Rattle.change_undo.specs.declared.entries.Entry.TheVariants.{Change, Undo}
 use Rattle.change_journal.specs.declared.decode_faults.DecodeFault.{DecodeFault}
 use Rattle.change_journal.specs.declared.decode_faults.DecodeFault.TheVariants as faults
-use Rattle.change_journal.specs.Spells.{name_text, number_text, path_text, listed_text, flags, listing_text, entry_text, IsName, IsNumber, IsListing, IsWritable, Spells}
+use Rattle.change_journal.specs.Spells.{name_text, number_text, path_text, listed_text, flags, listing_text, entry_text, IsInRange, IsName, IsNumber, IsListing, IsWritable, Spells}
 use Rattle.change_journal.specs.Reading.{◌>>=◌, Gives, site_at, alias_at, path_at, flags_at, count_at, whole_number, whole_alias, whole_path, whole_files, moved, unaliased, renamed, removed, listing_of, listing_at, opened, of_kind, numbered_entry, plain_entry, entry_of}
 use Rattle.change_journal.proofs.Taking.{IsBytes, IsBytes-rest, bind_some, some_is, Takes}
 use Rattle.change_journal.proofs.NameTexts.{site_takes, site_again, alias_takes, alias_again, path_takes, path_again}
 use Rattle.change_journal.proofs.Listed.{flags_take, flags_again, count_takes, count_again}
+use Rattle.change_journal.proofs.Lengths.{name_length, path_length, listing_length, two_lengths}
 use Rattle.change_journal.proofs.Wholes.{number_whole, number_whole_again, path_whole, path_whole_again, alias_whole, alias_whole_again, files_whole, files_whole_again}
 
 -- ---- what is read was written
@@ -208,6 +209,39 @@ spelled_again bytes entry h = ap entry_of h.1 ∙ entry_again entry h.0
 
 pub one_entry : (bytes : List ℕ) (a b : Entry) → Spells bytes a → Spells bytes b → a ≡ b
 one_entry bytes a b h k = some_is a b (sym (spelled_again bytes a h) ∙ spelled_again bytes b k)
+
+-- ---- what has a text
+
+-- how long it is
+pub entry_length : (entry : Entry) → IsWritable entry → length (entry_text entry) ≤ 10470070
+entry_length (Undo site k) h = omega (arith, two_lengths (name_text site.0) (number_text k) 64 8 (name_length site.0 h.0) (omega arith))
+entry_length (Change (Publish site n)) h = omega (arith, two_lengths (name_text site.0) (number_text n) 64 8 (name_length site.0 h.0) (omega arith))
+entry_length (Change (Cancel site n)) h = omega (arith, two_lengths (name_text site.0) (number_text n) 64 8 (name_length site.0 h.0) (omega arith))
+entry_length (Change (Restore site n)) h = omega (arith, two_lengths (name_text site.0) (number_text n) 64 8 (name_length site.0 h.0) (omega arith))
+entry_length (Change (RemoveDeploy site n)) h = omega (arith, two_lengths (name_text site.0) (number_text n) 64 8 (name_length site.0 h.0) (omega arith))
+entry_length (Change (Open site files auto)) h = omega (arith, two_lengths (name_text site.0) (listing_text files auto) 64 10470005 (name_length site.0 h.0) (listing_length files auto h.1))
+entry_length (Change (MoveAlias site alias n)) h =
+    omega (arith, two_lengths (name_text site.0) (name_text alias.0 ++ number_text n) 64 72 (name_length site.0 h.0) (two_lengths (name_text alias.0) (number_text n) 64 8 (name_length alias.0 h.1.0) (omega arith)))
+entry_length (Change (RemoveAlias site alias)) h = omega (arith, two_lengths (name_text site.0) (name_text alias.0) 64 64 (name_length site.0 h.0) (name_length alias.0 h.1))
+entry_length (Change (Rename site source target)) h =
+    omega (arith, two_lengths (name_text site.0) (path_text source ++ path_text target) 64 2052 (name_length site.0 h.0) (two_lengths (path_text source) (path_text target) 1026 1026 (path_length source h.1.0) (path_length target h.1.1)))
+entry_length (Change (Remove site path)) h = omega (arith, two_lengths (name_text site.0) (path_text path) 64 1026 (name_length site.0 h.0) (path_length path h.1))
+
+pub spelling_length : (entry : Entry) (bytes : List ℕ) → Spells bytes entry → length bytes ≤ 10470070
+spelling_length entry bytes h = subst (λ (b : List ℕ). length b ≤ 10470070) (sym h.1) (entry_length entry h.0)
+
+-- it is in its range
+pub in_range : (entry : Entry) → IsWritable entry → IsInRange entry
+in_range (Undo site k) writable = writable.1
+in_range (Change (Open site files auto)) writable = writable.1.few
+in_range (Change (Publish site n)) writable = writable.1
+in_range (Change (Cancel site n)) writable = writable.1
+in_range (Change (MoveAlias site alias n)) writable = writable.1.1
+in_range (Change (RemoveAlias site alias)) writable = tt
+in_range (Change (Rename site source target)) writable = tt
+in_range (Change (Remove site path)) writable = tt
+in_range (Change (Restore site n)) writable = writable.1
+in_range (Change (RemoveDeploy site n)) writable = writable.1
 
 -- ---- what a reader answers
 

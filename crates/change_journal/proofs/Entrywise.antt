@@ -8,8 +8,7 @@ use Rattle.change_journal.specs.Openings.{IsFound, IsNoJournal, MayBePut}
 use Rattle.change_journal.specs.Spells.{IsWritable, entry_text}
 use Rattle.change_journal.specs.Texts.{HoldsEntries, IsText, MayHoldNext, texts}
 use Rattle.change_journal.specs.Walks.{AreLawful, IsBadRecord, IsShort}
-use Rattle.change_journal.proofs.Entries.{one_entry}
-use Rattle.change_journal.proofs.Lengths.{entry_length}
+use Rattle.change_journal.proofs.Entries.{entry_length, one_entry}
 use Rattle.change_journal.proofs.OneAnswer.{found_is, holds_one, holds_no_other, holds_no_bad, left_holds}
 use Rattle.change_journal.proofs.OpenSteps.{are_short}
 

@@ -3,29 +3,14 @@ use Rattle.std.proofs.Common.{◌≡◌, ◌≢◌, ℕ, ◌+◌, zero, suc, Lis
 use Rattle.std.proofs.lemmas.List.{drop_at, get_or_append_left}
 use Rattle.host_disk.specs.Crashes.{Torn}
 use Rattle.change_undo.specs.declared.entries.Entry.{Entry}
-use Rattle.change_undo.specs.declared.entries.Entry.TheVariants.{Change, Undo}
-use Rattle.site_change.specs.declared.commands.Command.TheVariants.{Open, Publish, Cancel, Remove, Rename, MoveAlias, RemoveAlias, Restore, RemoveDeploy}
 use Rattle.change_journal.specs.Frames.{Holds, framed, half_open, opened, shut, before, between, after}
 use Rattle.change_journal.specs.Openings.{IsFound, MayFind}
-use Rattle.change_journal.specs.Spells.{IsInRange, IsWritable, entry_text}
+use Rattle.change_journal.specs.Spells.{IsWritable, entry_text}
 use Rattle.change_journal.specs.Texts.{HoldsEntries, IsText, MayHoldNext, texts}
 use Rattle.change_journal.proofs.Entrywise.{same_entries, texts-push, texts_lawful}
 use Rattle.change_journal.proofs.OneWalk.{new_or_opened, one_journal, same_head}
 use Rattle.change_journal.proofs.OpenSteps.{are_short}
 use Rattle.change_journal.proofs.PutSteps.{opened-push, opens}
-
--- what has a text is in its range
-pub in_range : (entry : Entry) → IsWritable entry → IsInRange entry
-in_range (Undo site k) writable = writable.1
-in_range (Change (Open site files auto)) writable = writable.1.few
-in_range (Change (Publish site n)) writable = writable.1
-in_range (Change (Cancel site n)) writable = writable.1
-in_range (Change (MoveAlias site alias n)) writable = writable.1.1
-in_range (Change (RemoveAlias site alias)) writable = tt
-in_range (Change (Rename site source target)) writable = tt
-in_range (Change (Remove site path)) writable = tt
-in_range (Change (Restore site n)) writable = writable.1
-in_range (Change (RemoveDeploy site n)) writable = writable.1
 
 pub gate_open : (entries : List Entry) (entry : Entry) (rest : List ℕ) → All IsWritable (entries ++ entry ∷ []) → HoldsEntries (entries ++ entry ∷ []) (opened (texts entries) ++ 1 ∷ (framed (entry_text entry) ++ 0 ∷ rest))
 gate_open entries entry rest writable =

@@ -8,7 +8,7 @@ use Rattle.change_journal.specs.Frames.{AllShut, MayHold, framed}
 use Rattle.change_journal.specs.Spells.{IsWritable, entry_text}
 use Rattle.change_journal.specs.Texts.{AllStored, HoldsEntries, IsRecordOf, MayHoldNext, texts}
 use Rattle.change_journal.proofs.Steps.{weaker}
-use Rattle.change_journal.proofs.Lengths.{entry_length}
+use Rattle.change_journal.proofs.Entries.{entry_length}
 use Rattle.change_journal.proofs.NotWhole.{framed_size}
 use Rattle.change_journal.proofs.Entrywise.{next_holds}
 

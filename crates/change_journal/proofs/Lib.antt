@@ -5,8 +5,8 @@ pub mod Rising
 pub mod Listed
 pub mod Wholes
 pub mod FileLoop
-pub mod Entries
 pub mod Lengths
+pub mod Entries
 pub mod BeforeMemory
 mod AroundGates
 mod Steps

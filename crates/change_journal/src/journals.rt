@@ -1,6 +1,8 @@
 //! The journal of a history.
-ghost use Rattle.std.specs.Prelude.{◌≡◌, ◌⊎◌, ◌<◌, ◌≤◌, ◌++◌, ◌∷◌, [], ℕ, All, Err, IfErr, IfOk, IsErrOf, IsTrue, List, MatchResult, OnErr, OnOk, false, length, true};
+ghost use Rattle.std.specs.Prelude.{◌≡◌, ◌⊎◌, ◌<◌, ◌≤◌, ◌++◌, ◌∷◌, [], ℕ, All, Err, IfErr, IfOk, IsErrOf, IsTrue, List, MatchResult, OnErr, OnOk, false, true};
 ghost use Rattle.host_disk.specs.Crashes.{LeavesOnly};
+ghost use Rattle.change_undo.specs.Logs;
+ghost use Rattle.change_undo.specs.Logs.{last_number, own_entries, with_entry};
 ghost use Rattle.change_undo.specs.declared.entries.Entry as entries;
 ghost use Rattle.change_journal.specs.declared.faults.OpenFault.TheVariants.{BadHeader, BadRecord, Device, OutOfMemory};
 ghost use Rattle.change_journal.specs.declared.records.PutFault.TheVariants as put_fault;
@@ -55,8 +57,8 @@ impl<D: Disk> Journal<D> {
     /// it isn't opened and nothing is written, whatever the fault.
     pub fn open(alloc: Global, disk: D) -> Result<(Journal<D>, Log), NotOpened<D>>
         ensures entries { IfOk result (λ answer. (answer.0.entries ≡ answer.1) × (answer.0.broken ≡ false)) }
-        ensures writable { IfOk result (λ answer. All IsWritable answer.1) }
-        ensures few { IfOk result (λ answer. length answer.1 ≤ 1000000) }
+        ensures writable { IfOk result (λ answer. All IsWritable (own_entries answer.1)) }
+        ensures few { IfOk result (λ answer. last_number answer.1 ≤ 1000000) }
         ensures found { IsTrue D.is_modelled → IfOk result (λ answer. IsFound (texts answer.1) (D.seen disk)) }
         ensures exactly { IsTrue D.is_modelled → IfOk result (λ answer. IsExactly (opened (texts answer.1) ++ 0 ∷ []) (D.seen answer.0.disk) (D.may_leave answer.0.disk)) }
         ensures stored { IsTrue D.is_modelled → IfOk result (λ answer. AllStored (D.may_leave answer.0.disk) answer.1) }
@@ -64,8 +66,8 @@ impl<D: Disk> Journal<D> {
         ensures bad_record { IsTrue D.is_modelled → IfErr result (λ stop. (i : ℕ) → stop.fault ≡ BadRecord i → IsBadRecord IsText i (D.seen disk)) }
         ensures unwritten { IsTrue D.is_modelled → IfErr result (λ stop. (stop.fault ≡ Device → ⊥) → IsOnlyRead D.seen D.may_leave D.moment D.left_since disk stop.disk) }
         ensures refused { IsTrue D.is_modelled → IsRefused IsText (D.seen disk) → MatchResult result (λ _. ⊥) (λ stop. IsOnlyRead D.seen D.may_leave D.moment D.left_since disk stop.disk) }
-        ensures kept { IsTrue D.is_modelled → (had : List entries.Entry) → length had ≤ 1000000 → HoldsEntries had (D.seen disk) → MatchResult result (λ answer. answer.1 ≡ had) (λ stop. (stop.fault ≡ Device) ⊎ (stop.fault ≡ OutOfMemory)) }
-        ensures any_moment { IsTrue D.is_modelled → (had : List entries.Entry) (next : entries.Entry) → ((c : List ℕ) → D.may_leave disk c → MayHoldNext had next c) → MatchResult result (λ answer. LeavesOnly D.moment D.left_since disk answer.0.disk (MayHoldNext had next)) (λ stop. LeavesOnly D.moment D.left_since disk stop.disk (MayHoldNext had next)) }
+        ensures kept { IsTrue D.is_modelled → (had : Logs.Log) → last_number had ≤ 1000000 → HoldsEntries had (D.seen disk) → MatchResult result (λ answer. answer.1 ≡ had) (λ stop. (stop.fault ≡ Device) ⊎ (stop.fault ≡ OutOfMemory)) }
+        ensures any_moment { IsTrue D.is_modelled → (had : Logs.Log) (next : entries.Entry) → ((c : List ℕ) → D.may_leave disk c → MayHoldNext had next c) → MatchResult result (λ answer. LeavesOnly D.moment D.left_since disk answer.0.disk (MayHoldNext had next)) (λ stop. LeavesOnly D.moment D.left_since disk stop.disk (MayHoldNext had next)) }
         ensures cause { MatchResult result (λ answer. D.faults answer.0.disk ≡ D.faults disk) (λ stop. TellsStop stop.fault (D.faults disk) (D.faults stop.disk)) }
     {
         let mut collected = Collected::new(alloc);
@@ -84,7 +86,7 @@ impl<D: Disk> Journal<D> {
 
     /// The number of its entries, of which there are at most 1,000,000.
     pub fn len(&self) -> usize
-        ensures value { result ≡ length self.now.entries }
+        ensures value { result ≡ last_number self.now.entries }
         ensures most { result ≤ 1000000 }
     {
         self.records.count()
@@ -93,7 +95,7 @@ impl<D: Disk> Journal<D> {
     /// Whether the device failed while an entry was put. Then nothing more is put, and the journal has to be opened again.
     pub fn is_broken(&self) -> bool
         ensures value { result ≡ self.now.broken }
-        ensures writable { All IsWritable self.now.entries }
+        ensures writable { All IsWritable (own_entries self.now.entries) }
         ensures stored { IsTrue D.is_modelled → result ≡ false → AllStored (D.may_leave self.now.disk) self.now.entries }
     {
         self.records.is_broken()
@@ -103,14 +105,14 @@ impl<D: Disk> Journal<D> {
     /// modelled disk holds it. Where the device fails the disk may hold it or not, and
     /// from then on each put answers `Broken` and does nothing. It takes no memory.
     pub fn put(&mut self, prepared: Prepared) -> Result<(), PutFault>
-        requires few { self.old.broken ≡ false → length self.old.entries < 1000000 }
-        ensures entries { MatchResult result (λ _. self.new.entries ≡ self.old.entries ++ prepared ∷ []) (λ _. self.new.entries ≡ self.old.entries) }
+        requires few { self.old.broken ≡ false → last_number self.old.entries < 1000000 }
+        ensures entries { MatchResult result (λ _. self.new.entries ≡ with_entry self.old.entries prepared) (λ _. self.new.entries ≡ self.old.entries) }
         ensures broken { MatchResult result (λ _. self.new.broken ≡ false) (λ _. self.new.broken ≡ true) }
         ensures refused { IsTrue self.old.broken → (result ≡ Err put_fault.Broken) × (self.new ≡ self.old) }
         ensures only_broken { IsErrOf result put_fault.Broken → IsTrue self.old.broken }
         ensures stored { IsTrue D.is_modelled → OnOk result (AllStored (D.may_leave self.new.disk) self.new.entries) }
         ensures any_moment { IsTrue D.is_modelled → self.old.broken ≡ false → LeavesOnly D.moment D.left_since self.old.disk self.new.disk (MayHoldNext self.old.entries prepared) }
-        ensures held { IsTrue D.is_modelled → self.old.broken ≡ false → LeavesOnly D.moment D.left_since self.old.disk self.new.disk (λ c. HoldsEntries self.old.entries c ⊎ HoldsEntries (self.old.entries ++ prepared ∷ []) c) }
+        ensures held { IsTrue D.is_modelled → self.old.broken ≡ false → LeavesOnly D.moment D.left_since self.old.disk self.new.disk (λ c. HoldsEntries self.old.entries c ⊎ HoldsEntries (with_entry self.old.entries prepared) c) }
         ensures cause { MatchResult result (λ _. D.faults self.new.disk ≡ D.faults self.old.disk) (λ fault. TellsBreak fault (D.faults self.old.disk) (D.faults self.new.disk)) }
     {
         self.records.put(prepared.bytes())?;

@@ -1,6 +1,7 @@
 //! Laws of the texts of entries and of the files that hold them, each the contract of a function that does nothing.
 ghost use Rattle.std.specs.Prelude.{◌≡◌, ◌≢◌, ◌⊎◌, ◌≤◌, ◌+◌, ◌++◌, ◌∷◌, [], ℕ, All, List, ⊤, length};
 ghost use Rattle.host_names.specs.declared.names.SiteName.{SiteName};
+ghost use Rattle.change_undo.specs.Logs.{Log, empty_log, last_number, own_entries, with_entry};
 ghost use Rattle.change_undo.specs.declared.entries.Entry.{Entry};
 ghost use Rattle.change_undo.specs.declared.entries.Entry.TheVariants.{Undo};
 ghost use Rattle.host_disk.specs.Crashes.{Torn};
@@ -34,34 +35,34 @@ pub fn an_entry_with_a_text_is_in_range()
 
 /// A file holds one list of entries at most.
 pub fn a_file_holds_one_list()
-    ensures { (file : List ℕ) (a b : List Entry) → HoldsEntries a file → HoldsEntries b file → a ≡ b }
+    ensures { (file : List ℕ) (a b : Log) → HoldsEntries a file → HoldsEntries b file → a ≡ b }
 {}
 
 /// While an entry is put after others, the gate of its record decides which entries the file holds: those, or those and that entry
 /// where the gate is open. So whatever a stop leaves holds the one list or the other.
 pub fn a_file_holds_an_entry_whose_gate_is_open()
-    ensures open_gate { (entries : List Entry) (entry : Entry) (rest : List ℕ) → All IsWritable (entries ++ entry ∷ [])
-        → HoldsEntries (entries ++ entry ∷ []) (opened (texts entries) ++ 1 ∷ (framed (entry_text entry) ++ 0 ∷ rest)) }
-    ensures other_gate { (entries : List Entry) (entry : Entry) (gate : ℕ) (rest : List ℕ) → All IsWritable entries → gate ≢ 1
-        → HoldsEntries entries (opened (texts entries) ++ gate ∷ (framed (entry_text entry) ++ 0 ∷ rest)) }
-    ensures left { (entries : List Entry) (entry : Entry) (file : List ℕ) → MayHoldNext entries entry file
-        → HoldsEntries entries file ⊎ HoldsEntries (entries ++ entry ∷ []) file }
+    ensures open_gate { (log : Log) (entry : Entry) (rest : List ℕ) → All IsWritable (own_entries (with_entry log entry))
+        → HoldsEntries (with_entry log entry) (opened (texts log) ++ 1 ∷ (framed (entry_text entry) ++ 0 ∷ rest)) }
+    ensures other_gate { (log : Log) (entry : Entry) (gate : ℕ) (rest : List ℕ) → All IsWritable (own_entries log) → gate ≢ 1
+        → HoldsEntries log (opened (texts log) ++ gate ∷ (framed (entry_text entry) ++ 0 ∷ rest)) }
+    ensures left { (log : Log) (entry : Entry) (file : List ℕ) → MayHoldNext log entry file
+        → HoldsEntries log file ⊎ HoldsEntries (with_entry log entry) file }
 {}
 
 /// An opening finds the entries before the first gate that isn't open, whatever stands behind it.
 pub fn an_opening_ends_at_a_gate_that_is_not_open()
-    ensures { (found entries : List Entry) (gate : ℕ) (rest : List ℕ) → All IsWritable found → All IsWritable entries → gate ≢ 1
-        → IsFound (texts found) (opened (texts entries) ++ gate ∷ rest) → found ≡ entries }
+    ensures { (found log : Log) (gate : ℕ) (rest : List ℕ) → All IsWritable (own_entries found) → All IsWritable (own_entries log) → gate ≢ 1
+        → IsFound (texts found) (opened (texts log) ++ gate ∷ rest) → found ≡ log }
 {}
 
 /// While an entry is put, its gate is open only where its record stands whole behind it, with a gate of 0. Where the gate is written
 /// before the record is synced, a crash may leave it open with no record.
 pub fn an_open_gate_has_its_record()
-    ensures whole { (entries : List Entry) (entry : Entry) (rest : List ℕ) → MayHoldNext entries entry (opened (texts entries) ++ 1 ∷ rest)
+    ensures whole { (log : Log) (entry : Entry) (rest : List ℕ) → MayHoldNext log entry (opened (texts log) ++ 1 ∷ rest)
         → (behind : List ℕ) × (rest ≡ framed (entry_text entry) ++ 0 ∷ behind) }
-    ensures unsynced { (entries : List Entry) (entry : Entry) (n : ℕ) → (d : List ℕ) × (c : List ℕ)
-        × Torn (length (opened (texts entries)) + 1) n (opened (texts entries) ++ 0 ∷ []) d × Torn (length (opened (texts entries))) 1 d c
-        × (MayHoldNext entries entry c → ⊥) }
+    ensures unsynced { (log : Log) (entry : Entry) (n : ℕ) → (d : List ℕ) × (c : List ℕ)
+        × Torn (length (opened (texts log)) + 1) n (opened (texts log) ++ 0 ∷ []) d × Torn (length (opened (texts log))) 1 d c
+        × (MayHoldNext log entry c → ⊥) }
 {}
 
 /// No relation that the contracts of journals name holds of everything: each is refuted of one wrong answer. `kept` says that a file which
@@ -79,9 +80,9 @@ pub fn wrong_answers_are_refused<D: Disk>()
     ensures text { ¬ (IsText []) }
     ensures path { ¬ (BeginsWithPath []) }
     ensures listing { ¬ (BeginsWithListing []) }
-    ensures all_stored { ¬ (AllStored (λ c. ⊤) []) }
+    ensures all_stored { ¬ (AllStored (λ c. ⊤) empty_log) }
     ensures bad_record { (file : List ℕ) → ¬ (IsBadRecord IsText 0 file) }
-    ensures kept { (entries : List Entry) (n : ℕ) (file : List ℕ) → HoldsEntries entries file → length entries ≤ 1000000 → ¬ (IsBadRecord IsText n file) }
+    ensures kept { (log : Log) (n : ℕ) (file : List ℕ) → HoldsEntries log file → last_number log ≤ 1000000 → ¬ (IsBadRecord IsText n file) }
     ensures no_record { (rest : List ℕ) → ¬ (IsNoRecord (λ body. ⊤) (framed [] ++ 0 ∷ rest)) }
     ensures only_read { (old new : D) → D.seen new ≢ D.seen old → ¬ (IsOnlyRead D.seen D.may_leave D.moment D.left_since old new) }
 {}

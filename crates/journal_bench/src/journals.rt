@@ -1,5 +1,6 @@
 //! Journals in files.
-ghost use Rattle.std.specs.Prelude.{◌≡◌, ◌≤◌, length};
+ghost use Rattle.std.specs.Prelude.{◌≡◌, ◌≤◌};
+ghost use Rattle.change_undo.specs.Logs.{last_number};
 ghost use Rattle.change_journal.specs.Spells.{IsInRange};
 
 use crate::entries::numbered;
@@ -15,7 +16,7 @@ use std::time::{Duration, Instant};
 struct Filled {
     journal: Journal<FileDisk>,
     count: u64,
-    ghost counted: { length journal.entries ≤ count },
+    ghost counted: { last_number journal.entries ≤ count },
 }
 
 impl Filled {

@@ -1,5 +1,6 @@
 //! Files of journals by their hexadecimal digits, on disks in memory, and what is opened of them.
-ghost use Rattle.std.specs.Prelude.{◌≡◌, ◌≤◌, length};
+ghost use Rattle.std.specs.Prelude.{◌≡◌, ◌≤◌};
+ghost use Rattle.change_undo.specs.Logs.{last_number};
 
 use change_journal::{
     Journal, OpenFault, Prepared, PutFault, an_entry_with_a_text_is_in_range, decode, prepare,
@@ -61,7 +62,7 @@ pub(crate) fn prepared(alloc: Global, bytes: &[u8]) -> Result<Prepared, Fail> {
 pub(crate) struct Filled<D: Disk + Drop> {
     journal: Journal<D>,
     count: u64,
-    ghost counted: { length journal.entries ≤ count },
+    ghost counted: { last_number journal.entries ≤ count },
 }
 
 impl<D: Disk + Drop> Filled<D> {

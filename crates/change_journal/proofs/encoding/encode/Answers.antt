@@ -1,6 +1,6 @@
 use Rattle.std.proofs.Common.{◌≤◌, ℕ, List, ◌++◌, length, sym, ap, subst, ◌∙◌}
 use Rattle.change_journal.specs.Spells.{entry_text}
-use Rattle.change_journal.proofs.Lengths.{entry_length}
+use Rattle.change_journal.proofs.Entries.{entry_length}
 use Rattle.change_journal.proofs.encoding.encode.Goals as goal
 
 pub returns-clause-bounded : goal.returns-clause-bounded

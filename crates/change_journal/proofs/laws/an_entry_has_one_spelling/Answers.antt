@@ -1,4 +1,4 @@
-use Rattle.change_journal.proofs.Lengths.{spelling_length}
+use Rattle.change_journal.proofs.Entries.{spelling_length}
 use Rattle.change_journal.proofs.laws.an_entry_has_one_spelling.Goals as goal
 
 pub returns-clause-bounded : goal.returns-clause-bounded
