@@ -1,5 +1,5 @@
 -- What a host has: its entries and its uploads.
-use Rattle.std.specs.Prelude.{◌≡◌, ℕ, ◌+◌, List, [], ◌∷◌, ◌++◌, length, unwrap_or, refl}
+use Rattle.std.specs.Prelude.{◌≡◌, ℕ, List, unwrap_or, refl}
 use Rattle.std.specs.Coded.{Coded, code_by, coded×, coded_ℕ}
 use Rattle.std.specs.FinMap as map
 use Rattle.host_names.specs.Blobs.{Contents, with_file}
@@ -7,12 +7,13 @@ use Rattle.site_state.specs.States.{State}
 use Rattle.site_change.specs.Changes.{IsWithin}
 use Rattle.change_undo.specs.declared.entries.Entry.{Entry}
 use Rattle.change_undo.specs.Histories.{Past, run, IsLegal}
+use Rattle.change_undo.specs.Logs as logs
 use Rattle.change_undo.specs.Plans.{IsHistoryOver}
 
 -- the history, how many entries it may have, and the bytes that were uploaded
 pub record Host : Type 0 where
   pub limit : ℕ
-  pub entries : List Entry
+  pub entries : logs.Log
   pub uploads : Contents
 
 -- the state: what the changes that no undo names give, from nothing
@@ -21,15 +22,15 @@ state_of host = unwrap_or (run host.uploads host.entries) map.empty
 
 -- the number that the next entry has
 abbrev pub next_number : Host → ℕ
-next_number host = length host.entries + 1
+next_number host = logs.next_number host.entries
 
 -- the host with one entry more
 abbrev pub with_entry : Host → Entry → Host
-with_entry host entry = record { limit = host.limit; entries = host.entries ++ entry ∷ []; uploads = host.uploads }
+with_entry host entry = record { limit = host.limit; entries = logs.with_entry host.entries entry; uploads = host.uploads }
 
--- the host with these entries
-abbrev pub with_entries : Host → List Entry → Host
-with_entries host entries = record { limit = host.limit; entries = entries; uploads = host.uploads }
+-- the host with this log
+abbrev pub with_log : Host → logs.Log → Host
+with_log host log = record { limit = host.limit; entries = log; uploads = host.uploads }
 
 -- the host with these bytes uploaded too; a digest that is known keeps its file
 abbrev pub with_upload : Host → List ℕ → Host
@@ -43,7 +44,7 @@ IsLawful host = IsLegal host.uploads host.entries
 pub record Grows (old new : Host) : Type 0 where
   pub same_limit : new.limit ≡ old.limit
   pub more : List Entry
-  pub longer : new.entries ≡ old.entries ++ more
+  pub longer : new.entries ≡ logs.with_entries old.entries more
   pub uploads : IsWithin old.uploads new.uploads
 
 -- ---- how it is kept
@@ -53,9 +54,9 @@ abbrev pub host_of : Past → Contents → Host
 host_of past uploads = record { limit = past.limit; entries = past.entries; uploads = uploads }
 
 -- a host is stored as its parts in a row
-abbrev pub coded_host : Coded (List Entry) → Coded Contents → Coded Host
+abbrev pub coded_host : Coded logs.Log → Coded Contents → Coded Host
 coded_host entries uploads =
-    code_by (ℕ × (List Entry × Contents)) (coded× coded_ℕ (coded× entries uploads))
+    code_by (ℕ × (logs.Log × Contents)) (coded× coded_ℕ (coded× entries uploads))
     (λ h. (h.limit, (h.entries, h.uploads))) (λ t. record { limit = t.0; entries = t.1.0; uploads = t.1.1 }) (λ _. refl)
 
 -- the uploads are some over which the history is what it is

@@ -1,8 +1,9 @@
 -- What becomes of a journal where a host gets more entries.
-use Rattle.std.specs.Prelude.{◌≡◌, ◌⊎◌, ℕ, List, [], ◌∷◌, ◌++◌, Bool, true, false, Option, Some, None, Result, Err}
+use Rattle.std.specs.Prelude.{◌≡◌, ◌⊎◌, ℕ, List, [], ◌∷◌, Bool, true, false, Option, Some, None, Result, Err}
 use Rattle.change_journal.specs.Held.{Keeps}
 use Rattle.change_journal.specs.Settled.{TellsBreak}
 use Rattle.change_journal.specs.declared.records.PutFault.TheVariants as put_fault
+use Rattle.change_undo.specs.Logs as logs
 use Rattle.change_undo.specs.declared.entries.Entry.{Entry}
 use Rattle.host_api.specs.declared.refusals.Refusal.{Refusal}
 use Rattle.host_api.specs.declared.refusals.Refusal.TheVariants as reason
@@ -11,13 +12,13 @@ use Rattle.host_server.specs.Hosts.{Host}
 -- ---- a journal and a host
 
 -- the entries of the journal; where there is none, these
-abbrev pub entries_in : {D : Type 0} → Option (Keeps D) → List Entry → List Entry
-entries_in None entries = entries
-entries_in (Some journal) entries = journal.entries
+abbrev pub entries_in : {D : Type 0} → Option (Keeps D) → logs.Log → logs.Log
+entries_in None log = log
+entries_in (Some journal) log = journal.entries
 
 -- the entries of the journal, if there is one, are these
-abbrev pub Agrees : {D : Type 0} → Option (Keeps D) → List Entry → Type 0
-Agrees journal entries = entries_in journal entries ≡ entries
+abbrev pub Agrees : {D : Type 0} → Option (Keeps D) → logs.Log → Type 0
+Agrees journal log = entries_in journal log ≡ log
 
 -- whether the device failed while an entry was put
 abbrev pub is_broken : {D : Type 0} → Option (Keeps D) → Bool
@@ -29,7 +30,7 @@ is_broken (Some journal) = journal.broken
 -- an entry was put after the others
 pub record IsPut {D : Type 0} (faults : D → ℕ) (old : Keeps D) (entry : Entry) (new : Keeps D) : Type 0 where
   pub was_whole : old.broken ≡ false
-  pub entries : new.entries ≡ old.entries ++ entry ∷ []
+  pub entries : new.entries ≡ logs.with_entry old.entries entry
   pub whole : new.broken ≡ false
   pub cause : faults new.disk ≡ faults old.disk
 
@@ -59,13 +60,13 @@ pub record PutsInPart {D : Type 0} (faults : D → ℕ) (old : Option (Keeps D))
 -- the entries that the host got were put
 pub record KeepsUp {D : Type 0} (faults : D → ℕ) (old : Host) (journal : Option (Keeps D)) (new : Host) (next : Option (Keeps D)) : Type 0 where
   pub more : List Entry
-  pub longer : new.entries ≡ old.entries ++ more
+  pub longer : new.entries ≡ logs.with_entries old.entries more
   pub put : Puts faults journal more next
 
 -- they were, and then the device failed while one more was put, which the host didn't get
 pub record BreaksOff {D : Type 0} (faults : D → ℕ) (old : Host) (journal : Option (Keeps D)) (new : Host) (next : Option (Keeps D)) : Type 0 where
   pub more : List Entry
-  pub longer : new.entries ≡ old.entries ++ more
+  pub longer : new.entries ≡ logs.with_entries old.entries more
   pub put : PutsInPart faults journal more next
 
 -- where a call of the host answers so, a failure of the device is that of its journal

@@ -7,7 +7,7 @@ use Rattle.blob_store.specs.declared.openings.OpenFault as of_files
 use Rattle.blob_store.specs.declared.openings.OpenFault.TheVariants as blobs_fault
 use Rattle.blob_store.specs.declared.openings.Wanted.{Wanted}
 use Rattle.chunk_lru.specs.Caches.{empty}
-use Rattle.change_undo.specs.declared.entries.Entry.{Entry}
+use Rattle.change_undo.specs.Logs.{Log}
 use Rattle.change_journal.specs.Held.{Keeps}
 use Rattle.change_journal.specs.Openings.{IsFound, IsNoJournal, IsRefused}
 use Rattle.change_journal.specs.Texts.{AllStored, IsText, texts}
@@ -33,7 +33,7 @@ pub record HasJournal {D : Type 0} (disk : Ghosts D) (old : D) (journal : Keeps 
   pub no_fault : disk.faults journal.disk ≡ disk.faults old
 
 -- of the files that these entries want, those that the shelf gave whole are known
-pub record HasFiles {S : Type 0} (did : S → Call → S → Type 0) (old : S) (entries : List Entry) (known : Contents) (new : S) : Type 0 where
+pub record HasFiles {S : Type 0} (did : S → Call → S → Type 0) (old : S) (entries : Log) (known : Contents) (new : S) : Type 0 where
   pub wanted : List Wanted
   pub are_wanted : AreWanted entries wanted
   pub opened : blobs.IsOpened did old wanted known new
@@ -69,12 +69,12 @@ IsJournalFault disk old fault.OutOfMemory new = IsUnwritten disk old new
 IsJournalFault disk old why new = ⊥
 
 -- the files that these entries want can't be opened, for that reason
-abbrev pub AreNotOpened : {S : Type 0} → (did : S → Call → S → Type 0) → S → List Entry → of_files.OpenFault → S → Type 0
+abbrev pub AreNotOpened : {S : Type 0} → (did : S → Call → S → Type 0) → S → Log → of_files.OpenFault → S → Type 0
 AreNotOpened did old entries why new = (wanted : List Wanted) × AreWanted entries wanted × blobs.IsOpenFault did old wanted why new
 
 -- a file that must be there is missing or damaged, or the device of the shelf failed; or there was no memory: the shelf wasn't asked, or some files
 -- were taken and the next one lacked it, on the shelf or here
-abbrev pub IsFilesFault : {S : Type 0} → (did : S → Call → S → Type 0) → S → List Entry → OpenFault → S → Type 0
+abbrev pub IsFilesFault : {S : Type 0} → (did : S → Call → S → Type 0) → S → Log → OpenFault → S → Type 0
 IsFilesFault did old entries (fault.MissingBlob digest) new = AreNotOpened did old entries (blobs_fault.MissingBlob digest) new
 IsFilesFault did old entries (fault.DamagedBlob digest) new = AreNotOpened did old entries (blobs_fault.DamagedBlob digest) new
 IsFilesFault did old entries fault.BlobsDevice new = AreNotOpened did old entries blobs_fault.Device new
@@ -83,7 +83,7 @@ IsFilesFault did old entries why new = ⊥
 
 -- that; or the files were opened, and the entry of a number isn't accepted after those before it; or they were, and there was no memory, whether or
 -- not each entry would be
-abbrev pub IsHostFault : {S : Type 0} → (did : S → Call → S → Type 0) → S → ℕ → List Entry → OpenFault → S → Type 0
+abbrev pub IsHostFault : {S : Type 0} → (did : S → Call → S → Type 0) → S → ℕ → Log → OpenFault → S → Type 0
 IsHostFault did old limit entries (fault.NotLegal n) new =
     (known : Contents) × HasFiles did old entries known new × StopsAt known limit entries (replay_fault.NotLegal n)
 IsHostFault did old limit entries fault.OutOfMemory new = IsFilesFault did old entries fault.OutOfMemory new ⊎ ((known : Contents) × HasFiles did old entries known new)

@@ -10,7 +10,8 @@ use Rattle.site_state.specs.Missing.{first_lacking_of}
 use Rattle.site_change.specs.declared.commands.Command.TheVariants.{Open}
 use Rattle.change_undo.specs.declared.entries.Entry.{Entry}
 use Rattle.change_undo.specs.declared.entries.Entry.TheVariants.{Change}
-use Rattle.change_undo.specs.Histories.{Past, entry_at}
+use Rattle.change_undo.specs.Histories.{Past}
+use Rattle.change_undo.specs.Logs.{Log, entry_at}
 use Rattle.host_server.specs.Hosts.{IsKept}
 
 -- the place that is kept for the deploy of a number; the first where none is
@@ -23,7 +24,7 @@ listed_by (Some (Change (Open site files auto))) = files.1
 listed_by entry = []
 
 -- of what each entry lists, nothing is lacking before the place that is kept for its number
-abbrev pub AreReached : List Entry → Contents → BTreeMap ℕ ℕ → Type 0
+abbrev pub AreReached : Log → Contents → BTreeMap ℕ ℕ → Type 0
 AreReached entries uploads places = (n : ℕ) → place_of places n ≤ first_lacking_of uploads (listed_by (entry_at entries n))
 
 -- the uploads are some over which the history is what it is, and the places are reached by them

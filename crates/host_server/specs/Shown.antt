@@ -1,6 +1,6 @@
 -- What a host shows of its deploys and its changes.
 use Rattle.std.specs.Prelude.{◌≡◌, ℕ, ◌-◌, List, length, drop, not, Bool, false, is_some, Option, Some, None, Result, Ok, Err, option_and_then, if◌then◌else◌}
-use Rattle.std.specs.List.{enumerate_from, filter_map}
+use Rattle.std.specs.List.{filter_map}
 use Rattle.host_names.specs.Blobs.{Contents}
 use Rattle.host_names.specs.declared.digests.Digest.{Digest}
 use Rattle.host_names.specs.declared.names.SiteName.{SiteName}
@@ -12,6 +12,7 @@ use Rattle.site_state.specs.declared.values.Draft.{Draft}
 use Rattle.change_undo.specs.declared.entries.Entry.{Entry}
 use Rattle.change_undo.specs.declared.entries.Entry.TheVariants as entry
 use Rattle.change_undo.specs.Histories.{entry_at, is_among, same_site, site_of_entry, undone}
+use Rattle.change_undo.specs.Logs.{numbered}
 use Rattle.host_api.specs.ChangeLines.{word_of}
 use Rattle.host_api.specs.declared.change_lines.ChangeLine.{ChangeLine}
 use Rattle.host_api.specs.declared.change_lines.ChangeLine.TheVariants as line
@@ -77,7 +78,7 @@ line_at host site n = option_and_then (λ (e : Entry). line_in site (undone host
 
 -- the lines of a site, the oldest first
 abbrev pub lines_of : Host → SiteName → List ChangeLine
-lines_of host site = filter_map (line_in site (undone host.entries)) (enumerate_from 1 host.entries)
+lines_of host site = filter_map (line_in site (undone host.entries)) (numbered host.entries)
 
 -- so many at most, from the end
 abbrev pub last_of : {A : Type 0} → ℕ → List A → List A

@@ -1,6 +1,6 @@
 //! What a request is answered.
 ghost use Rattle.std.specs.Prelude.{◌≡◌, ◌⊎◌, ℕ, ◌+◌, ◌≤◌, List, [], ◌∷◌, ◌++◌, Ok, Err, false, IsTrue, IfOk, IfErr, length};
-ghost use Rattle.change_undo.specs.declared.entries.Entry.{Entry as Line};
+ghost use Rattle.change_undo.specs.Logs as logs;
 ghost use Rattle.change_undo.specs.declared.entries.Entry.TheVariants as entry;
 ghost use Rattle.host_names.specs.declared.names.SiteName.{SiteName as Site};
 ghost use Rattle.site_change.specs.declared.commands.Command.{Command as Change};
@@ -8,7 +8,7 @@ ghost use Rattle.host_server.specs.Asks as spec;
 ghost use Rattle.host_server.specs.Asks.{AnswersAsk, AnswersRead, CarriesOut, IsAnswer};
 ghost use Rattle.host_server.specs.HeldUp.{is_held_up};
 ghost use Rattle.host_server.specs.Bodies.{answer_of};
-ghost use Rattle.host_server.specs.Hosts.{Grows, state_of, with_entries};
+ghost use Rattle.host_server.specs.Hosts.{Grows, state_of, with_log};
 ghost use Rattle.host_server.specs.Answers.{Tells};
 ghost use Rattle.host_server.specs.Memory.{asking_takes};
 ghost use Rattle.host_server.specs.Shown.{shown_lines};
@@ -159,10 +159,10 @@ pub fn answer<S: Shelf, D: Disk>(
     ensures grows { Grows server.old.house server.new.house }
     ensures count { S.failures server.old.files.shelf ≤ S.failures server.new.files.shelf }
     // Where an accepted change is undone next, the state is the one before it.
-    ensures undone { (before : List Line) (command : Change) (site : Site)
-        → server.old.house.entries ≡ before ++ entry.Change command ∷ []
-        → server.new.house.entries ≡ server.old.house.entries ++ entry.Undo site (length before + 1) ∷ []
-        → state_of server.new.house ≡ state_of (with_entries server.old.house before) }
+    ensures undone { (before : logs.Log) (command : Change) (site : Site)
+        → server.old.house.entries ≡ logs.with_entry before (entry.Change command)
+        → server.new.house.entries ≡ logs.with_entry server.old.house.entries (entry.Undo site (logs.next_number before))
+        → state_of server.new.house ≡ state_of (with_log server.old.house before) }
 {
     server.house.lawful();
     let Request { head, body, .. } = request;

@@ -2,6 +2,7 @@
 ghost use Rattle.std.specs.Prelude.{◌≡◌, ◌<◌, ◌≤◌, ℕ, IfErr, IfOk, IsTrue, List, MatchResult, Some, length};
 ghost use Rattle.change_journal.specs.Held.{Keeps};
 ghost use Rattle.change_journal.specs.Texts.{HoldsEntries, MayHoldNext};
+ghost use Rattle.change_undo.specs.Logs as logs;
 ghost use Rattle.change_undo.specs.declared.entries.Entry.{Entry as Line};
 ghost use Rattle.chunk_lru.specs.Caches.{empty};
 ghost use Rattle.host_disk.specs.Crashes.{LeavesOnly};
@@ -177,8 +178,8 @@ impl<S: Shelf, D: Disk> Server<S, D> {
         requires bounded { limit ≤ 1000000 }
         ensures opened { IfOk result (λ server. IsOpened S.did disk shelf limit server) }
         ensures fault { IfErr result (λ stop. IsOpenFault D.Disk S.did disk shelf limit stop.fault stop.disk stop.shelf) }
-        ensures kept { IsTrue D.is_modelled → (had : List Line) → length had ≤ 1000000 → HoldsEntries had (D.seen disk) → MatchResult result (λ server. server.house.entries ≡ had) (λ stop. IsNoRecordFault stop.fault) }
-        ensures any_moment { IsTrue D.is_modelled → (had : List Line) (next : Line) → ((c : List ℕ) → D.may_leave disk c → MayHoldNext had next c) → MatchResult result (λ server. (journal : Keeps _) → server.journal ≡ Some journal → LeavesOnly D.moment D.left_since disk journal.disk (MayHoldNext had next)) (λ stop. LeavesOnly D.moment D.left_since disk stop.disk (MayHoldNext had next)) }
+        ensures kept { IsTrue D.is_modelled → (had : logs.Log) → logs.last_number had ≤ 1000000 → HoldsEntries had (D.seen disk) → MatchResult result (λ server. server.house.entries ≡ had) (λ stop. IsNoRecordFault stop.fault) }
+        ensures any_moment { IsTrue D.is_modelled → (had : logs.Log) (next : Line) → ((c : List ℕ) → D.may_leave disk c → MayHoldNext had next c) → MatchResult result (λ server. (journal : Keeps _) → server.journal ≡ Some journal → LeavesOnly D.moment D.left_since disk journal.disk (MayHoldNext had next)) (λ stop. LeavesOnly D.moment D.left_since disk stop.disk (MayHoldNext had next)) }
         ensures device { IfErr result (λ stop. stop.fault ≡ BlobsDevice → S.failures shelf < S.failures stop.shelf) }
         ensures count { MatchResult result (λ server. S.failures shelf ≤ S.failures server.files.shelf) (λ stop. S.failures shelf ≤ S.failures stop.shelf) }
     {

@@ -1,14 +1,13 @@
 //! Histories with one entry more, beside the old one, and the journal that gets that entry.
-ghost use Rattle.std.specs.Prelude.{◌≡◌, ◌⊎◌, ◌++◌, ◌∷◌, [], None, Err, ℕ, IfOk, IfErr, OnOk, false, option_map};
+ghost use Rattle.std.specs.Prelude.{◌≡◌, ◌⊎◌, None, Err, ℕ, IfOk, IfErr, OnOk, false};
 ghost use Rattle.host_names.specs.Blobs.{Contents};
 ghost use Rattle.host_names.specs.Refusals.{IsRefusedBy};
 ghost use Rattle.host_names.specs.declared.names.SiteName.{SiteName as Site};
-ghost use Rattle.host_names.specs.declared.refusals.ChangeRefusal.TheVariants as reason;
 ghost use Rattle.site_change.specs.declared.commands.Command.{Command as Change};
 ghost use Rattle.change_journal.specs.Spells.{IsInRange};
-ghost use Rattle.change_undo.specs.Clashes;
 ghost use Rattle.change_undo.specs.Histories;
 ghost use Rattle.change_undo.specs.Histories.{IsUndoRefusedBy};
+ghost use Rattle.change_undo.specs.Logs.{with_entry};
 ghost use Rattle.change_undo.specs.Plans.{IsHistoryOver};
 ghost use Rattle.change_undo.specs.declared.entries.Entry.{Entry as Line};
 ghost use Rattle.change_undo.specs.declared.entries.Entry.TheVariants as entry;
@@ -18,7 +17,7 @@ ghost use Rattle.host_server.specs.Journals.{IsPutInVain};
 use super::entry_errors::EntryError;
 use blob_store::Known;
 use change_journal::{Journal, prepare};
-use change_undo::{Entry, History};
+use change_undo::{History, deploys_were_opened_by_their_entries};
 use host_disk::Disk;
 use host_names::{ChangeError, ChangeRefusal, SiteName};
 use site_change::{Command, decide};
@@ -40,42 +39,6 @@ fn without_copy(alloc: Global, history: &History, uploads: &Known, command: &Com
     }
 }
 
-/// The clash of a change as a reason to refuse its undo, or that there is no memory: for an undo without a clash, or for the
-/// clash's path.
-fn without_copy_or_clash(history: &History, change: u64) -> ChangeError
-    ensures { (uploads : Contents) → IsHistoryOver uploads history.now
-        → IsUndoRefusedBy {A = ℕ} (option_map (λ later. reason.Clash later.0 later.1) (Clashes.clash uploads history.now.entries change)) (Err result) }
-{
-    let Some((change, cell)) = history.clash(change) else {
-        return ChangeError::OutOfMemory;
-    };
-    match cell.clone() {
-        Ok(cell) => ChangeError::Refused(ChangeRefusal::Clash { change, cell }),
-        Err(_) => ChangeError::OutOfMemory,
-    }
-}
-
-/// The same of the undo of a change of this site.
-fn without_copy_to_undo(history: &History, site: &SiteName, change: u64) -> ChangeError
-    ensures { (uploads : Contents) → IsHistoryOver uploads history.now
-        → IsUndoRefusedBy {A = ℕ} (Histories.undo_refusal uploads history.now.limit history.now.entries site.now change) (Err result) }
-{
-    if history.is_full() {
-        return ChangeError::Refused(ChangeRefusal::HistoryFull);
-    }
-    let Some((entry, is_undone)) = history.marked_entry(change) else {
-        return ChangeError::Refused(ChangeRefusal::NoSuchChange);
-    };
-    if entry.site() != site {
-        return ChangeError::Refused(ChangeRefusal::NoSuchChange);
-    }
-    match entry {
-        Entry::Undo { .. } => ChangeError::Refused(ChangeRefusal::NotAChange),
-        Entry::Change(_) if is_undone => ChangeError::Refused(ChangeRefusal::AlreadyUndone),
-        Entry::Change(_) => without_copy_or_clash(history, change),
-    }
-}
-
 /// What is accepted has a number from 1 to 1,000,000, and lists at most 10,000 paths. It does nothing.
 fn accepted_is_in_range(history: &History)
     ensures commands { (uploads : Contents) (command : Change)
@@ -85,6 +48,7 @@ fn accepted_is_in_range(history: &History)
 {
     let _ = history.len();
     let _ = history.state();
+    deploys_were_opened_by_their_entries();
 }
 
 /// A copy of the history with a command as its next entry.
@@ -96,7 +60,7 @@ pub(super) fn with_change(
 ) -> Result<History, ChangeError>
     requires { IsHistoryOver uploads.now history.now }
     ensures refused { IsRefusedBy (Histories.commit_refusal uploads.now history.now.limit history.now.entries history.now.state command) result }
-    ensures entries { IfOk result (λ next. next.entries ≡ history.now.entries ++ entry.Change command ∷ []) }
+    ensures entries { IfOk result (λ next. next.entries ≡ with_entry history.now.entries (entry.Change command)) }
     ensures in_range { OnOk result (IsInRange (entry.Change command)) }
     ensures over { IfOk result (λ next. IsHistoryOver uploads.now next) }
     ensures limit { IfOk result (λ next. next.limit ≡ history.now.limit) }
@@ -117,14 +81,17 @@ pub(super) fn with_undo(
 ) -> Result<History, ChangeError>
     ensures refused { (uploads : Contents) → IsHistoryOver uploads history.now
         → IsUndoRefusedBy (Histories.undo_refusal uploads history.now.limit history.now.entries site.now change) result }
-    ensures entries { IfOk result (λ next. next.entries ≡ history.now.entries ++ entry.Undo site.now change ∷ []) }
+    ensures entries { IfOk result (λ next. next.entries ≡ with_entry history.now.entries (entry.Undo site.now change)) }
     ensures in_range { OnOk result ((uploads : Contents) → IsHistoryOver uploads history.now → IsInRange (entry.Undo site.now change)) }
     ensures over { IfOk result (λ next. (uploads : Contents) → IsHistoryOver uploads history.now → IsHistoryOver uploads next) }
     ensures limit { IfOk result (λ next. next.limit ≡ history.now.limit) }
 {
     accepted_is_in_range(history);
     let Ok(mut next) = history.copy() else {
-        return Err(without_copy_to_undo(history, site, change));
+        return match history.undo_refusal(site, change)? {
+            Some(reason) => Err(ChangeError::Refused(reason)),
+            None => Err(ChangeError::OutOfMemory),
+        };
     };
     next.undo(site, change)?;
     Ok(next)
@@ -136,7 +103,7 @@ pub(super) fn put_last<D: Disk>(
     journal: &mut Journal<D>,
     next: &History,
 ) -> Result<(), EntryError>
-    requires follows { (last : Line) × IsInRange last × (next.now.entries ≡ journal.old.entries ++ last ∷ []) }
+    requires follows { (last : Line) × IsInRange last × (next.now.entries ≡ with_entry journal.old.entries last) }
     requires whole { journal.old.broken ≡ false }
     ensures entries { OnOk result (journal.new.entries ≡ next.now.entries) }
     ensures whole { OnOk result (journal.new.broken ≡ false) }

@@ -4,6 +4,7 @@ ghost use Rattle.std.specs.FinMap as map;
 ghost use Rattle.host_names.specs.Blobs.{digest_of};
 ghost use Rattle.host_names.specs.Refusals.{IsRefusedBy};
 ghost use Rattle.change_undo.specs.Histories.{IsUndoRefusedBy, run, entry_at, marked_entry};
+ghost use Rattle.change_undo.specs.Logs.{empty_log, last_number};
 ghost use Rattle.change_undo.specs.declared.entries.Entry.TheVariants as entry;
 ghost use Rattle.host_server.specs.Entries.{IsEntered, IsRefusedAs, IsUndoRefusedAs};
 ghost use Rattle.change_undo.specs.Plans.{IsHistoryOver};
@@ -59,7 +60,7 @@ impl SoloHouse {
     pub fn new(alloc: Global, limit: u64) -> SoloHouse
         requires some { 1 ≤ limit }
         requires bounded { limit ≤ 1000000 }
-        ensures { result ≡ record { limit = limit; entries = []; uploads = map.empty } }
+        ensures { result ≡ record { limit = limit; entries = empty_log; uploads = map.empty } }
     {
         SoloHouse {
             alloc,
@@ -107,14 +108,14 @@ impl SoloHouse {
 
     /// Whether it has as many entries as its limit says.
     pub(crate) fn is_full(&self) -> bool
-        ensures { result ≡ nat_le self.now.limit (length self.now.entries) }
+        ensures { result ≡ nat_le self.now.limit (last_number self.now.entries) }
     {
         self.history.is_full()
     }
 
     /// The number of entries.
     pub(crate) fn len(&self) -> u64
-        ensures { result ≡ length self.now.entries }
+        ensures { result ≡ last_number self.now.entries }
     {
         self.history.len()
     }

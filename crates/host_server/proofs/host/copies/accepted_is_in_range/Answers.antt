@@ -1,15 +1,14 @@
-use Rattle.std.proofs.Common.{◌≡◌, None, arith, subst, sym}
-use Rattle.site_state.specs.States.{State}
-use Rattle.change_undo.specs.Histories.{commit_refusal}
+use Rattle.std.proofs.Common.{arith}
 use Rattle.host_server.proofs.InRange.{command_in_range, undo_in_range}
 use Rattle.host_server.proofs.host.copies.accepted_is_in_range.Goals as goal
 
 pub returns-clause-commands : goal.returns-clause-commands
 returns-clause-commands c = λ uploads command ok.
     let past = c.args.history.now in
-    let found = c.state.result.now in
-    command_in_range past.entries found (omega (arith, c.len.ensures.room, c.len.ensures.bounded)) c.state.ensures.opened c.state.ensures.kept uploads past.limit command
-    (subst (λ (state : State). commit_refusal uploads past.limit past.entries state command ≡ None) (sym c.state.ensures.value) ok)
+    let over = c.state.ensures.over in
+    let law = c.deploys_were_opened_by_their_entries.ensures in
+    command_in_range past.entries past.state (omega (arith, c.len.ensures.room, c.len.ensures.bounded)) (law.opened over.0 past.entries past.state over.1.ran)
+    (law.kept over.0 past.entries past.state over.1.ran) uploads past.limit command ok
 
 pub returns-clause-undos : goal.returns-clause-undos
 returns-clause-undos c = λ uploads site change ok.
