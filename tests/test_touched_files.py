@@ -20,18 +20,15 @@ def lists():
     return found
 
 
-def measures(crate):
-    """Whether a crate only measures or tests."""
-    return crate.name.endswith(("_bench", "_tests"))
-
-
 def files():
-    """The files of the crates and the documents, by the names that CONTRIBUTING.md gives them."""
-    crates = [crate for crate in sorted((TOP / "crates").iterdir()) if crate.is_dir() and not measures(crate)]
-    for crate in crates:
+    """The files of the crates and the documents, by the names that CONTRIBUTING.md gives them. Crates that only measure or test are left out."""
+    for crate in sorted((TOP / "crates").iterdir()):
+        if crate.name.endswith(("_bench", "_tests")):
+            continue
         for folder in ("src", "specs", "proofs"):
-            for file in sorted((crate / folder).rglob("*.*t*")):
-                yield str(file.relative_to(TOP / "crates")), file
+            for file in sorted((crate / folder).rglob("*")):
+                if file.suffix in (".rt", ".antt"):
+                    yield str(file.relative_to(TOP / "crates")), file
     for file in sorted((TOP / "docs").glob("*.md")):
         yield str(file.relative_to(TOP)), file
 

@@ -8,6 +8,7 @@ use Rattle.host_names.specs.Path.{is_path}
 use Rattle.host_names.specs.declared.digests.Digest.{Digest}
 use Rattle.site_state.specs.Files.{IsByPath}
 use Rattle.site_state.specs.Listings.{Listed, is_lawful}
+pub use Rattle.site_change.specs.Changes.{IsCommandInRange, IsNumber}
 use Rattle.site_change.specs.declared.commands.Command.{Command}
 use Rattle.site_change.specs.declared.commands.Command.TheVariants.{Open, Publish, Cancel, Remove, Rename, MoveAlias, RemoveAlias, Restore, RemoveDeploy}
 use Rattle.change_undo.specs.declared.entries.Entry.{Entry}
@@ -75,10 +76,6 @@ IsName name = IsTrue (is_name name)
 abbrev pub IsPath : List ℕ → Type 0
 IsPath path = IsTrue (is_utf8 path) × IsTrue (is_path path)
 
--- from 1 to 1,000,000
-abbrev pub IsNumber : ℕ → Type 0
-IsNumber n = (1 ≤ n) × (n ≤ 1000000)
-
 -- a path, and where a file is listed there the 20 bytes of its digest
 abbrev pub IsListed : List ℕ × Option Digest → Type 0
 IsListed listed = IsPath listed.0 × IfSome listed.1 (λ digest. length digest.0 ≡ 20)
@@ -112,18 +109,6 @@ abbrev pub Spells : List ℕ → Entry → Type 0
 Spells bytes entry = IsWritable entry × (bytes ≡ entry_text entry)
 
 -- ---- what the types of an entry's parts leave open
-
--- the number of a command is from 1 to 1,000,000, and it lists at most 10,000 paths
-abbrev pub IsCommandInRange : Command → Type 0
-IsCommandInRange (Open site files auto) = length files.1 ≤ 10000
-IsCommandInRange (Publish site n) = IsNumber n
-IsCommandInRange (Cancel site n) = IsNumber n
-IsCommandInRange (MoveAlias site alias n) = IsNumber n
-IsCommandInRange (RemoveAlias site alias) = Unit {0}
-IsCommandInRange (Rename site source target) = Unit {0}
-IsCommandInRange (Remove site path) = Unit {0}
-IsCommandInRange (Restore site n) = IsNumber n
-IsCommandInRange (RemoveDeploy site n) = IsNumber n
 
 -- the same of an entry
 abbrev pub IsInRange : Entry → Type 0

@@ -1,5 +1,5 @@
 -- What is proved of each command: all of it in one place.
-use Rattle.std.proofs.Common.{◌≡◌, ℕ, true, false, Some, None, option_map, refl, ap, ◌∙◌, ◌||◌, sym, cond}
+use Rattle.std.proofs.Common.{◌≡◌, inl, inr, ℕ, length, true, false, Some, None, option_map, refl, ap, ◌∙◌, ◌||◌, sym, cond}
 use Rattle.std.specs.FinMap as map
 use Rattle.std.specs.Str.{bytes_eq}
 use Rattle.host_names.specs.Blobs.{Contents, AreDigested}
@@ -14,7 +14,7 @@ use Rattle.site_state.proofs.Named.{named_live, named_draft, named_without_alias
 use Rattle.site_change.specs.declared.commands.Command.{Command}
 use Rattle.site_change.specs.declared.commands.Command.TheVariants.{Open, Publish, Cancel, Remove, Rename, MoveAlias, RemoveAlias, Restore, RemoveDeploy}
 use Rattle.host_names.specs.declared.refusals.ChangeRefusal.TheVariants.{NoSuchDraft, NoSuchDeploy, NoSuchFile, NoSuchAlias}
-use Rattle.site_change.specs.Changes.{same_cell, needed, rename_refusal, publish_refusal, restore_refusal, removal_refusal, published, restored, refusal, applied, site_of_command, publish_touches, restore_touches, touches, IsWithin}
+use Rattle.site_change.specs.Changes.{IsCommandInRange, same_cell, needed, rename_refusal, publish_refusal, restore_refusal, removal_refusal, published, restored, refusal, applied, site_of_command, publish_touches, restore_touches, touches, IsWithin}
 use Rattle.site_change.specs.Laws.{AgreeOn, SameEffect}
 use Rattle.site_change.specs.Uploaded.{AreUploaded}
 use Rattle.site_change.proofs.Deploys.{DeploysFrom, without_new, none_by_removal, none_by_live, none_by_alias, none_by_publishing, none_by_restoring, from_opening}
@@ -23,6 +23,7 @@ use Rattle.site_change.proofs.SitesTouched.{either, at_cell, at_alias, at_publis
 use Rattle.site_change.proofs.Effects.{same_cell-itself, get-with_two}
 use Rattle.site_change.proofs.Fitting.{IsLeftOrFits, live_fits, write_fits, both_fit, publish_fits, restore_fits}
 use Rattle.site_change.proofs.NamedAliases.{named_publish, named_restore, is_there, no_alias}
+use Rattle.site_change.proofs.Ranges.{AreNumbered, few_listed, is_kept, is_known, is_open}
 use Rattle.site_change.proofs.ReadsAndWrites.{or_false, publish_reads, publish_writes, restore_reads, restore_writes, same_draft, write_reads, write_leaves, or_here, or_there, or_after, same_alias_entries, or_second}
 use Rattle.site_change.proofs.SameFiles.{publish_grows, restore_grows}
 use Rattle.site_change.proofs.Uploading.{served_uploaded, kept_uploaded, write_uploaded, publish_uploaded, restore_uploaded}
@@ -48,6 +49,8 @@ pub record KeepsLaws (command : Command) (n : ℕ) (state : State) (uploads : Co
   pub drafts : DraftsFrom command n state (applied command n state uploads)
   -- what it touches is of its site
   pub of_site : (c : Cell) → touches command n state c ≡ true → site_of c ≡ site_of_command command
+  -- once it is accepted, the number that it names is in the range, where that of each deploy is, and it doesn't list too much
+  pub in_range : AreNumbered state → refusal command n state uploads ≡ None → IsCommandInRange command
 
 pub command_laws : (command : Command) (n : ℕ) (state : State) (uploads : Contents) → KeepsLaws command n state uploads
 command_laws (Open site files auto) n state uploads =
@@ -66,6 +69,7 @@ command_laws (Open site files auto) n state uploads =
       deploys = from_opening state site n files auto draft;
       drafts = from_draft state site n files auto;
       of_site = λ c. at_cell c at;
+      in_range = λ numbered accepted. few_listed (length files.1) accepted;
     }
 command_laws (Publish site m) n state uploads =
     let draft = draft_at state site m in record {
@@ -84,6 +88,7 @@ command_laws (Publish site m) n state uploads =
       deploys = without_new (Publish site m) n state _ (none_by_publishing site m uploads state);
       drafts = stay_all (Publish site m) n state _ (stay_by_publishing site m uploads state draft);
       of_site = λ c. either (site_of c ≡ site) (same_cell c (cell.Draft site m)) (publish_touches site m draft c) (at_cell c (cell.Draft site m)) (at_publish site m draft c);
+      in_range = λ numbered accepted. numbered site m (inl (is_open uploads draft accepted));
     }
 command_laws (Cancel site m) n state uploads =
     let at = cell.Draft site m in record {
@@ -100,6 +105,7 @@ command_laws (Cancel site m) n state uploads =
       deploys = without_new (Cancel site m) n state _ (none_by_removal state at);
       drafts = stay_all (Cancel site m) n state _ (stay_by_removal state at);
       of_site = λ c. at_cell c at;
+      in_range = λ numbered accepted. numbered site m (inl (is_there NoSuchDraft (draft_at state site m) accepted));
     }
 command_laws (Remove site path) n state uploads =
     let at = cell.Live site path in record {
@@ -116,6 +122,7 @@ command_laws (Remove site path) n state uploads =
       deploys = without_new (Remove site path) n state _ (none_by_removal state at);
       drafts = stay_all (Remove site path) n state _ (stay_by_removal state at);
       of_site = λ c. at_cell c at;
+      in_range = λ numbered accepted. tt;
     }
 command_laws (Rename site source target) n state uploads =
     let a = cell.Live site source in
@@ -140,6 +147,7 @@ command_laws (Rename site source target) n state uploads =
       deploys = without_new (Rename site source target) n state _ (λ own m there. none_by_removal state a own m (none_by_live gone site target file own m there));
       drafts = stay_all (Rename site source target) n state _ (stay_then state gone _ (stay_by_removal state a) (stay_by_live gone site target file));
       of_site = λ c. either (site_of c ≡ site) (same_cell c a) (same_cell c b) (at_cell c a) (at_cell c b);
+      in_range = λ numbered accepted. tt;
     }
 command_laws (MoveAlias site name m) n state uploads =
     let k = cell.Kept site m in
@@ -157,6 +165,7 @@ command_laws (MoveAlias site name m) n state uploads =
       deploys = without_new (MoveAlias site name m) n state _ (none_by_alias state site name (Some (value.Alias m)));
       drafts = stay_all (MoveAlias site name m) n state _ (stay_by_write state at (Some (value.Alias m)) (λ other j is. cc is));
       of_site = λ c. either (site_of c ≡ site) (same_cell c k) (same_cell c at) (at_cell c k) (at_cell c at);
+      in_range = λ numbered accepted. numbered site m (inr (is_there NoSuchDeploy (kept_at state site m) accepted));
     }
 command_laws (RemoveAlias site name) n state uploads =
     let at = cell.Alias site name in record {
@@ -173,6 +182,7 @@ command_laws (RemoveAlias site name) n state uploads =
       deploys = without_new (RemoveAlias site name) n state _ (none_by_removal state at);
       drafts = stay_all (RemoveAlias site name) n state _ (stay_by_removal state at);
       of_site = λ c. at_cell c at;
+      in_range = λ numbered accepted. tt;
     }
 command_laws (Restore site m) n state uploads =
     let k = cell.Kept site m in
@@ -199,6 +209,7 @@ command_laws (Restore site m) n state uploads =
       drafts = stay_all (Restore site m) n state _ (stay_by_restoring site m uploads state kept draft);
       of_site = λ c. either (site_of c ≡ site) (same_cell c d) (same_cell c k || others c) (at_cell c d)
           (either (site_of c ≡ site) (same_cell c k) (others c) (at_cell c k) (at_restore site m kept draft c));
+      in_range = λ numbered accepted. numbered site m (is_known uploads kept draft accepted);
     }
 command_laws (RemoveDeploy site m) n state uploads =
     let k = cell.Kept site m in record {
@@ -217,4 +228,5 @@ command_laws (RemoveDeploy site m) n state uploads =
       deploys = without_new (RemoveDeploy site m) n state _ (none_by_removal state k);
       drafts = stay_all (RemoveDeploy site m) n state _ (stay_by_removal state k);
       of_site = λ c. either (site_of c ≡ site) (same_cell c k) (is_alias_of site c) (at_cell c k) (at_alias site c);
+      in_range = λ numbered accepted. numbered site m (inr (is_kept (kept_at state site m) (alias_for state site m) accepted));
     }

@@ -16,6 +16,7 @@ mod Comparing
 pub mod Deploys
 pub mod Drafts
 mod SitesTouched
+pub mod Ranges
 -- all laws of each command, and what follows of them
 pub mod CommandLaws
 pub mod Locality

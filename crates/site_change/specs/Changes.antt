@@ -1,5 +1,5 @@
 -- What a command does under the number n, to a state, with these uploads.
-use Rattle.std.specs.Prelude.{◌≡◌, ℕ, List, [], ◌∷◌, Bool, true, false, not, ◌||◌, nat_lt, Option, Some, None, unwrap_or, option_map, map, filter_map, length, if◌then◌else◌}
+use Rattle.std.specs.Prelude.{◌≡◌, ℕ, ◌≤◌, List, [], ◌∷◌, Bool, true, false, not, ◌||◌, nat_lt, Option, Some, None, unwrap_or, option_map, map, filter_map, length, if◌then◌else◌}
 use Rattle.std.specs.FinMap as map
 use Rattle.std.specs.List.{list_any}
 use Rattle.std.specs.Ordering.{eq_by_cmp}
@@ -200,6 +200,26 @@ meaning (RemoveDeploy site m) n state = record {
   after = λ _. with_cell state (cell.Kept site m) None;
   touches = λ c. same_cell c (cell.Kept site m) || is_alias_of site c;
 }
+
+-- ---- which numbers there are
+
+-- from 1 to 1,000,000
+abbrev pub IsNumber : ℕ → Type 0
+IsNumber n = (1 ≤ n) × (n ≤ 1000000)
+
+-- the number of a command is from 1 to 1,000,000, and it lists at most 10,000 paths
+abbrev pub IsCommandInRange : Command → Type 0
+IsCommandInRange (Open site files auto) = length files.1 ≤ 10000
+IsCommandInRange (Publish site n) = IsNumber n
+IsCommandInRange (Cancel site n) = IsNumber n
+IsCommandInRange (MoveAlias site alias n) = IsNumber n
+IsCommandInRange (RemoveAlias site alias) = Unit {0}
+IsCommandInRange (Rename site source target) = Unit {0}
+IsCommandInRange (Remove site path) = Unit {0}
+IsCommandInRange (Restore site n) = IsNumber n
+IsCommandInRange (RemoveDeploy site n) = IsNumber n
+
+-- ---- what follows of its meaning
 
 -- the site that the command is for
 abbrev pub site_of_command : Command → SiteName

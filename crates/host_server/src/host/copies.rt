@@ -39,6 +39,19 @@ fn without_copy(alloc: Global, history: &History, uploads: &Known, command: &Com
     }
 }
 
+/// Why there is no copy of the history with the undo of this change, where there was no memory for a copy: the first reason
+/// against the undo, or else that.
+fn why_not_undone(history: &History, site: &SiteName, change: u64) -> ChangeError
+    ensures { (uploads : Contents) → IsHistoryOver uploads history.now
+        → IsUndoRefusedBy {A = ℕ} (Histories.undo_refusal uploads history.now.limit history.now.entries site.now change) (Err result) }
+{
+    match history.undo_refusal(site, change) {
+        Ok(Some(reason)) => ChangeError::Refused(reason),
+        Ok(None) => ChangeError::OutOfMemory,
+        Err(_) => ChangeError::OutOfMemory,
+    }
+}
+
 /// What is accepted has a number from 1 to 1,000,000, and lists at most 10,000 paths. It does nothing.
 fn accepted_is_in_range(history: &History)
     ensures commands { (uploads : Contents) (command : Change)
@@ -88,10 +101,7 @@ pub(super) fn with_undo(
 {
     accepted_is_in_range(history);
     let Ok(mut next) = history.copy() else {
-        return match history.undo_refusal(site, change)? {
-            Some(reason) => Err(ChangeError::Refused(reason)),
-            None => Err(ChangeError::OutOfMemory),
-        };
+        return Err(why_not_undone(history, site, change));
     };
     next.undo(site, change)?;
     Ok(next)
