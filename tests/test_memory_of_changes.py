@@ -12,6 +12,7 @@ from plain_model import Model, Request
 from stores import Stored, as_bytes, entry_of, opening_of, told
 from test_histories import in_json
 from test_memory import NO_MEMORY, Refusing, pieces
+from worked import entry
 
 LACKING = refused("OutOfMemory")
 LACKING_AND_CLOSED = refused("OutOfMemory", "Connection: close")
@@ -140,6 +141,28 @@ class StoredChanges(Changes, Stored):
         _, opened = self.run_refusing(0, b"")
         lacked = self.assert_swept(Run(model, self.requests), opened + 1, self.prepare, self.assert_found)
         self.assertGreater(lacked, 20)
+
+
+class EarlyChanges(Refusing, Stored):
+    """Of which many more live changes come after than their undo may request memory."""
+
+    moves, most = 2_000, 1_000
+    entries = [
+        opening_of({"/a.txt": b"hello", "/b.txt": b"abc"}), ("publish", "one", 1), ("rename", "one", "/a.txt", "/c.txt"), ("remove", "one", "/b.txt"),
+        ("undo", "one", 3), *[("alias", "one", "next", 1)] * moves,
+    ]
+
+    def test_are_undone_with_few_allocations(self):
+        undoing = as_bytes(undo(4))
+        undone = (0, entry(len(self.entries) + 1), b"")
+        self.write(self.entries, b"hello", b"abc")
+        _, opened = self.run_refusing(0, b"")
+        ended, count = self.run_refusing(0, undoing)
+        self.assertEqual(ended, undone)
+        self.assertLess(count - opened, self.most)
+        self.write(self.entries, b"hello", b"abc")
+        ended, _ = self.run_refusing(opened + self.most, undoing)
+        self.assertEqual(ended, undone)
 
 
 if __name__ == "__main__":
