@@ -27,7 +27,7 @@ SIZES = (2_000, 1_500, 1_000, 800, 600, 500, 400, 300)
 SHORT_HISTORIES = 30
 FAR = 100
 SITES = ("one", "two", "three")
-PATHS = ("/a.txt", "/b.css", "/d/c", "/d/e/f", "/index.html", "/x", '/"é".svg', "/zz")
+PATHS = ("/a.txt", "/b.css", "/d", "/d/c", "/d/e/f", "/index.html", "/x", "/y", '/"é".svg', "/zz", "/é", "/日")
 NAMES = ("next", "old", "v1", "v2")
 # Nothing here depends on the disk, and a folder in memory takes no time to be synced.
 FOLDERS = "/dev/shm" if os.access("/dev/shm", os.W_OK) else None
@@ -45,7 +45,7 @@ class UndoGenerator(Generator):
     def look_elsewhere(self):
         """Draws of which sites, paths and names the next requests are."""
         self.sites = self.one_of((("one",), ("one",), ("two",), ("three",), SITES))
-        self.paths = self.random.sample(PATHS, self.one_of((3, 5, 8)))
+        self.paths = self.random.sample(PATHS, self.one_of((3, 6, 12)))
         self.names = self.random.sample(NAMES, 2)
         self.sizes = (0, 1, 2, len(self.paths) - 1, len(self.paths))
 
@@ -78,7 +78,7 @@ class UndoGenerator(Generator):
         return Request("POST", f"/api/v1/sites/{self.site_of(change)}/undo", body=in_json(change=self.written(change)))
 
     changes = {
-        Generator.open: 14, Generator.restore: 4, Generator.cancel: 2, Generator.remove_deploy: 5, Generator.move_alias: 8, Generator.remove_alias: 3,
+        Generator.open: 8, Generator.restore: 4, Generator.cancel: 2, Generator.remove_deploy: 5, Generator.move_alias: 8, Generator.remove_alias: 3,
         Generator.rename: 6, Generator.remove: 4,
     }
     others = {undo: 66, Generator.read: 3, Generator.show_deploy: 2, Generator.show_changes: 1, Generator.mistake: 1}
@@ -94,7 +94,7 @@ class UndoGenerator(Generator):
         """The requests of each connection, until there are so many entries."""
         yield self.beginning()
         while len(self.model.entries) < entries:
-            if self.happens(0.6):
+            if self.happens(0.35):
                 self.look_elsewhere()
             yield (self.draw(self.changes | self.others) for _ in range(REQUESTS))
 
@@ -124,7 +124,6 @@ class TalliedModel(ReplayedModel):
             if "cell" in reason.told:
                 self.count_clash(change, changed, reason.told["change"], reason.told["cell"])
             raise
-        self.tally["undo"] += 1
         self.tally["undo over many later changes"] += len(later) >= FAR
         self.tally["undo that passes over an undone change"] += self.is_passed_over(change, changed, number)
         self.touched[change] = touched
@@ -188,9 +187,9 @@ class OldUndos(Program):
         with concurrent.futures.ProcessPoolExecutor(PROGRAMS_AT_ONCE) as pool:
             tally = sum(pool.map(tally_of, range(len(SIZES))), collections.Counter())
         least = {
-            "undo": 3_000, "undo over many later changes": 50, "undo that passes over an undone change": 500,
-            "Clash": 4_000, "far clash": 100, "clash that passes over an undone change": 1_000,
-            "far clash at live": 30, "far clash at alias": 30, "far clash at draft": 30,
+            "undo": 2_000, "undo over many later changes": 80, "undo that passes over an undone change": 700,
+            "Clash": 4_000, "far clash": 100, "clash that passes over an undone change": 1_300,
+            "far clash at live": 25, "far clash at alias": 40, "far clash at draft": 25,
             "NoSuchChange": 200, "NotAChange": 200, "AlreadyUndone": 200,
             **dict.fromkeys(("open", "publish", "cancel", "alias", "unalias", "rename", "remove", "restore", "delete"), 150),
         }
