@@ -1,7 +1,7 @@
 -- What a shelf gives that keeps what is put on it.
-use Rattle.std.proofs.Common.{◌≡◌, ◌≢◌, ◌⊎◌, inl, inr, ℕ, ◌≤◌, true, false, List, [], ◌∷◌, ◌++◌, Option, Some, None, length, map, refl, sym, ap, subst, ◌∙◌}
+use Rattle.std.proofs.Common.{◌≡◌, ◌≢◌, ◌⊎◌, inl, inr, ℕ, ◌≤◌, true, false, List, [], ◌∷◌, ◌++◌, Option, Some, None, length, map, refl, sym, ap, subst, ◌∙◌, arith}
 use Rattle.std.proofs.lemmas.Cmp.{eq_by_cmp_equiv}
-use Rattle.std.proofs.lemmas.List.Elements.{All-contains, All-from_recursion, recursion_from_All}
+use Rattle.std.proofs.lemmas.List.Elements.{All-contains, All-contains_itself, All-from_recursion, Contains-append_cases, Contains-append_left, Contains-append_right, Contains-push, Contains-push_cases, recursion_from_All}
 use Rattle.std.specs.List.{AllByRecursion, Contains, concat}
 use Rattle.std.specs.Ordering.{eq_by_cmp, is_eq}
 use Rattle.std.specs.declared.cmp.Ordering.{Ordering}
@@ -18,9 +18,9 @@ use Rattle.blob_store.specs.declared.blobs.UploadFault.{UploadFault}
 use Rattle.blob_store.specs.declared.blobs.UploadFault.TheVariants as upload_fault
 use Rattle.blob_store.specs.declared.shelves.ShelfFault.{ShelfFault}
 use Rattle.blob_store.specs.declared.shelves.ShelfFault.TheVariants as shelf_fault
-use Rattle.blob_store.specs.Calls.{Call, Put, PutFails, Got, PutsInTurn}
+use Rattle.blob_store.specs.Calls.{AreOnceEach, Call, Put, PutFails, Got, PutsFile, PutsInTurn, part_of, table_of, things_of}
 use Rattle.blob_store.specs.Faults.{HasPutSome, IsChunkFault}
-use Rattle.blob_store.specs.Keeping.{Agree, HasAll, HasFile, Keeps, Thing}
+use Rattle.blob_store.specs.Keeping.{Agree, AlwaysKeeps, HasAll, HasFile, Thing}
 use Rattle.blob_store.specs.Reads.{Answers, GivesInTurn, IsFileFault, IsFileRead, answers_of, pieces_given}
 use Rattle.blob_store.specs.Tables.{text_of}
 use Rattle.blob_store.proofs.FileReads.{all_named, digest_in, given}
@@ -61,6 +61,32 @@ fewer : (t : Thing) (things more : List Thing) → Agree more (t ∷ things) →
 fewer t things [] agree = tt
 fewer t things (m ∷ more) agree = (agree.0.1, fewer t things more agree.1)
 
+-- what holds of all holds of some of them
+all_of : {X : Type 0} (P : X → Type 0) (xs some : List X) → AllByRecursion P xs → AllByRecursion (Contains xs) some → AllByRecursion P some
+all_of P xs [] all among = tt
+all_of P xs (x ∷ some) all among = (All-contains P xs x (All-from_recursion P xs all) among.0, all_of P xs some all among.1)
+
+agreed : (things others : List Thing) → Agree things others → (thing other : Thing) → Contains things thing → Contains others other → thing.0 ≡ other.0 → thing.1 ≡ other.1
+agreed things others agree thing other in_things in_others =
+    let Same : Thing → Thing → Type 0 = λ t o. t.0 ≡ o.0 → t.1 ≡ o.1 in
+    let each = All-contains (λ t. AllByRecursion (Same t) others) things thing (All-from_recursion (λ t. AllByRecursion (Same t) others) things agree) in_things in
+    All-contains (Same thing) others other (All-from_recursion (Same thing) others each) in_others
+
+each_weaker : {X : Type 0} (P Q : X → Type 0) → ((x : X) → P x → Q x) → (xs : List X) → AllByRecursion P xs → AllByRecursion Q xs
+each_weaker P Q weaker [] all = tt
+each_weaker P Q weaker (x ∷ xs) all = (weaker x all.0, each_weaker P Q weaker xs all.1)
+
+parts_among : (pieces : List (List ℕ)) → AllByRecursion (λ p. Contains (map part_of pieces) (part_of p)) pieces
+parts_among [] = tt
+parts_among (p ∷ pieces) = (
+  Contains-append_left (part_of p ∷ []) (map part_of pieces) (part_of p) (Contains-push [] (part_of p)),
+  each_weaker (λ q. Contains (map part_of pieces) (part_of q)) (λ q. Contains (part_of p ∷ map part_of pieces) (part_of q))
+      (λ q there. Contains-append_right (part_of p ∷ []) (map part_of pieces) (part_of q) there) pieces (parts_among pieces),
+)
+
+part_among : (pieces : List (List ℕ)) (piece : List ℕ) → Contains pieces piece → Contains (map part_of pieces) (part_of piece)
+part_among pieces piece among = All-contains (λ p. Contains (map part_of pieces) (part_of p)) pieces piece (All-from_recursion (λ p. Contains (map part_of pieces) (part_of p)) pieces (parts_among pieces)) among
+
 -- a shelf that has the same has the same things
 pub moved : {S : Type 0} (has : S → ShelfName → Option (List ℕ)) (old new : S) (things : List Thing) → ((name : ShelfName) → has new name ≡ has old name) → HasAll has old things
     → HasAll has new things
@@ -71,7 +97,7 @@ abbrev pub some_bytes : Option (List ℕ) → List ℕ
 some_bytes None = []
 some_bytes (Some bytes) = bytes
 
-module _ {S : Type 0} (did : S → Call → S → Type 0) (has : S → ShelfName → Option (List ℕ)) (keeps : Keeps did has) where
+module _ {S : Type 0} (did : S → Call → S → Type 0) (has : S → ShelfName → Option (List ℕ)) (keeps : AlwaysKeeps did has) where
   one_put : (old new : S) (name : ShelfName) (bytes : List ℕ) (t : Thing) → (name ≡ t.0 → bytes ≡ t.1) → did old (Put t.0 t.1) new → has old name ≡ Some bytes → has new name ≡ Some bytes
   one_put old new name bytes t agree put had = elim (same_name name t.0) [
     | inl same ↦ ap (has new) same ∙ keeps.put old new t.0 t.1 put ∙ ap Some (sym (agree same))
@@ -96,7 +122,7 @@ module _ {S : Type 0} (did : S → Call → S → Type 0) (has : S → ShelfName
       stays_there puts.0 new name bytes things outcome agree.1 puts.2 (one_put old puts.0 name bytes t agree.0 puts.1 had)
 
   -- what was put is there
-  pub all_there : (old new : S) (things : List Thing) → Agree things things → PutsInTurn did old things None new → HasAll has new things
+  all_there : (old new : S) (things : List Thing) → Agree things things → PutsInTurn did old things None new → HasAll has new things
   all_there old new [] agree puts = tt
   all_there old new (t ∷ things) agree (inl fails) = absurd (cc fails.1)
   all_there old new (t ∷ things) agree (inr puts) = (
@@ -105,19 +131,85 @@ module _ {S : Type 0} (did : S → Call → S → Type 0) (has : S → ShelfName
   )
 
   -- what was there still is
-  pub still_there : (old new : S) (had things : List Thing) (outcome : Option ShelfFault) → Agree had things → PutsInTurn did old things outcome new → HasAll has old had
+  still_there : (old new : S) (had things : List Thing) (outcome : Option ShelfFault) → Agree had things → PutsInTurn did old things outcome new → HasAll has old had
       → HasAll has new had
   still_there old new [] things outcome agree puts are = tt
   still_there old new (h ∷ had) things outcome agree puts are =
       (stays_there old new h.0 h.1 things outcome agree.0 puts are.0, still_there old new had things outcome agree.1 puts are.1)
 
-  pub there_after_fault : (old new : S) (had things : List Thing) (fault : UploadFault) → Agree had things → HasPutSome did old things fault new → HasAll has old had
+  -- what a file puts is of its things
+  puts_among : (file : List ℕ) (pieces : List (List ℕ)) → AllByRecursion (Contains (cut file)) pieces
+      → AllByRecursion (Contains (things_of file)) (map part_of pieces ++ table_of file ∷ [])
+  puts_among file [] among = (Contains-push (map part_of (cut file)) (table_of file), tt)
+  puts_among file (piece ∷ pieces) among =
+      (Contains-append_left (map part_of (cut file)) (table_of file ∷ []) (part_of piece) (part_among (cut file) piece among.0), puts_among file pieces among.1)
+
+  -- so it agrees with what these agree with
+  agree_puts : (had : List Thing) (file : List ℕ) (pieces : List (List ℕ)) → AllByRecursion (Contains (cut file)) pieces → Agree had (things_of file)
+      → Agree had (map part_of pieces ++ table_of file ∷ [])
+  agree_puts [] file pieces among agree = tt
+  agree_puts (h ∷ had) file pieces among agree = (
+    all_of (λ other. h.0 ≡ other.0 → h.1 ≡ other.1) (things_of file) (map part_of pieces ++ table_of file ∷ []) agree.0 (puts_among file pieces among),
+    agree_puts had file pieces among agree.1,
+  )
+
+  agree_front : (had others more : List Thing) → AllByRecursion (Contains had) more → Agree had others → Agree more others
+  agree_front had others more among agree = all_of (λ thing. AllByRecursion (λ (other : Thing). thing.0 ≡ other.0 → thing.1 ≡ other.1) others) had more agree among
+
+  its_table : (new : S) (file : List ℕ) (pieces : List (List ℕ)) → HasAll has new (map part_of pieces ++ table_of file ∷ []) → has new (table_of file).0 ≡ Some (table_of file).1
+  its_table new file [] are = are.0
+  its_table new file (p ∷ pieces) are = its_table new file pieces are.1
+
+  -- a piece is there, since one of its name is, and is the same
+  its_piece : (new : S) (file piece : List ℕ) (pieces : List (List ℕ)) → Agree (things_of file) (things_of file) → Contains (cut file) piece
+      → AllByRecursion (Contains (cut file)) pieces → Contains (map digest_of pieces) (digest_of piece) → HasAll has new (map part_of pieces ++ table_of file ∷ [])
+      → has new (Part (digest_of piece)) ≡ Some piece
+  its_piece new file piece [] agree of among put are = absurd (let below = put.1 in omega (arith, below))
+  its_piece new file piece (p ∷ pieces) agree of among put are = elim (Contains-append_cases (digest_of p ∷ []) (map digest_of pieces) (digest_of piece) put) [
+    | inl one ↦ elim (Contains-push_cases [] (digest_of p) (digest_of piece) one) [
+      | inl none ↦ absurd (let below = none.1 in omega (arith, below))
+      | inr is ↦
+          let things = things_of file in
+          let in_things : (q : List ℕ) → Contains (cut file) q → Contains things (part_of q) =
+          λ q there. Contains-append_left (map part_of (cut file)) (table_of file ∷ []) (part_of q) (part_among (cut file) q there) in
+          let same : p ≡ piece = agreed things things agree (part_of p) (part_of piece) (in_things p among.0) (in_things piece of) (ap Part is) in
+          ap (λ d. has new (Part d)) (sym is) ∙ are.0 ∙ ap Some same
+    ]
+    | inr later ↦ its_piece new file piece pieces agree of among.1 later are.1
+  ]
+
+  all_pieces : (new : S) (file : List ℕ) (pieces : List (List ℕ)) → Agree (things_of file) (things_of file) → AreOnceEach (cut file) pieces
+      → HasAll has new (map part_of pieces ++ table_of file ∷ [])
+      → (some : List (List ℕ)) → AllByRecursion (Contains (cut file)) some → AllByRecursion (λ piece. Contains (map digest_of pieces) (digest_of piece)) some
+      → HasAll has new (map part_of some ++ table_of file ∷ [])
+  all_pieces new file pieces agree once are [] of met = (its_table new file pieces are, tt)
+  all_pieces new file pieces agree once are (piece ∷ some) of met =
+      (its_piece new file piece pieces agree of.0 once.among met.0 are, all_pieces new file pieces agree once are some of.1 met.1)
+
+  -- a file that was put is there
+  pub file_put : (old new : S) (file : List ℕ) → Agree (things_of file) (things_of file) → PutsFile did old file None new → HasFile has new file
+  file_put old new file agree is =
+      let pieces = is.0 in
+      let things = map part_of pieces ++ table_of file ∷ [] in
+      let among = is.1.among in
+      let own = agree_front (things_of file) things things (puts_among file pieces among) (agree_puts (things_of file) file pieces among agree) in
+      let are = all_there old new things own is.2 in
+      let themselves = recursion_from_All (Contains (cut file)) (cut file) (All-contains_itself (cut file)) in
+      all_pieces new file pieces agree is.1 are (cut file) themselves is.1.each
+
+  -- what was there still is, wherever the putting of a file ended
+  pub still_there_after : (old new : S) (had : List Thing) (file : List ℕ) (outcome : Option ShelfFault) → Agree had (things_of file) → PutsFile did old file outcome new
+      → HasAll has old had → HasAll has new had
+  still_there_after old new had file outcome agree is are =
+      still_there old new had (map part_of is.0 ++ table_of file ∷ []) outcome (agree_puts had file is.0 is.1.among agree) is.2 are
+
+  pub there_after_fault : (old new : S) (had : List Thing) (file : List ℕ) (fault : UploadFault) → Agree had (things_of file) → HasPutSome did old file fault new → HasAll has old had
       → HasAll has new had
-  there_after_fault old new had things upload_fault.TooLarge agree (inl same) are = subst (λ s. HasAll has s had) (sym same) are
-  there_after_fault old new had things upload_fault.Device agree (inl puts) are = still_there old new had things (Some shelf_fault.Device) agree puts are
-  there_after_fault old new had things upload_fault.OutOfMemory agree (inl (inl same)) are = subst (λ s. HasAll has s had) (sym same) are
-  there_after_fault old new had things upload_fault.OutOfMemory agree (inl (inr puts)) are = still_there old new had things (Some shelf_fault.OutOfMemory) agree puts are
-  there_after_fault old new had things fault agree (inr puts) are = still_there old new had things None agree puts.1 are
+  there_after_fault old new had file upload_fault.TooLarge agree (inl same) are = subst (λ s. HasAll has s had) (sym same) are
+  there_after_fault old new had file upload_fault.Device agree (inl puts) are = still_there_after old new had file (Some shelf_fault.Device) agree puts are
+  there_after_fault old new had file upload_fault.OutOfMemory agree (inl (inl same)) are = subst (λ s. HasAll has s had) (sym same) are
+  there_after_fault old new had file upload_fault.OutOfMemory agree (inl (inr puts)) are = still_there_after old new had file (Some shelf_fault.OutOfMemory) agree puts are
+  there_after_fault old new had file fault agree (inr puts) are = still_there_after old new had file None agree puts.1 are
 
   -- ---- what is given
 

@@ -1,10 +1,10 @@
 -- What a store knows that is opened over a shelf which keeps what is put on it.
-use Rattle.std.proofs.Common.{◌≡◌, length, ◌≢◌, ◌⊎◌, inl, inr, ℕ, ◌≤◌, Bool, true, false, cond, List, [], ◌∷◌, Option, Some, None, map, refl, sym, ap, subst, ◌∙◌}
+use Rattle.std.proofs.Common.{◌≡◌, length, ◌≢◌, ◌⊎◌, inl, inr, ℕ, ◌≤◌, Bool, true, false, cond, List, [], ◌∷◌, ◌++◌, Option, Some, None, map, refl, sym, ap, subst, ◌∙◌}
 use Rattle.std.proofs.lemmas.Cmp.{eq_by_cmp_equiv}
 use Rattle.std.specs.BTreeMap.{is_at}
 use Rattle.std.specs.FinMap.{contains_key, get, get-insert}
 use Rattle.std.specs.FinMap as fin
-use Rattle.std.specs.List.{fold}
+use Rattle.std.specs.List.{AllByRecursion, fold}
 use Rattle.std.specs.Map.{lookup}
 use Rattle.std.specs.Ordering.{eq_by_cmp, is_eq}
 use Rattle.std.specs.declared.cmp.Ordering.{Ordering}
@@ -16,13 +16,19 @@ use Rattle.blob_store.specs.declared.openings.OpenFault.TheVariants as open_faul
 use Rattle.blob_store.specs.declared.openings.Wanted.{Wanted}
 use Rattle.blob_store.specs.declared.reading.ReadFault.TheVariants as read_fault
 use Rattle.blob_store.specs.declared.shelves.ShelfName.{ShelfName}
-use Rattle.blob_store.specs.declared.shelves.ShelfName.TheVariants.{Table}
-use Rattle.blob_store.specs.Calls.{Call, things_of}
-use Rattle.blob_store.specs.Keeping.{HasFile, Keeps}
-use Rattle.blob_store.specs.Openings.{AreTaken, IsOpenFault, IsOpened, IsTaken, Need, Taken, known_with, need_of}
-use Rattle.blob_store.specs.Reads.{IsFileFault, IsFileRead, answers_of}
+use Rattle.blob_store.specs.declared.shelves.ShelfName.TheVariants.{Part, Table}
+use Rattle.blob_store.specs.declared.shelves.ShelfFault.{ShelfFault}
+use Rattle.blob_store.specs.declared.shelves.ShelfFault.TheVariants as shelf_fault
+use Rattle.blob_store.specs.declared.reading.ReadFault.{ReadFault}
+use Rattle.blob_store.specs.declared.openings.OpenFault.{OpenFault}
+use Rattle.byte_view.specs.Cuts.{cut}
+use Rattle.blob_store.specs.Calls.{Call, part_of, table_of, things_of}
+use Rattle.blob_store.specs.Keeping.{AlwaysKeeps, HasAll, HasFile}
+use Rattle.blob_store.specs.Openings.{AreTaken, IsOpenFault, IsOpened, IsTaken, IsTakeFault, Need, Taken, known_with, need_of}
+use Rattle.blob_store.specs.Reads.{FailsAtFile, IsFileFault, IsFileRead, answers_of, pieces_given}
 use Rattle.blob_store.proofs.Additions.{get_added}
-use Rattle.blob_store.proofs.Kept.{file_given, file_not_damaged, file_not_missing, moved, same_after, same_digest}
+use Rattle.blob_store.proofs.Kept.{file_given, file_not_damaged, file_not_missing, given_there, moved, same_after, same_digest, some_bytes}
+use Rattle.blob_store.proofs.FileReads.{given}
 
 -- ---- what is known after one file more
 
@@ -51,14 +57,103 @@ get_other known file digest differ =
 at_itself : (digest : Digest) → is_at (digest_cmp digest) digest ≡ true
 at_itself digest = (eq_by_cmp_equiv digest_cmp_total).refl digest
 
-module _ {S : Type 0} (did : S → Call → S → Type 0) (has : S → ShelfName → Option (List ℕ)) (keeps : Keeps did has) (file : List ℕ) (small : length file ≤ 16777216) where
+-- a file that is known then was known, or is the one that was added
+known_or_added : (known : Contents) (file : List ℕ) (digest : Digest) (found : List ℕ) → get (with_file known file) digest ≡ Some found
+    → (get known digest ≡ Some found) ⊎ (found ≡ file)
+known_or_added known file digest found at =
+    elim (contains_key known (digest_of file)) as (λ b. get (cond b known (fin.insert known (digest_of file) file)) digest ≡ Some found → (get known digest ≡ Some found) ⊎ (found ≡ file)) [
+      | true ↦ λ e. inl e
+      | false ↦ λ e.
+          let here : cond (eq_by_cmp digest_cmp digest (digest_of file)) (Some file) (get known digest) ≡ Some found =
+          sym (get-insert digest_cmp_total known (digest_of file) file digest) ∙ e in
+          elim (eq_by_cmp digest_cmp digest (digest_of file)) as (λ t. cond t (Some file) (get known digest) ≡ Some found → (get known digest ≡ Some found) ⊎ (found ≡ file)) [
+            | true ↦ λ is. inr (sym (ap some_bytes is))
+            | false ↦ λ is. inl is
+          ] here
+    ] at
+
+-- ---- what an opening leaves, and what it knows is there
+
+module _ {S : Type 0} (did : S → Call → S → Type 0) (has : S → ShelfName → Option (List ℕ)) (keeps : AlwaysKeeps did has) where
+  fails_stays : (old new : S) (digest : Digest) (why : ShelfFault) (name : ShelfName) → FailsAtFile did old digest why new → has new name ≡ has old name
+  fails_stays old new digest why name (inl is) = keeps.get_fails old new (Table digest) name why is
+  fails_stays old new digest why name (inr is) =
+      let piece = is.6 in
+      keeps.get_fails piece.3 new (Part piece.1) name why piece.6 ∙ same_after did has keeps is.3 piece.3 (pieces_given piece.0) piece.5 name
+      ∙ keeps.stays old is.3 (Table digest) name (Some is.0) is.5
+
+  fault_stays : (old new : S) (digest : Digest) (why : ReadFault) (name : ShelfName) → IsFileFault did old digest why new → has new name ≡ has old name
+  fault_stays old new digest read_fault.Missing name is = keeps.stays old new (Table digest) name None is
+  fault_stays old new digest read_fault.Damaged name is = same_after did has keeps old new ((Table digest, Some is.0) ∷ is.1) is.3 name
+  fault_stays old new digest read_fault.Device name is = fails_stays old new digest shelf_fault.Device name is
+  fault_stays old new digest read_fault.OutOfMemory name (inl is) = fails_stays old new digest shelf_fault.OutOfMemory name is
+  fault_stays old new digest read_fault.OutOfMemory name (inr (inl is)) = keeps.stays old new (Table digest) name (Some is.0) is.3
+  fault_stays old new digest read_fault.OutOfMemory name (inr (inr is)) =
+      same_after did has keeps is.3 new (pieces_given is.6.0) is.6.4 name ∙ keeps.stays old is.3 (Table digest) name (Some is.0) is.5
+
   after_taken : (old new : S) (need : Need) (read : Option (List ℕ)) → IsTaken did old need read new → (name : ShelfName) → has new name ≡ has old name
   after_taken old new need (Some read) is name = same_after did has keeps old new (answers_of read) is.2 name
-  after_taken old new need None is name = elim is.1 [
-    | inl got ↦ keeps.stays old new (Table need.0) name None got
-    | inr fault ↦ same_after did has keeps old new ((Table need.0, Some fault.0) ∷ fault.1) fault.3 name
+  after_taken old new need None (free, inl is) name = fault_stays old new need.0 read_fault.Missing name is
+  after_taken old new need None (free, inr is) name = fault_stays old new need.0 read_fault.Damaged name is
+
+  pub after_all : (old new : S) (taken : List Taken) → AreTaken did old taken new → (name : ShelfName) → has new name ≡ has old name
+  after_all old new [] are name = ap (λ s. has s name) are
+  after_all old new (t ∷ taken) are name = after_all are.0 new taken are.2 name ∙ after_taken old are.0 t.need t.file are.1 name
+
+  take_stops : (old new : S) (need : Need) (why : OpenFault) (name : ShelfName) → IsTakeFault did old need why new → has new name ≡ has old name
+  take_stops old new need (open_fault.MissingBlob digest) name is = fault_stays old new digest read_fault.Missing name is.1
+  take_stops old new need (open_fault.DamagedBlob digest) name is = fault_stays old new digest read_fault.Damaged name is.1
+  take_stops old new need open_fault.Device name is = fault_stays old new need.0 read_fault.Device name is
+  take_stops old new need open_fault.OutOfMemory name (inl is) = fault_stays old new need.0 read_fault.OutOfMemory name is
+  take_stops old new need open_fault.OutOfMemory name (inr is) = same_after did has keeps old new (answers_of is.0) is.1.2 name
+
+  pub opening_stays : (old new : S) (wanted : List Wanted) (known : Contents) → IsOpened did old wanted known new → (name : ShelfName) → has new name ≡ has old name
+  opening_stays old new wanted known is = after_all old new is.0 is.2
+
+  pub no_opening_stays : (old new : S) (wanted : List Wanted) (why : OpenFault) → IsOpenFault did old wanted why new → (name : ShelfName) → has new name ≡ has old name
+  no_opening_stays old new wanted why (inl is) name =
+      let stop = is.2 in
+      take_stops stop.3 new stop.1 why name stop.6 ∙ after_all old stop.3 stop.0 stop.5 name
+  no_opening_stays old new wanted why (inr none) name = ap (λ s. has s name) none.2
+
+  -- a file that was read whole is there
+  all_there : (s : S) (file : List ℕ) (pieces : List (List ℕ)) → AllByRecursion (λ (a : ShelfName × Option (List ℕ)). a.1 ≡ has s a.0) (map given pieces)
+      → has s (table_of file).0 ≡ Some (table_of file).1 → HasAll has s (map part_of pieces ++ table_of file ∷ [])
+  all_there s file [] all table = (table, tt)
+  all_there s file (piece ∷ pieces) all table = (sym all.0, all_there s file pieces all.1 table)
+
+  read_there : (old new : S) (digest : Digest) (file : List ℕ) → IsFileRead did old digest file new → HasFile has old file
+  read_there old new digest file is =
+      let all = given_there did has keeps old old new (answers_of file) (λ name. refl) is.2 in
+      all_there old file (cut file) all.1 (sym all.0)
+
+  one_there : (old new : S) (need : Need) (read : Option (List ℕ)) (known : Contents) (digest : Digest) (file : List ℕ)
+      → ((digest : Digest) (file : List ℕ) → get known digest ≡ Some file → HasFile has old file) → IsTaken did old need read new
+      → get (known_with known read) digest ≡ Some file → HasFile has old file
+  one_there old new need None known digest file had is at = had digest file at
+  one_there old new need (Some read) known digest file had is at = elim (known_or_added known read digest file at) [
+    | inl was ↦ had digest file was
+    | inr same ↦ subst (HasFile has old) (sym same) (read_there old new need.0 read is)
   ]
 
+  each_there : (old new : S) (taken : List Taken) (known : Contents) → ((digest : Digest) (file : List ℕ) → get known digest ≡ Some file → HasFile has old file)
+      → AreTaken did old taken new → (digest : Digest) (file : List ℕ) → get (fold (λ k one. known_with k one.file) known taken) digest ≡ Some file → HasFile has new file
+  each_there old new [] known had are digest file at = subst (λ s. HasFile has s file) (sym are) (had digest file at)
+  each_there old new (t ∷ taken) known had are digest file at =
+      each_there are.0 new taken (known_with known t.file)
+      (λ d f found. moved has old are.0 (things_of f) (after_taken old are.0 t.need t.file are.1) (one_there old are.0 t.need t.file known d f had are.1 found))
+      are.2 digest file at
+
+  pub known_there : (old new : S) (wanted : List Wanted) (known : Contents) → IsOpened did old wanted known new
+      → (digest : Digest) (file : List ℕ) → get known digest ≡ Some file → HasFile has new file
+  known_there old new wanted known is digest file at =
+      each_there old new is.0 fin.empty
+      (λ d f none. let wrong : None ≡ Some f = sym (fin.get-empty {X = List ℕ} digest_cmp d) ∙ none in absurd (cc wrong))
+      is.2 digest file (ap (λ k. get k digest) (sym is.3) ∙ at)
+
+-- ---- a file that the shelf has
+
+module _ {S : Type 0} (did : S → Call → S → Type 0) (has : S → ShelfName → Option (List ℕ)) (keeps : AlwaysKeeps did has) (file : List ℕ) (small : length file ≤ 16777216) where
   -- where its digest is taken, the file is read
   is_read : (old new : S) (need : Need) (read : Option (List ℕ)) → need.0 ≡ digest_of file → HasFile has old file → IsTaken did old need read new → read ≡ Some file
   is_read old new need (Some read) named there is =
@@ -86,7 +181,7 @@ module _ {S : Type 0} (did : S → Call → S → Type 0) (has : S → ShelfName
       → get (fold (λ k one. known_with k one.file) known taken) (digest_of file) ≡ Some file
   known_still old new [] known there are e = e
   known_still old new (t ∷ taken) known there are e =
-      let later = moved has old are.0 (things_of file) (after_taken old are.0 t.need t.file are.1) there in
+      let later = moved has old are.0 (things_of file) (after_taken did has keeps old are.0 t.need t.file are.1) there in
       let now : get (known_with known t.file) (digest_of file) ≡ Some file = elim (same_digest t.need.0 (digest_of file)) [
         | inl same ↦ ap (λ o. get (known_with known o) (digest_of file)) (is_read old are.0 t.need t.file same there are.1) ∙ known_here known (inr e)
         | inr differ ↦ stays_right known t.need t.file old are.0 differ are.1 ∙ e
@@ -98,7 +193,7 @@ module _ {S : Type 0} (did : S → Call → S → Type 0) (has : S → ShelfName
       → get (fold (λ k one. known_with k one.file) known taken) (digest_of file) ≡ Some file
   known_after old new [] known must there are none wanted = absurd (cc wanted)
   known_after old new (t ∷ taken) known must there are none wanted =
-      let later = moved has old are.0 (things_of file) (after_taken old are.0 t.need t.file are.1) there in
+      let later = moved has old are.0 (things_of file) (after_taken did has keeps old are.0 t.need t.file are.1) there in
       elim (same_digest t.need.0 (digest_of file)) [
         | inl same ↦
             let now = ap (λ o. get (known_with known o) (digest_of file)) (is_read old are.0 t.need t.file same there are.1) ∙ known_here known (inl none) in
@@ -119,20 +214,16 @@ module _ {S : Type 0} (did : S → Call → S → Type 0) (has : S → ShelfName
       ap (λ k. get k (digest_of file)) is.3
       ∙ known_after old new is.0 fin.empty must there is.2 (fin.get-empty {X = List ℕ} digest_cmp (digest_of file)) (is.1.each (digest_of file) ∙ needed)
 
-  after_all : (old new : S) (taken : List Taken) → AreTaken did old taken new → (name : ShelfName) → has new name ≡ has old name
-  after_all old new [] are name = ap (λ s. has s name) are
-  after_all old new (t ∷ taken) are name = after_all are.0 new taken are.2 name ∙ after_taken old are.0 t.need t.file are.1 name
-
   pub not_missing : (old new : S) (wanted : List Wanted) → HasFile has old file → IsOpenFault did old wanted (open_fault.MissingBlob (digest_of file)) new → ⊥
   not_missing old new wanted there (inr none) = absurd (cc none.1)
   not_missing old new wanted there (inl is) =
       let stop = is.2 in
-      let later = moved has old stop.3 (things_of file) (after_all old stop.3 stop.0 stop.5) there in
+      let later = moved has old stop.3 (things_of file) (after_all did has keeps old stop.3 stop.0 stop.5) there in
       file_not_missing did has keeps stop.3 file later new stop.6.1
 
   pub not_damaged : (old new : S) (wanted : List Wanted) → HasFile has old file → IsOpenFault did old wanted (open_fault.DamagedBlob (digest_of file)) new → ⊥
   not_damaged old new wanted there (inr none) = absurd (cc none.1)
   not_damaged old new wanted there (inl is) =
       let stop = is.2 in
-      let later = moved has old stop.3 (things_of file) (after_all old stop.3 stop.0 stop.5) there in
+      let later = moved has old stop.3 (things_of file) (after_all did has keeps old stop.3 stop.0 stop.5) there in
       file_not_damaged did has keeps stop.3 file later new small stop.6.1

@@ -12,7 +12,7 @@ use Rattle.blob_store.specs.declared.reading.ReadFault.{ReadFault}
 use Rattle.blob_store.specs.declared.reading.ReadFault.TheVariants as read_fault
 use Rattle.blob_store.specs.Calls.{Call, Got}
 use Rattle.blob_store.specs.Faults.{IsChunkFault}
-use Rattle.blob_store.specs.Keeping.{HasFile, Keeps}
+use Rattle.blob_store.specs.Keeping.{AlwaysKeeps, HasFile}
 use Rattle.blob_store.specs.Reads.{GivesInTurn}
 use Rattle.blob_store.specs.Stretches.{IsStretchFault, chunks_given}
 use Rattle.blob_store.proofs.FileReads.{given}
@@ -28,7 +28,7 @@ all_take P zero xs all = tt
 all_take P (suc n) [] all = all
 all_take P (suc n) (x ∷ xs) all = (all.0, all_take P n xs all.1)
 
-module _ {S : Type 0} (did : S → Call → S → Type 0) (has : S → ShelfName → Option (List ℕ)) (keeps : Keeps did has) where
+module _ {S : Type 0} (did : S → Call → S → Type 0) (has : S → ShelfName → Option (List ℕ)) (keeps : AlwaysKeeps did has) where
   pub chunk_stays : (old new : S) (asked : Digest) (why : ReadFault) (name : ShelfName) → IsChunkFault did old asked why new → has new name ≡ has old name
   chunk_stays old new asked read_fault.Missing name fault = keeps.stays old new (Part asked) name None fault
   chunk_stays old new asked read_fault.Damaged name fault = keeps.stays old new (Part asked) name (Some fault.0) fault.2

@@ -2,10 +2,13 @@ mod Stored
 mod TableTexts
 mod Shelved
 mod Additions
+mod Once
 mod Turns
 mod FileReads
 mod Stretched
 mod WantedOrder
 pub mod Kept
 pub mod KeptStretches
-mod KeptOpen
+pub mod KeptOpen
+pub mod Honest
+mod Foldered

@@ -9,7 +9,7 @@ use Rattle.host_names.specs.Digests.{digest_cmp, digest_cmp-IsAntisymmetric}
 use Rattle.blob_store.specs.declared.shelves.ShelfName.{ShelfName}
 use Rattle.blob_store.specs.declared.shelves.ShelfName.TheVariants.{Part, Table}
 use Rattle.blob_store.specs.declared.mem_shelf.MemShelf.{MemShelf}
-use Rattle.blob_store.specs.Keeping.{Keeps}
+use Rattle.blob_store.specs.Keeping.{AlwaysKeeps, Keeps}
 use Rattle.blob_store.specs.Shelves.{Does, IsPutAt, found_in}
 
 is_eq-true : (o : Ordering) → is_eq o ≡ true → o ≡ Equal
@@ -53,8 +53,8 @@ table_put old new digest bytes same put = record {
   others = other_than_table old new digest bytes same put;
 }
 
-pub mem_shelf_keeps : Keeps Does found_in
-mem_shelf_keeps = record {
+pub mem_shelf_always_keeps : AlwaysKeeps Does found_in
+mem_shelf_always_keeps = record {
   put = λ old new name bytes does. does.here;
   others = λ old new name other bytes does differ. does.others other differ;
   got = λ old new name answer does. does.0;
@@ -63,3 +63,20 @@ mem_shelf_keeps = record {
   put_fails_others = λ old new name other bytes fault does differ. does.1 other;
   get_fails = λ old new name other fault does. does.1 other;
 }
+
+-- so it does as long as nothing is asked of it
+pub mem_shelf_keeps : Keeps Does (λ shelf. true) found_in
+mem_shelf_keeps =
+    let always = mem_shelf_always_keeps in
+    record {
+      before = λ old new call did so. refl;
+      kept = record {
+        put = λ old new name bytes did. always.put old new name bytes did.0;
+        others = λ old new name other bytes did. always.others old new name other bytes did.0;
+        got = λ old new name answer did. always.got old new name answer did.0;
+        stays = λ old new name other answer did. always.stays old new name other answer did.0;
+        put_fails = λ old new name bytes fault did. always.put_fails old new name bytes fault did.0;
+        put_fails_others = λ old new name other bytes fault did. always.put_fails_others old new name other bytes fault did.0;
+        get_fails = λ old new name other fault did. always.get_fails old new name other fault did.0;
+      };
+    }

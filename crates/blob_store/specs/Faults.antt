@@ -2,25 +2,24 @@
 use Rattle.std.specs.Prelude.{◌≡◌, ◌≢◌, ◌⊎◌, List, ℕ, Some, None}
 use Rattle.host_names.specs.declared.digests.Digest.{Digest}
 use Rattle.host_names.specs.Blobs.{digest_of}
-use Rattle.blob_store.specs.declared.shelves.ShelfName.{ShelfName}
 use Rattle.blob_store.specs.declared.shelves.ShelfName.TheVariants.{Part}
 use Rattle.blob_store.specs.declared.shelves.ShelfFault.TheVariants as shelf_fault
 use Rattle.blob_store.specs.declared.blobs.UploadFault.{UploadFault}
 use Rattle.blob_store.specs.declared.blobs.UploadFault.TheVariants as upload_fault
 use Rattle.blob_store.specs.declared.reading.ReadFault.{ReadFault}
 use Rattle.blob_store.specs.declared.reading.ReadFault.TheVariants as read_fault
-use Rattle.blob_store.specs.Calls.{Call, Got, GetFails, PutsInTurn}
+use Rattle.blob_store.specs.Calls.{Call, Got, GetFails, PutsFile}
 
 -- what was put where a file can't be: of one that is too large nothing; up to a fault of the device; without memory none of it, or up to
 -- where the shelf had none
-abbrev pub HasPutPart : {S : Type 0} → (did : S → Call → S → Type 0) → S → List (ShelfName × List ℕ) → UploadFault → S → Type 0
-HasPutPart did old things upload_fault.TooLarge new = new ≡ old
-HasPutPart did old things upload_fault.Device new = PutsInTurn did old things (Some shelf_fault.Device) new
-HasPutPart did old things upload_fault.OutOfMemory new = (new ≡ old) ⊎ PutsInTurn did old things (Some shelf_fault.OutOfMemory) new
+abbrev pub HasPutPart : {S : Type 0} → (did : S → Call → S → Type 0) → S → List ℕ → UploadFault → S → Type 0
+HasPutPart did old file upload_fault.TooLarge new = new ≡ old
+HasPutPart did old file upload_fault.Device new = PutsFile did old file (Some shelf_fault.Device) new
+HasPutPart did old file upload_fault.OutOfMemory new = (new ≡ old) ⊎ PutsFile did old file (Some shelf_fault.OutOfMemory) new
 
 -- what was put where a file can't be, or can't be known: that; or all of it, and then there was no memory to keep what is known of it
-abbrev pub HasPutSome : {S : Type 0} → (did : S → Call → S → Type 0) → S → List (ShelfName × List ℕ) → UploadFault → S → Type 0
-HasPutSome did old things why new = HasPutPart did old things why new ⊎ ((why ≡ upload_fault.OutOfMemory) × PutsInTurn did old things None new)
+abbrev pub HasPutSome : {S : Type 0} → (did : S → Call → S → Type 0) → S → List ℕ → UploadFault → S → Type 0
+HasPutSome did old file why new = HasPutPart did old file why new ⊎ ((why ≡ upload_fault.OutOfMemory) × PutsFile did old file None new)
 
 -- a fault at a chunk, and the answer of the one call that it comes from
 abbrev pub IsChunkFault : {S : Type 0} → (did : S → Call → S → Type 0) → S → Digest → ReadFault → S → Type 0

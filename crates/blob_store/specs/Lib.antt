@@ -8,4 +8,4 @@ pub mod Stretches
 pub mod Shelves
 pub mod Openings
 pub mod Keeping
-pub mod Failures
+pub mod Folders

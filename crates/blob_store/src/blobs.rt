@@ -1,11 +1,11 @@
 //! The store: files whose pieces and tables are on a shelf.
-ghost use Rattle.std.specs.Prelude.{◌≡◌, ◌≢◌, ◌↔◌, ◌<◌, ◌≤◌, Err, IfErr, IfOk, MatchResult, None, OnErr, OnOk, Some, IsSome, length, option_map};
+ghost use Rattle.std.specs.Prelude.{◌≡◌, ◌≢◌, ◌↔◌, ◌<◌, ◌≤◌, Contains, Err, IfErr, IfOk, IsTrue, MatchResult, None, OnErr, OnOk, Some, IsSome, length, option_map};
 ghost use Rattle.std.specs.FinMap as map;
 ghost use Rattle.host_names.specs.Blobs.{AreDigested, digest_of, with_file};
 ghost use Rattle.byte_view.specs.Cuts.{names_of};
 ghost use Rattle.blob_store.specs.declared.shelves.ShelfName.TheVariants.{Part};
 ghost use Rattle.blob_store.specs.declared.reading.ReadFault.TheVariants as read_fault;
-ghost use Rattle.blob_store.specs.Calls.{Got, PutsInTurn, things_of};
+ghost use Rattle.blob_store.specs.Calls.{Got, PutsFile, PutsNew, part_of};
 ghost use Rattle.blob_store.specs.Faults.{HasPutPart, HasPutSome, IsChunkFault};
 ghost use Rattle.blob_store.specs.Reads.{GivesInTurn};
 ghost use Rattle.blob_store.specs.Stretches.{IsStretchFault, chunks_given};
@@ -66,7 +66,31 @@ fn of_shelf(fault: ShelfFault) -> UploadFault
     }
 }
 
-/// Puts each piece of a file on a shelf, and its table after them.
+/// Whether a name is one of these.
+fn is_among(name: &Digest, names: &[Digest]) -> bool
+    ensures { IsTrue result ↔ Contains names.now name.now }
+{
+    names.contains(name)
+}
+
+/// Puts a piece on a shelf, unless its name is one of those before it.
+fn put_new<S: Shelf>(
+    shelf: &mut S,
+    before: &[Digest],
+    name: &Digest,
+    piece: &[u8],
+) -> Result<(), ShelfFault>
+    ensures put { MatchResult result (λ _. PutsNew S.did shelf.old before.now (Part name.now, piece.now) name.now None shelf.new) (λ fault. PutsNew S.did shelf.old before.now (Part name.now, piece.now) name.now (Some fault) shelf.new) }
+    ensures device { IfErr result (λ fault. fault ≡ shelf_fault.Device → S.failures shelf.old < S.failures shelf.new) }
+    ensures count { S.failures shelf.old ≤ S.failures shelf.new }
+{
+    if is_among(name, before) {
+        return Ok(());
+    }
+    shelf.put(ShelfName::Part(*name), piece)
+}
+
+/// Puts the pieces of a file on a shelf, of each name the first one, and its table after them.
 fn put_file<S: Shelf>(
     shelf: &mut S,
     info: &BlobInfo,
@@ -75,15 +99,15 @@ fn put_file<S: Shelf>(
 ) -> Result<(), ShelfFault>
     requires info { info.now ≡ bytes.now }
     requires table { table.now ≡ text_of (length bytes.now) (names_of bytes.now) }
-    ensures put { MatchResult result (λ _. PutsInTurn S.did shelf.old (things_of bytes.now) None shelf.new) (λ fault. PutsInTurn S.did shelf.old (things_of bytes.now) (Some fault) shelf.new) }
+    ensures put { MatchResult result (λ _. PutsFile S.did shelf.old bytes.now None shelf.new) (λ fault. PutsFile S.did shelf.old bytes.now (Some fault) shelf.new) }
     ensures device { IfErr result (λ fault. fault ≡ shelf_fault.Device → S.failures shelf.old < S.failures shelf.new) }
     ensures count { S.failures shelf.old ≤ S.failures shelf.new }
 {
     let names = info.names();
     let mut rest = bytes;
-    for name in names {
+    for (index, name) in names.iter().enumerate() {
         let (piece, after) = rest.split_at(rest.len().min(PIECE_SIZE));
-        shelf.put(ShelfName::Part(*name), piece)?;
+        put_new(shelf, &names[..index], name, piece)?;
         rest = after;
     }
     shelf.put(ShelfName::Table(info.digest()), table)
@@ -99,8 +123,8 @@ pub(crate) fn put_whole<S: Shelf>(
     requires { digest ≡ digest_of bytes.now }
     ensures large { (result ≡ Err upload_fault.TooLarge) ↔ (16777216 < length bytes.now) }
     ensures info { IfOk result (λ info. info.value ≡ bytes.now) }
-    ensures put { OnOk result (PutsInTurn S.did shelf.old (things_of bytes.now) None shelf.new) }
-    ensures not_put { IfErr result (λ fault. HasPutPart S.did shelf.old (things_of bytes.now) fault shelf.new) }
+    ensures put { OnOk result (PutsFile S.did shelf.old bytes.now None shelf.new) }
+    ensures not_put { IfErr result (λ fault. HasPutPart S.did shelf.old bytes.now fault shelf.new) }
     ensures device { IfErr result (λ fault. fault ≡ upload_fault.Device → S.failures shelf.old < S.failures shelf.new) }
     ensures count { S.failures shelf.old ≤ S.failures shelf.new }
 {
@@ -176,8 +200,8 @@ impl<S: Shelf> Blobs<S> {
         self.known.find(digest)
     }
 
-    /// Adds a file of at most `MAX_SIZE` bytes, and answers what is kept of it. Of a digest that is known nothing is
-    /// put on the shelf. After a fault the store knows what it knew.
+    /// Adds a file of at most `MAX_SIZE` bytes, and answers what is kept of it. A piece that the file has again is put once. Of a digest that
+    /// is known nothing is put on the shelf. After a fault the store knows what it knew.
     pub fn upload(&mut self, bytes: &[u8]) -> Result<Arc<BlobInfo>, UploadFault>
         ensures large { (result ≡ Err upload_fault.TooLarge) ↔ (16777216 < length bytes.now) }
         ensures info { IfOk result (λ info. map.get self.new.known (digest_of bytes.now) ≡ Some info.value) }
@@ -186,8 +210,8 @@ impl<S: Shelf> Blobs<S> {
         ensures device { IfErr result (λ fault. fault ≡ upload_fault.Device → S.failures self.old.shelf < S.failures self.new.shelf) }
         ensures count { S.failures self.old.shelf ≤ S.failures self.new.shelf }
         ensures known { IsSome (map.get self.old.known (digest_of bytes.now)) → self.new.shelf ≡ self.old.shelf }
-        ensures put { OnOk result (map.get self.old.known (digest_of bytes.now) ≡ None → PutsInTurn S.did self.old.shelf (things_of bytes.now) None self.new.shelf) }
-        ensures not_put { IfErr result (λ fault. HasPutSome S.did self.old.shelf (things_of bytes.now) fault self.new.shelf) }
+        ensures put { OnOk result (map.get self.old.known (digest_of bytes.now) ≡ None → PutsFile S.did self.old.shelf bytes.now None self.new.shelf) }
+        ensures not_put { IfErr result (λ fault. HasPutSome S.did self.old.shelf bytes.now fault self.new.shelf) }
     {
         if bytes.len() > MAX_SIZE {
             return Err(UploadFault::TooLarge);

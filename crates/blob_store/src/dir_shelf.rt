@@ -1,8 +1,8 @@
 //! A shelf in a folder.
-ghost use Rattle.std.specs.Prelude.{◌≡◌, IfOk};
-ghost use Rattle.blob_store.specs.Failures.{count_of};
+ghost use Rattle.std.specs.Prelude.{◌≡◌, [], IfOk};
+ghost use Rattle.blob_store.specs.Folders.{calls_of};
 
-use crate::failures::{Failures, counted};
+use crate::call_logs::{CallLog, logged_get, logged_put};
 use crate::shelves::{Shelf, ShelfFault, ShelfName};
 use byte_view::PIECE_SIZE;
 use std::alloc::{AllocError, Global};
@@ -17,15 +17,15 @@ const MAX_TABLE: usize = 8 + 256 * 20;
 /// The name that everything is written under first.
 const TEMPORARY: &str = "blob.tmp";
 
-/// A folder with a file for each piece and each table. No clause says what it has, so the laws of shelves that keep what is put there
-/// (`Keeps`) don't reach it: that it keeps that is relied on, and shown by tests.
+/// A folder with a file for each piece and each table. It keeps what is put there as long as each of its answers is what was put last, or was
+/// there at first (`folders_keep`): that they are is relied on, and shown by tests.
 #[derive(Drop)]
 pub struct DirShelf<'a, R> {
     rt: &'a R,
     alloc: Global,
     folder: PathBuf,
     temporary: PathBuf,
-    failures: Failures,
+    log: CallLog,
 }
 
 /// The bytes of the file of a path; none where nothing is there. What is no file, or has more bytes than the most, is not read, and told
@@ -67,7 +67,7 @@ fn write_file<R: Files>(rt: &R, temporary: &str, path: &str, bytes: &[u8]) -> io
 impl<'a, R: Files> DirShelf<'a, R> {
     /// The shelf of a folder. It asks the system for nothing yet. No one else may write in the folder.
     pub fn new(rt: &'a R, alloc: Global, folder: &str) -> Result<DirShelf<'a, R>, AllocError>
-        ensures { IfOk result (λ shelf. count_of shelf.failures ≡ 0) }
+        ensures { IfOk result (λ shelf. calls_of shelf.log ≡ []) }
     {
         let folder = PathBuf::from_str(alloc, folder)?;
         let temporary = folder.join(alloc, TEMPORARY)?;
@@ -76,7 +76,7 @@ impl<'a, R: Files> DirShelf<'a, R> {
             alloc,
             folder,
             temporary,
-            failures: Failures::Zero,
+            log: CallLog::Empty,
         })
     }
 
@@ -124,20 +124,20 @@ impl<'a, R: Files> DirShelf<'a, R> {
 }
 
 impl<R: Files> Shelf for DirShelf<'_, R> {
-    ghost use Rattle.std.specs.Prelude.{⊤};
-    ghost use Rattle.blob_store.specs.Failures.{count_of};
+    ghost use Rattle.std.specs.Prelude.{◌≡◌, ◌∷◌};
+    ghost use Rattle.blob_store.specs.Folders.{calls_of, failures_in};
 
-    ghost failures = { λ shelf. count_of shelf.failures };
+    ghost failures = { λ shelf. failures_in (calls_of shelf.log) };
 
-    ghost did = { λ old call new. ⊤ };
+    ghost did = { λ old call new. calls_of new.log ≡ call ∷ calls_of old.log };
 
     fn put(&mut self, name: ShelfName, bytes: &[u8]) -> Result<(), ShelfFault> {
         let outcome = self.write(name, bytes);
-        counted(&mut self.failures, outcome)
+        logged_put(&mut self.log, name, bytes, outcome)
     }
 
     fn get(&mut self, name: ShelfName) -> Result<Option<Vec<u8>>, ShelfFault> {
         let outcome = self.read(name);
-        counted(&mut self.failures, outcome)
+        logged_get(&mut self.log, name, outcome)
     }
 }

@@ -1,6 +1,7 @@
-//! Laws of tables and shelves, each the contract of a function that does nothing.
+//! Laws of tables and shelves, each the contract of a function that does nothing. Where one is of a shelf that keeps what is put there as long as it
+//! is honest, it asks that the shelf is honest at the end.
 ghost use Rattle.std.specs.FinMap as map;
-ghost use Rattle.std.specs.Prelude.{◌≡◌, Bool, ℕ, ◌≤◌, List, [], ◌∷◌, All, None, Option, Some, ⊤, length};
+ghost use Rattle.std.specs.Prelude.{◌≡◌, Bool, true, IsTrue, ℕ, ◌≤◌, List, [], ◌∷◌, All, None, Option, Some, ⊤, length};
 ghost use Rattle.std.specs.List.{Contains};
 ghost use Rattle.host_names.specs.Blobs.{Contents, digest_of};
 ghost use Rattle.host_names.specs.declared.digests.Digest.{Digest};
@@ -9,22 +10,26 @@ ghost use Rattle.byte_view.specs.Holds.{Held, IsHeld};
 ghost use Rattle.blob_store.specs.declared.reading.ReadFault.TheVariants as read_fault;
 ghost use Rattle.blob_store.specs.declared.shelves.ShelfName.{ShelfName};
 ghost use Rattle.blob_store.specs.declared.shelves.ShelfName.TheVariants.{Part};
-ghost use Rattle.blob_store.specs.Calls.{Got, PutsInTurn, things_of};
+ghost use Rattle.blob_store.specs.Calls.{AreOnceEach, Call, Got, Put, PutsFile, things_of};
 ghost use Rattle.blob_store.specs.Faults.{HasPutPart, HasPutSome, IsChunkFault};
 ghost use Rattle.blob_store.specs.Stretches.{HaveWrongLengths, IsStretchFault, chunks_given};
 ghost use Rattle.blob_store.specs.declared.blobs.UploadFault.{UploadFault};
 ghost use Rattle.blob_store.specs.declared.blobs.UploadFault.TheVariants as upload_fault;
 ghost use Rattle.blob_store.specs.declared.mem_shelf.MemShelf.{MemShelf};
 ghost use Rattle.blob_store.specs.declared.reading.ReadFault.{ReadFault};
-ghost use Rattle.blob_store.specs.Keeping.{Agree, HasFile, Keeps};
+ghost use Rattle.blob_store.specs.Keeping.{Agree, AlwaysKeeps, HasFile, Keeps};
+ghost use Rattle.blob_store.specs.declared.openings.OpenFault.{OpenFault};
 ghost use Rattle.blob_store.specs.declared.openings.OpenFault.TheVariants as open_fault;
 ghost use Rattle.blob_store.specs.declared.openings.Wanted.{Wanted};
 ghost use Rattle.blob_store.specs.Openings.{IsOpenFault, IsOpened, IsOrderOf, need_of};
 ghost use Rattle.blob_store.specs.Reads.{AreOfNone, GivesInTurn, IsFileFault, IsFileRead, answers_of};
 ghost use Rattle.blob_store.specs.Shelves.{Does, found_in};
+ghost use Rattle.blob_store.specs.Folders.{are_true, calls_of, there_after};
 ghost use Rattle.blob_store.specs.Tables.{IsTable, Spells, pieces_of, size_of, text_of};
 
+use crate::dir_shelf::DirShelf;
 use crate::shelves::Shelf;
+use std::rt::Files;
 
 /// What is written for a file that isn't too large can be read, and tells the file's size.
 pub fn files_have_tables()
@@ -35,69 +40,88 @@ pub fn files_have_tables()
 /// A shelf that keeps what is put there has a file that was uploaded, and the files that it had, where no two pieces, nor the two
 /// files, share a digest and differ. An upload that fails loses none of these either.
 pub fn uploads_are_kept<S: Shelf>()
-    ensures uploaded { (has : S → ShelfName → Option (List ℕ)) (old new : S) (file : List ℕ) → Keeps S.did has → Agree (things_of file) (things_of file)
-        → PutsInTurn S.did old (things_of file) None new → HasFile has new file }
-    ensures stays { (has : S → ShelfName → Option (List ℕ)) (old new : S) (file other : List ℕ) → Keeps S.did has → Agree (things_of file) (things_of other)
-        → PutsInTurn S.did old (things_of other) None new → HasFile has old file → HasFile has new file }
-    ensures stays_after_fault { (has : S → ShelfName → Option (List ℕ)) (old new : S) (file other : List ℕ) (fault : UploadFault) → Keeps S.did has
-        → Agree (things_of file) (things_of other) → HasPutSome S.did old (things_of other) fault new → HasFile has old file → HasFile has new file }
+    ensures uploaded { (honest : S → Bool) (has : S → ShelfName → Option (List ℕ)) (old new : S) (file : List ℕ) → Keeps S.did honest has → IsTrue (honest new) → Agree (things_of file) (things_of file)
+        → PutsFile S.did old file None new → HasFile has new file }
+    ensures stays { (honest : S → Bool) (has : S → ShelfName → Option (List ℕ)) (old new : S) (file other : List ℕ) → Keeps S.did honest has → IsTrue (honest new) → Agree (things_of file) (things_of other)
+        → PutsFile S.did old other None new → HasFile has old file → HasFile has new file }
+    ensures stays_after_fault { (honest : S → Bool) (has : S → ShelfName → Option (List ℕ)) (old new : S) (file other : List ℕ) (fault : UploadFault) → Keeps S.did honest has → IsTrue (honest new)
+        → Agree (things_of file) (things_of other) → HasPutSome S.did old other fault new → HasFile has old file → HasFile has new file }
 {}
 
 /// Of a file that such a shelf has, each piece and the whole are read as they are, and neither is missing or damaged.
 pub fn kept_files_are_read<S: Shelf>()
-    ensures piece { (has : S → ShelfName → Option (List ℕ)) (old new : S) (file piece chunk : List ℕ) → Keeps S.did has → HasFile has old file → Contains (cut file) piece
+    ensures piece { (honest : S → Bool) (has : S → ShelfName → Option (List ℕ)) (old new : S) (file piece chunk : List ℕ) → Keeps S.did honest has → IsTrue (honest new) → HasFile has old file → Contains (cut file) piece
         → S.did old (Got (Part (digest_of piece)) (Some chunk)) new → chunk ≡ piece }
-    ensures piece_there { (has : S → ShelfName → Option (List ℕ)) (old new : S) (file piece : List ℕ) → Keeps S.did has → HasFile has old file → Contains (cut file) piece
+    ensures piece_there { (honest : S → Bool) (has : S → ShelfName → Option (List ℕ)) (old new : S) (file piece : List ℕ) → Keeps S.did honest has → IsTrue (honest new) → HasFile has old file → Contains (cut file) piece
         → ¬ (IsChunkFault S.did old (digest_of piece) read_fault.Missing new) }
-    ensures piece_whole { (has : S → ShelfName → Option (List ℕ)) (old new : S) (file piece : List ℕ) → Keeps S.did has → HasFile has old file → Contains (cut file) piece
+    ensures piece_whole { (honest : S → Bool) (has : S → ShelfName → Option (List ℕ)) (old new : S) (file piece : List ℕ) → Keeps S.did honest has → IsTrue (honest new) → HasFile has old file → Contains (cut file) piece
         → ¬ (IsChunkFault S.did old (digest_of piece) read_fault.Damaged new) }
-    ensures file { (has : S → ShelfName → Option (List ℕ)) (old new : S) (file read : List ℕ) → Keeps S.did has → HasFile has old file
+    ensures file { (honest : S → Bool) (has : S → ShelfName → Option (List ℕ)) (old new : S) (file read : List ℕ) → Keeps S.did honest has → IsTrue (honest new) → HasFile has old file
         → IsFileRead S.did old (digest_of file) read new → read ≡ file }
-    ensures file_there { (has : S → ShelfName → Option (List ℕ)) (old new : S) (file : List ℕ) → Keeps S.did has → HasFile has old file
+    ensures file_there { (honest : S → Bool) (has : S → ShelfName → Option (List ℕ)) (old new : S) (file : List ℕ) → Keeps S.did honest has → IsTrue (honest new) → HasFile has old file
         → ¬ (IsFileFault S.did old (digest_of file) read_fault.Missing new) }
-    ensures file_whole { (has : S → ShelfName → Option (List ℕ)) (old new : S) (file : List ℕ) → Keeps S.did has → HasFile has old file → length file ≤ 16777216
+    ensures file_whole { (honest : S → Bool) (has : S → ShelfName → Option (List ℕ)) (old new : S) (file : List ℕ) → Keeps S.did honest has → IsTrue (honest new) → HasFile has old file → length file ≤ 16777216
         → ¬ (IsFileFault S.did old (digest_of file) read_fault.Damaged new) }
 {}
 
 /// Of a file that such a shelf has, each stretch is read as it is, and is neither missing nor damaged. Reading it changes nothing on the shelf.
 pub fn kept_stretches_are_held<S: Shelf>()
-    ensures held { (has : S → ShelfName → Option (List ℕ)) (old new : S) (hold : Held) → Keeps S.did has → HasFile has old hold.file → IsHeld hold
+    ensures held { (honest : S → Bool) (has : S → ShelfName → Option (List ℕ)) (old new : S) (hold : Held) → Keeps S.did honest has → IsTrue (honest new) → HasFile has old hold.file → IsHeld hold
         → GivesInTurn S.did old (chunks_given hold.chunks) new → hold.chunks ≡ pieces_met hold.file hold.first hold.last }
-    ensures pure { (has : S → ShelfName → Option (List ℕ)) (old new : S) (hold : Held) → Keeps S.did has → HasFile has old hold.file
+    ensures pure { (honest : S → Bool) (has : S → ShelfName → Option (List ℕ)) (old new : S) (hold : Held) → Keeps S.did honest has → IsTrue (honest new) → HasFile has old hold.file
         → GivesInTurn S.did old (chunks_given hold.chunks) new → All (IsPure hold.file) hold.chunks }
-    ensures there { (has : S → ShelfName → Option (List ℕ)) (old new : S) (file : List ℕ) (first last : ℕ) → Keeps S.did has → HasFile has old file
+    ensures there { (honest : S → Bool) (has : S → ShelfName → Option (List ℕ)) (old new : S) (file : List ℕ) (first last : ℕ) → Keeps S.did honest has → IsTrue (honest new) → HasFile has old file
         → ¬ (IsStretchFault S.did old file first last read_fault.Missing new) }
-    ensures whole { (has : S → ShelfName → Option (List ℕ)) (old new : S) (file : List ℕ) (first last : ℕ) → Keeps S.did has → HasFile has old file
+    ensures whole { (honest : S → Bool) (has : S → ShelfName → Option (List ℕ)) (old new : S) (file : List ℕ) (first last : ℕ) → Keeps S.did honest has → IsTrue (honest new) → HasFile has old file
         → ¬ (IsStretchFault S.did old file first last read_fault.Damaged new) }
-    ensures stays { (has : S → ShelfName → Option (List ℕ)) (old new : S) (chunks : List (List ℕ)) (name : ShelfName) → Keeps S.did has
+    ensures stays { (honest : S → Bool) (has : S → ShelfName → Option (List ℕ)) (old new : S) (chunks : List (List ℕ)) (name : ShelfName) → Keeps S.did honest has → IsTrue (honest new)
         → GivesInTurn S.did old (chunks_given chunks) new → has new name ≡ has old name }
-    ensures stays_after_fault { (has : S → ShelfName → Option (List ℕ)) (old new : S) (file : List ℕ) (first last : ℕ) (fault : ReadFault) (name : ShelfName) → Keeps S.did has
+    ensures stays_after_fault { (honest : S → Bool) (has : S → ShelfName → Option (List ℕ)) (old new : S) (file : List ℕ) (first last : ℕ) (fault : ReadFault) (name : ShelfName) → Keeps S.did honest has → IsTrue (honest new)
         → IsStretchFault S.did old file first last fault new → has new name ≡ has old name }
 {}
 
-/// A store that is opened over such a shelf knows each wanted file that the shelf has, and no such file keeps it from being opened.
+/// A store that is opened over such a shelf knows each wanted file that the shelf has, and no such file keeps it from being opened. The shelf has
+/// each file that it knows, and an opening, also one that fails, changes nothing there.
 pub fn kept_files_are_known<S: Shelf>()
-    ensures known { (has : S → ShelfName → Option (List ℕ)) (old new : S) (wanted : List Wanted) (known : Contents) (file : List ℕ) (must : Bool) → Keeps S.did has
+    ensures known { (honest : S → Bool) (has : S → ShelfName → Option (List ℕ)) (old new : S) (wanted : List Wanted) (known : Contents) (file : List ℕ) (must : Bool) → Keeps S.did honest has → IsTrue (honest new)
         → HasFile has old file → length file ≤ 16777216 → need_of wanted (digest_of file) ≡ Some must
         → IsOpened S.did old wanted known new → map.get known (digest_of file) ≡ Some file }
-    ensures there { (has : S → ShelfName → Option (List ℕ)) (old new : S) (wanted : List Wanted) (file : List ℕ) → Keeps S.did has → HasFile has old file
+    ensures there { (honest : S → Bool) (has : S → ShelfName → Option (List ℕ)) (old new : S) (wanted : List Wanted) (file : List ℕ) → Keeps S.did honest has → IsTrue (honest new) → HasFile has old file
         → length file ≤ 16777216 → ¬ (IsOpenFault S.did old wanted (open_fault.MissingBlob (digest_of file)) new) }
-    ensures whole { (has : S → ShelfName → Option (List ℕ)) (old new : S) (wanted : List Wanted) (file : List ℕ) → Keeps S.did has → HasFile has old file
+    ensures whole { (honest : S → Bool) (has : S → ShelfName → Option (List ℕ)) (old new : S) (wanted : List Wanted) (file : List ℕ) → Keeps S.did honest has → IsTrue (honest new) → HasFile has old file
         → length file ≤ 16777216 → ¬ (IsOpenFault S.did old wanted (open_fault.DamagedBlob (digest_of file)) new) }
+    ensures on_shelf { (honest : S → Bool) (has : S → ShelfName → Option (List ℕ)) (old new : S) (wanted : List Wanted) (known : Contents) (digest : Digest) (file : List ℕ)
+        → Keeps S.did honest has → IsTrue (honest new) → IsOpened S.did old wanted known new → map.get known digest ≡ Some file → HasFile has new file }
+    ensures stays { (honest : S → Bool) (has : S → ShelfName → Option (List ℕ)) (old new : S) (wanted : List Wanted) (known : Contents) (name : ShelfName) → Keeps S.did honest has
+        → IsTrue (honest new) → IsOpened S.did old wanted known new → has new name ≡ has old name }
+    ensures stays_after_fault { (honest : S → Bool) (has : S → ShelfName → Option (List ℕ)) (old new : S) (wanted : List Wanted) (fault : OpenFault) (name : ShelfName)
+        → Keeps S.did honest has → IsTrue (honest new) → IsOpenFault S.did old wanted fault new → has new name ≡ has old name }
 {}
 
-/// A shelf in memory keeps what is put there.
+/// A shelf in memory always keeps what is put there.
 pub fn shelves_in_memory_keep()
-    ensures { Keeps Does found_in }
+    ensures always { AlwaysKeeps Does found_in }
+    ensures keeps { Keeps Does (λ shelf. true) found_in }
 {}
 
-/// Of these relations each is refuted of one wrong answer, so none of them holds of everything. `agrees` says that `Agree` holds of one
-/// file; `keeps` that no shelf keeps what is put there of which nothing is known, as of a folder.
+/// A folder keeps what is put there as long as each of its answers is what was put last under the name, or was there at first. Of one that
+/// was asked for nothing yet that holds.
+pub fn folders_keep<R: Files>()
+    ensures keeps { (first : ShelfName → Option (List ℕ)) (gave : List Call → Bool)
+        → Keeps ⟦<DirShelf<'static, R> as Shelf>⟧.did (λ shelf. are_true first gave (calls_of shelf.log)) (λ shelf. there_after first gave (calls_of shelf.log)) }
+    ensures begins { (first : ShelfName → Option (List ℕ)) (gave : List Call → Bool) → IsTrue (are_true first gave []) }
+{}
+
+/// Of these relations each is refuted of one wrong answer, so none of them holds of everything. `missed` and `twice` are of what is put of a
+/// piece, `agrees` says that `Agree` holds of one file, and `keeps` that no shelf keeps what is put there of which nothing is known. `told` is
+/// of a folder that gives other bytes than those that were put there.
 pub fn wrong_answers_are_refused<S: Shelf>()
     ensures table { ¬ (IsTable []) }
     ensures spells { ¬ (Spells [] 0 []) }
-    ensures put_part { (old new : MemShelf) (name : ShelfName) (bytes : List ℕ) → ¬ (HasPutPart Does old ((name, bytes) ∷ []) upload_fault.Device new) }
-    ensures put_some { (old new : MemShelf) (name : ShelfName) (bytes : List ℕ) → ¬ (HasPutSome Does old ((name, bytes) ∷ []) upload_fault.Device new) }
+    ensures put_part { (old new : MemShelf) (file : List ℕ) → ¬ (HasPutPart Does old file upload_fault.Device new) }
+    ensures put_some { (old new : MemShelf) (file : List ℕ) → ¬ (HasPutSome Does old file upload_fault.Device new) }
+    ensures missed { (piece : List ℕ) → ¬ (AreOnceEach (piece ∷ []) []) }
+    ensures twice { (piece : List ℕ) → ¬ (AreOnceEach (piece ∷ []) (piece ∷ piece ∷ [])) }
     ensures chunk { (old new : MemShelf) (name : Digest) → ¬ (IsChunkFault Does old name read_fault.Device new) }
     ensures file { (old new : MemShelf) (digest : Digest) → ¬ (IsFileFault Does old digest read_fault.Device new) }
     ensures of_none { (file : List ℕ) → length file ≤ 16777216 → ¬ (AreOfNone (digest_of file) (answers_of file)) }
@@ -105,5 +129,6 @@ pub fn wrong_answers_are_refused<S: Shelf>()
     ensures order { (digest : Digest) (must : Bool) → ¬ (IsOrderOf [] ((digest, must) ∷ [])) }
     ensures agree { (name : ShelfName) → ¬ (Agree ((name, []) ∷ []) ((name, 0 ∷ []) ∷ [])) }
     ensures agrees { Agree (things_of []) (things_of []) }
-    ensures keeps { (has : S → ShelfName → Option (List ℕ)) (shelf : S) (name : ShelfName) → ¬ (Keeps (λ old call new. ⊤) has) }
+    ensures keeps { (has : S → ShelfName → Option (List ℕ)) (shelf : S) (name : ShelfName) → ¬ (Keeps (λ old call new. ⊤) (λ shelf. true) has) }
+    ensures told { (first : ShelfName → Option (List ℕ)) (gave : List Call → Bool) (name : Digest) → ¬ (IsTrue (are_true first gave (Got (Part name) None ∷ Put (Part name) [] ∷ []))) }
 {}

@@ -2,8 +2,8 @@
 #![tactic(auto)]
 
 mod blobs;
+mod call_logs;
 mod dir_shelf;
-mod failures;
 mod files;
 mod known;
 mod laws;
@@ -21,8 +21,8 @@ pub use dir_shelf::DirShelf;
 pub use files::read_file;
 pub use known::Known;
 pub use laws::{
-    files_have_tables, kept_files_are_known, kept_files_are_read, kept_stretches_are_held,
-    shelves_in_memory_keep, uploads_are_kept, wrong_answers_are_refused,
+    files_have_tables, folders_keep, kept_files_are_known, kept_files_are_read,
+    kept_stretches_are_held, shelves_in_memory_keep, uploads_are_kept, wrong_answers_are_refused,
 };
 pub use lent_shelf::LentShelf;
 pub use mem_shelf::MemShelf;

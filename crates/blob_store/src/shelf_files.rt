@@ -4,7 +4,7 @@ ghost use Rattle.host_names.specs.Blobs.{digest_of};
 ghost use Rattle.blob_store.specs.declared.blobs.UploadFault.TheVariants as upload_fault;
 ghost use Rattle.blob_store.specs.declared.reading.ReadFault.TheVariants as read_fault;
 ghost use Rattle.blob_store.specs.declared.shelves.ShelfName.TheVariants.{Part};
-ghost use Rattle.blob_store.specs.Calls.{Got, PutsInTurn, things_of};
+ghost use Rattle.blob_store.specs.Calls.{Got, PutsFile};
 ghost use Rattle.blob_store.specs.Faults.{HasPutPart, IsChunkFault};
 ghost use Rattle.blob_store.specs.Reads.{GivesInTurn};
 ghost use Rattle.blob_store.specs.Stretches.{IsStretchFault, chunks_given};
@@ -40,13 +40,13 @@ impl<S: Shelf> Files<S> {
         self.shelf
     }
 
-    /// Puts a file of at most `MAX_SIZE` bytes on the shelf, each piece and then its table, and answers what is kept of it.
+    /// Puts a file of at most `MAX_SIZE` bytes on the shelf, each piece once and then its table, and answers what is kept of it.
     pub fn put(&mut self, digest: Digest, bytes: &[u8]) -> Result<Arc<BlobInfo>, UploadFault>
         requires { digest ≡ digest_of bytes.now }
         ensures large { (result ≡ Err upload_fault.TooLarge) ↔ (16777216 < length bytes.now) }
         ensures info { IfOk result (λ info. info.value ≡ bytes.now) }
-        ensures put { OnOk result (PutsInTurn S.did self.old.shelf (things_of bytes.now) None self.new.shelf) }
-        ensures not_put { IfErr result (λ fault. HasPutPart S.did self.old.shelf (things_of bytes.now) fault self.new.shelf) }
+        ensures put { OnOk result (PutsFile S.did self.old.shelf bytes.now None self.new.shelf) }
+        ensures not_put { IfErr result (λ fault. HasPutPart S.did self.old.shelf bytes.now fault self.new.shelf) }
         ensures device { IfErr result (λ fault. fault ≡ upload_fault.Device → S.failures self.old.shelf < S.failures self.new.shelf) }
         ensures count { S.failures self.old.shelf ≤ S.failures self.new.shelf }
     {

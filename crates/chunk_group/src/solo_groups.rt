@@ -1,7 +1,7 @@
 //! The group of a node on one thread.
 ghost use Rattle.std.specs.Prelude.{◌≡◌, ◌↔◌, ◌<◌, ◌≤◌, ◌≢◌, Err, IfErr, IfOk, None, Ok, OnOk, length};
 ghost use Rattle.host_names.specs.Blobs.{digest_of};
-ghost use Rattle.blob_store.specs.Calls.{PutsInTurn, things_of};
+ghost use Rattle.blob_store.specs.Calls.{PutsFile};
 ghost use Rattle.blob_store.specs.Faults.{HasPutPart};
 ghost use Rattle.blob_store.specs.declared.blobs.UploadFault.TheVariants as upload_fault;
 ghost use Rattle.blob_store.specs.declared.reading.ReadFault.TheVariants.{OutOfMemory};
@@ -173,14 +173,14 @@ impl<H: RingHash + Copy + Drop, S: Source, L: PeerLink, C: Coin> Holder for Solo
 }
 
 impl<H: RingHash + Copy + Drop, S: Shelf, L, C> SoloGroup<H, FileSource<S>, L, C> {
-    /// Puts a file of at most `MAX_SIZE` bytes on the shelf of the source, each piece and then its table, and answers what is kept
+    /// Puts a file of at most `MAX_SIZE` bytes on the shelf of the source, each piece once and then its table, and answers what is kept
     /// of it. What the caches have stays.
     pub fn put(&mut self, digest: Digest, bytes: &[u8]) -> Result<Arc<BlobInfo>, UploadFault>
         requires { digest ≡ digest_of bytes.now }
         ensures large { (result ≡ Err upload_fault.TooLarge) ↔ (16777216 < length bytes.now) }
         ensures info { IfOk result (λ info. info.value ≡ bytes.now) }
-        ensures put { OnOk result (PutsInTurn S.did self.old.node.suppliers.source.files.shelf (things_of bytes.now) None self.new.node.suppliers.source.files.shelf) }
-        ensures not_put { IfErr result (λ fault. HasPutPart S.did self.old.node.suppliers.source.files.shelf (things_of bytes.now) fault self.new.node.suppliers.source.files.shelf) }
+        ensures put { OnOk result (PutsFile S.did self.old.node.suppliers.source.files.shelf bytes.now None self.new.node.suppliers.source.files.shelf) }
+        ensures not_put { IfErr result (λ fault. HasPutPart S.did self.old.node.suppliers.source.files.shelf bytes.now fault self.new.node.suppliers.source.files.shelf) }
         ensures device { IfErr result (λ fault. fault ≡ upload_fault.Device → S.failures self.old.node.suppliers.source.files.shelf < S.failures self.new.node.suppliers.source.files.shelf) }
         ensures count { S.failures self.old.node.suppliers.source.files.shelf ≤ S.failures self.new.node.suppliers.source.files.shelf }
         ensures caches { self.new.node.caches ≡ self.old.node.caches }

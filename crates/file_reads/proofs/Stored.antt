@@ -7,7 +7,7 @@ use Rattle.blob_store.specs.declared.reading.ReadFault.TheVariants.{Missing, Dam
 use Rattle.blob_store.specs.declared.shelf_files.Files.{Files}
 use Rattle.blob_store.specs.declared.shelves.ShelfName.{ShelfName}
 use Rattle.blob_store.specs.Calls.{Call, things_of}
-use Rattle.blob_store.specs.Keeping.{HasFile, Keeps}
+use Rattle.blob_store.specs.Keeping.{AlwaysKeeps, HasFile}
 use Rattle.blob_store.specs.Stretches.{chunks_given}
 use Rattle.blob_store.proofs.Kept.{moved, same_after}
 use Rattle.blob_store.proofs.KeptStretches.{chunks_are_pure, stays_after, stretch_not_damaged, stretch_not_missing}
@@ -55,7 +55,7 @@ module _ {S : Type 0} (did : S → Call → S → Type 0) (failures : S → ℕ)
 
   -- ---- over a shelf that keeps what is put there
 
-  module _ (has : S → ShelfName → Option (List ℕ)) (keeps : Keeps did has) where
+  module _ (has : S → ShelfName → Option (List ℕ)) (keeps : AlwaysKeeps did has) where
     -- it has what it had
     abbrev Same : Files S → Files S → Type 0
     Same old new = (name : ShelfName) → has new.shelf name ≡ has old.shelf name

@@ -1,5 +1,5 @@
 //! What follows for the files of a shelf. Each function does nothing: its contract is the law.
-ghost use Rattle.std.specs.Prelude.{◌≡◌, ◌⊎◌, ◌<◌, ◌≤◌, ℕ, List, Option};
+ghost use Rattle.std.specs.Prelude.{◌≡◌, ◌⊎◌, ◌<◌, ◌≤◌, Bool, IsTrue, ℕ, List, Option};
 ghost use Rattle.blob_store.specs.declared.reading.ReadFault.{ReadFault};
 ghost use Rattle.blob_store.specs.declared.reading.ReadFault.TheVariants.{Device, OutOfMemory};
 ghost use Rattle.blob_store.specs.declared.shelf_files.Files.{Files};
@@ -26,14 +26,14 @@ pub fn reads_count_failures<S: Shelf>()
 /// Over a shelf that keeps what is put there, what is read of a file that it has is of the file itself, and it is neither missing nor damaged. A read, also one
 /// that fails, changes nothing there.
 pub fn kept_files_are_sent<S: Shelf>()
-    ensures exact { (has : S → ShelfName → Option (List ℕ)) (old new : Files S) (file content_type : List ℕ) (plan : Choice) (body : FileBody) → Keeps S.did has
+    ensures exact { (honest : S → Bool) (has : S → ShelfName → Option (List ℕ)) (old new : Files S) (file content_type : List ℕ) (plan : Choice) (body : FileBody) → Keeps S.did honest has → IsTrue (honest new.shelf)
         → HasFile has old.shelf file → IsRead (GaveOfFiles S.did S.failures) old file plan content_type body new → IsExact file plan content_type body }
-    ensures fault { (has : S → ShelfName → Option (List ℕ)) (old new : Files S) (file : List ℕ) (plan : Choice) (fault : ReadFault) → Keeps S.did has
+    ensures fault { (honest : S → Bool) (has : S → ShelfName → Option (List ℕ)) (old new : Files S) (file : List ℕ) (plan : Choice) (fault : ReadFault) → Keeps S.did honest has → IsTrue (honest new.shelf)
         → HasFile has old.shelf file → IsNotRead (GaveOfFiles S.did S.failures) (FailedOfFiles S.did S.failures) old file plan fault new
         → (fault ≡ Device) ⊎ (fault ≡ OutOfMemory) }
-    ensures stays { (has : S → ShelfName → Option (List ℕ)) (old new : Files S) (file content_type : List ℕ) (plan : Choice) (body : FileBody) (name : ShelfName) → Keeps S.did has
+    ensures stays { (honest : S → Bool) (has : S → ShelfName → Option (List ℕ)) (old new : Files S) (file content_type : List ℕ) (plan : Choice) (body : FileBody) (name : ShelfName) → Keeps S.did honest has → IsTrue (honest new.shelf)
         → IsRead (GaveOfFiles S.did S.failures) old file plan content_type body new → has new.shelf name ≡ has old.shelf name }
-    ensures stays_after_fault { (has : S → ShelfName → Option (List ℕ)) (old new : Files S) (file : List ℕ) (plan : Choice) (fault : ReadFault) (name : ShelfName) → Keeps S.did has
+    ensures stays_after_fault { (honest : S → Bool) (has : S → ShelfName → Option (List ℕ)) (old new : Files S) (file : List ℕ) (plan : Choice) (fault : ReadFault) (name : ShelfName) → Keeps S.did honest has → IsTrue (honest new.shelf)
         → IsNotRead (GaveOfFiles S.did S.failures) (FailedOfFiles S.did S.failures) old file plan fault new → has new.shelf name ≡ has old.shelf name }
 {}
 

@@ -3,7 +3,7 @@ use Rattle.std.proofs.Common.{◌≡◌, ◌⊎◌, inl, inr, ℕ, List, Option,
 use Rattle.host_names.specs.Blobs.{digest_of}
 use Rattle.host_names.specs.declared.names.SiteName.{SiteName}
 use Rattle.blob_store.specs.Calls.{Call}
-use Rattle.blob_store.specs.Keeping.{HasFile, Keeps}
+use Rattle.blob_store.specs.Keeping.{AlwaysKeeps, HasFile}
 use Rattle.blob_store.specs.declared.shelves.ShelfName.{ShelfName}
 use Rattle.range_spec.specs.declared.selection.Choice.{Choice}
 use Rattle.node_files.specs.Cached.{CachedShelf, HasCached}
@@ -27,7 +27,7 @@ use Rattle.host_server.specs.Replies.{Answer, refused_answer}
 use Rattle.host_server.specs.Versions.{file_of}
 use Rattle.host_server.specs.declared.servers.Server.{Server}
 
-module _ {S : Type 0} (did : S → Call → S → Type 0) (failures : S → ℕ) (has : S → ShelfName → Option (List ℕ)) (keeps : Keeps did has) where
+module _ {S : Type 0} (did : S → Call → S → Type 0) (failures : S → ℕ) (has : S → ShelfName → Option (List ℕ)) (keeps : AlwaysKeeps did has) where
   sent_back : (old new : CachedShelf S) (path file : List ℕ) (plan : Choice) (answer : Answer) → HasFile has old.shelf file → HasCached has old
       → IsFileSent did failures old path file plan answer new
       → (answer ≡ refused_answer reason.OutOfMemory) ⊎ (answer ≡ refused_answer reason.Device) ⊎ IsSentExactly path file plan answer
@@ -40,7 +40,7 @@ module _ {S : Type 0} (did : S → Call → S → Type 0) (failures : S → ℕ)
         | inr is ↦ inl (says ∙ ap (λ w. refused_answer (refusal_of_read w)) is)
       ]
 
-module _ {S D : Type 0} {disk : Ghosts D} (did : S → Call → S → Type 0) (failures : S → ℕ) (faults : D → ℕ) (has : S → ShelfName → Option (List ℕ)) (keeps : Keeps did has) where
+module _ {S D : Type 0} {disk : Ghosts D} (did : S → Call → S → Type 0) (failures : S → ℕ) (faults : D → ℕ) (has : S → ShelfName → Option (List ℕ)) (keeps : AlwaysKeeps did has) where
   reply_back : (server next : Server S D disk) (parts : RequestParts) (path : List ℕ) (found : Result (List ℕ) Refusal) (file : List ℕ) (answer : Answer) → found ≡ Ok file
       → HasKnown has server → IsReadReply did failures server parts path found answer next → IsReadBack parts path file answer
   reply_back server next parts path found file answer is known reply =

@@ -9,13 +9,13 @@ use Rattle.host_names.specs.Digests.{digest_cmp, digest_cmp_total}
 use Rattle.host_names.specs.declared.digests.Digest.{Digest}
 use Rattle.host_names.specs.declared.names.SiteName.{SiteName}
 use Rattle.blob_store.specs.Calls.{Call, things_of}
-use Rattle.blob_store.specs.Keeping.{HasFile, Keeps, Thing}
+use Rattle.blob_store.specs.Keeping.{AlwaysKeeps, HasFile, Thing}
 use Rattle.blob_store.specs.declared.blobs.UploadFault.{UploadFault}
 use Rattle.blob_store.specs.declared.blobs.UploadFault.TheVariants as fault
 use Rattle.blob_store.specs.declared.reading.ReadFault.TheVariants as read_fault
 use Rattle.blob_store.specs.declared.shelves.ShelfName.{ShelfName}
 use Rattle.blob_store.specs.declared.shelves.ShelfName.TheVariants.{Part}
-use Rattle.blob_store.proofs.Kept.{all_there, moved, still_there, there_after_fault}
+use Rattle.blob_store.proofs.Kept.{file_put, moved, still_there_after, there_after_fault}
 use Rattle.chunk_lru.specs.Caches.{Cache}
 use Rattle.node_files.specs.Cached.{AllCached, CachedShelf, HasCached}
 use Rattle.node_files.proofs.Stored.{fault_cached, fault_stays, read_cached, read_stays}
@@ -80,7 +80,7 @@ known_cached has server known =
     (λ chunk piece. let (digest, file, at, among) = piece in piece_there has server.files.shelf file chunk (known.on_shelf digest file at) among)
     server.files.cache known.cached
 
-module _ {S : Type 0} (did : S → Call → S → Type 0) (failures : S → ℕ) (has : S → ShelfName → Option (List ℕ)) (keeps : Keeps did has) where
+module _ {S : Type 0} (did : S → Call → S → Type 0) (failures : S → ℕ) (has : S → ShelfName → Option (List ℕ)) (keeps : AlwaysKeeps did has) where
   stored_known : (uploads : Contents) (old new : S) (bytes : List ℕ) → AgreesWith uploads bytes
       → ((digest : Digest) (file : List ℕ) → map.get uploads digest ≡ Some file → HasFile has old file) → IsStored did uploads old bytes new
       → (digest : Digest) (file : List ℕ) → map.get (with_file uploads bytes) digest ≡ Some file → HasFile has new file
@@ -88,8 +88,8 @@ module _ {S : Type 0} (did : S → Call → S → Type 0) (failures : S → ℕ)
       let is : with_file uploads bytes ≡ uploads = ap (λ t. cond t uploads (map.insert uploads (digest_of bytes) bytes)) there in
       subst (λ (s : S). HasFile has s file) (sym same) (known digest file (ap (λ (u : Contents). map.get u digest) (sym is) ∙ at))
   stored_known uploads old new bytes agrees known (small, inr (none, puts)) digest file at = elim (known_or_added uploads bytes digest file none at) [
-    | inl had ↦ still_there did has keeps old new (things_of file) (things_of bytes) None (agrees.known digest file had) puts (known digest file had)
-    | inr is ↦ subst (HasFile has new) (sym is) (all_there did has keeps old new (things_of bytes) agrees.itself puts)
+    | inl had ↦ still_there_after did has keeps old new (things_of file) bytes None (agrees.known digest file had) puts (known digest file had)
+    | inr is ↦ subst (HasFile has new) (sym is) (file_put did has keeps old new bytes agrees.itself puts)
   ]
 
   -- a reading of a known file changes nothing on the shelf, and the cache has pieces of known files then
@@ -107,7 +107,7 @@ module _ {S : Type 0} (did : S → Call → S → Type 0) (failures : S → ℕ)
     sent_cached P pieces answer there cached all (inr (inr (why, other, failed, says))) =
         fault_cached did failures has keeps file P pieces old new plan why there cached all failed
 
-module _ {S D : Type 0} {disk : Ghosts D} (did : S → Call → S → Type 0) (failures : S → ℕ) (faults : D → ℕ) (has : S → ShelfName → Option (List ℕ)) (keeps : Keeps did has) where
+module _ {S D : Type 0} {disk : Ghosts D} (did : S → Call → S → Type 0) (failures : S → ℕ) (faults : D → ℕ) (has : S → ShelfName → Option (List ℕ)) (keeps : AlwaysKeeps did has) where
   -- ---- where no more is known
 
   -- what is known stays on the shelf
@@ -165,7 +165,7 @@ module _ {S D : Type 0} {disk : Ghosts D} (did : S → Call → S → Type 0) (f
   refused_known server next n path bytes why agrees known refused = record {
     on_shelf = λ digest file found.
         let had = ap (λ (h : Host). map.get h.uploads digest) (sym refused.same) ∙ found in
-        there_after_fault did has keeps server.files.shelf next.files.shelf (things_of file) (things_of bytes) why (agrees.known digest file had) refused.not_stored.put
+        there_after_fault did has keeps server.files.shelf next.files.shelf (things_of file) bytes why (agrees.known digest file had) refused.not_stored.put
         (known.on_shelf digest file had);
     cached = cache_over server next (uploads_of next.house server.house refused.same) refused.cache known;
   }

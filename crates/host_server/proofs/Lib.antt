@@ -10,6 +10,8 @@ mod FilesKnown
 mod SameUploads
 pub mod KnownFiles
 pub mod ExactReads
+pub mod Honest
+pub mod ReadBacks
 mod Memory
 pub mod Kept
 pub mod Reached

@@ -4,6 +4,7 @@ use Rattle.std.specs.List.{Contains}
 use Rattle.std.specs.FinMap as map
 use Rattle.host_names.specs.Blobs.{Contents, digest_of}
 use Rattle.host_names.specs.declared.digests.Digest.{Digest}
+use Rattle.host_names.specs.declared.names.SiteName.{SiteName}
 use Rattle.blob_store.specs.Calls.{things_of}
 use Rattle.blob_store.specs.Keeping.{Agree, HasFile}
 use Rattle.blob_store.specs.declared.shelves.ShelfName.{ShelfName}
@@ -16,12 +17,16 @@ use Rattle.file_reads.specs.declared.bodies.FileBody.{FileBody}
 use Rattle.node_files.specs.Cached.{AllCached}
 use Rattle.http_wire.specs.Requests.{RequestParts}
 use Rattle.host_api.specs.Types.{type_of}
-use Rattle.host_api.specs.declared.bodies.Ask.TheVariants.{Upload}
+use Rattle.host_api.specs.declared.bodies.Ask.TheVariants.{Read, Upload}
 use Rattle.host_api.specs.declared.refusals.Refusal.TheVariants as reason
+use Rattle.host_api.specs.declared.versions.Version.{Version}
 use Rattle.host_disk.specs.declared.disks.Disk.{Ghosts}
 use Rattle.host_server.specs.Asks.{asked_for}
 use Rattle.host_server.specs.Files.{AsksRange, plan_of, sent_answer}
+use Rattle.host_server.specs.Hosts.{state_of}
 use Rattle.host_server.specs.Replies.{Answer, refused_answer}
+use Rattle.host_server.specs.Serving.{Answering}
+use Rattle.host_server.specs.Versions.{file_of}
 use Rattle.host_server.specs.declared.servers.Server.{Server}
 
 -- the chunk is a piece of a file that is known
@@ -55,3 +60,15 @@ IsReadBack parts path file answer =
     (answer ≡ refused_answer reason.OutOfMemory)
     ⊎ (answer ≡ refused_answer reason.Device)
     ⊎ ((range : Asked) × AsksRange parts range × IsSentExactly path file (plan_of parts range file) answer)
+
+-- ---- a connection
+
+-- an answer, where an upload agrees with the files that are known
+abbrev pub Agreeing : {S D : Type 0} {disk : Ghosts D} → Answering (Server S D disk) → Answering (Server S D disk)
+Agreeing answers server parts body answer next = UploadAgrees server.house.uploads parts body × answers server parts body answer next
+
+-- an answer that is of the file itself where the request reads one
+abbrev pub ReadsBack : {S D : Type 0} {disk : Ghosts D} → Answering (Server S D disk)
+ReadsBack server parts body answer next =
+    (site : SiteName) (version : Version) (path file : List ℕ) → asked_for parts body ≡ Ok (Read site version path)
+    → file_of (state_of server.house) site version path ≡ Ok file → IsReadBack parts path file answer

@@ -4,7 +4,7 @@ use Rattle.std.specs.FinMap as map
 use Rattle.host_names.specs.Blobs.{Contents, digest_of}
 use Rattle.host_names.specs.declared.digests.Digest.{Digest}
 use Rattle.host_names.specs.declared.names.SiteName.{SiteName}
-use Rattle.blob_store.specs.Calls.{Call, PutsInTurn, things_of}
+use Rattle.blob_store.specs.Calls.{Call, PutsFile}
 use Rattle.blob_store.specs.Faults.{HasPutSome}
 use Rattle.blob_store.specs.declared.blobs.UploadFault.{UploadFault}
 use Rattle.blob_store.specs.declared.blobs.UploadFault.TheVariants as fault
@@ -19,19 +19,19 @@ use Rattle.host_server.specs.Replies.{Answer, refused_answer, told_answer}
 use Rattle.host_server.specs.ServerJournals.{Breaks, GoesOn}
 use Rattle.host_server.specs.declared.servers.Server.{Server}
 
--- the bytes aren't too many, and are on the shelf: nothing is put of those that are known, and of others each piece, and then the table
+-- the bytes aren't too many, and are on the shelf: nothing is put of those that are known, and of others each piece once, and then the table
 abbrev pub IsStored : {S : Type 0} → (did : S → Call → S → Type 0) → Contents → S → List ℕ → S → Type 0
 IsStored did uploads old bytes new =
     (length bytes ≤ 16777216)
     × ((IsSome (map.get uploads (digest_of bytes)) × (new ≡ old))
-    ⊎ ((map.get uploads (digest_of bytes) ≡ None) × PutsInTurn did old (things_of bytes) None new))
+    ⊎ ((map.get uploads (digest_of bytes) ≡ None) × PutsFile did old bytes None new))
 
 -- why they can't be: where they are too many, that; else they aren't known, and the device failed, or there was no memory
 pub record IsNotStored {S : Type 0} (did : S → Call → S → Type 0) (failures : S → ℕ) (uploads : Contents) (old : S) (bytes : List ℕ) (why : UploadFault) (new : S) : Type 0 where
   pub large : (why ≡ fault.TooLarge) ↔ (16777216 < length bytes)
   pub unknown : length bytes ≤ 16777216 → map.get uploads (digest_of bytes) ≡ None
   pub failed : why ≡ fault.Device → failures old < failures new
-  pub put : HasPutSome did old (things_of bytes) why new
+  pub put : HasPutSome did old bytes why new
 
 -- the reason, as it is told
 abbrev pub refusal_of_upload : UploadFault → Refusal

@@ -1,5 +1,5 @@
 //! What follows of servers whose shelf keeps what is put there. The function does nothing: its contract is the law.
-ghost use Rattle.std.specs.Prelude.{◌≡◌, ◌≢◌, ℕ, List, Option, Ok};
+ghost use Rattle.std.specs.Prelude.{◌≡◌, ◌≢◌, Bool, IsTrue, ℕ, List, Option, Ok};
 ghost use Rattle.std.specs.FinMap as map;
 ghost use Rattle.host_names.specs.declared.names.SiteName.{SiteName as Site};
 ghost use Rattle.blob_store.specs.Keeping.{Keeps};
@@ -11,33 +11,46 @@ ghost use Rattle.host_api.specs.declared.refusals.Refusal.TheVariants as reason;
 ghost use Rattle.host_api.specs.declared.versions.Version.{Version};
 ghost use Rattle.host_server.specs.Asks.{IsAnswer, asked_for};
 ghost use Rattle.host_server.specs.Hosts.{state_of};
-ghost use Rattle.host_server.specs.ReadBack.{HasKnown, IsReadBack, UploadAgrees};
+ghost use Rattle.host_server.specs.ReadBack.{Agreeing, HasKnown, IsReadBack, ReadsBack, UploadAgrees};
+ghost use Rattle.host_server.specs.Openings.{IsOpened};
 ghost use Rattle.host_server.specs.Replies.{Answer, refused_answer};
+ghost use Rattle.host_server.specs.Serving.{AreServed, Stream};
 ghost use Rattle.host_server.specs.Versions.{file_of};
 ghost use Rattle.host_server.specs.declared.servers.Server.{Server};
 
 use blob_store::Shelf;
 use host_disk::Disk;
 
-/// Where the shelf keeps what is put there, it has each file that is known, and what is in the cache is of such files, from an empty server on and
-/// after each request, unless an upload has a piece or a digest that other bytes of it or of a known file have too. What is then answered to the
+/// Where the shelf keeps what is put there as long as it is honest, and it is at the end, it has each file that is known, and what is in the cache is of
+/// such files, from an empty server on, or one that is opened, and after each request, unless an upload has a piece or a digest that other bytes of it or of
+/// a known file have too. What is then answered to the
 /// reading of a file is of the file itself, or says that it has nothing of the range, that the device failed, or that there was no memory; it is never
-/// told as missing or damaged.
+/// told as missing or damaged. So it is over a connection, whose requests are answered one after
+/// another: a shelf that is honest after it was so before.
 pub fn uploads_are_read_back<S: Shelf, D: Disk>()
     ensures empty { (has : S → ShelfName → Option (List ℕ)) (server : Server S D D.Disk) (limit : ℕ) → server.house.uploads ≡ map.empty → server.files.cache ≡ empty limit
         → HasKnown has server }
-    ensures kept { (has : S → ShelfName → Option (List ℕ)) (old new : Server S D D.Disk) (parts : RequestParts) (body : List ℕ) (answer : Answer) → Keeps S.did has
+    ensures opened { (honest : S → Bool) (has : S → ShelfName → Option (List ℕ)) (old : D) (shelf : S) (limit : ℕ) (server : Server S D D.Disk) → Keeps S.did honest has
+        → IsTrue (honest server.files.shelf) → IsOpened S.did old shelf limit server → HasKnown has server }
+    ensures kept { (honest : S → Bool) (has : S → ShelfName → Option (List ℕ)) (old new : Server S D D.Disk) (parts : RequestParts) (body : List ℕ) (answer : Answer) → Keeps S.did honest has → IsTrue (honest new.files.shelf)
         → UploadAgrees old.house.uploads parts body → HasKnown has old → IsAnswer S.did S.failures D.faults old parts body answer new → HasKnown has new }
-    ensures read { (has : S → ShelfName → Option (List ℕ)) (old new : Server S D D.Disk) (parts : RequestParts) (body : List ℕ) (answer : Answer) (site : Site) (version : Version)
-        (path file : List ℕ) → Keeps S.did has → HasKnown has old
+    ensures read { (honest : S → Bool) (has : S → ShelfName → Option (List ℕ)) (old new : Server S D D.Disk) (parts : RequestParts) (body : List ℕ) (answer : Answer) (site : Site) (version : Version)
+        (path file : List ℕ) → Keeps S.did honest has → IsTrue (honest new.files.shelf) → HasKnown has old
         → asked_for parts body ≡ Ok (Read site version path) → file_of (state_of old.house) site version path ≡ Ok file
         → IsAnswer S.did S.failures D.faults old parts body answer new → IsReadBack parts path file answer }
-    ensures there { (has : S → ShelfName → Option (List ℕ)) (old new : Server S D D.Disk) (parts : RequestParts) (body : List ℕ) (answer : Answer) (site : Site) (version : Version)
-        (path file : List ℕ) → Keeps S.did has → HasKnown has old
+    ensures there { (honest : S → Bool) (has : S → ShelfName → Option (List ℕ)) (old new : Server S D D.Disk) (parts : RequestParts) (body : List ℕ) (answer : Answer) (site : Site) (version : Version)
+        (path file : List ℕ) → Keeps S.did honest has → IsTrue (honest new.files.shelf) → HasKnown has old
         → asked_for parts body ≡ Ok (Read site version path) → file_of (state_of old.house) site version path ≡ Ok file
         → IsAnswer S.did S.failures D.faults old parts body answer new → answer ≢ refused_answer reason.Missing }
-    ensures whole { (has : S → ShelfName → Option (List ℕ)) (old new : Server S D D.Disk) (parts : RequestParts) (body : List ℕ) (answer : Answer) (site : Site) (version : Version)
-        (path file : List ℕ) → Keeps S.did has → HasKnown has old
+    ensures whole { (honest : S → Bool) (has : S → ShelfName → Option (List ℕ)) (old new : Server S D D.Disk) (parts : RequestParts) (body : List ℕ) (answer : Answer) (site : Site) (version : Version)
+        (path file : List ℕ) → Keeps S.did honest has → IsTrue (honest new.files.shelf) → HasKnown has old
         → asked_for parts body ≡ Ok (Read site version path) → file_of (state_of old.house) site version path ≡ Ok file
         → IsAnswer S.did S.failures D.faults old parts body answer new → answer ≢ refused_answer reason.Damaged }
+    ensures before { (honest : S → Bool) (has : S → ShelfName → Option (List ℕ)) (number : ℕ) (old new : Server S D D.Disk) (stream left : Stream) (replies : List (List ℕ))
+        → Keeps S.did honest has → IsTrue (honest new.files.shelf) → AreServed (IsAnswer S.did S.failures D.faults) number old stream replies new left
+        → IsTrue (honest old.files.shelf) }
+    ensures connection { (honest : S → Bool) (has : S → ShelfName → Option (List ℕ)) (number : ℕ) (old new : Server S D D.Disk) (stream left : Stream) (replies : List (List ℕ))
+        → Keeps S.did honest has → IsTrue (honest new.files.shelf) → HasKnown has old
+        → AreServed (Agreeing (IsAnswer S.did S.failures D.faults)) number old stream replies new left
+        → AreServed ReadsBack number old stream replies new left × HasKnown has new }
 {}

@@ -10,7 +10,7 @@ use Rattle.blob_store.specs.declared.shelves.ShelfName.{ShelfName}
 use Rattle.blob_store.specs.declared.shelves.ShelfName.TheVariants.{Part}
 use Rattle.blob_store.specs.Calls.{Call}
 use Rattle.blob_store.specs.Faults.{IsChunkFault}
-use Rattle.blob_store.specs.Keeping.{Keeps}
+use Rattle.blob_store.specs.Keeping.{AlwaysKeeps}
 use Rattle.blob_store.specs.Stretches.{HaveWrongLengths}
 use Rattle.blob_store.proofs.Kept.{some_bytes}
 use Rattle.blob_store.proofs.KeptStretches.{chunk_stays}
@@ -21,7 +21,7 @@ use Rattle.node_files.proofs.Caches.{all-added, all-held, all-looked_up, held-na
 use Rattle.node_files.proofs.Pieces.{IsOfFile, are_met, names_met}
 use Rattle.node_files.proofs.Turns.{turns_pure}
 
-module _ {S : Type 0} (did : S → Call → S → Type 0) (failures : S → ℕ) (has : S → ShelfName → Option (List ℕ)) (keeps : Keeps did has) where
+module _ {S : Type 0} (did : S → Call → S → Type 0) (failures : S → ℕ) (has : S → ShelfName → Option (List ℕ)) (keeps : AlwaysKeeps did has) where
   given_stays : (old new : CachedShelf S) (asked : Digest) (answer : Result (List ℕ) ReadFault) (name : ShelfName) → IsGiven did old asked answer new
       → has new.shelf name ≡ has old.shelf name
   given_stays old new asked (Ok chunk) name given = keeps.stays old.shelf new.shelf (Part asked) name (Some chunk) given.0.1

@@ -4,3 +4,4 @@ mod Pieces
 mod Turns
 mod Kept
 pub mod Stored
+pub mod Honest

@@ -9,7 +9,7 @@ use Rattle.blob_store.specs.declared.reading.ReadFault.TheVariants.{Damaged, Dev
 use Rattle.blob_store.specs.declared.shelves.ShelfName.{ShelfName}
 use Rattle.blob_store.specs.declared.shelves.ShelfName.TheVariants.{Part}
 use Rattle.blob_store.specs.Calls.{Call, things_of}
-use Rattle.blob_store.specs.Keeping.{HasFile, Keeps}
+use Rattle.blob_store.specs.Keeping.{AlwaysKeeps, HasFile}
 use Rattle.blob_store.specs.Stretches.{HaveWrongLengths}
 use Rattle.blob_store.proofs.Kept.{part_there}
 use Rattle.range_spec.specs.declared.selection.Choice.{Choice}
@@ -91,7 +91,7 @@ module _ {S : Type 0} (did : S → Call → S → Type 0) (failures : S → ℕ)
 
   -- ---- over a shelf that keeps what is put there
 
-  module _ (has : S → ShelfName → Option (List ℕ)) (keeps : Keeps did has) where
+  module _ (has : S → ShelfName → Option (List ℕ)) (keeps : AlwaysKeeps did has) where
     -- it has what it had
     abbrev Same : CachedShelf S → CachedShelf S → Type 0
     Same old new = (name : ShelfName) → has new.shelf name ≡ has old.shelf name

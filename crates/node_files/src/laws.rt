@@ -1,5 +1,5 @@
 //! What follows for files that are read through a cache. Each function does nothing: its contract is the law.
-ghost use Rattle.std.specs.Prelude.{◌≡◌, ◌⊎◌, ◌<◌, ◌≤◌, ℕ, List, [], ◌∷◌, Option, None};
+ghost use Rattle.std.specs.Prelude.{◌≡◌, ◌⊎◌, ◌<◌, ◌≤◌, Bool, IsTrue, ℕ, List, [], ◌∷◌, Option, None};
 ghost use Rattle.std.specs.List.{Contains};
 ghost use Rattle.byte_view.specs.Cuts.{cut};
 ghost use Rattle.blob_store.specs.declared.reading.ReadFault.{ReadFault};
@@ -27,28 +27,28 @@ pub fn cached_reads_count_failures<S: Shelf>()
 /// Over a shelf that keeps what is put there, and that has what is in the cache, what is read of a file that it has is of the file itself, and it is
 /// neither missing nor damaged. A read, also one that fails, changes nothing on the shelf, which then has what is in the cache, too.
 pub fn cached_files_are_sent<S: Shelf>()
-    ensures exact { (has : S → ShelfName → Option (List ℕ)) (old new : CachedShelf S) (file content_type : List ℕ) (plan : Choice) (body : FileBody) → Keeps S.did has
+    ensures exact { (honest : S → Bool) (has : S → ShelfName → Option (List ℕ)) (old new : CachedShelf S) (file content_type : List ℕ) (plan : Choice) (body : FileBody) → Keeps S.did honest has → IsTrue (honest new.shelf)
         → HasFile has old.shelf file → HasCached has old → IsRead (GaveOfNode S.did S.failures) old file plan content_type body new → IsExact file plan content_type body }
-    ensures fault { (has : S → ShelfName → Option (List ℕ)) (old new : CachedShelf S) (file : List ℕ) (plan : Choice) (fault : ReadFault) → Keeps S.did has
+    ensures fault { (honest : S → Bool) (has : S → ShelfName → Option (List ℕ)) (old new : CachedShelf S) (file : List ℕ) (plan : Choice) (fault : ReadFault) → Keeps S.did honest has → IsTrue (honest new.shelf)
         → HasFile has old.shelf file → HasCached has old → IsNotRead (GaveOfNode S.did S.failures) (FailedOfNode S.did S.failures) old file plan fault new
         → (fault ≡ Device) ⊎ (fault ≡ OutOfMemory) }
-    ensures stays { (has : S → ShelfName → Option (List ℕ)) (old new : CachedShelf S) (file content_type : List ℕ) (plan : Choice) (body : FileBody) (name : ShelfName) → Keeps S.did has
+    ensures stays { (honest : S → Bool) (has : S → ShelfName → Option (List ℕ)) (old new : CachedShelf S) (file content_type : List ℕ) (plan : Choice) (body : FileBody) (name : ShelfName) → Keeps S.did honest has → IsTrue (honest new.shelf)
         → IsRead (GaveOfNode S.did S.failures) old file plan content_type body new → has new.shelf name ≡ has old.shelf name }
-    ensures stays_after_fault { (has : S → ShelfName → Option (List ℕ)) (old new : CachedShelf S) (file : List ℕ) (plan : Choice) (fault : ReadFault) (name : ShelfName) → Keeps S.did has
+    ensures stays_after_fault { (honest : S → Bool) (has : S → ShelfName → Option (List ℕ)) (old new : CachedShelf S) (file : List ℕ) (plan : Choice) (fault : ReadFault) (name : ShelfName) → Keeps S.did honest has → IsTrue (honest new.shelf)
         → IsNotRead (GaveOfNode S.did S.failures) (FailedOfNode S.did S.failures) old file plan fault new → has new.shelf name ≡ has old.shelf name }
-    ensures cached { (has : S → ShelfName → Option (List ℕ)) (old new : CachedShelf S) (file content_type : List ℕ) (plan : Choice) (body : FileBody) → Keeps S.did has
+    ensures cached { (honest : S → Bool) (has : S → ShelfName → Option (List ℕ)) (old new : CachedShelf S) (file content_type : List ℕ) (plan : Choice) (body : FileBody) → Keeps S.did honest has → IsTrue (honest new.shelf)
         → HasFile has old.shelf file → HasCached has old → IsRead (GaveOfNode S.did S.failures) old file plan content_type body new → HasCached has new }
-    ensures cached_after_fault { (has : S → ShelfName → Option (List ℕ)) (old new : CachedShelf S) (file : List ℕ) (plan : Choice) (fault : ReadFault) → Keeps S.did has
+    ensures cached_after_fault { (honest : S → Bool) (has : S → ShelfName → Option (List ℕ)) (old new : CachedShelf S) (file : List ℕ) (plan : Choice) (fault : ReadFault) → Keeps S.did honest has → IsTrue (honest new.shelf)
         → HasFile has old.shelf file → HasCached has old → IsNotRead (GaveOfNode S.did S.failures) (FailedOfNode S.did S.failures) old file plan fault new → HasCached has new }
 {}
 
 /// Over such a shelf, and where the file read is on it: what is in the cache after a read, also after one that fails, was there before, or is a piece
 /// of that file.
 pub fn caches_have_pieces_of_files_read<S: Shelf>()
-    ensures read { (has : S → ShelfName → Option (List ℕ)) (old new : CachedShelf S) (file content_type : List ℕ) (plan : Choice) (body : FileBody) → Keeps S.did has
+    ensures read { (honest : S → Bool) (has : S → ShelfName → Option (List ℕ)) (old new : CachedShelf S) (file content_type : List ℕ) (plan : Choice) (body : FileBody) → Keeps S.did honest has → IsTrue (honest new.shelf)
         → HasFile has old.shelf file → HasCached has old → IsRead (GaveOfNode S.did S.failures) old file plan content_type body new
         → AllCached (λ chunk. IsCached old.cache chunk ⊎ Contains (cut file) chunk) new.cache }
-    ensures fault { (has : S → ShelfName → Option (List ℕ)) (old new : CachedShelf S) (file : List ℕ) (plan : Choice) (fault : ReadFault) → Keeps S.did has
+    ensures fault { (honest : S → Bool) (has : S → ShelfName → Option (List ℕ)) (old new : CachedShelf S) (file : List ℕ) (plan : Choice) (fault : ReadFault) → Keeps S.did honest has → IsTrue (honest new.shelf)
         → HasFile has old.shelf file → HasCached has old → IsNotRead (GaveOfNode S.did S.failures) (FailedOfNode S.did S.failures) old file plan fault new
         → AllCached (λ chunk. IsCached old.cache chunk ⊎ Contains (cut file) chunk) new.cache }
 {}

@@ -1,7 +1,7 @@
 //! The files of a node.
 ghost use Rattle.std.specs.Prelude.{◌≡◌, ◌↔◌, ◌<◌, ◌≤◌, Err, IfErr, IfOk, None, OnOk, length, map};
 ghost use Rattle.host_names.specs.Blobs.{digest_of};
-ghost use Rattle.blob_store.specs.Calls.{PutsInTurn, things_of};
+ghost use Rattle.blob_store.specs.Calls.{PutsFile};
 ghost use Rattle.blob_store.specs.Faults.{HasPutPart};
 ghost use Rattle.blob_store.specs.declared.blobs.UploadFault.TheVariants as upload_fault;
 ghost use Rattle.chunk_lru.specs.Caches.{empty};
@@ -65,14 +65,14 @@ impl<S: Shelf> NodeFiles<S> {
         Ok(NodeFiles { group })
     }
 
-    /// Puts a file of at most `MAX_SIZE` bytes on the shelf, each piece and then its table, and answers what is kept of it. What is
+    /// Puts a file of at most `MAX_SIZE` bytes on the shelf, each piece once and then its table, and answers what is kept of it. What is
     /// in the cache stays.
     pub fn put(&mut self, digest: Digest, bytes: &[u8]) -> Result<Arc<BlobInfo>, UploadFault>
         requires { digest ≡ digest_of bytes.now }
         ensures large { (result ≡ Err upload_fault.TooLarge) ↔ (16777216 < length bytes.now) }
         ensures info { IfOk result (λ info. info.value ≡ bytes.now) }
-        ensures put { OnOk result (PutsInTurn S.did self.old.shelf (things_of bytes.now) None self.new.shelf) }
-        ensures not_put { IfErr result (λ fault. HasPutPart S.did self.old.shelf (things_of bytes.now) fault self.new.shelf) }
+        ensures put { OnOk result (PutsFile S.did self.old.shelf bytes.now None self.new.shelf) }
+        ensures not_put { IfErr result (λ fault. HasPutPart S.did self.old.shelf bytes.now fault self.new.shelf) }
         ensures device { IfErr result (λ fault. fault ≡ upload_fault.Device → S.failures self.old.shelf < S.failures self.new.shelf) }
         ensures count { S.failures self.old.shelf ≤ S.failures self.new.shelf }
         ensures cache { self.new.cache ≡ self.old.cache }

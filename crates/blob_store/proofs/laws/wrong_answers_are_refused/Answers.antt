@@ -1,7 +1,14 @@
-use Rattle.std.proofs.Common.{◌≡◌, true, cond, [], ◌∷◌, Some, None, sym, ap, ◌∙◌}
+use Rattle.std.proofs.Common.{◌≡◌, inl, inr, true, false, cond, ◌&&◌, List, [], ◌∷◌, Some, None, refl, sym, ap, ◌∙◌, arith}
 use Rattle.std.specs.BTreeMap.{is_at}
 use Rattle.std.proofs.lemmas.Cmp.{eq_by_cmp_equiv}
 use Rattle.host_names.specs.Digests.{digest_cmp, digest_cmp_total}
+use Rattle.blob_store.specs.Calls.{PutsInTurn}
+use Rattle.blob_store.specs.Folders.{is_answer, is_name}
+use Rattle.blob_store.specs.Keeping.{Thing}
+use Rattle.blob_store.specs.Shelves.{Does}
+use Rattle.blob_store.specs.declared.mem_shelf.MemShelf.{MemShelf}
+use Rattle.blob_store.specs.declared.shelves.ShelfFault.TheVariants.{Device, OutOfMemory}
+use Rattle.blob_store.specs.declared.shelves.ShelfName.TheVariants.{Part}
 use Rattle.blob_store.proofs.laws.wrong_answers_are_refused.Goals as goal
 
 pub returns-clause-order : goal.returns-clause-order
@@ -13,5 +20,34 @@ returns-clause-order g c digest must order =
 
 pub returns-clause-keeps : goal.returns-clause-keeps
 returns-clause-keeps g c has shelf name keeps =
-    let same : Some [] ≡ Some (0 ∷ []) = sym (keeps.put shelf shelf name [] tt) ∙ keeps.put shelf shelf name (0 ∷ []) tt in
+    let put = keeps.kept.put in
+    let same : Some [] ≡ Some (0 ∷ []) = sym (put shelf shelf name [] (tt, refl)) ∙ put shelf shelf name (0 ∷ []) (tt, refl) in
     absurd (cc same)
+
+-- a shelf in memory never tells a failure of its device
+no_device : (old new : MemShelf) (things : List Thing) → PutsInTurn Does old things (Some Device) new → ⊥
+no_device old new [] puts = absurd (cc puts.0)
+no_device old new (t ∷ things) (inl failed) =
+    let is : Device ≡ failed.0 = cc failed.1 in
+    let wrong : Device ≡ OutOfMemory = is ∙ failed.2.0 in
+    absurd (cc wrong)
+no_device old new (t ∷ things) (inr put) = no_device put.0 new things put.2
+
+pub returns-clause-put_part : goal.returns-clause-put_part
+returns-clause-put_part g c old new file puts = no_device old new _ puts.2
+
+pub returns-clause-put_some : goal.returns-clause-put_some
+returns-clause-put_some g c old new file (inl part) = no_device old new _ part.2
+returns-clause-put_some g c old new file (inr whole) = absurd (cc whole.0)
+
+pub returns-clause-missed : goal.returns-clause-missed
+returns-clause-missed g c piece is = let below = is.each.0.1 in absurd (omega (arith, below))
+
+pub returns-clause-twice : goal.returns-clause-twice
+returns-clause-twice g c piece is = is.apart.0.0 refl
+
+pub returns-clause-told : goal.returns-clause-told
+returns-clause-told g c first gave name is =
+    let here : is_name (Part name) (Part name) ≡ true = (eq_by_cmp_equiv digest_cmp_total).refl name in
+    let wrong : false ≡ true = ap (λ b. is_answer None (cond b (Some []) (first (Part name))) && true) (sym here) ∙ is in
+    absurd (cc wrong)
