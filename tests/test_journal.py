@@ -16,11 +16,11 @@ import tempfile
 import unittest
 
 import journal
-from client import HERE, SECONDS, TOP
+from client import SECONDS, TOP
+from traces import Traces
 
 CRATE = TOP / "crates/journal_bench"
 PROGRAM = CRATE / "out/journal_bench"
-SOURCE = HERE / "trace_files.c"
 FILES_AT_ONCE = 4
 CANCEL = ("cancel", "one", 2)
 
@@ -169,19 +169,15 @@ class Files(Journals):
 
 
 class Calls(Journals):
-    """Which calls change or sync the file and its folder, in their order, as a library in C tells them (trace_files.c)."""
+    """Which calls change or sync the file and its folder, in their order."""
 
     def setUp(self):
         super().setUp()
-        self.library = self.folder / "trace_files.so"
-        subprocess.run(["gcc", "-O1", "-shared", "-fPIC", "-o", self.library, SOURCE, "-ldl"], check=True, timeout=SECONDS)
+        self.traces = Traces(self.folder, self.folder)
 
     def trace(self, *words):
-        told_in = self.folder / "calls"
-        told_in.unlink(missing_ok=True)
-        self.run_program(*words, env={"LD_PRELOAD": str(self.library), "TRACE_FILE": str(told_in)})
-        lines = told_in.read_text().replace(f" {self.file}", " file").replace(f" {self.folder}", " folder").splitlines()
-        return [line for line in lines if line.split(" ")[1] in ("file", "folder")]
+        lines = self.traces.of(lambda environment: self.run_program(*words, env=environment))
+        return [line for line in lines if line.split(" ")[1] in ("journal", "folder")]
 
     def test_a_put_is_two_writes_each_with_a_sync(self):
         file = journal.write(ENTRIES[:7])
@@ -189,31 +185,31 @@ class Calls(Journals):
         body = journal.encode(CANCEL)
         gate = len(file) - 1
         record = (len(body).to_bytes(4, "big") + body + b"\x00").hex()
-        opening = ["fdatasync file"]
-        put = [f"pwrite file {gate + 1} {record}", "fdatasync file", f"pwrite file {gate} 01", "fdatasync file"]
+        opening = ["fdatasync journal"]
+        put = [f"pwrite journal {gate + 1} {record}", "fdatasync journal", f"pwrite journal {gate} 01", "fdatasync journal"]
         self.assertEqual(self.trace("put", self.file, "1"), opening + put)
 
     def test_a_new_file_is_synced_with_its_folder(self):
         made = [
-            "fsync folder", "fdatasync file",
-            "pwrite file 0 00", "fdatasync file",
-            "pwrite file 1 46484a524e4c0100", "fdatasync file",
-            "pwrite file 0 01", "fdatasync file",
+            "fsync folder", "fdatasync journal",
+            "pwrite journal 0 00", "fdatasync journal",
+            "pwrite journal 1 46484a524e4c0100", "fdatasync journal",
+            "pwrite journal 0 01", "fdatasync journal",
         ]
         self.assertEqual(self.trace("open", self.file, "1"), made)
-        self.assertEqual(self.trace("open", self.file, "1"), ["fdatasync file"])
+        self.assertEqual(self.trace("open", self.file, "1"), ["fdatasync journal"])
 
     def test_what_a_stop_left_is_shut_and_cut(self):
         file = journal.write(ENTRIES[:2])
         self.file.write_bytes(file[:-1] + b"\x07tail")
         gate = len(file) - 1
-        mended = [f"pwrite file {gate} 00", "fdatasync file", f"ftruncate file {gate + 1}", "fdatasync file"]
-        self.assertEqual(self.trace("open", self.file, "1"), ["fdatasync file", *mended])
+        mended = [f"pwrite journal {gate} 00", "fdatasync journal", f"ftruncate journal {gate + 1}", "fdatasync journal"]
+        self.assertEqual(self.trace("open", self.file, "1"), ["fdatasync journal", *mended])
 
     def test_nothing_is_written_to_what_is_no_journal(self):
         for file in (b"a file of another kind", journal.write(ENTRIES)[:100]):
             self.file.write_bytes(file)
-            self.assertEqual(self.trace("open", self.file, "1"), ["fdatasync file"])
+            self.assertEqual(self.trace("open", self.file, "1"), ["fdatasync journal"])
 
 
 class Reader(unittest.TestCase):

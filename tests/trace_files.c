@@ -1,4 +1,4 @@
-/* Is before the C library's calls that change or sync a file in a program, and tells each of them, in order, in a line of the file
+/* Is before the C library's calls that change, sync or rename a file in a program, and tells each of them, in order, in a line of the file
  * TRACE_FILE: its name, the path of the file, and what else it was given. */
 #define _GNU_SOURCE
 #include <dlfcn.h>
@@ -99,4 +99,11 @@ int fsync(int fd) {
 int fdatasync(int fd) {
     tell("fdatasync", fd);
     return NEXT(fdatasync)(fd);
+}
+
+int rename(const char *from, const char *to) {
+    FILE *file = told_in();
+    if (file) fprintf(file, "rename %s %s", from, to);
+    end(file);
+    return NEXT(rename)(from, to);
 }
