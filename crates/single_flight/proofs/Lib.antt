@@ -1,2 +1,4 @@
 mod Opened
 mod InFlight
+mod Numbers
+mod Options

@@ -1,7 +1,7 @@
 //! Flights that threads share.
 ghost use Rattle.std.specs.Prelude.{◌≡◌, ◌↔◌, true, IfOk, IsTrue};
 
-use crate::tables::{Begun, FlightTable, Lead, Place};
+use crate::tables::{Begun, Flight, FlightTable, Lead};
 use host_names::Digest;
 use std::alloc::{AllocError, Global};
 use std::marker::PhantomData;
@@ -48,22 +48,22 @@ pub struct Flights<T: Clone + Drop, L: Loads<T>> {
     table: Mutex<FlightTable<Landed<T, L>>>,
 }
 
-/// Waits for the outcome at a place, and takes a share of it.
+/// Waits for the outcome of a flight, and takes a share of it.
 fn joined<T: Clone + Drop, L: Loads<T>, R: Wait, F: FnOnce() -> T + Drop>(
     rt: &R,
     key: &Digest,
-    place: &Arc<Place<Landed<T, L>>>,
+    flight: &Arc<Flight<Landed<T, L>>>,
     load: F,
 ) -> Result<T, AllocError>
     requires callable { F.pre load }
     requires fits { (outcome : _) → F.post load outcome → L.fits key.now outcome ≡ true }
     ensures { IfOk result (λ outcome. L.fits key.now outcome ≡ true) }
 {
-    let landed = place.outcome().wait(rt);
+    let landed = flight.outcome().wait(rt);
     if landed.is_of(key) {
         landed.share()
     } else {
-        // The place is the key's, but no clause says so of what was set there.
+        // The flight is the key's, but no clause says so of what was set in it.
         Ok(load())
     }
 }
@@ -89,14 +89,13 @@ impl<T: Clone + Drop, L: Loads<T>> Flights<T, L> {
         requires fits { (outcome : _) → F.post load outcome → L.fits key.now outcome ≡ true }
         ensures { IfOk result (λ outcome. L.fits key.now outcome ≡ true) }
     {
-        let outcome = load();
-        let share: Result<T, AllocError> = outcome.clone();
         let landed = Landed {
             key: *key,
-            outcome,
+            outcome: load(),
             of: PhantomData,
         };
-        let _ = lead.place().outcome().set(rt, landed);
+        let share = landed.share();
+        let _ = lead.flight().outcome().set(rt, landed);
         self.table.lock(rt).finish(lead);
         share
     }
@@ -116,7 +115,7 @@ impl<T: Clone + Drop, L: Loads<T>> Flights<T, L> {
         let begun = self.table.lock(rt).begin(key)?;
         match begun {
             Begun::Lead(lead) => self.led(rt, key, lead, load),
-            Begun::Join(place) => joined(rt, key, &place, load),
+            Begun::Join(flight) => joined(rt, key, &flight, load),
         }
     }
 }

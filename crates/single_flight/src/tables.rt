@@ -1,7 +1,8 @@
 //! The flights that are open.
-ghost use Rattle.std.specs.Prelude.{◌≡◌, IfOk, OnErr};
+ghost use Rattle.std.specs.Prelude.{◌≡◌, ◌+◌, IfOk, OnErr};
 ghost use Rattle.std.specs.FinMap as map;
-ghost use Rattle.single_flight.specs.Flights.{Begins};
+ghost use Rattle.single_flight.specs.Flights.{Begins, seen};
+ghost use Rattle.single_flight.specs.Open.{no_flights};
 
 use host_names::Digest;
 use std::alloc::{AllocError, Global};
@@ -9,22 +10,32 @@ use std::collections::BTreeMap;
 use std::marker::Model;
 use std::sync::{Arc, OnceLock};
 
-/// Where the outcome of a flight of a key is set, once.
+/// A load of a key that callers share: its number in its table, and where its outcome is set, once.
 #[derive(Drop)]
-pub struct Place<T> {
+pub struct Flight<T> {
     key: Digest,
+    number: u64,
     outcome: OnceLock<T>,
 }
 
-impl<T> Place<T> {
+impl<T> Flight<T> {
     /// No outcome is set yet.
-    fn new(key: Digest) -> Place<T>
-        ensures { result.key ≡ key }
+    fn new(key: Digest, number: u64) -> Flight<T>
+        ensures key { result.key ≡ key }
+        ensures number { result.number ≡ number }
     {
-        Place {
+        Flight {
             key,
+            number,
             outcome: OnceLock::new(),
         }
+    }
+
+    /// How many flights its table had begun before it. No other flight of the table has this number.
+    pub fn number(&self) -> u64
+        ensures { result ≡ self.now.number }
+    {
+        self.number
     }
 
     /// What the outcome is set in, and waited for.
@@ -38,90 +49,96 @@ impl<T> Place<T> {
 /// The lead of a flight. It can't be dropped: whoever has it spends it by `FlightTable::finish`. To set the outcome is up to
 /// him: a flight whose outcome is never set keeps its joiners waiting.
 pub struct Lead<T> {
-    place: Arc<Place<T>>,
+    flight: Arc<Flight<T>>,
 }
 
 /// How a caller takes part in a flight.
 pub enum Begun<T> {
     /// It has begun one, and leads it.
     Lead(Lead<T>),
-    /// One was open. Its outcome comes to this place.
-    Join(Arc<Place<T>>),
+    /// This one was open.
+    Join(Arc<Flight<T>>),
 }
 
-/// The flights that are open: of each key at most one. Contracts see the number of each one's place, under its key. Each place
-/// is of the key that it is kept under.
+/// The flights that are open: of each key at most one. The table numbers its flights from 0 on in the order in which they begin, so of
+/// two the later has the greater number. Contracts see the number and the outcome's cell of each that is open, under its key, and how many
+/// have begun. Each flight is of the key that it is kept under.
 #[derive(Drop)]
 pub struct FlightTable<T> {
     alloc: Global,
-    places: BTreeMap<Digest, Arc<Place<T>>>,
+    flights: BTreeMap<Digest, Arc<Flight<T>>>,
+    begun: u64,
 }
 
 impl<T> Model for FlightTable<T> {
-    ghost use Rattle.std.specs.Coded.{coded_ℕ};
-    ghost use Rattle.std.specs.FinMap as map;
-    ghost use Rattle.host_names.specs.Digests.{coded_digest};
-    ghost use Rattle.single_flight.specs.Open.{OpenFlights, AreOfTheirKeys, opened};
+    ghost use Rattle.single_flight.specs.Open.{OpenFlights, AreOfTheirKeys, coded_flights, opened};
 
     ghost Value = { OpenFlights };
 
-    ghost coded = { map.code coded_digest coded_ℕ };
+    ghost coded = { coded_flights };
 
-    ghost view = { λ t. opened (λ place. place.value.outcome.id) t.places.entries };
+    ghost use Rattle.single_flight.specs.Flights.{seen};
 
-    ghost invariant = { λ t. AreOfTheirKeys (λ place. place.value.key) t.places.entries };
+    ghost view = { λ t. record { flights = opened (λ flight. seen flight.value) t.flights.entries; begun = t.begun } };
+
+    ghost invariant = { λ t. AreOfTheirKeys (λ flight. flight.value.key) t.flights.entries };
 }
 
 impl<T> Lead<T> {
-    /// Where the outcome is to be set.
-    pub fn place(&self) -> &Arc<Place<T>>
-        ensures { result.now ≡ self.now.place }
+    /// The flight that is led.
+    pub fn flight(&self) -> &Arc<Flight<T>>
+        ensures { result.now ≡ self.now.flight }
     {
-        &self.place
+        &self.flight
     }
 }
 
 impl<T: Drop> FlightTable<T> {
-    /// No flight is open yet.
+    /// No flight has begun yet.
     pub fn new(alloc: Global) -> FlightTable<T>
-        ensures { result ≡ map.empty }
+        ensures { result ≡ no_flights }
     {
         FlightTable {
             alloc,
-            places: BTreeMap::new(alloc),
+            flights: BTreeMap::new(alloc),
+            begun: 0,
         }
     }
 
     /// Opens a flight of a key, which had none.
     fn open(&mut self, key: Digest) -> Result<Lead<T>, AllocError>
-        ensures ok { IfOk result (λ lead. (lead.place.value.key ≡ key) × (self.new ≡ map.insert self.old key lead.place.value.outcome.id)) }
+        ensures key { IfOk result (λ lead. lead.flight.value.key ≡ key) }
+        ensures number { IfOk result (λ lead. lead.flight.value.number ≡ self.old.begun) }
+        ensures opened { IfOk result (λ lead. self.new ≡ record { flights = map.insert self.old.flights key (seen lead.flight.value); begun = self.old.begun + 1 }) }
         ensures err { OnErr result (self.new ≡ self.old) }
     {
-        let place = Arc::new(self.alloc, Place::new(key))?;
-        let kept = Arc::try_clone(&place)?;
-        self.places.insert(key, kept)?;
-        Ok(Lead { place })
+        let begun = self.begun.checked_add(1).ok_or(AllocError)?;
+        let flight = Arc::new(self.alloc, Flight::new(key, self.begun))?;
+        let kept = Arc::try_clone(&flight)?;
+        self.flights.insert(key, kept)?;
+        self.begun = begun;
+        Ok(Lead { flight })
     }
 
-    /// Joins the flight of a key, or begins it where none is open. The place of its outcome is there from then on.
-    /// Without memory nothing changes.
+    /// Joins the flight of a key, or begins it where none is open. Where its outcome will be set is there from then on.
+    /// Without memory nothing changes. A table that has numbered 2^64 - 1 flights answers as one without memory; none gets there.
     pub fn begin(&mut self, key: &Digest) -> Result<Begun<T>, AllocError>
         ensures ok { IfOk result (λ begun. Begins self.old key.now begun self.new) }
         ensures err { OnErr result (self.new ≡ self.old) }
     {
-        match self.places.get(key) {
-            Some(place) => Ok(Begun::Join(Arc::try_clone(place)?)),
+        match self.flights.get(key) {
+            Some(flight) => Ok(Begun::Join(Arc::try_clone(flight)?)),
             None => Ok(Begun::Lead(self.open(*key)?)),
         }
     }
 
-    /// Ends the flight of the lead's key in this table, and hands out its place.
-    pub fn finish(&mut self, lead: Lead<T>) -> Arc<Place<T>>
-        ensures ended { self.new ≡ map.remove self.old lead.place.value.key }
-        ensures place { result ≡ lead.place }
+    /// Ends the flight of the lead's key in this table, and hands out the lead's flight. Its number isn't given again.
+    pub fn finish(&mut self, lead: Lead<T>) -> Arc<Flight<T>>
+        ensures ended { self.new ≡ record self.old { flights = map.remove self.old.flights lead.flight.value.key } }
+        ensures flight { result ≡ lead.flight }
     {
-        let Lead { place } = lead;
-        self.places.remove(&place.key);
-        place
+        let Lead { flight } = lead;
+        self.flights.remove(&flight.key);
+        flight
     }
 }

@@ -131,22 +131,25 @@ fn leads(table: &mut FlightTable<u64>, key: &Digest) -> Result<bool, AllocError>
     }
 }
 
-/// What comes to the place of a flight that is joined.
-fn joined(table: &mut FlightTable<u64>, key: &Digest) -> Result<Option<u64>, AllocError> {
+/// The number of the flight that is joined, and what has come of it.
+type Joined = Option<(u64, Option<u64>)>;
+
+/// What a call joins, if it leads none.
+fn joined(table: &mut FlightTable<u64>, key: &Digest) -> Result<Joined, AllocError> {
     match table.begin(key)? {
         Begun::Lead(lead) => {
             table.finish(lead);
             Ok(None)
         }
-        Begun::Join(place) => Ok(place.outcome().get().copied()),
+        Begun::Join(flight) => Ok(Some((flight.number(), flight.outcome().get().copied()))),
     }
 }
 
 /// While a flight is led, and its outcome is there: what joins it, and whether other calls lead.
-fn fly_in_turn(table: &mut FlightTable<u64>) -> Result<(Option<u64>, bool, bool), AllocError> {
+fn fly_in_turn(table: &mut FlightTable<u64>) -> Result<(Joined, bool, bool), AllocError> {
     match table.begin(&SHARED)? {
         Begun::Lead(lead) => {
-            let _ = lead.place().outcome().try_set(7);
+            let _ = lead.flight().outcome().try_set(7);
             let same = joined(table, &SHARED);
             let other = leads(table, &OTHER);
             table.finish(lead);
@@ -156,9 +159,22 @@ fn fly_in_turn(table: &mut FlightTable<u64>) -> Result<(Option<u64>, bool, bool)
     }
 }
 
+/// The number of a flight of the shared key that was led and has ended, and what joined it before an outcome was set.
+fn fly_unset(table: &mut FlightTable<u64>) -> Result<Option<(u64, Joined)>, AllocError> {
+    match table.begin(&SHARED)? {
+        Begun::Lead(lead) => {
+            let same = joined(table, &SHARED);
+            let number = table.finish(lead).number();
+            Ok(Some((number, same?)))
+        }
+        Begun::Join(_) => Ok(None),
+    }
+}
+
 #[test]
-fn a_flight_is_led_once_until_it_ends(rt: HostRuntime) -> Result<(), Fail> {
+fn a_flight_is_led_once_until_it_ends_and_then_anew(rt: HostRuntime) -> Result<(), Fail> {
     let mut table = FlightTable::new(rt.alloc());
-    assert_eq!(rt; fly_in_turn(&mut table)?, (Some(7), true, true));
+    assert_eq!(rt; fly_in_turn(&mut table)?, (Some((0, Some(7))), true, true));
+    assert_eq!(rt; fly_unset(&mut table)?, Some((3, Some((3, None)))));
     Ok(())
 }

@@ -1,16 +1,17 @@
-use Rattle.std.proofs.Common.{◌≡◌, true, cond, Some, sym, ap, ◌∙◌}
+use Rattle.std.proofs.Common.{Some, sym, ap, ◌∙◌}
 use Rattle.std.specs.FinMap as map
-use Rattle.std.specs.Ordering.{eq_by_cmp}
-use Rattle.std.proofs.lemmas.Cmp.{eq_by_cmp_equiv}
-use Rattle.host_names.specs.Digests.{digest_cmp, digest_cmp_total}
+use Rattle.host_names.specs.Digests.{digest_cmp}
+use Rattle.single_flight.specs.Open.{OpenFlight}
+use Rattle.single_flight.specs.Flights.{seen}
+use Rattle.single_flight.proofs.Options.{given}
 use Rattle.single_flight.proofs.laws.wrong_answers_are_refused.Goals as goal
 
 pub returns-clause-joined : goal.returns-clause-joined
-returns-clause-joined g c key place new joins = absurd (cc (sym (map.get-empty digest_cmp key) ∙ joins.0))
+returns-clause-joined g c key flight new joins = absurd (cc (sym (map.get-empty digest_cmp key) ∙ joins.0))
+
+pub returns-clause-other : goal.returns-clause-other
+returns-clause-other g c old new key open_one flight here other joins =
+    absurd (other (ap (λ (f : OpenFlight). f.number) (given (seen flight.value) open_one (sym joins.0 ∙ here))))
 
 pub returns-clause-led : goal.returns-clause-led
-returns-clause-led g c flights key number lead new leads =
-    let here : eq_by_cmp digest_cmp key key ≡ true = (eq_by_cmp_equiv digest_cmp_total).refl key in
-    let found = map.get-insert digest_cmp_total flights key number key
-    ∙ ap (λ b. cond b (Some number) (map.get {R = digest_cmp} flights key)) here in
-    absurd (cc (sym found ∙ leads.0))
+returns-clause-led g c old new key open_one lead here leads = absurd (cc (sym leads.0 ∙ here))
