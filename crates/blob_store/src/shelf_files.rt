@@ -1,5 +1,5 @@
 //! Files on a shelf, without what is known of them.
-ghost use Rattle.std.specs.Prelude.{◌≡◌, ◌↔◌, ◌<◌, ◌≤◌, Err, IfErr, IfOk, None, OnOk, Some, length};
+ghost use Rattle.std.specs.Prelude.{◌≡◌, ◌↔◌, ◌<◌, ◌≤◌, Err, IfErr, IfOk, None, OnOk, Some, length, option_map};
 ghost use Rattle.host_names.specs.Blobs.{digest_of};
 ghost use Rattle.blob_store.specs.declared.blobs.UploadFault.TheVariants as upload_fault;
 ghost use Rattle.blob_store.specs.declared.reading.ReadFault.TheVariants as read_fault;
@@ -10,8 +10,8 @@ ghost use Rattle.blob_store.specs.Reads.{GivesInTurn};
 ghost use Rattle.blob_store.specs.Stretches.{IsStretchFault, chunks_given};
 
 use crate::blobs::{UploadFault, put_whole};
-use crate::reading::{ReadFault, read_chunk};
-use crate::shelves::Shelf;
+use crate::reading::{ReadFault, of_shelf, read_chunk};
+use crate::shelves::{Shelf, ShelfName};
 use crate::stretches::read_stretch;
 use byte_view::{BlobInfo, Chunk, Hold};
 use host_names::Digest;
@@ -51,6 +51,19 @@ impl<S: Shelf> Files<S> {
         ensures count { S.failures self.old.shelf ≤ S.failures self.new.shelf }
     {
         put_whole(self.alloc, &mut self.shelf, digest, bytes)
+    }
+
+    /// What the shelf has as the piece of a name, as it gives it now. It is not checked, and may be any bytes.
+    pub fn piece(&mut self, name: &Digest) -> Result<Option<Vec<u8>>, ReadFault>
+        ensures given { IfOk result (λ bytes. S.did self.old.shelf (Got (Part name.now) (option_map (λ b. b.items) bytes)) self.new.shelf) }
+        ensures fault { IfErr result (λ fault. IsChunkFault S.did self.old.shelf name.now fault self.new.shelf) }
+        ensures device { IfErr result (λ fault. fault ≡ read_fault.Device → S.failures self.old.shelf < S.failures self.new.shelf) }
+        ensures count { S.failures self.old.shelf ≤ S.failures self.new.shelf }
+    {
+        match self.shelf.get(ShelfName::Part(*name)) {
+            Ok(bytes) => Ok(bytes),
+            Err(fault) => Err(of_shelf(fault)),
+        }
     }
 
     /// The chunk of a name, as the shelf gives it now, and checked: it has that name.

@@ -9,6 +9,7 @@ mod holds;
 mod laws;
 mod loads;
 mod places;
+mod shared_sources;
 mod solo_groups;
 mod sources;
 
@@ -16,5 +17,6 @@ pub use coins::{Coin, Counter};
 pub use file_sources::FileSource;
 pub use groups::Group;
 pub use laws::wrong_answers_are_refused;
+pub use shared_sources::SharedSource;
 pub use solo_groups::SoloGroup;
 pub use sources::{Outcome, Source};

@@ -1,0 +1,62 @@
+//! The source of nodes that share a shelf.
+ghost use Rattle.std.specs.Prelude.{◌≡◌, true, ⊤};
+ghost use Rattle.chunk_group.specs.Outcomes.{clones_of_outcomes, is_outcome};
+ghost use Rattle.chunk_group.specs.Stores.{LoadedThroughLock};
+
+use crate::sources::{Outcome, Source};
+use blob_store::{Files, ReadFault, Shelf};
+use byte_view::Chunk;
+use host_names::Digest;
+use single_flight::Loads;
+use std::alloc::AllocError;
+use std::sync::{Mutex, Wait};
+
+/// Gives the pieces of the files on a shelf that nodes share, behind a lock that is held for one call of the shelf. A piece is checked once,
+/// and after that call. It may answer each fault for each key.
+pub struct SharedSource<'a, R, S> {
+    rt: &'a R,
+    files: &'a Mutex<Files<S>>,
+}
+
+impl<'a, R, S> SharedSource<'a, R, S> {
+    /// The source of these files, for threads that wait for the lock by this handle.
+    pub fn new(rt: &'a R, files: &'a Mutex<Files<S>>) -> SharedSource<'a, R, S>
+        ensures { result.files.now ≡ files.now }
+    {
+        SharedSource { rt, files }
+    }
+}
+
+impl<R, S> Copy for SharedSource<'_, R, S> {}
+
+impl<R, S> Clone for SharedSource<'_, R, S> {
+    ghost is_clone = { λ source copy. copy ≡ source };
+
+    ghost is_infallible = { λ _. ⊤ };
+
+    fn clone(&self) -> Result<Self, AllocError> {
+        Ok(*self)
+    }
+}
+
+impl<R, S> Loads<Outcome> for SharedSource<'_, R, S> {
+    ghost fits = { is_outcome (λ share. share.value) (λ _ _. true) };
+
+    ghost clones_fit = { clones_of_outcomes (λ share. share.value) (λ _ _. true) _ (λ _ _ same. same) (λ _ _ wrong. wrong) (λ _ _ wrong. wrong) (λ _ _ same. same) };
+}
+
+impl<R: Wait, S: Shelf> Source for SharedSource<'_, R, S> {
+    ghost use Rattle.std.specs.Prelude.{refl};
+
+    ghost allows = { λ _ _. true };
+
+    ghost loaded = { LoadedThroughLock };
+
+    ghost agrees = { λ _ _. refl };
+
+    fn load(&mut self, key: &Digest) -> Result<Chunk, ReadFault> {
+        let piece = self.files.lock(self.rt).piece(key)?;
+        let bytes = piece.ok_or(ReadFault::Missing)?;
+        Chunk::check(*key, bytes).map_err(|_| ReadFault::Damaged)
+    }
+}
