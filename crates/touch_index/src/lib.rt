@@ -7,4 +7,3 @@ mod numbers;
 mod postings;
 
 pub use index::Index;
-pub use postings::Posting;
