@@ -1,0 +1,149 @@
+//! Whom a node asks for a chunk that another node owns, by what its owner gives.
+
+use super::fixtures::{Gift, Giver, is_chunk_of, names};
+use super::nodes_with_peers::{Asked, PEERS, Reads, Visitor, lone_node, shared_node};
+use blob_store::ReadFault;
+use host_names::Digest;
+use peer_ring::{DigestHash, Ring};
+use std::alloc::Global;
+use std::process::Abort;
+use std::sync::Wait;
+use std::test::Fail;
+
+/// The number of the first chunk that another node owns.
+fn number_of_others(alloc: Global, names: &[Digest]) -> Result<usize, Fail> {
+    let ring = Ring::new(alloc, &PEERS, &DigestHash)?;
+    let number = names
+        .iter()
+        .position(|name| ring.owner(name.to_hex().as_bytes()) != 0);
+    Ok(number.ok_or("the node owns all")?)
+}
+
+/// Asserts that a read gives the chunk of a number.
+fn assert_read<N: Reads>(
+    rt: &impl Abort,
+    alloc: Global,
+    node: &mut N,
+    names: &[Digest],
+    number: usize,
+) -> Result<(), Fail> {
+    let name = names.get(number).ok_or("no such chunk")?;
+    let given = node.read(name);
+    if let Err(ReadFault::OutOfMemory) = &given {
+        return Err(Fail::from("OutOfMemory"));
+    }
+    assert_eq!(rt;
+        is_chunk_of(alloc, &given, number)?,
+        true,
+        "the chunk {number}"
+    );
+    Ok(())
+}
+
+/// What the peer that owns a chunk gives, and what the caches may count; how often peers and source were asked after one read of the chunk,
+/// and after two.
+struct Visit {
+    gift: Gift,
+    limit: usize,
+    once: (u64, u64),
+    twice: (u64, u64),
+}
+
+/// The caches start with the coin at 0, so what the first of these gives is kept in hot; what the source gives after the lies is kept in main.
+const VISITS: [Visit; 6] = [
+    Visit {
+        gift: Gift::Right,
+        limit: 10_000,
+        once: (1, 0),
+        twice: (1, 0),
+    },
+    Visit {
+        gift: Gift::Other,
+        limit: 10_000,
+        once: (1, 1),
+        twice: (1, 1),
+    },
+    Visit {
+        gift: Gift::Short,
+        limit: 10_000,
+        once: (1, 1),
+        twice: (1, 1),
+    },
+    Visit {
+        gift: Gift::Nothing,
+        limit: 10_000,
+        once: (1, 1),
+        twice: (1, 1),
+    },
+    Visit {
+        gift: Gift::Right,
+        limit: 0,
+        once: (1, 0),
+        twice: (2, 0),
+    },
+    Visit {
+        gift: Gift::Other,
+        limit: 0,
+        once: (1, 1),
+        twice: (2, 2),
+    },
+];
+
+/// Asserts that both reads of a visit give the chunk, and who was asked.
+fn assert_visit<N: Reads>(
+    rt: &impl Abort,
+    alloc: Global,
+    node: &mut N,
+    names: &[Digest],
+    number: usize,
+    visit: &Visit,
+    asked: &Asked,
+) -> Result<(), Fail> {
+    assert_read(rt, alloc, node, names, number)?;
+    asked.assert(rt, visit.once.0, visit.once.1);
+    assert_read(rt, alloc, node, names, number)?;
+    asked.assert(rt, visit.twice.0, visit.twice.1);
+    Ok(())
+}
+
+fn assert_lone_visit(
+    rt: &impl Abort,
+    alloc: Global,
+    names: &[Digest],
+    number: usize,
+    visit: &Visit,
+) -> Result<(), Fail> {
+    let gifts = [visit.gift];
+    let asked = Asked::new();
+    let source = Giver::new(alloc, names, &[], &asked.source);
+    let link = Giver::new(alloc, names, &gifts, &asked.peers);
+    let mut node = lone_node(alloc, visit.limit, source, link)?;
+    assert_visit(rt, alloc, &mut node, names, number, visit, &asked)
+}
+
+fn assert_shared_visit<R: Abort + Wait>(
+    rt: &R,
+    alloc: Global,
+    names: &[Digest],
+    number: usize,
+    visit: &Visit,
+) -> Result<(), Fail> {
+    let gifts = [visit.gift];
+    let asked = Asked::new();
+    let source = Giver::new(alloc, names, &[], &asked.source);
+    let link = Giver::new(alloc, names, &gifts, &asked.peers);
+    let node = shared_node(alloc, visit.limit, source, link)?;
+    let mut visitor = Visitor { rt, node: &node };
+    assert_visit(rt, alloc, &mut visitor, names, number, visit, &asked)
+}
+
+#[test]
+fn the_owner_is_asked_and_else_the_source(rt: HostRuntime) -> Result<(), Fail> {
+    let names = names(rt.alloc(), 40)?;
+    let number = number_of_others(rt.alloc(), names.as_slice())?;
+    for visit in &VISITS {
+        assert_lone_visit(&rt, rt.alloc(), names.as_slice(), number, visit)?;
+        assert_shared_visit(&rt, rt.alloc(), names.as_slice(), number, visit)?;
+    }
+    Ok(())
+}

@@ -1,0 +1,98 @@
+//! Nodes over one shelf, each read through by a thread of its own.
+
+use super::fixtures::{bytes_of, is_chunk_of, names};
+use super::gates::assert_count;
+use blob_store::{Files, MemShelf, ReadFault};
+use chunk_group::{Counter, Group, SharedSource};
+use host_names::Digest;
+use peer_link::NoLink;
+use peer_ring::{DigestHash, Ring};
+use std::alloc::Global;
+use std::process::Abort;
+use std::sync::atomic::{AtomicU64, Ordering};
+use std::sync::{Mutex, Wait};
+use std::test::Fail;
+use std::thread;
+use std::thread::Threads;
+
+/// How many chunks the shelf has. Reads are of one more.
+const CHUNKS: usize = 8;
+
+type ShelfNode<'a, R> = Group<DigestHash, SharedSource<'a, R, MemShelf>, NoLink, Counter>;
+
+/// A shelf with these chunks, each of which is a file.
+fn files(alloc: Global) -> Result<Files<MemShelf>, Fail> {
+    let mut files = Files::new(alloc, MemShelf::new(alloc));
+    for number in 0..CHUNKS {
+        let bytes = bytes_of(alloc, number)?;
+        files.put(Digest::of_bytes(bytes.as_slice()), bytes.as_slice())?;
+    }
+    Ok(files)
+}
+
+fn node<'a, R: Wait>(
+    rt: &'a R,
+    alloc: Global,
+    files: &'a Mutex<Files<MemShelf>>,
+) -> Result<ShelfNode<'a, R>, Fail> {
+    let ring = Ring::new(alloc, &["node0"], &DigestHash)?;
+    let source = SharedSource::new(rt, files);
+    Ok(Group::new(alloc, 10_000, ring, 0, source, NoLink, Counter::new())?)
+}
+
+/// Reads each chunk twice, and counts the right answers.
+fn visit<R: Wait>(
+    rt: &R,
+    alloc: Global,
+    node: &ShelfNode<'_, R>,
+    names: &[Digest],
+    right: &AtomicU64,
+) {
+    for (number, name) in names.iter().enumerate() {
+        for _ in 0..2 {
+            let given = node.get(rt, name);
+            let is_right = match &given {
+                Err(fault) => number == CHUNKS && *fault == ReadFault::Missing,
+                Ok(_) => number < CHUNKS && is_chunk_of(alloc, &given, number).unwrap_or(false),
+            };
+            if is_right {
+                right.fetch_add(1, Ordering::SeqCst);
+            }
+        }
+    }
+}
+
+/// A thread for each node. One that can't be made counts nothing.
+fn visit_both<R: Threads + Wait + Sync>(
+    rt: &R,
+    alloc: Global,
+    nodes: (&ShelfNode<'_, R>, &ShelfNode<'_, R>),
+    names: &[Digest],
+    right: &AtomicU64,
+) {
+    let (first, second) = nodes;
+    thread::scope(thread::scope_env(), rt, |scope| {
+        let _ = scope.spawn(move || visit(rt, alloc, first, names, right));
+        let _ = scope.spawn(move || visit(rt, alloc, second, names, right));
+    });
+}
+
+fn assert_shared<R: Threads + Wait + Abort + Sync>(
+    rt: &R,
+    alloc: Global,
+    files: &Mutex<Files<MemShelf>>,
+) -> Result<(), Fail> {
+    let names = names(alloc, CHUNKS + 1)?;
+    let first = node(rt, alloc, files)?;
+    let second = node(rt, alloc, files)?;
+    let right = AtomicU64::new(0);
+    visit_both(rt, alloc, (&first, &second), names.as_slice(), &right);
+    assert_count(rt, &right, 36, "right answers");
+    Ok(())
+}
+
+#[test]
+fn nodes_that_share_a_shelf_read_it_by_turns(rt: HostRuntime) -> Result<(), Fail> {
+    let files = Mutex::new(files(rt.alloc())?);
+    assert_shared(&rt, rt.alloc(), &files)
+}
