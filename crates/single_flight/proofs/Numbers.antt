@@ -1,5 +1,5 @@
 -- How a table numbers its flights.
-use Rattle.std.proofs.Common.{◌≡◌, ℕ, ◌+◌, ◌<◌, ◌≤◌, List, [], ◌∷◌, ◌++◌, ap, arith}
+use Rattle.std.proofs.Common.{◌≡◌, ◌+◌, ◌<◌, ◌≤◌, List, [], ◌∷◌, ◌++◌, ap, arith}
 use Rattle.host_names.specs.declared.digests.Digest.{Digest}
 use Rattle.single_flight.specs.Open.{OpenFlight, OpenFlights}
 use Rattle.single_flight.specs.Calls.{Call, Led, Joined, Finished, Does, DoInTurn}
