@@ -1,8 +1,7 @@
 -- The next change that is posted under a key of the changed cells is the next that can touch one of them.
-use Rattle.std.proofs.Common.{◌≡◌, ◌⊎◌, inl, inr, ℕ, zero, suc, ◌+◌, ◌-◌, ◌<◌, ◌≤◌, ◌==◌, Bool, true, false, cond, ◌||◌, List, [], ◌∷◌, drop, length, find, Option, Some, None, refl, sym, ap, subst, ◌∙◌, arith}
+use Rattle.std.proofs.Common.{◌≡◌, inl, inr, ℕ, zero, suc, ◌+◌, ◌-◌, ◌<◌, ◌≤◌, Bool, true, false, cond, ◌||◌, List, [], ◌∷◌, drop, length, find, Option, Some, None, refl, sym, ap, ◌∙◌, arith}
 use Rattle.std.specs.List.{list_any}
 use Rattle.std.proofs.lemmas.Bool.{cases_lt}
-use Rattle.host_names.specs.declared.cells.Cell.{Cell}
 use Rattle.site_state.specs.declared.changes.Change.{Change as CellChange}
 use Rattle.site_state.specs.Changes.{cells_of}
 use Rattle.site_change.specs.declared.plans.Plan.{Plan}

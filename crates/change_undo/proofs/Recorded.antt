@@ -1,9 +1,8 @@
 -- The plan that is kept for a number is that of the live change which has the number, in its place.
-use Rattle.std.proofs.Common.{◌≡◌, inl, inr, ℕ, zero, suc, ◌+◌, ◌-◌, Bool, true, false, List, [], ◌∷◌, slice_get, Option, Some, None, unwrap_or, refl, sym, ap, subst, ◌∙◌, arith}
+use Rattle.std.proofs.Common.{◌≡◌, inl, inr, ℕ, zero, suc, ◌+◌, Bool, true, false, List, [], ◌∷◌, slice_get, Option, Some, None, unwrap_or, refl, sym, ap, subst, ◌∙◌, arith}
 use Rattle.std.specs.FinMap as map
 use Rattle.std.specs.List.{Contains}
 use Rattle.host_names.specs.Blobs.{Contents}
-use Rattle.host_names.specs.declared.names.SiteName.{SiteName}
 use Rattle.site_state.specs.States.{State}
 use Rattle.site_change.specs.declared.commands.Command.{Command}
 use Rattle.site_change.specs.declared.plans.Plan.{Plan}
@@ -14,7 +13,7 @@ use Rattle.change_undo.specs.Histories.{Past, live_changes, live_from, is_among,
 use Rattle.change_undo.specs.Kept.{plan_at, plan_of}
 use Rattle.change_undo.specs.Past.{past_of, plans_of}
 use Rattle.change_undo.specs.PlannedEntries.{PlannedEntry, with_change}
-use Rattle.change_undo.specs.Plans.{ArePlans, IsHistoryOver, IsPlanned, IsPlanOf, IsRecord, IsRecorded, state_after}
+use Rattle.change_undo.specs.Plans.{ArePlans, IsHistoryOver, IsPlanned, IsPlanOf, IsRecorded, state_after}
 use Rattle.change_undo.proofs.Live.{live_from-rising}
 use Rattle.change_undo.proofs.Marked.{number_at}
 use Rattle.change_undo.proofs.Places.{InPlace, first_or_more, not_below, place-contained, place-ran}

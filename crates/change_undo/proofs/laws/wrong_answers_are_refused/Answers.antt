@@ -1,4 +1,4 @@
-use Rattle.std.proofs.Common.{◌≡◌, inl, inr, [], arith, ap, sym, ◌∙◌, ℕ, refl}
+use Rattle.std.proofs.Common.{inl, inr, [], arith, ap, sym, ◌∙◌, ℕ, refl}
 use Rattle.site_change.specs.Changes.{site_of_command}
 use Rattle.site_change.specs.declared.commands.Command.{Command}
 use Rattle.change_undo.proofs.Places.{first_or_more, is_first}

@@ -1,8 +1,7 @@
-use Rattle.std.proofs.Common.{◌≡◌, Option, sym, ap, subst, ◌∙◌}
-use Rattle.host_names.specs.Blobs.{Contents}
+use Rattle.std.proofs.Common.{Option, sym, ap, subst, ◌∙◌}
 use Rattle.site_change.specs.declared.plans.Plan.{Plan}
 use Rattle.change_undo.specs.Histories.{Past, recorded}
-use Rattle.change_undo.specs.Plans.{IsHistoryOver, IsRecorded}
+use Rattle.change_undo.specs.Plans.{IsRecorded}
 use Rattle.change_undo.proofs.Recorded.{record-over, recorded-kept}
 use Rattle.change_undo.proofs.histories.History.«record».Goals as goal
 

@@ -1,4 +1,4 @@
-use Rattle.std.proofs.Common.{◌≡◌, ◌-◌, Result, Ok, Err, IfOk, sym, subst}
+use Rattle.std.proofs.Common.{◌-◌, Result, Ok, Err, IfOk, sym, subst}
 use Rattle.touch_index.specs.Postings.{Postings}
 use Rattle.change_undo.specs.Indexed.{IsIndexOf}
 use Rattle.change_undo.specs.PlannedEntries.{with_undone}

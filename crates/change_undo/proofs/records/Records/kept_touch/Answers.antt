@@ -1,4 +1,4 @@
-use Rattle.std.proofs.Common.{◌≡◌, ◌+◌, ◌-◌, ◌<◌, List, length, drop, Option, Some, None, arith, sym, ap, subst, ◌∙◌}
+use Rattle.std.proofs.Common.{◌+◌, List, drop, Option, Some, None, arith, sym, ap, subst, ◌∙◌}
 use Rattle.host_names.specs.declared.cells.Cell.{Cell}
 use Rattle.site_state.specs.declared.changes.Change.{Change as CellChange}
 use Rattle.touch_index.specs.Next.{IsNext}
