@@ -7,5 +7,6 @@ mod files;
 mod fixtures;
 mod histories;
 mod ranges;
+mod records;
 mod stores;
 mod views;

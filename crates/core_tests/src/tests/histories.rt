@@ -6,8 +6,8 @@ use super::fixtures::assert_text;
 use blob_store::{Blobs, MemShelf};
 use change_undo::{GREATEST_LIMIT, History};
 use host_names::{ChangeError, Digest, FilePath, SiteName};
-use site_change::Command;
-use site_state::{Listing, PathMap};
+use site_change::{Command, Plan};
+use site_state::{Listing, PathMap, State};
 use std::alloc::Global;
 use std::marker::Model;
 use std::process::Abort;
@@ -15,7 +15,7 @@ use std::test::Fail;
 
 /// A history, and the uploads that it is committed with.
 #[derive(Drop)]
-struct Host {
+pub(super) struct Host {
     uploads: Blobs<MemShelf>,
     history: History,
 }
@@ -39,7 +39,7 @@ impl Model for Host {
 }
 
 impl Host {
-    fn new(alloc: Global, limit: u64, uploads: Blobs<MemShelf>) -> Host
+    pub(super) fn new(alloc: Global, limit: u64, uploads: Blobs<MemShelf>) -> Host
         requires some { 1 ≤ limit }
         requires bounded { limit ≤ GREATEST_LIMIT }
     {
@@ -49,23 +49,31 @@ impl Host {
         }
     }
 
-    fn commit(&mut self, command: Command) -> Result<u64, ChangeError> {
+    pub(super) fn commit(&mut self, command: Command) -> Result<u64, ChangeError> {
         self.history.commit(&self.uploads, command)
     }
 
-    fn undo(&mut self, site: &SiteName, change: u64) -> Result<u64, ChangeError> {
+    pub(super) fn undo(&mut self, site: &SiteName, change: u64) -> Result<u64, ChangeError> {
         self.history.undo(site, change)
+    }
+
+    pub(super) fn record(&self, number: u64) -> Option<&Plan> {
+        self.history.record(number)
+    }
+
+    pub(super) fn state(&self) -> &State {
+        self.history.state()
     }
 }
 
-fn no_entries(alloc: Global) -> Vec<(FilePath, Option<Digest>)>
+pub(super) fn no_entries(alloc: Global) -> Vec<(FilePath, Option<Digest>)>
     ensures { IsByPath result.items }
 {
     Vec::new(alloc)
 }
 
 /// Opens a deploy without files.
-fn open(alloc: Global, host: &mut Host) -> Result<u64, Fail> {
+pub(super) fn open(alloc: Global, host: &mut Host) -> Result<u64, Fail> {
     let files = Listing::new(false, PathMap::from_sorted(alloc, no_entries(alloc))?)?;
     let site = SiteName::new("one")?;
     let auto = false;
