@@ -1,18 +1,17 @@
-//! A list in blocks.
+//! A list in blocks, whose handles are in blocks too.
 ghost use Rattle.std.specs.Prelude.{◌≡◌, ◌<◌, ◌++◌, ◌∷◌, [], set, true, IfOk, OnOk, OnErr, length, option_copied, slice_get};
 ghost use Rattle.shared_blocks.specs.Copies.{AreSame};
 
-use crate::blocks::{BLOCK_LIMIT, Block};
+use crate::block_lists::BlockList;
+use crate::blocks::{BLOCK_LIMIT, Block, MOST_BLOCKS, item_at, with_item};
 use std::alloc::{AllocError, Global};
 use std::marker::Model;
 
-/// More blocks than there is memory for, so that a length is always a number of the machine.
-const MOST_BLOCKS: usize = 1 << 48;
-
-/// A list whose copies share all blocks that are full. Contracts see its items, and for how many more there is room.
+/// A list whose copies share all blocks that are full, and the handles of these blocks, where they fill a block of handles.
+/// Contracts see its items, and whether there is room for one more.
 #[derive(Drop)]
 pub struct SharedList<T> {
-    full: Vec<Block<T>>,
+    full: BlockList<Block<T>>,
     last: Vec<T>,
 }
 
@@ -28,36 +27,13 @@ impl<T> Model for SharedList<T> {
     ghost invariant = { λ l. AreFull l.full.items × (length l.full.items ≤ 2 ^ 48) × (vec_len l.last ≤ 128) };
 }
 
-/// The item at a place, from 0 on.
-fn item_at<T>(items: &[T], place: usize) -> Option<&T>
-    ensures { option_copied result ≡ slice_get items.now place }
-{
-    items.get(place)
-}
-
-/// A block of these items with another one at a place.
-fn with_item<T: Clone + Drop>(
-    alloc: Global,
-    items: &[T],
-    place: usize,
-    item: T,
-) -> Result<Block<T>, AllocError>
-    requires clones { AreSame T.is_clone }
-    requires within { place < length items.now }
-    ensures { IfOk result (λ block. block ≡ set items.now place item) }
-{
-    let mut items = items.to_vec(alloc)?;
-    items[place] = item;
-    Block::new(alloc, items)
-}
-
 impl<T: Drop> SharedList<T> {
     /// A list without items, which takes no memory.
     pub fn new(alloc: Global) -> SharedList<T>
         ensures { result.items ≡ [] }
     {
         SharedList {
-            full: Vec::new(alloc),
+            full: BlockList::new(alloc),
             last: Vec::new(alloc),
         }
     }
@@ -73,9 +49,8 @@ impl<T: Drop> SharedList<T> {
     pub fn get(&self, place: usize) -> Option<&T>
         ensures { option_copied result ≡ slice_get self.now.items place }
     {
-        let block = place / BLOCK_LIMIT;
-        if block < self.full.len() {
-            return item_at(self.full[block].as_slice(), place % BLOCK_LIMIT);
+        if let Some(block) = self.full.get(place / BLOCK_LIMIT) {
+            return item_at(block.as_slice(), place % BLOCK_LIMIT);
         }
         item_at(self.last.as_slice(), place - self.full.len() * BLOCK_LIMIT)
     }
@@ -122,7 +97,8 @@ impl<T: Drop> SharedList<T> {
         Ok(())
     }
 
-    /// Writes an item over the one at a place, from 0 on. On an error nothing changes.
+    /// Writes an item over the one at a place, from 0 on. On an error nothing changes. The work is a copy of the block that
+    /// the place is in, if it is full, and of a block of handles at most: the same however long the list is.
     pub fn set(&mut self, place: usize, item: T) -> Result<(), AllocError>
     where
         T: Clone,
@@ -132,11 +108,11 @@ impl<T: Drop> SharedList<T> {
         ensures err { OnErr result (self.new.items ≡ self.old.items) }
         ensures room { self.new.has_room ≡ self.old.has_room }
     {
-        let block = place / BLOCK_LIMIT;
-        if block < self.full.len() {
+        let number = place / BLOCK_LIMIT;
+        if let Some(block) = self.full.get(number) {
             let alloc = *self.last.allocator();
-            let items = self.full[block].as_slice();
-            self.full[block] = with_item(alloc, items, place % BLOCK_LIMIT, item)?;
+            let written = with_item(alloc, block.as_slice(), place % BLOCK_LIMIT, item)?;
+            self.full.set(number, written)?;
         } else {
             let past = place - self.full.len() * BLOCK_LIMIT;
             self.last[past] = item;
@@ -144,7 +120,8 @@ impl<T: Drop> SharedList<T> {
         Ok(())
     }
 
-    /// A copy, which shares all full blocks.
+    /// A copy, which shares all full blocks. The work is one count for each block of handles, 128 * 128 items, and copies of
+    /// the handles and of the items that fill no block yet.
     pub fn copy(&self) -> Result<SharedList<T>, AllocError>
     where
         T: Clone,
@@ -152,7 +129,7 @@ impl<T: Drop> SharedList<T> {
         ensures { IfOk result (λ copy. copy.items ≡ self.now.items) }
     {
         Ok(SharedList {
-            full: self.full.clone()?,
+            full: self.full.copy()?,
             last: self.last.clone()?,
         })
     }
