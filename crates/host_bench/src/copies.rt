@@ -18,12 +18,12 @@ use std::time::{Duration, Instant};
 const CANCELLED: u64 = 1;
 
 /// What a commit answered, which no measurement expects to be refused.
-fn expected(committed: Result<u64, ChangeError>) -> Result<u64> {
+pub(crate) fn expected(committed: Result<u64, ChangeError>) -> Result<u64> {
     committed.map_err(|_| anyhow!("the history refused it"))
 }
 
 /// Opens a deploy of one file that isn't uploaded.
-fn opening(alloc: Global) -> Result<Command> {
+pub(crate) fn opening(alloc: Global) -> Result<Command> {
     Ok(Command::Open {
         site: SiteName::new("one")?,
         files: listing(alloc, false, 0..1, Contents::Own)?,
@@ -32,7 +32,7 @@ fn opening(alloc: Global) -> Result<Command> {
 }
 
 /// A history without entries, which is what it is over these uploads.
-fn empty(alloc: Global, uploads: &Blobs<MemShelf>) -> History
+pub(crate) fn empty(alloc: Global, uploads: &Blobs<MemShelf>) -> History
     ensures { IsHistoryOver uploads.now.known result }
 {
     let _ = uploads;

@@ -10,6 +10,7 @@ mod hosts;
 mod measurements;
 mod serving;
 mod stores;
+mod undos;
 
 use anyhow::{Result, anyhow};
 use measurements::Measurement;

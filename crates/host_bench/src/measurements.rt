@@ -5,6 +5,7 @@ use crate::copies::time_copies;
 use crate::hosts::empty_server;
 use crate::serving::{OfServer, each};
 use crate::stores::{time_digest, time_distinct, time_equal, time_read, time_upload};
+use crate::undos::{EARLY, time_undos};
 use anyhow::Result;
 
 /// What can be measured, a line each.
@@ -19,6 +20,7 @@ deploy FILES     nanoseconds of a deploy of so many files of 64 bytes: its openi
 history CHANGES  nanoseconds of a change where so many rename one file
 moves CHANGES    nanoseconds of a change where so many move one alias
 copy ENTRIES     nanoseconds of a copy of a history of so many entries and cells, with one commit on it
+undo LATER       nanoseconds of an undo of a change with so many live changes of its site after it
 digest BYTES     nanoseconds of a pass of SHA-1 over so many bytes
 upload BYTES     nanoseconds of an upload of so many bytes to a store in memory
 equal BYTES      the same where all pieces of the file are the same
@@ -32,6 +34,7 @@ const COPIES: u64 = 400;
 #[derive(Clone, Copy)]
 enum OfStore {
     Copy,
+    Undo,
     Digest,
     Upload,
     Equal,
@@ -44,6 +47,7 @@ impl OfStore {
     fn run(self, rt: &HostRuntime, count: u64) -> Result<u128> {
         match self {
             OfStore::Copy => Ok(each(time_copies(rt, count, COPIES)?, COPIES)),
+            OfStore::Undo => Ok(each(time_undos(rt, count)?, EARLY)),
             OfStore::Digest => Ok(time_digest(rt, count as usize)?.as_nanos()),
             OfStore::Upload => Ok(time_upload(rt, count as usize)?.as_nanos()),
             OfStore::Equal => Ok(time_equal(rt, count as usize)?.as_nanos()),
@@ -73,6 +77,7 @@ impl Measured {
             "history" => Some(Measured::Server(OfServer::History)),
             "moves" => Some(Measured::Server(OfServer::Moves)),
             "copy" => Some(Measured::Store(OfStore::Copy)),
+            "undo" => Some(Measured::Store(OfStore::Undo)),
             "digest" => Some(Measured::Store(OfStore::Digest)),
             "upload" => Some(Measured::Store(OfStore::Upload)),
             "equal" => Some(Measured::Store(OfStore::Equal)),
