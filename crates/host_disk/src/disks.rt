@@ -1,5 +1,6 @@
 //! A disk: one file of bytes, which a crash may leave half written.
-ghost use Rattle.std.specs.Prelude.{◌≡◌, ◌<◌, ◌≤◌, ◌↔◌, ℕ, Bool, IsErr, IsTrue, List, IfOk, OnOk, length, take};
+ghost use Rattle.std.specs.Prelude.{◌≡◌, ◌<◌, ◌≤◌, ◌↔◌, ℕ, Bool, IsErr, IsTrue, List, IfOk, OnErr, OnOk, length, take};
+ghost use Rattle.host_disk.specs.Calls.{CutTo, DiskCall, GetLen, ReadAt, Sync, WriteAt};
 ghost use Rattle.host_disk.specs.Crashes.{CountsFailure, Cut, Elapses, Follows, IsRead, IsWritten, Only, Torn};
 
 use crate::faults::DeviceFault;
@@ -12,7 +13,8 @@ use crate::faults::DeviceFault;
 /// No call takes memory. Each call that fails is counted.
 pub trait Disk {
     /// Whether it is proved to be such a disk. Of one that isn't, the clauses say that each failure which is told is counted
-    /// once, up to the greatest `u64`, and no success is, that `failures` tells the count, and nothing else.
+    /// once, up to the greatest `u64`, and no success is, that `failures` tells the count, and that no call fails but one that may,
+    /// and nothing else.
     ghost is_modelled: { Bool };
 
     /// The bytes that a read gives.
@@ -30,6 +32,9 @@ pub trait Disk {
     /// How many calls have failed, up to the greatest `u64`.
     ghost faults: { Self → ℕ };
 
+    /// Which calls may fail now.
+    ghost may_fail: { Self → DiskCall → Type 0 };
+
     /// How many calls have failed, up to `u64::MAX`.
     fn failures(&self) -> u64
         ensures { result ≡ faults self.now };
@@ -40,6 +45,7 @@ pub trait Disk {
         ensures seen { IsTrue is_modelled → seen self.new ≡ seen self.old }
         ensures crash { IsTrue is_modelled → (c : List ℕ) → may_leave self.new c ↔ may_leave self.old c }
         ensures time { IsTrue is_modelled → Elapses (moment self.old) (moment self.new) (left_since self.old) (left_since self.new) (may_leave self.new) }
+        ensures reason { OnErr result (may_fail self.old GetLen) }
         ensures cause { CountsFailure result (faults self.old) (faults self.new) };
 
     /// Reads the bytes from `at` on, as many as `bytes` has places for. Bytes that aren't all there are a failure.
@@ -48,36 +54,45 @@ pub trait Disk {
         ensures seen { IsTrue is_modelled → seen self.new ≡ seen self.old }
         ensures crash { IsTrue is_modelled → (c : List ℕ) → may_leave self.new c ↔ may_leave self.old c }
         ensures time { IsTrue is_modelled → Elapses (moment self.old) (moment self.new) (left_since self.old) (left_since self.new) (may_leave self.new) }
+        ensures reason { OnErr result (may_fail self.old (ReadAt at (length bytes.old))) }
         ensures cause { CountsFailure result (faults self.old) (faults self.new) };
 
     /// Writes bytes from `at` on, over what is there and past its end. One that would begin past the end is a failure that
-    /// changes nothing; any other failure may leave it half written. Until a sync, a crash may leave any bytes there.
+    /// changes nothing; any other failure may leave it half written. Until a sync, a crash may leave any bytes there, and also
+    /// what it might have left before.
     fn write_at(&mut self, at: usize, bytes: &[u8]) -> Result<(), DeviceFault>
         ensures written { IsTrue is_modelled → OnOk result (IsWritten (seen self.old) at bytes.now (seen self.new)) }
         ensures seen { IsTrue is_modelled → Torn at (length bytes.now) (seen self.old) (seen self.new) }
         ensures past { IsTrue is_modelled → length (seen self.old) < at → IsErr result × (seen self.new ≡ seen self.old) }
         ensures crash { IsTrue is_modelled → Follows (Torn at (length bytes.now)) (may_leave self.old) (may_leave self.new) }
+        ensures left { IsTrue is_modelled → (c : List ℕ) → may_leave self.old c → may_leave self.new c }
         ensures torn { IsTrue is_modelled → OnOk result ((c d : List ℕ) → may_leave self.old d → Torn at (length bytes.now) d c → may_leave self.new c) }
         ensures past_crash { IsTrue is_modelled → length (seen self.old) < at → (c : List ℕ) → may_leave self.new c ↔ may_leave self.old c }
         ensures time { IsTrue is_modelled → Elapses (moment self.old) (moment self.new) (left_since self.old) (left_since self.new) (may_leave self.new) }
+        ensures reason { OnErr result (may_fail self.old (WriteAt at (length bytes.now))) }
         ensures cause { CountsFailure result (faults self.old) (faults self.new) };
 
     /// Cuts it to its first `size` bytes; where it has no more, it stays. A failure may leave more of them, and so may a crash
-    /// until a sync, with any bytes past `size`.
+    /// until a sync, with any bytes past `size`, or what it might have left before.
     fn cut(&mut self, size: usize) -> Result<(), DeviceFault>
         ensures cut { IsTrue is_modelled → OnOk result (seen self.new ≡ take size (seen self.old)) }
         ensures seen { IsTrue is_modelled → Cut size (seen self.old) (seen self.new) }
         ensures crash { IsTrue is_modelled → Follows (Cut size) (may_leave self.old) (may_leave self.new) }
+        ensures left { IsTrue is_modelled → (c : List ℕ) → may_leave self.old c → may_leave self.new c }
         ensures torn { IsTrue is_modelled → OnOk result ((c d : List ℕ) → may_leave self.old d → Cut size d c → may_leave self.new c) }
         ensures time { IsTrue is_modelled → Elapses (moment self.old) (moment self.new) (left_since self.old) (left_since self.new) (may_leave self.new) }
+        ensures reason { OnErr result (may_fail self.old (CutTo size)) }
         ensures cause { CountsFailure result (faults self.old) (faults self.new) };
 
-    /// After it, a crash leaves what a read gives. After a failure a crash leaves at most what it might have left before.
+    /// After it, a crash leaves what a read gives. After a failure a crash leaves what it might have left before, each image of
+    /// it and no other.
     fn sync(&mut self) -> Result<(), DeviceFault>
         ensures durable { IsTrue is_modelled → OnOk result (Only (seen self.old) (may_leave self.new)) }
         ensures seen { IsTrue is_modelled → seen self.new ≡ seen self.old }
         ensures crash { IsTrue is_modelled → (c : List ℕ) → may_leave self.new c → may_leave self.old c }
+        ensures failed { IsTrue is_modelled → OnErr result ((c : List ℕ) → may_leave self.old c → may_leave self.new c) }
         ensures time { IsTrue is_modelled → Elapses (moment self.old) (moment self.new) (left_since self.old) (left_since self.new) (may_leave self.new) }
+        ensures reason { OnErr result (may_fail self.old Sync) }
         ensures cause { CountsFailure result (faults self.old) (faults self.new) };
 
     /// The disk as it reads is one of those images.

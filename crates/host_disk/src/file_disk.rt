@@ -1,5 +1,5 @@
 //! A file as a disk.
-ghost use Rattle.std.specs.Prelude.{◌≡◌, [], IfOk, false};
+ghost use Rattle.std.specs.Prelude.{◌≡◌, [], IfOk, ⊤, false};
 ghost use Rattle.std.proofs.lemmas.Bool.{false≢true};
 
 use crate::counts::counted;
@@ -105,6 +105,8 @@ impl Disk for FileDisk {
     ghost left_since = { λ _ _ _. ⊥ };
 
     ghost faults = { λ disk. disk.failures };
+
+    ghost may_fail = { λ _ _. ⊤ };
 
     ghost may_stay = { λ _ no_model. absurd (false≢true no_model) };
 

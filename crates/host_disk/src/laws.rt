@@ -1,6 +1,7 @@
 //! Laws of disks, each the contract of a function that does nothing.
-ghost use Rattle.std.specs.Prelude.{◌≡◌, ◌↔◌, ℕ, ◌≤◌, List, [], ◌∷◌, Err, IsTrue, Ok, ⊤, length};
-ghost use Rattle.host_disk.specs.Contents.{IsBetween, IsImage, Kept, after_cut, after_sync, after_write};
+ghost use Rattle.std.specs.Prelude.{◌≡◌, ◌↔◌, ℕ, ◌+◌, ◌≤◌, List, [], ◌∷◌, Err, IsTrue, Ok, ⊤, length};
+ghost use Rattle.host_disk.specs.Calls.{CutTo, GetLen, ReadAt, Sync};
+ghost use Rattle.host_disk.specs.Contents.{IsBetween, IsImage, Kept, MayFail, after_cut, after_sync, after_write};
 ghost use Rattle.host_disk.specs.Crashes.{CountsFailure, Cut, Elapses, Follows, IsRead, IsWritten, LeavesOnly, Only, Torn};
 
 use crate::disks::Disk;
@@ -11,6 +12,14 @@ pub fn a_disk_in_memory_leaves_all_that_a_crash_may()
     ensures write { (file : Kept) (at : ℕ) (bytes : List ℕ) → IsBetween file → at ≤ length file.bytes → (c : List ℕ) → IsImage (after_write file at bytes) c ↔ ((d : List ℕ) × IsImage file d × Torn at (length bytes) d c) }
     ensures cut { (file : Kept) (size : ℕ) → IsBetween file → (c : List ℕ) → IsImage (after_cut file size) c ↔ ((d : List ℕ) × IsImage file d × Cut size d c) }
     ensures sync { (file : Kept) (c : List ℕ) → IsImage (after_sync file) c ↔ (c ≡ file.bytes) }
+{}
+
+/// A disk in memory that has a file fails neither to tell its length, nor to cut or sync it, nor to read bytes that are all there.
+pub fn a_disk_in_memory_fails_only_reads_past_its_end_and_writes()
+    ensures len { (file : Kept) → ¬ (MayFail file GetLen) }
+    ensures read { (file : Kept) (at n : ℕ) → at + n ≤ length file.bytes → ¬ (MayFail file (ReadAt at n)) }
+    ensures cut { (file : Kept) (size : ℕ) → ¬ (MayFail file (CutTo size)) }
+    ensures sync { (file : Kept) → ¬ (MayFail file Sync) }
 {}
 
 /// Of these relations each is refuted of one wrong answer, so none of them holds of everything.

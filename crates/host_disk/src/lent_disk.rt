@@ -32,6 +32,8 @@ impl<D: Disk> Disk for LentDisk<'_, D> {
 
     ghost faults = { λ lent. D.faults lent.disk.now };
 
+    ghost may_fail = { λ lent. D.may_fail lent.disk.now };
+
     ghost may_stay = { λ lent. D.may_stay lent.disk.now };
 
     ghost counts_now = { λ lent. D.counts_now lent.disk.now };

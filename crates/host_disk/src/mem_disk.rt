@@ -1,7 +1,7 @@
 //! A disk in memory, which may crash as any disk may.
 ghost use Rattle.std.specs.Prelude.{◌≡◌, [], IfOk, true};
 ghost use Rattle.std.proofs.Common.{inl};
-ghost use Rattle.host_disk.specs.Contents.{IsBetween, IsImage, empty_file};
+ghost use Rattle.host_disk.specs.Contents.{IsBetween, IsImage, MayFail, empty_file};
 ghost use Rattle.host_disk.specs.Crashes.{Only};
 ghost use Rattle.host_disk.specs.Pasts.{IsAfter, LeftSince, age, only_now, stays};
 
@@ -60,6 +60,8 @@ impl Disk for MemDisk {
     ghost left_since = { λ disk. LeftSince disk.past disk.content };
 
     ghost faults = { λ disk. disk.failures };
+
+    ghost may_fail = { λ disk. MayFail disk.content };
 
     ghost may_stay = { λ disk _. stays disk.content disk.between };
 
