@@ -1,7 +1,7 @@
 -- What a file holds decides how it is opened.
 use Rattle.std.proofs.Common.{◌≡◌, ◌≢◌, ◌⊎◌, ℕ, ◌+◌, ◌≤◌, suc, List, [], ◌∷◌, ◌++◌, length, drop, inl, inr, sym, ◌∙◌, ap, arith, All}
 use Rattle.change_journal.specs.Frames.{framed, header, records, opened, Holds, shut, half_open, new, before, between, after}
-use Rattle.change_journal.specs.Walks.{AreLawful, HasEnded, IsBadRecord, IsNoRecord, IsShort}
+use Rattle.change_journal.specs.Walks.{AreLawful, HasEnded, HasRecord, IsBadRecord, IsNoRecord, IsShort}
 use Rattle.change_journal.specs.Openings.{IsFound, IsNoJournal, IsRefused, MayFind}
 use Rattle.change_journal.proofs.NotWhole.{same_frame}
 use Rattle.change_journal.proofs.OneWalk.{first_record, no_record, opened_with, same_head, one_journal, new_or_opened}
@@ -31,11 +31,22 @@ begins : (bodies : List (List ℕ)) (gate : ℕ) (rest : List ℕ) → (g : ℕ)
 begins [] gate rest = (gate, rest, no_record (gate ∷ rest))
 begins (b ∷ bodies) gate rest = (1, framed b ++ (records bodies ++ gate ∷ rest), first_record b bodies (gate ∷ rest))
 
-opens_so : (bodies : List (List ℕ)) (gate : ℕ) (rest file : List ℕ) → file ≡ opened bodies ++ gate ∷ rest → (g : ℕ) × (r : List ℕ) × (file ≡ opened [] ++ g ∷ r)
+pub opens_so : (bodies : List (List ℕ)) (gate : ℕ) (rest file : List ℕ) → file ≡ opened bodies ++ gate ∷ rest → (g : ℕ) × (r : List ℕ) × (file ≡ opened [] ++ g ∷ r)
 opens_so bodies gate rest file is =
     let first = begins bodies gate rest in
     let bare : opened [] ++ first.0 ∷ first.1 ≡ 1 ∷ (header ++ first.0 ∷ first.1) = opened_with [] (first.0 ∷ first.1) ∙ ap (λ (l : List ℕ). 1 ∷ (header ++ l)) (no_record (first.0 ∷ first.1)) in
     (first.0, first.1, is ∙ opened_with bodies (gate ∷ rest) ∙ ap (λ (l : List ℕ). 1 ∷ (header ++ l)) first.2 ∙ sym bare)
+
+-- behind whichever bodies a gate is open, the first one is
+pub opens_record : (bodies : List (List ℕ)) (rest file : List ℕ) → file ≡ opened bodies ++ 1 ∷ rest → HasRecord file
+opens_record [] rest file is = record { rest = rest; is = is }
+opens_record (b ∷ bodies) rest file is =
+    let behind = framed b ++ (records bodies ++ 1 ∷ rest) in
+    let bare : opened [] ++ 1 ∷ behind ≡ 1 ∷ (header ++ 1 ∷ behind) = opened_with [] (1 ∷ behind) ∙ ap (λ (l : List ℕ). 1 ∷ (header ++ l)) (no_record (1 ∷ behind)) in
+    record {
+      rest = behind;
+      is = is ∙ opened_with (b ∷ bodies) (1 ∷ rest) ∙ ap (λ (l : List ℕ). 1 ∷ (header ++ l)) (first_record b bodies (1 ∷ rest)) ∙ sym bare;
+    }
 
 -- a file that holds something is a journal's
 pub holds_no_other : (bodies : List (List ℕ)) (file : List ℕ) → IsNoJournal file → Holds bodies file → ⊥

@@ -1,5 +1,6 @@
 -- What the opening of a file leaves of a journal.
-use Rattle.std.proofs.Common.{arith, ◌≡◌, ◌⊎◌, ℕ, ◌≤◌, Bool, List, [], ◌∷◌, ◌++◌, length, IsTrue, inl, inr, refl, sym, ◌∙◌, ap, subst, All}
+use Rattle.std.proofs.Common.{arith, ◌≡◌, ◌⊎◌, ℕ, ◌≤◌, Bool, List, [], ◌∷◌, ◌++◌, length, IsTrue, false, inl, inr, refl, sym, ◌∙◌, ap, subst, All}
+use Rattle.std.proofs.lemmas.Bool.{false≢true}
 use Rattle.host_disk.specs.Crashes.{LeavesOnly}
 use Rattle.change_undo.specs.declared.entries.Entry.{Entry}
 use Rattle.change_journal.specs.declared.faults.OpenFault.{OpenFault}
@@ -11,9 +12,9 @@ use Rattle.change_journal.specs.Held.{IsSound}
 use Rattle.change_journal.specs.Openings.{HasOpened, IsFound, IsNoJournal, IsRefused, MayBePut, MayFind}
 use Rattle.change_journal.specs.Spells.{IsWritable, entry_text}
 use Rattle.change_journal.specs.Texts.{HoldsEntries, IsText, MayHoldNext, texts}
-use Rattle.change_journal.specs.Walks.{HasCounted, IsBadRecord}
+use Rattle.change_journal.specs.Walks.{HasCounted, HasRecord, IsBadRecord}
 use Rattle.change_journal.proofs.Entrywise.{found_entries, held_no_bad, held_no_other, length-texts, may_be_put}
-use Rattle.change_journal.proofs.OneAnswer.{found_no_refusal}
+use Rattle.change_journal.proofs.OneAnswer.{found_no_refusal, opens_so}
 use Rattle.change_journal.proofs.Steps.{weaker}
 
 -- the bodies that were handed on are the texts of these entries
@@ -24,9 +25,9 @@ pub none_taken : (log : List Entry) → log ≡ [] → AreOf log []
 none_taken [] none = (refl, λ k d low. absurd (omega (arith, low)))
 none_taken (e ∷ log) none = absurd (omega (arith, ap length none))
 
-pub opened_sound : {D : Type 0} (modelled : Bool) (may_leave : D → List ℕ → Type 0) (file : Records D) (disk : D) (place : Place) (held log : List Entry) (old seen : List ℕ) → held ≡ log → file.disk ≡ disk → file.place ≡ place
+pub opened_sound : {D : Type 0} (modelled : Bool) (may_leave : D → List ℕ → Type 0) (file : Records D) (disk : D) (place : Place) (held log : List Entry) (old seen : List ℕ) → held ≡ log → file.disk ≡ disk → file.place ≡ place → file.broken ≡ false
     → HasCounted (AreOf log) place.count → (IsTrue modelled → HasOpened (AreOf log) IsText place.gate place.count old seen (may_leave disk)) → IsSound modelled may_leave file held
-opened_sound {D} modelled may_leave file disk place held log old seen held_is disk_is place_is counted has = record {
+opened_sound {D} modelled may_leave file disk place held log old seen held_is disk_is place_is whole_is counted has = record {
   writable = subst (All IsWritable) (sym held_is) counted.has.1;
   count = ap (λ (p : Place). p.count) place_is ∙ counted.count_is ∙ ap length counted.has.0 ∙ length-texts log ∙ ap length (sym held_is);
   settled = λ is_modelled whole.
@@ -40,6 +41,7 @@ opened_sound {D} modelled may_leave file disk place held log old seen held_is di
           is = o.exactly.only c (subst (λ (d : D). may_leave d c) disk_is left) ∙ ap (λ (bs : List (List ℕ)). opened bs ++ 0 ∷ []) bodies_are;
         };
       };
+  torn = λ is_modelled broken. absurd (false≢true (sym whole_is ∙ broken));
 }
 
 module _ (Images : List ℕ → Type 0) (log : List Entry) (gate count : ℕ) (old seen : List ℕ) (o : HasOpened (AreOf log) IsText gate count old seen Images) where
@@ -59,6 +61,17 @@ stops_only BadHeader had file few held header bad = absurd (held_no_other had fi
 stops_only (BadRecord i) had file few held header bad = absurd (held_no_bad had i file few held (bad i refl))
 stops_only Device had file few held header bad = inl refl
 stops_only OutOfMemory had file few held header bad = inr refl
+
+-- a file that is no journal has no record that may lack memory
+pub judged : (fault : OpenFault) (file : List ℕ) → IsNoJournal file → (fault ≡ OutOfMemory → HasRecord file) → ((i : ℕ) → fault ≡ BadRecord i → IsBadRecord IsText i file)
+    → (fault ≡ BadHeader) ⊎ (fault ≡ Device)
+judged BadHeader file none memory bad = inl refl
+judged (BadRecord i) file none memory bad =
+    let breaks = (bad i refl).breaks in
+    let so = opens_so (bad i refl).bodies 1 breaks.rest file breaks.is in
+    absurd (none.not_opened so.0 so.1 so.2)
+judged Device file none memory bad = inr refl
+judged OutOfMemory file none memory bad = absurd (none.not_opened 1 (memory refl).rest (memory refl).is)
 
 module _ {D : Type 0} (moment : D → ℕ) (left_since : D → ℕ → List ℕ → Type 0) (may_leave : D → List ℕ → Type 0) (old new : D) (seen : List ℕ) (had : List Entry) (next : Entry) where
   -- what is left while the file of such entries is opened

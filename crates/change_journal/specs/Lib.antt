@@ -8,3 +8,4 @@ pub mod Ahead
 pub mod Openings
 pub mod Texts
 pub mod Held
+pub mod Failures

@@ -40,3 +40,8 @@ AllStored images log = (c : List ℕ) → images c → IsStored log c
 pub record MayHoldNext (log : Log) (entry : Entry) (file : List ℕ) : Type 0 where
   pub writable : All IsWritable (own_entries (with_entry log entry))
   pub left : MayFind (texts log) (entry_text entry) file
+
+-- what a put that the device failed may have left: there is one entry more, and whatever a crash leaves is what a stop may leave while it is put
+pub record MayHoldMore (images : List ℕ → Type 0) (log : Log) : Type 0 where
+  pub next : Entry
+  pub left : (c : List ℕ) → images c → MayHoldNext log next c

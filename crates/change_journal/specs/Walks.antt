@@ -28,6 +28,11 @@ pub record IsOpened (file : List ℕ) : Type 0 where
   pub rest : List ℕ
   pub is : file ≡ opened [] ++ rest
 
+-- such a file, with an open gate behind its header: it has a record there, or is bad
+pub record HasRecord (file : List ℕ) : Type 0 where
+  pub rest : List ℕ
+  pub is : file ≡ opened [] ++ 1 ∷ rest
+
 -- These bytes begin with no whole record: its length, its body or the gate of the next one isn't there, or it is too long.
 abbrev pub IsNotWhole : List ℕ → Type 0
 IsNotWhole bytes = (body : List ℕ) (gate : ℕ) (rest : List ℕ) → bytes ≡ framed body ++ gate ∷ rest → IsShort body → ⊥

@@ -6,12 +6,13 @@ ghost use Rattle.change_undo.specs.Logs.{last_number, own_entries, with_entry};
 ghost use Rattle.change_undo.specs.declared.entries.Entry as entries;
 ghost use Rattle.change_journal.specs.declared.faults.OpenFault.TheVariants.{BadHeader, BadRecord, Device, OutOfMemory};
 ghost use Rattle.change_journal.specs.declared.records.PutFault.TheVariants as put_fault;
+ghost use Rattle.change_journal.specs.Failures.{MayFailReading};
 ghost use Rattle.change_journal.specs.Frames.{opened};
 ghost use Rattle.change_journal.specs.Openings.{IsExactly, IsFound, IsNoJournal, IsRefused};
 ghost use Rattle.change_journal.specs.Spells.{IsWritable};
-ghost use Rattle.change_journal.specs.Texts.{AllStored, HoldsEntries, IsText, MayHoldNext, texts};
+ghost use Rattle.change_journal.specs.Texts.{AllStored, HoldsEntries, IsText, MayHoldMore, MayHoldNext, texts};
 ghost use Rattle.change_journal.specs.Settled.{TellsBreak};
-ghost use Rattle.change_journal.specs.Walks.{IsBadRecord, IsOnlyRead, TellsStop};
+ghost use Rattle.change_journal.specs.Walks.{HasRecord, IsBadRecord, IsOnlyRead, TellsStop};
 
 use crate::collecting::Collected;
 use crate::faults::OpenFault;
@@ -68,6 +69,9 @@ impl<D: Disk> Journal<D> {
         ensures refused { IsTrue D.is_modelled → IsRefused IsText (D.seen disk) → MatchResult result (λ _. ⊥) (λ stop. IsOnlyRead D.seen D.may_leave D.moment D.left_since disk stop.disk) }
         ensures kept { IsTrue D.is_modelled → (had : Logs.Log) → last_number had ≤ 1000000 → HoldsEntries had (D.seen disk) → MatchResult result (λ answer. answer.1 ≡ had) (λ stop. (stop.fault ≡ Device) ⊎ (stop.fault ≡ OutOfMemory)) }
         ensures any_moment { IsTrue D.is_modelled → (had : Logs.Log) (next : entries.Entry) → ((c : List ℕ) → D.may_leave disk c → MayHoldNext had next c) → MatchResult result (λ answer. LeavesOnly D.moment D.left_since disk answer.0.disk (MayHoldNext had next)) (λ stop. LeavesOnly D.moment D.left_since disk stop.disk (MayHoldNext had next)) }
+        ensures memory { IsTrue D.is_modelled → IfErr result (λ stop. stop.fault ≡ OutOfMemory → HasRecord (D.seen disk)) }
+        ensures no_journal { IsTrue D.is_modelled → IsNoJournal (D.seen disk) → MatchResult result (λ _. ⊥) (λ stop. (stop.fault ≡ BadHeader) ⊎ (stop.fault ≡ Device)) }
+        ensures reason { IsTrue D.is_modelled → IsRefused IsText (D.seen disk) → IfErr result (λ stop. stop.fault ≡ Device → MayFailReading D.seen D.may_fail (D.seen disk)) }
         ensures cause { MatchResult result (λ answer. D.faults answer.0.disk ≡ D.faults disk) (λ stop. TellsStop stop.fault (D.faults disk) (D.faults stop.disk)) }
     {
         let mut collected = Collected::new(alloc);
@@ -97,6 +101,7 @@ impl<D: Disk> Journal<D> {
         ensures value { result ≡ self.now.broken }
         ensures writable { All IsWritable (own_entries self.now.entries) }
         ensures stored { IsTrue D.is_modelled → result ≡ false → AllStored (D.may_leave self.now.disk) self.now.entries }
+        ensures torn { IsTrue D.is_modelled → result ≡ true → MayHoldMore (D.may_leave self.now.disk) self.now.entries }
     {
         self.records.is_broken()
     }

@@ -4,13 +4,15 @@ ghost use Rattle.host_names.specs.declared.names.SiteName.{SiteName};
 ghost use Rattle.change_undo.specs.Logs.{Log, empty_log, last_number, own_entries, with_entry};
 ghost use Rattle.change_undo.specs.declared.entries.Entry.{Entry};
 ghost use Rattle.change_undo.specs.declared.entries.Entry.TheVariants.{Undo};
+ghost use Rattle.host_disk.specs.Calls.{ReadAt};
 ghost use Rattle.host_disk.specs.Crashes.{Torn};
+ghost use Rattle.change_journal.specs.Failures.{MayFailReading, ReadsWithin};
 ghost use Rattle.change_journal.specs.Frames.{framed, opened};
 ghost use Rattle.change_journal.specs.Openings.{IsExactly, IsFound, IsNoJournal};
 ghost use Rattle.change_journal.specs.Settled.{TellsBreak};
 ghost use Rattle.change_journal.specs.Spells.{BeginsWithListing, BeginsWithPath, IsInRange, IsWritable, Spells, TakesMemory, entry_text};
-ghost use Rattle.change_journal.specs.Texts.{AllStored, HoldsEntries, IsText, MayHoldNext, texts};
-ghost use Rattle.change_journal.specs.Walks.{IsBadRecord, IsNoRecord, IsOnlyRead, TellsStop};
+ghost use Rattle.change_journal.specs.Texts.{AllStored, HoldsEntries, IsText, MayHoldMore, MayHoldNext, texts};
+ghost use Rattle.change_journal.specs.Walks.{HasRecord, IsBadRecord, IsNoRecord, IsOnlyRead, TellsStop};
 ghost use Rattle.change_journal.specs.declared.faults.OpenFault.TheVariants as open_fault;
 ghost use Rattle.change_journal.specs.declared.records.PutFault.TheVariants as put_fault;
 
@@ -81,6 +83,10 @@ pub fn wrong_answers_are_refused<D: Disk>()
     ensures path { ¬ (BeginsWithPath []) }
     ensures listing { ¬ (BeginsWithListing []) }
     ensures all_stored { ¬ (AllStored (λ c. ⊤) empty_log) }
+    ensures more { ¬ (MayHoldMore (λ c. ⊤) empty_log) }
+    ensures no_gate { ¬ (HasRecord []) }
+    ensures past_the_end { (file : List ℕ) → ¬ (ReadsWithin file (ReadAt 0 (length file + 1))) }
+    ensures never_fails { (file : List ℕ) → ¬ (MayFailReading D.seen (λ disk call. ⊥) file) }
     ensures bad_record { (file : List ℕ) → ¬ (IsBadRecord IsText 0 file) }
     ensures kept { (log : Log) (n : ℕ) (file : List ℕ) → HoldsEntries log file → last_number log ≤ 1000000 → ¬ (IsBadRecord IsText n file) }
     ensures no_record { (rest : List ℕ) → ¬ (IsNoRecord (λ body. ⊤) (framed [] ++ 0 ∷ rest)) }

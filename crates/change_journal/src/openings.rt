@@ -1,11 +1,12 @@
 //! The opening of a journal's file.
-ghost use Rattle.std.specs.Prelude.{◌≡◌, ◌<◌, IfErr, IfOk, IsErrOf, IsTrue, List, OnOk, [], ◌∷◌, ◌++◌, length, ℕ};
+ghost use Rattle.std.specs.Prelude.{◌≡◌, ◌<◌, IfErr, IfOk, IsErrOf, IsTrue, List, OnErr, OnOk, [], ◌∷◌, ◌++◌, length, ℕ};
 ghost use Rattle.host_disk.specs.Crashes.{CountsFailure, LeavesOnly, Only};
-ghost use Rattle.change_journal.specs.declared.faults.OpenFault.TheVariants.{BadHeader, BadRecord, Device};
+ghost use Rattle.change_journal.specs.declared.faults.OpenFault.TheVariants.{BadHeader, BadRecord, Device, OutOfMemory};
 ghost use Rattle.change_journal.specs.declared.starts.Start.TheVariants.{Opened};
+ghost use Rattle.change_journal.specs.Failures.{MayFailReading};
 ghost use Rattle.change_journal.specs.Frames.{IsNew, opened};
 ghost use Rattle.change_journal.specs.Openings.{HasOpened, IsExactly, IsNoJournal, IsRefused, IsStart, IsStarting, MayBePut, MayFind};
-ghost use Rattle.change_journal.specs.Walks.{HasCounted, IsBadRecord, IsOnlyRead, IsOpened, TellsDevice};
+ghost use Rattle.change_journal.specs.Walks.{HasCounted, HasRecord, IsBadRecord, IsOnlyRead, IsOpened, TellsDevice};
 
 use crate::bodies::Bodies;
 use crate::faults::OpenFault;
@@ -32,6 +33,8 @@ fn open_records<D: Disk, B: Bodies>(
     ensures refused { IsTrue D.is_modelled → size ≡ length (D.seen disk.old) → IsOpened (D.seen disk.old) → B.has bodies.old [] → IsRefused B.is_lawful (D.seen disk.old) → IsOnlyRead D.seen D.may_leave D.moment D.left_since disk.old disk.new }
     ensures header { IsErrOf result BadHeader → ⊥ }
     ensures any_moment { IsTrue D.is_modelled → size ≡ length (D.seen disk.old) → IsOpened (D.seen disk.old) → Only (D.seen disk.old) (D.may_leave disk.old) → B.has bodies.old [] → (had : List (List ℕ)) (body : List ℕ) → MayBePut B.is_lawful had body → MayFind had body (D.seen disk.old) → LeavesOnly D.moment D.left_since disk.old disk.new (MayFind had body) }
+    ensures memory { IsTrue D.is_modelled → IsOpened (D.seen disk.old) → B.has bodies.old [] → IsErrOf result OutOfMemory → HasRecord (D.seen disk.old) }
+    ensures reason { IsTrue D.is_modelled → size ≡ length (D.seen disk.old) → IsOpened (D.seen disk.old) → B.has bodies.old [] → IsRefused B.is_lawful (D.seen disk.old) → IsErrOf result Device → MayFailReading D.seen D.may_fail (D.seen disk.old) }
     ensures cause { TellsDevice result (D.faults disk.old) (D.faults disk.new) }
 {
     let end = walk_records(alloc, disk, size, bodies)?;
@@ -67,6 +70,8 @@ fn open_started<D: Disk, B: Bodies>(
     ensures refused { IsTrue D.is_modelled → size ≡ length (D.seen disk.old) → IsStart start (D.seen disk.old) → B.has bodies.old [] → IsRefused B.is_lawful (D.seen disk.old) → IsOnlyRead D.seen D.may_leave D.moment D.left_since disk.old disk.new }
     ensures header { IsErrOf result BadHeader → ⊥ }
     ensures any_moment { IsTrue D.is_modelled → size ≡ length (D.seen disk.old) → IsStart start (D.seen disk.old) → Only (D.seen disk.old) (D.may_leave disk.old) → B.has bodies.old [] → (had : List (List ℕ)) (body : List ℕ) → MayBePut B.is_lawful had body → MayFind had body (D.seen disk.old) → LeavesOnly D.moment D.left_since disk.old disk.new (MayFind had body) }
+    ensures memory { IsTrue D.is_modelled → IsStart start (D.seen disk.old) → B.has bodies.old [] → IsErrOf result OutOfMemory → HasRecord (D.seen disk.old) }
+    ensures reason { IsTrue D.is_modelled → size ≡ length (D.seen disk.old) → IsStart start (D.seen disk.old) → B.has bodies.old [] → IsRefused B.is_lawful (D.seen disk.old) → IsErrOf result Device → MayFailReading D.seen D.may_fail (D.seen disk.old) }
     ensures cause { TellsDevice result (D.faults disk.old) (D.faults disk.new) }
 {
     match start {
@@ -80,6 +85,7 @@ fn measure<D: Disk>(disk: &mut D) -> Result<usize, DeviceFault>
     ensures size { IsTrue D.is_modelled → IfOk result (λ size. size ≡ length (D.seen disk.old)) }
     ensures durable { IsTrue D.is_modelled → OnOk result (Only (D.seen disk.new) (D.may_leave disk.new)) }
     ensures same { IsTrue D.is_modelled → IsOnlyRead D.seen D.may_leave D.moment D.left_since disk.old disk.new }
+    ensures reason { IsTrue D.is_modelled → OnErr result (MayFailReading D.seen D.may_fail (D.seen disk.old)) }
     ensures cause { CountsFailure result (D.faults disk.old) (D.faults disk.new) }
 {
     disk.sync()?;
@@ -100,6 +106,8 @@ fn open_measured<D: Disk, B: Bodies>(
     ensures unwritten { IsTrue D.is_modelled → IfErr result (λ fault. (fault ≡ Device → ⊥) → IsOnlyRead D.seen D.may_leave D.moment D.left_since disk.old disk.new) }
     ensures refused { IsTrue D.is_modelled → size ≡ length (D.seen disk.old) → B.has bodies.old [] → IsRefused B.is_lawful (D.seen disk.old) → IsOnlyRead D.seen D.may_leave D.moment D.left_since disk.old disk.new }
     ensures any_moment { IsTrue D.is_modelled → size ≡ length (D.seen disk.old) → Only (D.seen disk.old) (D.may_leave disk.old) → B.has bodies.old [] → (had : List (List ℕ)) (body : List ℕ) → MayBePut B.is_lawful had body → MayFind had body (D.seen disk.old) → LeavesOnly D.moment D.left_since disk.old disk.new (MayFind had body) }
+    ensures memory { IsTrue D.is_modelled → size ≡ length (D.seen disk.old) → B.has bodies.old [] → IsErrOf result OutOfMemory → HasRecord (D.seen disk.old) }
+    ensures reason { IsTrue D.is_modelled → size ≡ length (D.seen disk.old) → B.has bodies.old [] → IsRefused B.is_lawful (D.seen disk.old) → IsErrOf result Device → MayFailReading D.seen D.may_fail (D.seen disk.old) }
     ensures cause { TellsDevice result (D.faults disk.old) (D.faults disk.new) }
 {
     let start = look(disk, size)?;
@@ -120,6 +128,8 @@ pub(crate) fn open_file<D: Disk, B: Bodies>(
     ensures unwritten { IsTrue D.is_modelled → IfErr result (λ fault. (fault ≡ Device → ⊥) → IsOnlyRead D.seen D.may_leave D.moment D.left_since disk.old disk.new) }
     ensures refused { IsTrue D.is_modelled → B.has bodies.old [] → IsRefused B.is_lawful (D.seen disk.old) → IsOnlyRead D.seen D.may_leave D.moment D.left_since disk.old disk.new }
     ensures any_moment { IsTrue D.is_modelled → B.has bodies.old [] → (had : List (List ℕ)) (body : List ℕ) → MayBePut B.is_lawful had body → ((c : List ℕ) → D.may_leave disk.old c → MayFind had body c) → LeavesOnly D.moment D.left_since disk.old disk.new (MayFind had body) }
+    ensures memory { IsTrue D.is_modelled → B.has bodies.old [] → IsErrOf result OutOfMemory → HasRecord (D.seen disk.old) }
+    ensures reason { IsTrue D.is_modelled → B.has bodies.old [] → IsRefused B.is_lawful (D.seen disk.old) → IsErrOf result Device → MayFailReading D.seen D.may_fail (D.seen disk.old) }
     ensures cause { TellsDevice result (D.faults disk.old) (D.faults disk.new) }
 {
     let size = measure(disk)?;
@@ -139,6 +149,8 @@ pub(crate) fn open_ahead<D: Disk, B: Bodies>(
     ensures unwritten { IsTrue D.is_modelled → IfErr result.1 (λ fault. (fault ≡ Device → ⊥) → IsOnlyRead D.seen D.may_leave D.moment D.left_since disk result.0) }
     ensures refused { IsTrue D.is_modelled → B.has bodies.old [] → IsRefused B.is_lawful (D.seen disk) → IsOnlyRead D.seen D.may_leave D.moment D.left_since disk result.0 }
     ensures any_moment { IsTrue D.is_modelled → B.has bodies.old [] → (had : List (List ℕ)) (body : List ℕ) → MayBePut B.is_lawful had body → ((c : List ℕ) → D.may_leave disk c → MayFind had body c) → LeavesOnly D.moment D.left_since disk result.0 (MayFind had body) }
+    ensures memory { IsTrue D.is_modelled → B.has bodies.old [] → IsErrOf result.1 OutOfMemory → HasRecord (D.seen disk) }
+    ensures reason { IsTrue D.is_modelled → B.has bodies.old [] → IsRefused B.is_lawful (D.seen disk) → IsErrOf result.1 Device → MayFailReading D.seen D.may_fail (D.seen disk) }
     ensures cause { TellsDevice result.1 (D.faults disk) (D.faults result.0) }
 {
     let mut ahead = ReadAhead::new(alloc, disk);

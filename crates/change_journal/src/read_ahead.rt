@@ -1,7 +1,9 @@
 //! A disk whose bytes are read ahead.
-ghost use Rattle.std.specs.Prelude.{◌≡◌, ◌↔◌, ◌+◌, ◌≤◌, ℕ, IfSome, IsTrue, List, OnOk, drop, length, take};
+ghost use Rattle.std.specs.Prelude.{◌≡◌, ◌↔◌, ◌+◌, ◌≤◌, ℕ, IfSome, IsTrue, List, OnErr, OnOk, drop, length, take};
+ghost use Rattle.host_disk.specs.Calls.{ReadAt};
 ghost use Rattle.host_disk.specs.Crashes.{CountsFailure, Elapses, IsRead};
 ghost use Rattle.change_journal.specs.Ahead.{IsUnchanged};
+ghost use Rattle.change_journal.specs.Failures.{MayFailReading, ReadsWithin};
 
 use host_disk::{DeviceFault, Disk};
 use std::alloc::Global;
@@ -74,6 +76,7 @@ impl<D: Disk> ReadAhead<D> {
     /// Reads the bytes from a place on, as many as are there and find place.
     fn fill(&mut self, at: usize) -> Result<(), DeviceFault>
         ensures same { IsTrue D.is_modelled → IsUnchanged D.seen D.may_leave D.moment D.left_since self.old.disk self.new.disk }
+        ensures reason { IsTrue D.is_modelled → at ≤ length (D.seen self.old.disk) → OnErr result (MayFailReading D.seen D.may_fail (D.seen self.old.disk)) }
         ensures cause { CountsFailure result (D.faults self.old.disk) (D.faults self.new.disk) }
     {
         self.forget();
@@ -88,6 +91,7 @@ impl<D: Disk> ReadAhead<D> {
     /// Reads ahead from a place on, where so many bytes find place and were not read.
     fn read_on(&mut self, at: usize, len: usize) -> Result<(), DeviceFault>
         ensures same { IsTrue D.is_modelled → IsUnchanged D.seen D.may_leave D.moment D.left_since self.old.disk self.new.disk }
+        ensures reason { IsTrue D.is_modelled → at ≤ length (D.seen self.old.disk) → OnErr result (MayFailReading D.seen D.may_fail (D.seen self.old.disk)) }
         ensures cause { CountsFailure result (D.faults self.old.disk) (D.faults self.new.disk) }
     {
         if len < self.buffer.len() && self.held(at, len).is_none() {
@@ -117,6 +121,7 @@ fn read_front<D: Disk>(
     ensures seen { IsTrue D.is_modelled → D.seen disk.new ≡ D.seen disk.old }
     ensures crash { IsTrue D.is_modelled → (c : List ℕ) → D.may_leave disk.new c ↔ D.may_leave disk.old c }
     ensures time { IsTrue D.is_modelled → Elapses (D.moment disk.old) (D.moment disk.new) (D.left_since disk.old) (D.left_since disk.new) (D.may_leave disk.new) }
+    ensures reason { OnErr result (D.may_fail disk.old (ReadAt at len)) }
     ensures cause { CountsFailure result (D.faults disk.old) (D.faults disk.new) }
 {
     disk.read(at, &mut buffer[..len])
@@ -134,6 +139,7 @@ fn read_into<D: Disk>(
     ensures seen { IsTrue D.is_modelled → D.seen disk.new ≡ D.seen disk.old }
     ensures crash { IsTrue D.is_modelled → (c : List ℕ) → D.may_leave disk.new c ↔ D.may_leave disk.old c }
     ensures time { IsTrue D.is_modelled → Elapses (D.moment disk.old) (D.moment disk.new) (D.left_since disk.old) (D.left_since disk.new) (D.may_leave disk.new) }
+    ensures reason { OnErr result (D.may_fail disk.old (ReadAt at len)) }
     ensures cause { CountsFailure result (D.faults disk.old) (D.faults disk.new) }
 {
     read_front(disk, at, len, buffer)
@@ -158,6 +164,8 @@ impl<D: Disk> Disk for ReadAhead<D> {
     ghost left_since = { λ ahead. D.left_since ahead.disk };
 
     ghost faults = { λ ahead. D.faults ahead.disk };
+
+    ghost may_fail = { λ ahead call. IsTrue D.is_modelled → ReadsWithin (D.seen ahead.disk) call → MayFailReading D.seen D.may_fail (D.seen ahead.disk) };
 
     ghost may_stay = { λ ahead. D.may_stay ahead.disk };
 

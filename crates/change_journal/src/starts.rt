@@ -1,7 +1,8 @@
 //! The header of a journal's file.
-ghost use Rattle.std.specs.Prelude.{◌≡◌, ◌≢◌, ◌≤◌, ◌<◌, IfErr, IfOk, IsErrOf, IsTrue, List, OnOk, [], ◌∷◌, ◌++◌, drop, false, length, ℕ};
+ghost use Rattle.std.specs.Prelude.{◌≡◌, ◌≢◌, ◌≤◌, ◌<◌, IfErr, IfOk, IsErrOf, IsTrue, List, OnErr, OnOk, [], ◌∷◌, ◌++◌, drop, false, length, ℕ};
 ghost use Rattle.host_disk.specs.Crashes.{CountsFailure, LeavesOnly, Only};
-ghost use Rattle.change_journal.specs.declared.faults.OpenFault.TheVariants.{BadHeader, BadRecord};
+ghost use Rattle.change_journal.specs.declared.faults.OpenFault.TheVariants.{BadHeader, BadRecord, Device, OutOfMemory};
+ghost use Rattle.change_journal.specs.Failures.{MayFailReading};
 ghost use Rattle.change_journal.specs.Frames.{IsNew, header, opened};
 ghost use Rattle.change_journal.specs.declared.starts.Start.TheVariants.{Opened};
 ghost use Rattle.change_journal.specs.Openings.{IsExactly, IsNoJournal, IsStart, IsStarting};
@@ -34,6 +35,7 @@ fn has_header<D: Disk>(disk: &mut D) -> Result<bool, DeviceFault>
     ensures right { IsTrue D.is_modelled → IfOk result (λ right. IsTrue right → drop 1 (D.seen disk.old) ≡ header ++ drop 8 (D.seen disk.old)) }
     ensures wrong { IsTrue D.is_modelled → IfOk result (λ right. right ≡ false → (rest : List ℕ) → drop 1 (D.seen disk.old) ≡ header ++ rest → ⊥) }
     ensures same { IsTrue D.is_modelled → IsOnlyRead D.seen D.may_leave D.moment D.left_since disk.old disk.new }
+    ensures reason { IsTrue D.is_modelled → 8 ≤ length (D.seen disk.old) → OnErr result (MayFailReading D.seen D.may_fail (D.seen disk.old)) }
     ensures cause { CountsFailure result (D.faults disk.old) (D.faults disk.new) }
 {
     let mut text = [0; 7];
@@ -120,6 +122,8 @@ fn look_at_half<D: Disk>(disk: &mut D, size: usize) -> Result<Start, OpenFault>
     ensures room { IfOk result (λ start. start ≡ Opened → 8 < size) }
     ensures fault { IfErr result (λ fault. (i : ℕ) → fault ≡ BadRecord i → ⊥) }
     ensures same { IsTrue D.is_modelled → IsOnlyRead D.seen D.may_leave D.moment D.left_since disk.old disk.new }
+    ensures memory { IsErrOf result OutOfMemory → ⊥ }
+    ensures reason { IsTrue D.is_modelled → size ≡ length (D.seen disk.old) → IsErrOf result Device → MayFailReading D.seen D.may_fail (D.seen disk.old) }
     ensures cause { TellsDevice result (D.faults disk.old) (D.faults disk.new) }
 {
     let gate = read_gate(disk, 8)?;
@@ -137,6 +141,8 @@ fn look_behind<D: Disk>(disk: &mut D, size: usize, gate: u8) -> Result<Start, Op
     ensures room { IfOk result (λ start. start ≡ Opened → 8 < size) }
     ensures fault { IfErr result (λ fault. (i : ℕ) → fault ≡ BadRecord i → ⊥) }
     ensures same { IsTrue D.is_modelled → IsOnlyRead D.seen D.may_leave D.moment D.left_since disk.old disk.new }
+    ensures memory { IsErrOf result OutOfMemory → ⊥ }
+    ensures reason { IsTrue D.is_modelled → size ≡ length (D.seen disk.old) → IsErrOf result Device → MayFailReading D.seen D.may_fail (D.seen disk.old) }
     ensures cause { TellsDevice result (D.faults disk.old) (D.faults disk.new) }
 {
     if size < 9 {
@@ -158,6 +164,8 @@ pub(crate) fn look<D: Disk>(disk: &mut D, size: usize) -> Result<Start, OpenFaul
     ensures room { IfOk result (λ start. start ≡ Opened → 8 < size) }
     ensures fault { IfErr result (λ fault. (i : ℕ) → fault ≡ BadRecord i → ⊥) }
     ensures same { IsTrue D.is_modelled → IsOnlyRead D.seen D.may_leave D.moment D.left_since disk.old disk.new }
+    ensures memory { IsErrOf result OutOfMemory → ⊥ }
+    ensures reason { IsTrue D.is_modelled → size ≡ length (D.seen disk.old) → IsErrOf result Device → MayFailReading D.seen D.may_fail (D.seen disk.old) }
     ensures cause { TellsDevice result (D.faults disk.old) (D.faults disk.new) }
 {
     if size <= 1 {

@@ -1,10 +1,11 @@
 //! The walk from gate to gate.
-ghost use Rattle.std.specs.Prelude.{◌≡◌, ◌≢◌, ◌⊎◌, ◌+◌, ◌<◌, ◌≤◌, ◌^◌, IfErr, IfOk, IfSome, IsErrOf, IsNone, IsTrue, List, OnOk, [], ◌∷◌, ◌++◌, drop, length, ℕ};
+ghost use Rattle.std.specs.Prelude.{◌≡◌, ◌≢◌, ◌⊎◌, ◌+◌, ◌<◌, ◌≤◌, ◌^◌, IfErr, IfOk, IfSome, IsErrOf, IsNone, IsTrue, List, OnErr, OnOk, [], ◌∷◌, ◌++◌, drop, length, ℕ};
 ghost use Rattle.std.specs.Int.{to_be_bytes, w32};
 ghost use Rattle.host_disk.specs.Crashes.{CountsFailure};
-ghost use Rattle.change_journal.specs.declared.faults.OpenFault.TheVariants.{BadHeader, BadRecord, Device};
+ghost use Rattle.change_journal.specs.declared.faults.OpenFault.TheVariants.{BadHeader, BadRecord, Device, OutOfMemory};
+ghost use Rattle.change_journal.specs.Failures.{MayFailReading};
 ghost use Rattle.change_journal.specs.Frames.{framed, opened};
-ghost use Rattle.change_journal.specs.Walks.{IsOnlyRead, HasCounted, HasEnded, HasWalked, IsBadRecord, IsNoRecord, IsNotWhole, IsOpened, IsShort, TellsDevice};
+ghost use Rattle.change_journal.specs.Walks.{IsOnlyRead, HasCounted, HasEnded, HasRecord, HasWalked, IsBadRecord, IsNoRecord, IsNotWhole, IsOpened, IsShort, TellsDevice};
 
 use crate::bodies::{Bodies, BodyFault};
 use crate::faults::OpenFault;
@@ -16,6 +17,7 @@ use std::alloc::Global;
 pub(crate) fn read_gate<D: Disk>(disk: &mut D, at: usize) -> Result<u8, DeviceFault>
     ensures gate { IsTrue D.is_modelled → IfOk result (λ gate. drop at (D.seen disk.old) ≡ gate ∷ drop (at + 1) (D.seen disk.old)) }
     ensures same { IsTrue D.is_modelled → IsOnlyRead D.seen D.may_leave D.moment D.left_since disk.old disk.new }
+    ensures reason { IsTrue D.is_modelled → at < length (D.seen disk.old) → OnErr result (MayFailReading D.seen D.may_fail (D.seen disk.old)) }
     ensures cause { CountsFailure result (D.faults disk.old) (D.faults disk.new) }
 {
     let mut gate = [0];
@@ -37,6 +39,7 @@ fn read_length<D: Disk>(disk: &mut D, at: usize) -> Result<usize, DeviceFault>
     ensures length { IsTrue D.is_modelled → IfOk result (λ size. drop at (D.seen disk.old) ≡ to_be_bytes w32 size ++ drop (at + 4) (D.seen disk.old)) }
     ensures fits { IfOk result (λ size. size < 2 ^ 32) }
     ensures same { IsTrue D.is_modelled → IsOnlyRead D.seen D.may_leave D.moment D.left_since disk.old disk.new }
+    ensures reason { IsTrue D.is_modelled → at + 4 ≤ length (D.seen disk.old) → OnErr result (MayFailReading D.seen D.may_fail (D.seen disk.old)) }
     ensures cause { CountsFailure result (D.faults disk.old) (D.faults disk.new) }
 {
     let mut size = [0; 4];
@@ -56,6 +59,7 @@ fn read_body<D: Disk>(
     ensures fault { IfErr result (λ fault. (i : ℕ) → fault ≡ BadRecord i → ⊥) }
     ensures same { IsTrue D.is_modelled → IsOnlyRead D.seen D.may_leave D.moment D.left_since disk.old disk.new }
     ensures header { IsErrOf result BadHeader → ⊥ }
+    ensures reason { IsTrue D.is_modelled → at + size ≤ length (D.seen disk.old) → IsErrOf result Device → MayFailReading D.seen D.may_fail (D.seen disk.old) }
     ensures cause { TellsDevice result (D.faults disk.old) (D.faults disk.new) }
 {
     body.resize(size, 0)?;
@@ -73,6 +77,8 @@ fn record_length<D: Disk>(disk: &mut D, size: usize, place: Place) -> Result<usi
     ensures bad { IsTrue D.is_modelled → size ≡ length (D.seen disk.old) → IfErr result (λ fault. (i : ℕ) → fault ≡ BadRecord i → (i ≡ place.count + 1) × (IsNotWhole (drop (place.gate + 1) (D.seen disk.old)) ⊎ (1000000 ≤ place.count))) }
     ensures same { IsTrue D.is_modelled → IsOnlyRead D.seen D.may_leave D.moment D.left_since disk.old disk.new }
     ensures header { IsErrOf result BadHeader → ⊥ }
+    ensures memory { IsErrOf result OutOfMemory → ⊥ }
+    ensures reason { IsTrue D.is_modelled → size ≡ length (D.seen disk.old) → IsErrOf result Device → MayFailReading D.seen D.may_fail (D.seen disk.old) }
     ensures cause { TellsDevice result (D.faults disk.old) (D.faults disk.new) }
 {
     let behind = size - place.gate - 1;
@@ -101,6 +107,7 @@ fn read_record<D: Disk>(
     ensures bad { IsTrue D.is_modelled → size ≡ length (D.seen disk.old) → IfErr result (λ fault. (i : ℕ) → fault ≡ BadRecord i → (i ≡ place.count + 1) × (IsNotWhole (drop (place.gate + 1) (D.seen disk.old)) ⊎ (1000000 ≤ place.count))) }
     ensures same { IsTrue D.is_modelled → IsOnlyRead D.seen D.may_leave D.moment D.left_since disk.old disk.new }
     ensures header { IsErrOf result BadHeader → ⊥ }
+    ensures reason { IsTrue D.is_modelled → size ≡ length (D.seen disk.old) → IsErrOf result Device → MayFailReading D.seen D.may_fail (D.seen disk.old) }
     ensures cause { TellsDevice result (D.faults disk.old) (D.faults disk.new) }
 {
     let length = record_length(disk, size, place)?;
@@ -147,6 +154,8 @@ fn hand_on<D: Disk, B: Bodies>(
     ensures bad { IsTrue D.is_modelled → size ≡ length (D.seen disk.old) → IfErr result (λ fault. (i : ℕ) → fault ≡ BadRecord i → (i ≡ place.count + 1) × (drop place.gate (D.seen disk.old) ≡ 1 ∷ drop (place.gate + 1) (D.seen disk.old)) × (IsNoRecord B.is_lawful (drop (place.gate + 1) (D.seen disk.old)) ⊎ (1000000 ≤ place.count))) }
     ensures same { IsTrue D.is_modelled → IsOnlyRead D.seen D.may_leave D.moment D.left_since disk.old disk.new }
     ensures header { IsErrOf result BadHeader → ⊥ }
+    ensures memory { IsTrue D.is_modelled → IsErrOf result OutOfMemory → drop place.gate (D.seen disk.old) ≡ 1 ∷ drop (place.gate + 1) (D.seen disk.old) }
+    ensures reason { IsTrue D.is_modelled → size ≡ length (D.seen disk.old) → IsErrOf result Device → MayFailReading D.seen D.may_fail (D.seen disk.old) }
     ensures cause { TellsDevice result (D.faults disk.old) (D.faults disk.new) }
 {
     let gate = read_gate(disk, place.gate)?;
@@ -172,6 +181,8 @@ pub(crate) fn walk_records<D: Disk, B: Bodies>(
     ensures bad { IsTrue D.is_modelled → size ≡ length (D.seen disk.old) → IsOpened (D.seen disk.old) → B.has bodies.old [] → IfErr result (λ fault. (i : ℕ) → fault ≡ BadRecord i → IsBadRecord B.is_lawful i (D.seen disk.old)) }
     ensures same { IsTrue D.is_modelled → IsOnlyRead D.seen D.may_leave D.moment D.left_since disk.old disk.new }
     ensures header { IsErrOf result BadHeader → ⊥ }
+    ensures memory { IsTrue D.is_modelled → IsOpened (D.seen disk.old) → B.has bodies.old [] → IsErrOf result OutOfMemory → HasRecord (D.seen disk.old) }
+    ensures reason { IsTrue D.is_modelled → size ≡ length (D.seen disk.old) → IsErrOf result Device → MayFailReading D.seen D.may_fail (D.seen disk.old) }
     ensures cause { TellsDevice result (D.faults disk.old) (D.faults disk.new) }
 {
     let mut body = Vec::new(alloc);

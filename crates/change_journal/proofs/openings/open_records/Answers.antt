@@ -50,3 +50,7 @@ returns-in_err-mend-clause-refused g c modelled size opens has refused =
 pub returns-clause-refused : goal.returns-clause-refused
 returns-clause-refused g c modelled size opens has refused =
     absurd (ended_no_refusal _ _ _ _ _ _ (c.in_ok-end.ensures.end modelled size opens has) c.in_ok-end.end.place.few refused)
+
+pub returns-in_err-mend-clause-reason : goal.returns-in_err-mend-clause-reason
+returns-in_err-mend-clause-reason g c modelled size opens has refused told =
+    absurd (ended_no_refusal _ _ _ _ _ _ (c.in_ok-end.ensures.end modelled size opens has) c.in_ok-end.end.place.few refused)

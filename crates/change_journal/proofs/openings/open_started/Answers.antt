@@ -43,3 +43,8 @@ pub returns-in_default-clause-refused : goal.returns-in_default-clause-refused
 returns-in_default-clause-refused g c modelled size start has refused =
     let file = g.D.Disk.seen c.args.disk.now in
     absurd (found_no_refusal g.B.Bodies.is_lawful [] file (λ k d low. absurd (omega arith)) (omega arith) (inr (refl, new_start c.args.start file start c.in_default.not-Opened)) refused)
+
+pub returns-in_default-clause-reason : goal.returns-in_default-clause-reason
+returns-in_default-clause-reason g c modelled size start has refused told =
+    let file = g.D.Disk.seen c.args.disk.now in
+    absurd (found_no_refusal g.B.Bodies.is_lawful [] file (λ k d low. absurd (omega arith)) (omega arith) (inr (refl, new_start c.args.start file start c.in_default.not-Opened)) refused)

@@ -1,7 +1,8 @@
-use Rattle.std.proofs.Common.{rules, IsNone, ◌≡◌, ◌⊎◌, ◌+◌, ◌≤◌, [], ◌∷◌, ◌++◌, drop, length, length-append, refl, sym, ◌∙◌, ap, subst, arith}
-use Rattle.change_journal.specs.Frames.{framed}
+use Rattle.std.proofs.Common.{rules, Err, List, ℕ, IsNone, ◌≡◌, ◌⊎◌, ◌+◌, ◌≤◌, [], ◌∷◌, ◌++◌, drop, length, length-append, refl, sym, ◌∙◌, ap, subst, arith}
+use Rattle.change_journal.specs.Frames.{framed, opened}
 use Rattle.change_journal.specs.Walks.{HasCounted, HasWalked, IsNoRecord}
-use Rattle.change_journal.proofs.Steps.{same_fault}
+use Rattle.change_journal.proofs.OneAnswer.{opens_record}
+use Rattle.change_journal.proofs.Steps.{same_error, same_fault}
 use Rattle.change_journal.proofs.WalkSteps.{nothing_read, read_on, walk_starts, walk_goes, walk_breaks}
 use Rattle.change_journal.proofs.walks.walk_records.Goals as goal
 
@@ -23,6 +24,16 @@ returns-in_err-gate-clause-bad g c modelled size opens has =
     walk_breaks (g.B.Bodies.has c.loop-body.bodies) g.B.Bodies.is_lawful c.loop-body.place.gate c.loop-body.place.count i file (c.loop-body.invariant.walked modelled opens has) c.loop-body.place.few
     (subst (λ f. drop c.loop-body.place.gate f ≡ 1 ∷ drop (c.loop-body.place.gate + 1) f) same bad.1) bad.0
     (subst (λ f. IsNoRecord g.B.Bodies.is_lawful (drop (c.loop-body.place.gate + 1) f) ⊎ (1000000 ≤ c.loop-body.place.count)) same bad.2))
+
+pub returns-in_err-gate-clause-memory : goal.returns-in_err-gate-clause-memory
+returns-in_err-gate-clause-memory g c modelled opens has out =
+    let file = g.D.Disk.seen c.args.disk.now in
+    let at = c.loop-body.place.gate in
+    let same = (c.loop-body.invariant.same modelled).same in
+    let walked = c.loop-body.invariant.walked modelled opens has in
+    let told = same_error c.from_residual.result c.in_err-gate.field-0.0 _ c.from_residual.ensures.1 out in
+    let there : drop at file ≡ 1 ∷ drop (at + 1) file = subst (λ f. drop at f ≡ 1 ∷ drop (at + 1) f) same (c.in_err-gate.ensures.memory modelled (ap Err told)) in
+    opens_record walked.taken (drop (at + 1) file) file (walked.is ∙ ap (λ (l : List ℕ). opened walked.taken ++ l) there)
 
 pub returns-in_err-gate-clause-same : goal.returns-in_err-gate-clause-same
 returns-in_err-gate-clause-same g c modelled =
