@@ -175,7 +175,7 @@ impl History {
     /// that the change changed has then what it had before the change, and every other cell what it has now. Where a later
     /// change that was not undone reads or writes what this one changed, the undo is refused by its clash. On an error
     /// nothing changes. The work is that of `clash`, that of `State::set_cells` with these cells, one write of the index with
-    /// the cells that the change touched, and a count for each block of the entries and of the index.
+    /// the cells that the change touched, and that of a copy of the entries' marks and of the index.
     pub fn undo(&mut self, site: &SiteName, change: u64) -> Result<u64, ChangeError>
         ensures refused { (uploads : Contents) → IsHistoryOver uploads self.old
             → Histories.IsUndoRefusedBy (Histories.undo_refusal uploads self.old.limit self.old.entries site.now change) result }
@@ -197,8 +197,8 @@ impl History {
         Ok(number)
     }
 
-    /// A copy. Neither sees what is done to the other. The work is that of `State::copy`, and a count for each block of
-    /// the entries.
+    /// A copy. Neither sees what is done to the other. The work is that of `State::copy`, and a count for some ten thousand
+    /// entries.
     pub fn copy(&self) -> Result<History, AllocError>
         ensures { IfOk result (λ copy. copy ≡ self.now) }
     {

@@ -183,8 +183,8 @@ impl State {
     }
 
     /// Writes into the cell of each change, in their order, what the change has on a side: a value of the cell's kind, or
-    /// nothing. All are written, or, out of memory, none. Where the cells strictly rise, the work is that of copying what lies
-    /// around each cell, and else a count for each hundred cells; in another order it is that for each change.
+    /// nothing. All are written, or, out of memory, none. Where the cells strictly rise, the work is that of one
+    /// `SharedMap::write_all`; in another order it is that of a copy, and of a write for each change.
     pub fn set_cells(&mut self, changes: &[Change], side: Side) -> Result<(), AllocError>
         requires of_kind { AreOfKindOn side changes.now }
         requires named { AliasesNamed (with_cells self.old (writes side changes.now)) }
@@ -199,7 +199,7 @@ impl State {
         Ok(())
     }
 
-    /// A copy, which shares all that neither writes into later. The work is a count for each hundred cells.
+    /// A copy, which shares all that neither writes into later. The work is a count for some ten thousand cells.
     pub fn copy(&self) -> Result<State, AllocError>
         ensures { IfOk result (λ copy. copy ≡ self.now) }
     {
