@@ -21,13 +21,14 @@ def lists():
 
 
 def files():
-    """The files of the crates and the documents, by the names that CONTRIBUTING.md gives them. Crates that only measure or test are left out."""
+    """The files of the crates and the documents, by the names that CONTRIBUTING.md gives them. Crates that only measure or test are left out,
+    and so are laws."""
     for crate in sorted((TOP / "crates").iterdir()):
         if crate.name.endswith(("_bench", "_tests")):
             continue
         for folder in ("src", "specs", "proofs"):
             for file in sorted((crate / folder).rglob("*")):
-                if file.suffix in (".rt", ".antt"):
+                if file.suffix in (".rt", ".antt") and file.name != "laws.rt":
                     yield str(file.relative_to(TOP / "crates")), file
     for file in sorted((TOP / "docs").glob("*.md")):
         yield str(file.relative_to(TOP)), file

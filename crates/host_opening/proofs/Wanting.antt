@@ -19,7 +19,7 @@ use Rattle.host_names.specs.declared.names.SiteName.{SiteName}
 use Rattle.blob_store.specs.declared.openings.Wanted.{Wanted}
 use Rattle.site_state.specs.Files.{Paths}
 use Rattle.site_state.specs.Missing.{digests_of}
-use Rattle.site_change.specs.declared.commands.Command.TheVariants.{Open, Publish, Cancel, Remove, Rename, MoveAlias, RemoveAlias, Restore, RemoveDeploy}
+use Rattle.site_change.specs.declared.commands.Command.TheVariants.{Open, Publish, Restore}
 use Rattle.change_undo.specs.declared.entries.Entry.{Entry}
 use Rattle.change_undo.specs.declared.entries.Entry.TheVariants.{Change, Undo}
 use Rattle.change_undo.specs.Histories.{entry_at}
@@ -45,14 +45,7 @@ Publishing site n entry = (entry ≡ Change (Publish site n)) ⊎ (entry ≡ Cha
 publishing : (site : SiteName) (n : ℕ) (entry : Entry) → publishes (cell.Kept site n) entry ≡ true → Publishing site n entry
 publishing site n (Change (Publish s m)) e = let same : cell.Kept s m ≡ cell.Kept site n = same_cells _ _ e in inl (cc same)
 publishing site n (Change (Restore s m)) e = let same : cell.Kept s m ≡ cell.Kept site n = same_cells _ _ e in inr (cc same)
-publishing site n (Change (Open s files auto)) e = cc e
-publishing site n (Change (Cancel s m)) e = cc e
-publishing site n (Change (Remove s path)) e = cc e
-publishing site n (Change (Rename s source target)) e = cc e
-publishing site n (Change (MoveAlias s name m)) e = cc e
-publishing site n (Change (RemoveAlias s name)) e = cc e
-publishing site n (Change (RemoveDeploy s m)) e = cc e
-publishing site n (Undo s k) e = cc e
+publishing site n _ e = cc e
 
 is_published : (log : List Entry) (site : SiteName) (n : ℕ) → list_any (publishes (cell.Kept site n)) log ≡ true → IsPublished log site n
 is_published log site n e =
@@ -99,19 +92,10 @@ needed_if true must b e = (refl, cc e)
 needed_if false must b e = cc e
 
 needs_of_entry : (log : List Entry) (n : ℕ) (q : Digest) (b : Bool) (o : Option Entry) → entry_at log n ≡ o → need_at log n o q ≡ Some b → Needs log n q b
-needs_of_entry log n q b None is e = cc e
 needs_of_entry log n q b (Some (Change (Open site files auto))) is e =
     let needed = needed_if (list_any (λ f. is_listed q f.1) files.1) _ b e in
     (site, (files, auto, is, is_listed_by q files.1 needed.0), needed.1)
-needs_of_entry log n q b (Some (Change (Publish s m))) is e = cc e
-needs_of_entry log n q b (Some (Change (Restore s m))) is e = cc e
-needs_of_entry log n q b (Some (Change (Cancel s m))) is e = cc e
-needs_of_entry log n q b (Some (Change (Remove s path))) is e = cc e
-needs_of_entry log n q b (Some (Change (Rename s source target))) is e = cc e
-needs_of_entry log n q b (Some (Change (MoveAlias s name m))) is e = cc e
-needs_of_entry log n q b (Some (Change (RemoveAlias s name))) is e = cc e
-needs_of_entry log n q b (Some (Change (RemoveDeploy s m))) is e = cc e
-needs_of_entry log n q b (Some (Undo s k)) is e = cc e
+needs_of_entry log n q b _ is e = cc e
 
 lists_needs : (log : List Entry) (site : SiteName) (n : ℕ) (q : Digest) → Lists log site n q
     → need_at log n (entry_at log n) q ≡ Some (list_any (publishes (cell.Kept site n)) log)
