@@ -1,5 +1,5 @@
 //! A disk whose calls fail from one on, and what the first of them leaves.
-ghost use Rattle.std.specs.Prelude.{◌≡◌, [], false};
+ghost use Rattle.std.specs.Prelude.{◌≡◌, [], ⊤, false};
 ghost use Rattle.std.proofs.lemmas.Bool.{false≢true};
 ghost use Rattle.host_disk.specs.Crashes.{CountsFailure};
 
@@ -126,6 +126,8 @@ impl<D: Disk> Disk for FailingDisk<D> {
     ghost left_since = { λ _ _ _. ⊥ };
 
     ghost faults = { λ disk. disk.failures };
+
+    ghost may_fail = { λ _ _. ⊤ };
 
     ghost may_stay = { λ _ no_model. absurd (false≢true no_model) };
 
