@@ -30,19 +30,12 @@ use Rattle.host_server.specs.Storing.{IsNotStored, IsRefusedByStore, IsStored, I
 use Rattle.host_server.specs.Versions.{file_of}
 use Rattle.host_server.specs.declared.servers.Server.{Server}
 
-module _ {S D : Type 0} {disk : Ghosts D} (did : S → Call → S → Type 0) (failures : S → ℕ) (faults : D → ℕ) (honest : S → Bool) (has : S → ShelfName → Option (List ℕ))
-    (keeps : Keeps did honest has) where
-  abbrev Well : S → Call → S → Type 0
-  Well = Where honest did
-
-  abbrev IsHonest : S → Type 0
-  IsHonest shelf = IsTrue (honest shelf)
-
+module _ {S : Type 0} (did : S → Call → S → Type 0) (failures : S → ℕ) (honest : S → Bool) (has : S → ShelfName → Option (List ℕ)) (keeps : Keeps did honest has) where
   -- ---- a read
 
-  file_sent : (old new : CachedShelf S) (path file : List ℕ) (plan : Choice) (answer : Answer) → IsHonest new.shelf → IsFileSent did failures old path file plan answer new
-      → IsHonest old.shelf × IsFileSent Well failures old path file plan answer new
-  file_sent old new path file plan answer so (inl (none, says, same)) = (subst (λ (n : CachedShelf S). IsHonest n.shelf) same so, inl (none, says, same))
+  file_sent : (old new : CachedShelf S) (path file : List ℕ) (plan : Choice) (answer : Answer) → IsTrue (honest new.shelf) → IsFileSent did failures old path file plan answer new
+      → IsTrue (honest old.shelf) × IsFileSent (Where honest did) failures old path file plan answer new
+  file_sent old new path file plan answer so (inl (none, says, same)) = (subst (λ (n : CachedShelf S). IsTrue (honest n.shelf)) same so, inl (none, says, same))
   file_sent old new path file plan answer so (inr (inl (body, read, says))) =
       let all = node_read did failures honest has keeps old new file plan (type_of path) body so read in
       (all.0, inr (inl (body, all.1, says)))
@@ -50,22 +43,24 @@ module _ {S D : Type 0} {disk : Ghosts D} (did : S → Call → S → Type 0) (f
       let all = node_not_read did failures honest has keeps old new file plan why so failed in
       (all.0, inr (inr (why, other, all.1, says)))
 
-  module _ (server next : Server S D disk) (so : IsHonest next.files.shelf) where
-    same_files : next.files ≡ server.files → IsHonest server.files.shelf
-    same_files same = subst (λ (n : CachedShelf S). IsHonest n.shelf) same so
+module _ {S D : Type 0} {disk : Ghosts D} (did : S → Call → S → Type 0) (failures : S → ℕ) (faults : D → ℕ) (honest : S → Bool) (has : S → ShelfName → Option (List ℕ))
+    (keeps : Keeps did honest has) where
+  module _ (server next : Server S D disk) (so : IsTrue (honest next.files.shelf)) where
+    same_files : next.files ≡ server.files → IsTrue (honest server.files.shelf)
+    same_files same = subst (λ (n : CachedShelf S). IsTrue (honest n.shelf)) same so
 
-    same_server : next ≡ server → IsHonest server.files.shelf
-    same_server same = subst (λ (s : Server S D disk). IsHonest s.files.shelf) same so
+    same_server : next ≡ server → IsTrue (honest server.files.shelf)
+    same_server same = subst (λ (s : Server S D disk). IsTrue (honest s.files.shelf)) same so
 
     read_reply : (parts : RequestParts) (path : List ℕ) (file : Result (List ℕ) Refusal) (answer : Answer) → IsReadReply did failures server parts path file answer next
-        → IsHonest server.files.shelf × IsReadReply Well failures server parts path file answer next
+        → IsTrue (honest server.files.shelf) × IsReadReply (Where honest did) failures server parts path file answer next
     read_reply parts path (Err why) answer is = (same_server is.1, is)
     read_reply parts path (Ok file) answer (uploaded, range, asks, sent, same) =
-        let all = file_sent server.files next.files path file (plan_of parts range file) answer so sent in
+        let all = file_sent did failures honest has keeps server.files next.files path file (plan_of parts range file) answer so sent in
         (all.0, (uploaded, range, asks, all.1, same))
 
     read_runs_out : (parts : RequestParts) (file : Result (List ℕ) Refusal) → ReadRunsOut did failures server parts file next
-        → IsHonest server.files.shelf × ReadRunsOut Well failures server parts file next
+        → IsTrue (honest server.files.shelf) × ReadRunsOut (Where honest did) failures server parts file next
     read_runs_out parts (Err why) is = absurd is
     read_runs_out parts (Ok file) (uploaded, range, asks, some, same, inl files) = (same_files files, (uploaded, range, asks, some, same, inl files))
     read_runs_out parts (Ok file) (uploaded, range, asks, some, same, inr failed) =
@@ -75,37 +70,37 @@ module _ {S D : Type 0} {disk : Ghosts D} (did : S → Call → S → Type 0) (f
     -- ---- an upload
 
     stored : (uploads : Contents) (bytes : List ℕ) → IsStored did uploads server.files.shelf bytes next.files.shelf
-        → IsHonest server.files.shelf × IsStored Well uploads server.files.shelf bytes next.files.shelf
-    stored uploads bytes (small, inl (there, same)) = (subst IsHonest same so, (small, inl (there, same)))
+        → IsTrue (honest server.files.shelf) × IsStored (Where honest did) uploads server.files.shelf bytes next.files.shelf
+    stored uploads bytes (small, inl (there, same)) = (subst (λ (s : S). IsTrue (honest s)) same so, (small, inl (there, same)))
     stored uploads bytes (small, inr (none, puts)) =
         let all = puts_file did honest has keeps server.files.shelf next.files.shelf bytes None so puts in
         (all.0, (small, inr (none, all.1)))
 
     stored_if : (judged : Result (SiteName × Digest) Refusal) (uploads : Contents) (bytes : List ℕ) → IsStoredIf did judged uploads server.files.shelf bytes next.files.shelf
-        → IsHonest server.files.shelf × IsStoredIf Well judged uploads server.files.shelf bytes next.files.shelf
+        → IsTrue (honest server.files.shelf) × IsStoredIf (Where honest did) judged uploads server.files.shelf bytes next.files.shelf
     stored_if (Ok at) uploads bytes is = stored uploads bytes is
-    stored_if (Err why) uploads bytes is = (subst IsHonest is so, is)
+    stored_if (Err why) uploads bytes is = (subst (λ (s : S). IsTrue (honest s)) is so, is)
 
     module _ (n : ℕ) (path bytes : List ℕ) where
-      uploaded : (told : Told) → IsUploaded did server n path bytes told next → IsHonest server.files.shelf × IsUploaded Well server n path bytes told next
+      uploaded : (told : Told) → IsUploaded did server n path bytes told next → IsTrue (honest server.files.shelf) × IsUploaded (Where honest did) server n path bytes told next
       uploaded told is =
           let all = stored_if (judge_upload server.house n path bytes) server.house.uploads bytes is.stored in
           (all.0, record { stored = all.1; cache = is.cache; told_is = is.told_is; host_is = is.host_is })
 
-      refused : (why : UploadFault) → IsRefusedByStore did failures server n path bytes why next → IsHonest server.files.shelf × IsRefusedByStore Well failures server n path bytes why next
+      refused : (why : UploadFault) → IsRefusedByStore did failures server n path bytes why next → IsTrue (honest server.files.shelf) × IsRefusedByStore (Where honest did) failures server n path bytes why next
       refused why is =
           let none = is.not_stored in
           let all = put_some did honest has keeps server.files.shelf next.files.shelf bytes why so none.put in
-          let not_stored : IsNotStored Well failures server.house.uploads server.files.shelf bytes why next.files.shelf =
+          let not_stored : IsNotStored (Where honest did) failures server.house.uploads server.files.shelf bytes why next.files.shelf =
           record { large = none.large; unknown = none.unknown; failed = none.failed; put = all.1 } in
           (all.0, record { at = is.at; judged = is.judged; not_stored = not_stored; cache = is.cache; same = is.same })
 
-      unpublished : IsUnpublished did server n path bytes next → IsHonest server.files.shelf × IsUnpublished Well server n path bytes next
+      unpublished : IsUnpublished did server n path bytes next → IsTrue (honest server.files.shelf) × IsUnpublished (Where honest did) server n path bytes next
       unpublished is =
           let all = stored server.house.uploads bytes is.stored in
           (all.0, record { at = is.at; judged = is.judged; stored = all.1; cache = is.cache; known = is.known; published = is.published })
 
-      upload_reply : (answer : Answer) → IsUploadReply did failures server n path bytes answer next → IsHonest server.files.shelf × IsUploadReply Well failures server n path bytes answer next
+      upload_reply : (answer : Answer) → IsUploadReply did failures server n path bytes answer next → IsTrue (honest server.files.shelf) × IsUploadReply (Where honest did) failures server n path bytes answer next
       upload_reply answer (inl (told, done, says)) =
           let all = uploaded told done in
           (all.0, inl (told, all.1, says))
@@ -113,7 +108,7 @@ module _ {S D : Type 0} {disk : Ghosts D} (did : S → Call → S → Type 0) (f
           let all = refused why none in
           (all.0, inr (why, other, all.1, says))
 
-      upload_runs_out : UploadRunsOut did failures server n path bytes next → IsHonest server.files.shelf × UploadRunsOut Well failures server n path bytes next
+      upload_runs_out : UploadRunsOut did failures server n path bytes next → IsTrue (honest server.files.shelf) × UploadRunsOut (Where honest did) failures server n path bytes next
       upload_runs_out (inl none) =
           let all = refused fault.OutOfMemory none in
           (all.0, inl all.1)
@@ -128,23 +123,23 @@ module _ {S D : Type 0} {disk : Ghosts D} (did : S → Call → S → Type 0) (f
 
     module _ (parts : RequestParts) (body : List ℕ) where
       reply_to : (asking : Result Ask Refusal) (answer : Answer) → IsReplyToAsk did failures server parts body asking answer next
-          → IsHonest server.files.shelf × IsReplyToAsk Well failures server parts body asking answer next
+          → IsTrue (honest server.files.shelf) × IsReplyToAsk (Where honest did) failures server parts body asking answer next
       reply_to (Ok (ask.Read site version path)) answer is = read_reply parts path (file_of (state_of server.house) site version path) answer is
       reply_to (Ok (ask.Upload n path)) answer is = upload_reply n path body answer is
       reply_to asking answer is = (same_files is.1, is)
 
       runs_out : (asking : Result Ask Refusal) → AskRunsOut did failures server parts body asking next
-          → IsHonest server.files.shelf × AskRunsOut Well failures server parts body asking next
+          → IsTrue (honest server.files.shelf) × AskRunsOut (Where honest did) failures server parts body asking next
       runs_out (Ok (ask.Read site version path)) is = read_runs_out parts (file_of (state_of server.house) site version path) is
       runs_out (Ok (ask.Upload n path)) is = upload_runs_out n path body is
       runs_out asking is = (same_files is.1, is)
 
-      stops : (asking : Result Ask Refusal) → AskStops did server body asking next → IsHonest server.files.shelf × AskStops Well server body asking next
+      stops : (asking : Result Ask Refusal) → AskStops did server body asking next → IsTrue (honest server.files.shelf) × AskStops (Where honest did) server body asking next
       stops (Ok (ask.Upload n path)) is = unpublished n path body is
       stops asking is = (same_files is.1, is)
 
       pub answered : (answer : Answer) → IsAnswer did failures faults server parts body answer next
-          → IsHonest server.files.shelf × IsAnswer Well failures faults server parts body answer next
+          → IsTrue (honest server.files.shelf) × IsAnswer (Where honest did) failures faults server parts body answer next
       answered answer (inl (inl (held, says, same), kept)) = (same_server same, inl (inl (held, says, same), kept))
       answered answer (inl (inr (free, reply), kept)) =
           let all = reply_to (asked_for parts body) answer reply in

@@ -20,7 +20,7 @@ use super::readiness::Readiness;
 use blob_store::Known;
 use byte_view::BlobInfo;
 use change_journal::Journal;
-use change_undo::{Entry, History};
+use change_undo::{Entry, History, deploys_were_opened_by_their_entries};
 use host_disk::Disk;
 use host_names::{ChangeError, SiteName};
 use site_change::Command;
@@ -260,6 +260,7 @@ impl SoloHouse {
         ensures ready { result ≡ Outcomes.is_ready self.old site.now number }
         ensures same { self.new ≡ self.old }
     {
+        deploys_were_opened_by_their_entries();
         match self.history.state().draft(site, number) {
             Some(draft) => draft.auto && self.readiness.is_complete(&self.uploads, number, draft),
             None => false,
