@@ -78,6 +78,8 @@ impl<D: Disk> ReadAhead<D> {
         ensures same { IsTrue D.is_modelled → IsUnchanged D.seen D.may_leave D.moment D.left_since self.old.disk self.new.disk }
         ensures reason { IsTrue D.is_modelled → at ≤ length (D.seen self.old.disk) → OnErr result (MayFailReading D.seen D.may_fail (D.seen self.old.disk)) }
         ensures cause { CountsFailure result (D.faults self.old.disk) (D.faults self.new.disk) }
+        ensures ahead { IsTrue D.is_modelled → OnOk result ((self.new.start ≡ at)
+            × (take self.new.len self.new.buffer.items ≡ take (length self.old.buffer.items) (drop at (D.seen self.old.disk)))) }
     {
         self.forget();
         let size = self.disk.len()?;
@@ -117,6 +119,7 @@ fn read_front<D: Disk>(
     buffer: &mut [u8],
 ) -> Result<(), DeviceFault>
     requires { len ≤ length buffer.old }
+    ensures size { length buffer.new ≡ length buffer.old }
     ensures read { IsTrue D.is_modelled → OnOk result (IsRead (D.seen disk.old) at (take len buffer.new)) }
     ensures seen { IsTrue D.is_modelled → D.seen disk.new ≡ D.seen disk.old }
     ensures crash { IsTrue D.is_modelled → (c : List ℕ) → D.may_leave disk.new c ↔ D.may_leave disk.old c }
@@ -135,6 +138,7 @@ fn read_into<D: Disk>(
     buffer: &mut Vec<u8>,
 ) -> Result<(), DeviceFault>
     requires { len ≤ length buffer.old.items }
+    ensures size { length buffer.new.items ≡ length buffer.old.items }
     ensures read { IsTrue D.is_modelled → OnOk result (IsRead (D.seen disk.old) at (take len buffer.new.items)) }
     ensures seen { IsTrue D.is_modelled → D.seen disk.new ≡ D.seen disk.old }
     ensures crash { IsTrue D.is_modelled → (c : List ℕ) → D.may_leave disk.new c ↔ D.may_leave disk.old c }

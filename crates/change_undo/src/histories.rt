@@ -26,6 +26,9 @@ use std::marker::Model;
 /// The greatest limit of a history, in entries.
 pub const GREATEST_LIMIT: u64 = 1_000_000;
 
+// Clauses and documents have this number: whoever changes it changes them.
+const _: () = prove!(GREATEST_LIMIT == 1_000_000);
+
 /// The entries so far, and the state that the changes among them give that no undo names. Contracts see the limit,
 /// the entries, what each change that lives changed and touched, and the state. The state is always what those changes
 /// give when they run from nothing in the order of their numbers. Copies share the entries and what is kept of them.
