@@ -1,7 +1,7 @@
 -- Bytes that were read ahead, and a disk inside another.
-use Rattle.std.proofs.Common.{◌≡◌, ℕ, ◌+◌, ◌-◌, ◌≤◌, List, [], ◌++◌, length, take, drop, inl, inr, ⊎_elim, refl, sym, ◌∙◌, ap, subst, arith, Option, Some, None}
+use Rattle.std.proofs.Common.{◌≡◌, ℕ, ◌+◌, ◌-◌, ◌≤◌, min, List, [], ◌++◌, length, take, drop, inl, inr, ⊎_elim, refl, sym, ◌∙◌, ap, subst, arith, Option, Some, None}
 use Rattle.std.specs.Option.{IfSome}
-use Rattle.std.proofs.lemmas.List.{drop-drop, drop-take, take_at, take-take, length-take, length-drop}
+use Rattle.std.proofs.lemmas.List.{take_min, drop-drop, drop-take, take_at, take-take, length-take, length-drop}
 use Rattle.host_disk.specs.Crashes.{IsRead, LeavesOnly}
 use Rattle.change_journal.specs.Ahead.{IsUnchanged}
 use Rattle.change_journal.specs.Walks.{IsOnlyRead}
@@ -16,6 +16,13 @@ none_ahead file bytes start len at none = rw (at, none) (none_read file)
 -- what a read has filled of a list
 pub filled_ahead : (file : List ℕ) (at len : ℕ) (bytes behind : List ℕ) → length bytes ≡ len → IsRead file at bytes → IsRead file at (take len (bytes ++ behind))
 filled_ahead file at len bytes behind size is = subst (IsRead file at) (sym (take_at bytes behind len size)) is
+
+-- as many bytes of a file from a place on as find place
+pub all_ahead : (file bytes : List ℕ) (at size len : ℕ) → length bytes ≡ size → len ≡ min size (length file - at) → IsRead file at (take len bytes) → take len bytes ≡ take size (drop at file)
+all_ahead file bytes at size len size_is len_is read =
+    let few : len ≤ size = omega (arith, len_is) in
+    let whole : length (take len bytes) ≡ min size (length (drop at file)) = omega (arith, length-take len bytes, length-drop at file, size_is, len_is) in
+    read.is ∙ ap (λ (n : ℕ). take n (drop at file)) whole ∙ take_min size (drop at file)
 
 -- a part of what was read
 pub part_read : (file : List ℕ) (start at from len : ℕ) (bytes part : List ℕ) → IsRead file start bytes → at ≡ start + from → from + len ≤ length bytes → part ≡ take len (drop from bytes) → IsRead file at part

@@ -67,6 +67,7 @@ impl<D: Disk> ReadAhead<D> {
     /// Forgets what was read.
     fn forget(&mut self)
         ensures disk { self.new.disk ≡ self.old.disk }
+        ensures buffer { self.new.buffer ≡ self.old.buffer }
         ensures none { (self.new.start ≡ 0) × (self.new.len ≡ 0) }
     {
         self.start = 0;
