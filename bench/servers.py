@@ -18,7 +18,7 @@ import threading
 import time
 
 TOP = pathlib.Path(__file__).resolve().parent.parent
-sys.path.insert(0, str(TOP / "tests"))
+sys.path[:0] = [str(TOP / "tests"), str(TOP / "scripts")]
 
 from client import digest_of  # noqa: E402
 

@@ -174,7 +174,7 @@ class Gate(unittest.TestCase):
 
 class Runner(unittest.TestCase):
     def setUp(self):
-        self.sandbox = Sandbox("tests/run")
+        self.sandbox = Sandbox("tests/run", "scripts/arguments.py")
         self.addCleanup(self.sandbox.close)
 
     def assert_counts(self, body, status, last):

@@ -1,0 +1,28 @@
+"""The words that a script is called with: `--help` prints what it does, and a word that it doesn't take ends it before it does anything."""
+
+import argparse
+import pathlib
+
+TOP = pathlib.Path(__file__).resolve().parent.parent
+
+
+class Arguments(argparse.ArgumentParser):
+    """A parser that tells a mistake in one line on standard error, with status 2."""
+
+    def __init__(self, program, about):
+        super().__init__(prog=program, description=about, formatter_class=argparse.RawDescriptionHelpFormatter)
+
+    def error(self, message):
+        self.exit(2, f"{self.prog}: {' '.join(message.split())}\n")
+
+    def expect_crates(self, names):
+        """Ends the script where one of these names isn't that of a crate in crates.txt."""
+        for name in names:
+            if name not in crates():
+                self.error(f"there is no crate {name}")
+
+
+def crates(top=TOP):
+    """The names in a repository's crates.txt, in its order."""
+    lines = (line.partition("#")[0].partition(":")[0].strip() for line in (top / "crates.txt").read_text().splitlines())
+    return [name for name in lines if name]
