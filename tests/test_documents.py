@@ -135,6 +135,15 @@ class Pages(unittest.TestCase):
             self.assertTrue(re.search(pattern, replies + requests), told)
 
 
+class ListOfTests(unittest.TestCase):
+    """tests/README.md."""
+
+    def test_has_a_row_for_each_file_and_no_other(self):
+        rows = re.findall(r"(?m)^\| `([^`]+)` \| .* \|$", read("tests", "README.md"))
+        files = [file.name for file in (TOP / "tests").iterdir() if file.is_file() and file.name != "README.md"]
+        self.assertEqual(sorted(rows), sorted(files))
+
+
 class Code(unittest.TestCase):
     """The limits in CONTRIBUTING.md, "Code"."""
 

@@ -198,6 +198,49 @@ class Runner(unittest.TestCase):
     def test_fails_where_there_is_no_test(self):
         self.assert_counts(None, 1, "0 passed, 0 failed")
 
+    def add_three_files(self):
+        for name, body in (("one", "pass"), ("two", "self.fail()")):
+            text = f"import time, unittest\nclass It(unittest.TestCase):\n    def test_{name}(self):\n        time.sleep(0.2)\n        {body}\n"
+            self.sandbox.write(f"tests/test_{name}.py", text)
+        self.sandbox.write("tests/test_three.py", "import no_such_module\n")
+
+    def call(self, *words):
+        status, out, _ = self.sandbox.run("python3", "tests/run", *words)
+        return status, out.splitlines()
+
+    def test_lists_the_tests_and_runs_none(self):
+        self.add_three_files()
+        unread = "unittest.loader._FailedTest.test_three"
+        self.assertEqual(self.call("--list"), (0, ["test_one.It.test_one", unread, "test_two.It.test_two"]))
+        self.assertEqual(self.call("--list", "nothing"), (0, [unread]))
+
+    def test_runs_several_files_at_once_and_counts_the_same(self):
+        self.add_three_files()
+        alone, beside = (self.call(*words) for words in ((), ("-j", "3")))
+        self.assertEqual((alone[0], alone[1][-1]), (1, "1 passed, 2 failed"))
+        self.assertEqual((beside[0], beside[1][-1]), (1, "1 passed, 2 failed"))
+        self.assertIn("test_one (test_one.It.test_one) ... ok", beside[1])
+        # A file that can't be read belongs to each choice of tests, since nobody knows what it has.
+        self.assertEqual(self.call("-j", "2", "test_one")[1][-1], "1 passed, 1 failed")
+
+    def test_counts_a_file_that_ends_its_process_as_failed(self):
+        self.add_three_files()
+        self.sandbox.write("tests/test_four.py", "import os, unittest\nclass It(unittest.TestCase):\n    def test_four(self): os._exit(0)\n")
+        status, lines = self.call("-j", "2")
+        self.assertEqual((status, lines[-1]), (1, "1 passed, 3 failed"))
+        self.assertIn("test_four ended with status 0 and counted no failure", lines)
+
+    def test_tells_how_long_each_file_took(self):
+        self.add_three_files()
+        for words in ((), ("-j", "2")):
+            with self.subTest(words):
+                _, lines = self.call("--durations", *words)
+                told = [line.split() for line in lines if line.endswith(("s  test_one", "s  test_two", "s  test_three"))]
+                self.assertEqual({name for *_, name in told}, {"test_one", "test_two", "test_three"})
+                seconds = [float(line[0]) for line in told]
+                self.assertEqual(seconds, sorted(seconds, reverse=True))
+                self.assertGreaterEqual(seconds[1], 0.2)
+
 
 if __name__ == "__main__":
     unittest.main()
