@@ -6,7 +6,7 @@ import re
 import unittest
 
 TOP = pathlib.Path(__file__).resolve().parent.parent
-PAGES = [TOP / "README.md", TOP / "CONTRIBUTING.md", *sorted((TOP / "docs").glob("*.md"))]
+PAGES = sorted(page for pattern in ("*.md", "*/*.md") for page in TOP.glob(pattern))
 
 
 def read(*path):
@@ -39,6 +39,16 @@ def rows(section):
 
 def code_of(crate):
     return "\n".join(file.read_text() for file in sorted((TOP / "crates" / crate / "src").rglob("*.rt")))
+
+
+def titles(page):
+    """The titles of a page: its headings, and what begins a paragraph in bold."""
+    return re.findall(r"(?m)^(?:#+ |\*\*)([^*\n]+?)(?:\.?\*\*|$)", re.sub(r"(?ms)^```.*?^```", "", page.read_text()))
+
+
+def anchor_of(title):
+    """The anchor by which a link leads to a title."""
+    return re.sub(r"[^\w -]", "", title.lower()).replace(" ", "-")
 
 
 class Proofs(unittest.TestCase):
@@ -108,10 +118,43 @@ class Pages(unittest.TestCase):
 
     def test_name_files_of_the_repository_that_are_there(self):
         for page in PAGES:
-            for name in re.findall(r"(?<![\w/.<-])((?:docs|tests|scripts|examples|bench|crates)/[\w./-]*\w)", page.read_text()):
-                if "NAME" not in name and "CRATE" not in name and "/out" not in name and "/test_" not in name.removesuffix(".py"):
+            for name in re.findall(r"(?<![\w/.<-])((?:docs|tests|scripts|examples|bench|crates)/[\w./*-]*[\w*])", page.read_text()):
+                if "*" not in name and "NAME" not in name and "CRATE" not in name and "/out" not in name:
                     with self.subTest(page=page.name, name=name):
                         self.assertTrue((TOP / name).exists())
+
+    def test_name_files_without_their_folders_that_are_there(self):
+        files = {path.name for folder in TOP.iterdir() if folder.name != ".git" for path in (folder.rglob("*") if folder.is_dir() else [folder])}
+        for page in PAGES:
+            text = re.sub(r"(?ms)^```.*?^```|^    .*?$", "", page.read_text())
+            for name in re.findall(r"(?<![\w/.*%-])(\w[\w.-]*\.(?:py|md|rt|antt|edit|http|replies))(?![\w/*])", text):
+                with self.subTest(page=page.name, name=name):
+                    self.assertTrue(name in files)
+
+    def test_link_to_places_that_are_there(self):
+        for page in PAGES:
+            for target in re.findall(r"\]\(([^)\s]+)\)", page.read_text()):
+                file, _, anchor = target.partition("#")
+                if not re.match(r"[a-z]+:", target):
+                    with self.subTest(page=page.name, link=target):
+                        there = page.parent / file if file else page
+                        self.assertTrue(there.exists())
+                        self.assertTrue(not anchor or anchor in map(anchor_of, titles(there)))
+
+    def test_are_named_with_titles_that_they_have(self):
+        """In the pages, the tests and the scripts: `docs/HTTP.md, "Routes"`, `"Routes": docs/HTTP.md` and, in a page, `see "Routes"`."""
+        files = [path for folder in (TOP / "tests", TOP / "scripts", TOP / "bench", TOP / "crates") for path in folder.rglob("*") if path.is_file()]
+        count = 0
+        for file in {*PAGES, *(file for file in files if "/out/" not in str(file) and file.suffix in ("", ".py", ".rt", ".antt"))}:
+            text = re.sub(r"\s+(?:# |// |/// |//! |-- )?", " ", file.read_text())
+            places = [(page, title) for page, title in re.findall(r"([\w/]+\.md)[,:] \"([^\"]+)\"", text)]
+            places += [(page, title) for title, page in re.findall(r"\"([^\"]+)\": ([\w/]+\.md)", text)]
+            places += [(file, title) for title in re.findall(r"\b[Ss]ee \"([^\"]+)\"", text) if file in PAGES]
+            count += len(places)
+            for page, title in places:
+                with self.subTest(file=str(file.relative_to(TOP)), page=str(page), title=title):
+                    self.assertTrue(title in titles(TOP / page))
+        self.assertGreater(count, 20)
 
     def test_show_the_first_run_as_it_is(self):
         replies = read("examples", "first-run.replies").replace("\r\n", "\n")
