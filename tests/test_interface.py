@@ -7,7 +7,7 @@ import json
 import unittest
 import urllib.parse
 
-from client import EXAMPLES, REQUESTS, Program, digest_of, done, opened, refused, request, run, sent, to_head
+from client import EXAMPLES, REQUESTS, TOP, Program, digest_of, done, opened, refused, request, run, sent, to_head
 
 DEPLOYS = "/api/v1/sites/one/deploys"
 UNDO = "/api/v1/sites/one/undo"
@@ -16,6 +16,13 @@ CHANGES = "/api/v1/sites/one/changes"
 # The types of the files that the tables read; test_types.py has those of all endings.
 TYPES = {"txt": "text/plain; charset=utf-8", "html": "text/html; charset=utf-8"}
 OTHER = "application/octet-stream"
+
+# The texts in docs/help, and the words that ask for each.
+HELP = {
+    "filehost.txt": ("--help", "-h", "help"),
+    "solo.txt": ("solo --help", "solo -h", "help solo"),
+    "version.txt": ("--version", "-V"),
+}
 
 
 def served(path, content):
@@ -128,6 +135,12 @@ class CommandLine(Program):
 
     def test_says_its_version(self):
         self.assertEqual(run("--version"), (1, b"", b"filehost 0.1.0\n"))
+
+    def test_says_what_the_launcher_says_before_a_build(self):
+        for text, calls in HELP.items():
+            for words in calls:
+                with self.subTest(words):
+                    self.assertEqual(run(*words.split()), (1, b"", (TOP / "docs" / "help" / text).read_bytes()))
 
 
 if __name__ == "__main__":

@@ -6,7 +6,8 @@ import subprocess
 import time
 import unittest
 
-from sandbox import Sandbox
+from sandbox import TOP, Sandbox
+from test_interface import HELP
 
 CRATES = """\
 # name: what it stands on
@@ -45,6 +46,30 @@ class Launcher(unittest.TestCase):
         self.assertTrue(err.startswith("filehost: "), err)
         for word in words:
             self.assertIn(word, err)
+
+    def test_tells_help_and_the_version_before_anything_is_built(self):
+        self.sandbox.add_crates(CRATES)
+        for text, calls in HELP.items():
+            told = (TOP / "docs" / "help" / text).read_text()
+            self.sandbox.write(f"docs/help/{text}", told)
+            for words in calls:
+                with self.subTest(words):
+                    self.assertEqual(self.call(*words.split(), has_toolchain=False), (1, "", told))
+        self.assertEqual(self.sandbox.calls(), [])
+
+    def test_builds_where_other_words_come_with_those_for_help(self):
+        self.add_built_program()
+        for words in (["--help", ""], ["solo --help"], ["solo", "--help", "--store"], ["help", "help"], ["--versions"]):
+            with self.subTest(words):
+                self.sandbox.write("crates/low/src/lib.rt", str(words))
+                status, out, _ = self.call(*words)
+                self.assertEqual((status, out.partition(" in ")[0]), (OWN_STATUS, "".join(f"<{word}>" for word in words)))
+                self.assertEqual(self.sandbox.calls(), IN_ORDER)
+                self.sandbox.let_time_pass()
+
+    def test_lets_a_built_program_tell_its_help_itself(self):
+        self.add_built_program()
+        self.assertEqual(self.call("--help")[:2], (OWN_STATUS, f"<--help> in {self.sandbox.top}\n"))
 
     def test_says_that_there_is_no_program_yet(self):
         self.sandbox.write("crates.txt", "# name: what it stands on\n")
