@@ -6,7 +6,9 @@ import sys
 import unittest
 
 import journal
-from client import ABC, EXAMPLES, HELLO, LARGEST_FILE, SECONDS, TOP, digest_of, opened, opening, refused, request, sent, upload, uploaded
+from client import (
+    ABC, EXAMPLES, HELLO, LARGEST_FILE, SECONDS, TOP, digest_of, messages, opened, opening, refused, request, run, sent, upload, uploaded,
+)
 from plain_model import Model
 from stores import PIECE, Conversation, Stored, as_bytes, entry_of, files_in, files_of, is_stored, looks, refused_undos
 from test_histories import Generator
@@ -239,6 +241,18 @@ class Examples(Stored):
         for name in ("take-back", "after-restart"):
             given, wanted = ((EXAMPLES / f"{name}.{ending}").read_bytes() for ending in ("http", "replies"))
             self.assert_answers(given, wanted)
+
+    def test_deploy_a_folder_by_several_streams(self):
+        site, streams = self.room / "site", self.room / "streams"
+        site.mkdir()
+        for number in range(150):
+            (site / f"{number:03}.txt").write_text(str(number))
+        subprocess.run([sys.executable, TOP / "examples/make-deploy", "--into", streams, site, "one"], check=True, timeout=SECONDS)
+        self.assertEqual(len(list(streams.iterdir())), 2)
+        for stream in sorted(streams.iterdir()):
+            status, out, errors = run(*self.words, given=stream.read_bytes())
+            self.assertEqual((status, {line[1] for line, _ in messages(out)}, errors), (0, {"200"}, b""))
+        self.assert_converses([(request("GET", f"/s/one/{number}.txt"), sent(number.lstrip("0").encode())) for number in ("001", "149")])
 
     def show(self):
         ran = subprocess.run([sys.executable, TOP / "scripts/show-store", self.folder], capture_output=True, text=True, timeout=SECONDS)
