@@ -118,7 +118,8 @@ class Launcher(unittest.TestCase):
     def test_shows_how_many_functions_of_a_crate_are_done(self):
         self.sandbox.add_crates("filehost: low\nlow:\n")
         _, _, err = self.call(SECONDS_A_CRATE="1.5", SECONDS_TO_PROGRESS="0.2")
-        self.assertIn("[0/2] low 3 of 8 functions", err.splitlines())
+        self.assertIn("[0/2, 0 min] low 3 of 8 functions", err.splitlines())
+        self.assertEqual(err.splitlines()[-1], "filehost: built in 0 minutes")
 
     def test_stops_the_other_proofs_where_one_fails(self):
         self.sandbox.add_crates(SIDE_BY_SIDE)
