@@ -113,6 +113,23 @@ class Architecture(unittest.TestCase):
                 self.assertTrue((TOP / "crates" / crate / "src" / file).is_file())
 
 
+class Interface(unittest.TestCase):
+    """docs/HTTP.md."""
+
+    def test_names_definitions_and_calls_of_each_section(self):
+        crates = ("http_wire", "host_api", "host_server", "range_spec", "range_reply", "host_names")
+        files = [file for crate in crates for folder in ("specs", "src") for file in (TOP / "crates" / crate / folder).rglob("*.*")]
+        text = "\n".join(file.read_text() for file in files)
+        told = read("docs", "HTTP.md").partition("\n## Where the contracts say this\n")[2]
+        rows = re.findall(r"(?m)^\| ([A-Z][^|`]*) \| (`[^|]*) \|$", told)
+        self.assertGreater(len(rows), 18)
+        for section, names in rows:
+            self.assertIn(f"\n## {section}\n", read("docs", "HTTP.md"))
+            for name in re.findall(r"`(\w+)`", names):
+                with self.subTest(section=section, name=name):
+                    self.assertTrue(re.search(rf"(?m)^(?:\w+ )*{name}\b[^=\n]*:|\b(?:fn|enum|struct) {name}\b", text))
+
+
 class Pages(unittest.TestCase):
     """Every page."""
 
