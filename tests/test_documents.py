@@ -180,6 +180,14 @@ class Pages(unittest.TestCase):
             self.assertIn(body.strip(), shown)
 
 
+    def test_show_measurements_as_they_are(self):
+        shown = read("README.md").partition("## Measured")[2].partition("\n## ")[0]
+        numbers = set(re.findall(r"(?<![\w.,])\d[\d,.]*\d|(?<![\w.,])\d\b", shown))
+        self.assertGreater(len(numbers), 12)
+        for number in numbers:
+            with self.subTest(number):
+                self.assertTrue(re.search(rf"(?<![\d.,]){re.escape(number)}(?![\d])", read("docs", "COMPARISON.md")))
+
     def test_show_an_undo_as_it_is(self):
         shown = read("README.md").partition("## Take back one change")[2].partition("\n## ")[0]
         replies = read("examples", "take-back.replies")
