@@ -179,7 +179,6 @@ class Pages(unittest.TestCase):
         for body in re.split(r"(?m)(?=^HTTP/1\.1 )|(?<=[^\n])(?=HTTP/1\.1 )", replies):
             self.assertIn(body.strip(), shown)
 
-
     def test_show_measurements_as_they_are(self):
         shown = read("README.md").partition("## Measured")[2].partition("\n## ")[0]
         numbers = set(re.findall(r"(?<![\w.,])\d[\d,.]*\d|(?<![\w.,])\d\b", shown))
