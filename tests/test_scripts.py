@@ -6,9 +6,11 @@ import os
 import pathlib
 import shutil
 import signal
+import socket
 import subprocess
 import sys
 import tempfile
+import time
 import unittest
 from urllib.parse import unquote
 
@@ -16,7 +18,7 @@ from client import LARGEST_FILE, REQUESTS, content_length, cut_after
 from sandbox import TOP, Sandbox
 
 # Scripts outside of scripts/ and bench/.
-OTHERS = ("test", "tests/run", "examples/make-deploy")
+OTHERS = ("test", "tests/run", "examples/listen", "examples/make-deploy")
 OF_CRATES = ("scripts/draw-bugs --seed 1", "scripts/fail-allocations", "scripts/slow-proofs", "scripts/try-wrong-bodies")
 
 
@@ -84,6 +86,60 @@ class ShownStores(unittest.TestCase):
 
     def test_says_that_there_is_no_such_folder(self):
         self.assertEqual(self.show("/no/such/folder"), (1, "", "show-store: there is no folder /no/such/folder\n"))
+
+
+class Listening(unittest.TestCase):
+    """examples/listen, over a command that answers the first line that it reads, and then reads to the end."""
+
+    command = [sys.executable, "-c", "import sys; print(sys.stdin.readline().upper(), end='', flush=True); sys.stdin.read()"]
+
+    def listen(self, *words):
+        """Starts it on a port that is free, and returns that port."""
+        command = [sys.executable, TOP / "examples/listen", "--port", "0", *words, *self.command]
+        # Whoever began the tests in the background may have had interrupts ignored.
+        how = {"preexec_fn": lambda: signal.signal(signal.SIGINT, signal.SIG_DFL)}
+        self.listener = subprocess.Popen(command, stdout=subprocess.PIPE, stderr=subprocess.PIPE, **how)
+        for done in (self.listener.stdout.close, self.listener.stderr.close, self.listener.wait, self.listener.kill):
+            self.addCleanup(done)
+        return int(self.listener.stdout.readline().split()[-1])
+
+    def begin(self, port, line):
+        client = socket.create_connection(("127.0.0.1", port), timeout=20)
+        self.addCleanup(client.close)
+        client.sendall(line)
+        return client
+
+    def test_gives_each_connection_to_a_run_of_its_own_one_at_a_time(self):
+        port = self.listen()
+        first, second = self.begin(port, b"first\n"), self.begin(port, b"second\n")
+        self.assertEqual(first.recv(100), b"FIRST\n")
+        second.settimeout(0.5)
+        self.assertRaises(TimeoutError, second.recv, 100)
+        first.close()
+        second.settimeout(20)
+        self.assertEqual(second.recv(100), b"SECOND\n")
+        second.shutdown(socket.SHUT_WR)
+        self.assertEqual(second.recv(100), b"")
+
+    def test_cuts_a_connection_that_lasts_too_long(self):
+        port = self.listen("--seconds", "0.5")
+        silent, next_one = self.begin(port, b""), self.begin(port, b"next\n")
+        began = time.monotonic()
+        self.assertEqual(silent.recv(100), b"")
+        self.assertEqual(next_one.recv(100), b"NEXT\n")
+        self.assertLess(time.monotonic() - began, 15)
+
+    def test_ends_without_a_word_where_it_is_interrupted(self):
+        self.listen()
+        self.listener.send_signal(signal.SIGINT)
+        self.assertEqual((self.listener.wait(20), self.listener.stderr.read()), (0, b""))
+
+    def test_refuses_a_port_that_is_taken_and_a_command_that_is_not_there(self):
+        port = self.listen()
+        for words in (["--port", str(port), "true"], ["--port", "70000", "true"], ["/no/such/command"], []):
+            with self.subTest(words):
+                ran = subprocess.run([sys.executable, TOP / "examples/listen", *words], capture_output=True, timeout=60)
+                self.assertEqual((ran.returncode, ran.stdout, len(ran.stderr.splitlines())), (2, b"", 1), ran.stderr)
 
 
 class MadeDeploys(unittest.TestCase):

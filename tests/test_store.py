@@ -1,13 +1,14 @@
 """A store that is closed and opened again answers as it did before; and what its folder then has is what docs/STORAGE.md says."""
 
 import random
+import socket
 import subprocess
 import sys
 import unittest
 
 import journal
 from client import (
-    ABC, EXAMPLES, HELLO, LARGEST_FILE, SECONDS, TOP, digest_of, messages, opened, opening, refused, request, run, sent, upload, uploaded,
+    ABC, EXAMPLES, HELLO, LARGEST_FILE, PROGRAM, SECONDS, TOP, digest_of, messages, opened, opening, refused, request, run, sent, upload, uploaded,
 )
 from plain_model import Model
 from stores import PIECE, Conversation, Stored, as_bytes, entry_of, files_in, files_of, is_stored, looks, refused_undos
@@ -253,6 +254,19 @@ class Examples(Stored):
             status, out, errors = run(*self.words, given=stream.read_bytes())
             self.assertEqual((status, {line[1] for line, _ in messages(out)}, errors), (0, {"200"}, b""))
         self.assert_converses([(request("GET", f"/s/one/{number}.txt"), sent(number.lstrip("0").encode())) for number in ("001", "149")])
+
+    def test_are_answered_over_one_connection_after_another(self):
+        command = [sys.executable, TOP / "examples/listen", "--port", "0", PROGRAM, *self.words]
+        with subprocess.Popen(command, stdout=subprocess.PIPE) as listener:
+            self.addCleanup(listener.kill)
+            port = int(listener.stdout.readline().split()[-1])
+            for name in ("take-back", "after-restart"):
+                given, wanted = ((EXAMPLES / f"{name}.{ending}").read_bytes() for ending in ("http", "replies"))
+                with socket.create_connection(("127.0.0.1", port), SECONDS) as client:
+                    client.sendall(given)
+                    client.shutdown(socket.SHUT_WR)
+                    self.assertEqual(b"".join(iter(lambda: client.recv(65_536), b"")), wanted)
+            listener.kill()
 
     def show(self):
         ran = subprocess.run([sys.executable, TOP / "scripts/show-store", self.folder], capture_output=True, text=True, timeout=SECONDS)
