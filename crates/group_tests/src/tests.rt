@@ -5,6 +5,7 @@ mod gated_nodes;
 mod gates;
 mod held;
 mod known_nodes;
+mod node_fixtures;
 mod nodes_with_peers;
 mod peer_gifts;
 mod plain_nodes;

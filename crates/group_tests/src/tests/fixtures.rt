@@ -23,11 +23,16 @@ pub(super) fn chunk_of(alloc: Global, number: usize) -> Result<Chunk, ReadFault>
     Chunk::check(name, bytes).map_err(|_| ReadFault::Damaged)
 }
 
+/// The name of the chunk of a number.
+pub(super) fn name_of(alloc: Global, number: usize) -> Result<Digest, AllocError> {
+    Ok(Digest::of_bytes(bytes_of(alloc, number)?.as_slice()))
+}
+
 /// The names of the chunks of the first numbers.
 pub(super) fn names(alloc: Global, count: usize) -> Result<Vec<Digest>, AllocError> {
     let mut names = Vec::new(alloc);
     for number in 0..count {
-        names.push(Digest::of_bytes(bytes_of(alloc, number)?.as_slice()))?;
+        names.push(name_of(alloc, number)?)?;
     }
     Ok(names)
 }

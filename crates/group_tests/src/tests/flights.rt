@@ -111,13 +111,20 @@ fn callers_of_one_key_share_one_load(rt: HostRuntime) -> Result<(), Fail> {
     assert_shared(&rt, &flights, Answer::Loaded(7))
 }
 
+fn assert_loads_again<R: Wait + Abort>(
+    rt: &R,
+    flights: &Flights<Answer, AnyAnswer>,
+) -> Result<(), Fail> {
+    let given = flights.run(rt, &SHARED, || Answer::Loaded(8))?;
+    assert_eq!(rt; given, Answer::Loaded(8));
+    Ok(())
+}
+
 #[test]
 fn a_fault_is_shared_and_the_next_call_loads_again(rt: HostRuntime) -> Result<(), Fail> {
     let flights = Flights::new(rt.alloc());
     assert_shared(&rt, &flights, Answer::Missing)?;
-    let given = flights.run(&rt, &SHARED, || Answer::Loaded(8))?;
-    assert_eq!(rt; given, Answer::Loaded(8));
-    Ok(())
+    assert_loads_again(&rt, &flights)
 }
 
 /// Whether a call leads a flight, which it ends.
@@ -171,10 +178,21 @@ fn fly_unset(table: &mut FlightTable<u64>) -> Result<Option<(u64, Joined)>, Allo
     }
 }
 
+fn assert_in_turn(rt: &impl Abort, table: &mut FlightTable<u64>) -> Result<(), Fail> {
+    let flown = fly_in_turn(table)?;
+    assert_eq!(rt; flown, (Some((0, Some(7))), true, true));
+    Ok(())
+}
+
+fn assert_unset(rt: &impl Abort, table: &mut FlightTable<u64>) -> Result<(), Fail> {
+    let flown = fly_unset(table)?;
+    assert_eq!(rt; flown, Some((3, Some((3, None)))));
+    Ok(())
+}
+
 #[test]
 fn a_flight_is_led_once_until_it_ends_and_then_anew(rt: HostRuntime) -> Result<(), Fail> {
     let mut table = FlightTable::new(rt.alloc());
-    assert_eq!(rt; fly_in_turn(&mut table)?, (Some((0, Some(7))), true, true));
-    assert_eq!(rt; fly_unset(&mut table)?, Some((3, Some((3, None)))));
-    Ok(())
+    assert_in_turn(&rt, &mut table)?;
+    assert_unset(&rt, &mut table)
 }

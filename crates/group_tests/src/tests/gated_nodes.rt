@@ -2,14 +2,15 @@
 ghost use Rattle.std.specs.Prelude.{◌≡◌, true, refl};
 ghost use Rattle.chunk_group.specs.Outcomes.{clones_of_outcomes, is_outcome};
 
-use super::fixtures::{bytes_of, chunk_of, is_chunk_of};
+use super::fixtures::{chunk_of, is_chunk_of, name_of};
 use super::gates::{ATTEMPTS, CALLERS, Gate};
+use super::node_fixtures::first_node;
 use blob_store::ReadFault;
 use byte_view::Chunk;
 use chunk_group::{Counter, Group, Outcome, Source};
 use host_names::Digest;
 use peer_link::NoLink;
-use peer_ring::{DigestHash, Ring};
+use peer_ring::DigestHash;
 use single_flight::Loads;
 use std::alloc::Global;
 use std::process::Abort;
@@ -108,18 +109,26 @@ fn call_node<R: Threads + Wait + Sync>(
     source: GatedSource<'_>,
     other: &Digest,
 ) -> Result<(), Fail> {
-    let ring = Ring::new(source.alloc, &["node0"], &DigestHash)?;
-    let node = Group::new(
-        source.alloc,
-        10_000,
-        ring,
-        0,
-        source,
-        NoLink,
-        Counter::new(),
-    )?;
+    let node = first_node(source.alloc, 10_000, &["node0"], source, NoLink)?;
     call_all(rt, &node, source, other);
     Ok(())
+}
+
+/// All callers, whose loads go through this gate.
+fn call_gated<R: Threads + Wait + Sync>(
+    rt: &R,
+    alloc: Global,
+    gate: &Gate,
+    is_missing: bool,
+) -> Result<(), Fail> {
+    let source = GatedSource {
+        alloc,
+        gate,
+        shared: name_of(alloc, 0)?,
+        is_missing,
+    };
+    let other = name_of(alloc, 1)?;
+    call_node(rt, source, &other)
 }
 
 /// Whether callers of one key share one load of it, which is held until another key's call was answered.
@@ -129,15 +138,7 @@ fn is_gated<R: Threads + Wait + Abort + Sync>(
     is_missing: bool,
 ) -> Result<bool, Fail> {
     let gate = Gate::new();
-    let shared = Digest::of_bytes(bytes_of(alloc, 0)?.as_slice());
-    let other = Digest::of_bytes(bytes_of(alloc, 1)?.as_slice());
-    let source = GatedSource {
-        alloc,
-        gate: &gate,
-        shared,
-        is_missing,
-    };
-    call_node(rt, source, &other)?;
+    call_gated(rt, alloc, &gate, is_missing)?;
     gate.is_shared(rt)
 }
 

@@ -1,10 +1,12 @@
 //! Stretches of files that are held through a node.
 use super::fixtures::{Giver, bytes_of, names};
 use super::gates::assert_count;
-use blob_store::{Blobs, MemShelf, ReadFault};
+use super::node_fixtures::first_node;
+use blob_store::{Blobs, Files, MemShelf, ReadFault};
 use byte_view::{BlobInfo, Hold};
 use chunk_group::{Counter, FileSource, Group, SoloGroup};
 use file_reads::Holder;
+use host_names::Digest;
 use peer_link::NoLink;
 use peer_ring::{DigestHash, Ring};
 use std::alloc::{AllocError, Global};
@@ -52,14 +54,23 @@ fn assert_bytes(rt: &impl Abort, bytes: &Vec<u8>, wanted: &[u8]) {
 
 type StoredNode = SoloGroup<DigestHash, FileSource<MemShelf>, NoLink, Counter>;
 
-/// A node over a shelf with this file, and what is kept of the file.
-fn stored(alloc: Global, file: &[u8]) -> Result<(StoredNode, Arc<BlobInfo>), Fail> {
-    let mut blobs = Blobs::new(alloc, MemShelf::new(alloc));
-    let info = blobs.upload(file)?;
+/// A node over a shelf.
+fn stored_node(alloc: Global, shelf: Files<MemShelf>) -> Result<StoredNode, Fail> {
     let ring = Ring::new(alloc, &["node0", "node1"], &DigestHash)?;
-    let source = FileSource::new(blobs.into_parts().1);
-    let node = SoloGroup::new(alloc, 100_000, ring, 0, source, NoLink, Counter::new())?;
-    Ok((node, info))
+    let source = FileSource::new(shelf);
+    Ok(SoloGroup::new(alloc, 100_000, ring, 0, source, NoLink, Counter::new())?)
+}
+
+/// The bytes of a stretch that is held.
+fn read<H: Holder>(
+    alloc: Global,
+    node: &mut H,
+    info: &Arc<BlobInfo>,
+    first: usize,
+    last: usize,
+) -> Result<Vec<u8>, Fail> {
+    let hold = hold(node, info, first, last)?;
+    Ok(held(alloc, &hold)?)
 }
 
 /// Asserts the bytes of a stretch.
@@ -69,7 +80,7 @@ fn assert_stretch<H: Holder>(
     node: &mut H,
     info: &Arc<BlobInfo>,
 ) -> Result<(), Fail> {
-    let bytes = held(alloc, &hold(node, info, 65_535, 65_536)?)?;
+    let bytes = read(alloc, node, info, 65_535, 65_536)?;
     assert_bytes(rt, &bytes, &[24, 25]);
     Ok(())
 }
@@ -82,21 +93,61 @@ fn assert_missing<H: Holder>(rt: &impl Abort, alloc: Global, node: &mut H) -> Re
     Ok(())
 }
 
+/// Asserts the bytes of a stretch of a file, from the shelf and then from the cache, and that another file is missing.
+fn assert_file<H: Holder>(
+    rt: &impl Abort,
+    alloc: Global,
+    node: &mut H,
+    info: &Arc<BlobInfo>,
+) -> Result<(), Fail> {
+    assert_stretch(rt, alloc, node, info)?;
+    assert_stretch(rt, alloc, node, info)?;
+    assert_missing(rt, alloc, node)
+}
+
+/// Asserts this of a file on a shelf.
+fn assert_on_shelf(
+    rt: &impl Abort,
+    alloc: Global,
+    shelf: Files<MemShelf>,
+    info: &Arc<BlobInfo>,
+) -> Result<(), Fail> {
+    let mut node = stored_node(alloc, shelf)?;
+    assert_file(rt, alloc, &mut node, info)
+}
+
+/// Asserts this of a file that is put on a shelf.
+fn assert_stored(rt: &impl Abort, alloc: Global, file: &[u8]) -> Result<(), Fail> {
+    let mut blobs = Blobs::new(alloc, MemShelf::new(alloc));
+    let info = blobs.upload(file)?;
+    assert_on_shelf(rt, alloc, blobs.into_parts().1, &info)
+}
+
 #[test]
 fn a_stretch_of_a_stored_file_is_held_across_the_edge_of_a_chunk(
     rt: HostRuntime,
 ) -> Result<(), Fail> {
     let file = file_of(rt.alloc(), 65_537)?;
-    let (mut node, info) = stored(rt.alloc(), file.as_slice())?;
-    // From the shelf, and then from the cache.
-    assert_stretch(&rt, rt.alloc(), &mut node, &info)?;
-    assert_stretch(&rt, rt.alloc(), &mut node, &info)?;
-    assert_missing(&rt, rt.alloc(), &mut node)
+    assert_stored(&rt, rt.alloc(), file.as_slice())
 }
 
 type SharedNode<'a> = Group<DigestHash, Giver<'a>, NoLink, Counter>;
 
-/// Asserts the bytes of a stretch of this file, which has one chunk.
+/// The bytes of a stretch of this file, which has one chunk.
+fn read_shared<R: Wait>(
+    rt: &R,
+    alloc: Global,
+    node: &SharedNode<'_>,
+    info: Arc<BlobInfo>,
+) -> Result<Vec<u8>, Fail> {
+    if info.len() < 9 {
+        return Err(Fail::from("the file has no such stretch"));
+    }
+    let hold = node.hold(rt, info, 5, 8)?;
+    Ok(held(alloc, &hold)?)
+}
+
+/// Asserts these bytes.
 fn assert_sevens<R: Abort + Wait>(
     rt: &R,
     alloc: Global,
@@ -104,29 +155,50 @@ fn assert_sevens<R: Abort + Wait>(
     file: &[u8],
 ) -> Result<(), Fail> {
     let info = Arc::new(alloc, BlobInfo::of(alloc, file)?)?;
-    if info.len() < 9 {
-        return Err(Fail::from("the file has no such stretch"));
-    }
-    let bytes = held(alloc, &node.hold(rt, info, 5, 8)?)?;
+    let bytes = read_shared(rt, alloc, node, info)?;
     assert_bytes(rt, &bytes, &[7, 7, 7, 7]);
     Ok(())
 }
 
 /// Asserts that two holds of one stretch of a file through a node give its bytes.
-fn assert_held<R: Abort + Wait>(rt: &R, alloc: Global, source: Giver<'_>) -> Result<(), Fail> {
+fn assert_held_twice<R: Abort + Wait>(
+    rt: &R,
+    alloc: Global,
+    node: &SharedNode<'_>,
+    file: &[u8],
+) -> Result<(), Fail> {
+    assert_sevens(rt, alloc, node, file)?;
+    assert_sevens(rt, alloc, node, file)
+}
+
+/// Asserts this of a node over a source.
+fn assert_held<R: Abort + Wait>(
+    rt: &R,
+    alloc: Global,
+    source: Giver<'_>,
+    file: &[u8],
+) -> Result<(), Fail> {
+    let node = first_node(alloc, 10_000, &["node0"], source, NoLink)?;
+    assert_held_twice(rt, alloc, &node, file)
+}
+
+/// Asserts this of the file of the eighth chunk, and counts the loads.
+fn assert_sevens_held<R: Abort + Wait>(
+    rt: &R,
+    alloc: Global,
+    names: &[Digest],
+    loads: &AtomicU64,
+) -> Result<(), Fail> {
     let file = bytes_of(alloc, 7)?;
-    let ring = Ring::new(alloc, &["node0"], &DigestHash)?;
-    let node = Group::new(alloc, 10_000, ring, 0, source, NoLink, Counter::new())?;
-    assert_sevens(rt, alloc, &node, file.as_slice())?;
-    assert_sevens(rt, alloc, &node, file.as_slice())
+    let source = Giver::new(alloc, names, &[], loads);
+    assert_held(rt, alloc, source, file.as_slice())
 }
 
 #[test]
 fn a_stretch_is_held_through_a_node_that_threads_share(rt: HostRuntime) -> Result<(), Fail> {
     let names = names(rt.alloc(), 8)?;
     let calls = AtomicU64::new(0);
-    let source = Giver::new(rt.alloc(), names.as_slice(), &[], &calls);
-    assert_held(&rt, rt.alloc(), source)?;
+    assert_sevens_held(&rt, rt.alloc(), names.as_slice(), &calls)?;
     assert_count(&rt, &calls, 1, "loads");
     Ok(())
 }

@@ -5,12 +5,13 @@ ghost use Rattle.blob_store.specs.declared.reading.ReadFault.TheVariants.{Damage
 ghost use Rattle.chunk_group.specs.Outcomes.{clones_of_outcomes, is_outcome};
 ghost use Rattle.group_tests.specs.Sources.{GivesAlone, may_lack};
 
+use super::node_fixtures::first_node;
 use blob_store::ReadFault;
 use byte_view::Chunk;
 use chunk_group::{Counter, Group, Outcome, Source};
 use host_names::Digest;
 use peer_link::NoLink;
-use peer_ring::{DigestHash, Ring};
+use peer_ring::DigestHash;
 use single_flight::Loads;
 use std::alloc::Global;
 use std::process::Abort;
@@ -56,9 +57,7 @@ fn read<R: Wait>(rt: &R, node: &KnownNode, key: &Digest) -> Outcome
 
 /// A node over the source of the byte 7.
 fn known_node(alloc: Global) -> Result<KnownNode, Fail> {
-    let ring = Ring::new(alloc, &["node0"], &DigestHash)?;
-    let source = OneByte { alloc, byte: 7 };
-    Ok(Group::new(alloc, 1_000, ring, 0, source, NoLink, Counter::new())?)
+    first_node(alloc, 1_000, &["node0"], OneByte { alloc, byte: 7 }, NoLink)
 }
 
 fn assert_given<R: Abort + Wait>(rt: &R, node: &KnownNode) -> Result<(), Fail> {

@@ -2,6 +2,7 @@
 
 use super::fixtures::Giver;
 use super::gates::assert_count;
+use super::node_fixtures::first_node;
 use chunk_group::{Counter, Group, Outcome, SoloGroup};
 use host_names::Digest;
 use peer_ring::{DigestHash, Ring};
@@ -79,6 +80,5 @@ pub(super) fn shared_node<'a>(
     source: Giver<'a>,
     link: Giver<'a>,
 ) -> Result<SharedNode<'a>, Fail> {
-    let ring = Ring::new(alloc, &PEERS, &DigestHash)?;
-    Ok(Group::new(alloc, limit, ring, 0, source, link, Counter::new())?)
+    first_node(alloc, limit, &PEERS, source, link)
 }

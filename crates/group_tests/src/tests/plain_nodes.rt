@@ -28,7 +28,7 @@ pub(super) const LOADS: [Gift; 6] = [
 /// The numbers of the chunks in its caches, the last used first; how often who was asked, and how often the coin was drawn.
 #[derive(Drop)]
 pub(super) struct PlainNode {
-    limit: usize,
+    pub(super) limit: usize,
     main: Vec<usize>,
     hot: Vec<usize>,
     draws: u64,

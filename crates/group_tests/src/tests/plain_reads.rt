@@ -20,31 +20,63 @@ fn is_told(
     wanted: Option<ReadFault>,
 ) -> Result<bool, AllocError> {
     match (given, wanted) {
+        (Err(ReadFault::OutOfMemory), _) => Err(AllocError),
         (Err(fault), Some(wanted)) => Ok(*fault == wanted),
         (given, None) => is_chunk_of(alloc, given, number),
         _ => Ok(false),
     }
 }
 
-/// Whether a read of a chunk answers the same by both means.
+/// Whether a read of the chunk of a number answers the same by both means.
 fn is_same_read<N: Reads>(
+    alloc: Global,
+    node: &mut N,
+    plain: &mut PlainNode,
+    name: &Digest,
+    number: usize,
+    is_mine: bool,
+) -> Result<bool, AllocError> {
+    let wanted = plain.read(number, is_mine)?;
+    is_told(alloc, &node.read(name), number, wanted)
+}
+
+/// Asserts that a read answers the same by both means.
+fn assert_same_read<N: Reads>(
+    rt: &impl Abort,
     alloc: Global,
     node: &mut N,
     plain: &mut PlainNode,
     ring: &Ring<DigestHash>,
     name: &Digest,
     number: usize,
-) -> Result<bool, Fail> {
+    read: u32,
+) -> Result<(), AllocError> {
     let is_mine = ring.owner(name.to_hex().as_bytes()) == 0;
-    let wanted = plain.read(number, is_mine)?;
-    let given = node.read(name);
-    if let Err(ReadFault::OutOfMemory) = &given {
-        return Err(Fail::from("OutOfMemory"));
-    }
-    Ok(is_told(alloc, &given, number, wanted)?)
+    let is_same = is_same_read(alloc, node, plain, name, number, is_mine)?;
+    assert_eq!(rt; is_same, true, "read {read}");
+    Ok(())
 }
 
 /// Asserts that 5,000 generated reads answer the same by both means.
+fn read_in_turn<N: Reads>(
+    rt: &impl Abort,
+    alloc: Global,
+    node: &mut N,
+    plain: &mut PlainNode,
+    ring: &Ring<DigestHash>,
+    names: &[Digest],
+) -> Result<(), Fail> {
+    let mut state: u32 = 1;
+    for read in 0..5000u32 {
+        state = state.wrapping_mul(1_664_525).wrapping_add(1_013_904_223);
+        let number = (state >> 16) as usize % names.len().max(1);
+        let name = names.get(number).ok_or("no such chunk")?;
+        assert_same_read(rt, alloc, node, plain, ring, name, number, read)?;
+    }
+    Ok(())
+}
+
+/// The same, with the ring of the nodes.
 fn read_both<N: Reads>(
     rt: &impl Abort,
     alloc: Global,
@@ -53,15 +85,36 @@ fn read_both<N: Reads>(
     names: &[Digest],
 ) -> Result<(), Fail> {
     let ring = Ring::new(alloc, &PEERS, &DigestHash)?;
-    let mut state: u32 = 1;
-    for read in 0..5000u32 {
-        state = state.wrapping_mul(1_664_525).wrapping_add(1_013_904_223);
-        let number = (state >> 16) as usize % names.len().max(1);
-        let name = names.get(number).ok_or("no such chunk")?;
-        let is_same = is_same_read(alloc, node, plain, &ring, name, number)?;
-        assert_eq!(rt; is_same, true, "read {read}");
-    }
-    Ok(())
+    read_in_turn(rt, alloc, node, plain, &ring, names)
+}
+
+/// Reads through a node of one thread, and through the plain one.
+fn read_alone(
+    rt: &impl Abort,
+    alloc: Global,
+    names: &[Digest],
+    asked: &Asked,
+    plain: &mut PlainNode,
+) -> Result<(), Fail> {
+    let source = Giver::new(alloc, names, &LOADS, &asked.source);
+    let link = Giver::new(alloc, names, &FETCHES, &asked.peers);
+    let mut node = lone_node(alloc, plain.limit, source, link)?;
+    read_both(rt, alloc, &mut node, plain, names)
+}
+
+/// The same through a node that threads share.
+fn read_shared<R: Abort + Wait>(
+    rt: &R,
+    alloc: Global,
+    names: &[Digest],
+    asked: &Asked,
+    plain: &mut PlainNode,
+) -> Result<(), Fail> {
+    let source = Giver::new(alloc, names, &LOADS, &asked.source);
+    let link = Giver::new(alloc, names, &FETCHES, &asked.peers);
+    let node = shared_node(alloc, plain.limit, source, link)?;
+    let mut visitor = Visitor { rt, node: &node };
+    read_both(rt, alloc, &mut visitor, plain, names)
 }
 
 /// Asserts that the reads of these chunks under a limit answer the same by both means, and ask the peers and the source as often.
@@ -72,11 +125,8 @@ fn assert_same_alone(
     limit: usize,
 ) -> Result<(), Fail> {
     let asked = Asked::new();
-    let source = Giver::new(alloc, names, &LOADS, &asked.source);
-    let link = Giver::new(alloc, names, &FETCHES, &asked.peers);
-    let mut node = lone_node(alloc, limit, source, link)?;
     let mut plain = PlainNode::new(alloc, limit);
-    read_both(rt, alloc, &mut node, &mut plain, names)?;
+    read_alone(rt, alloc, names, &asked, &mut plain)?;
     asked.assert(rt, plain.fetches, plain.loads);
     Ok(())
 }
@@ -89,12 +139,8 @@ fn assert_same_shared<R: Abort + Wait>(
     limit: usize,
 ) -> Result<(), Fail> {
     let asked = Asked::new();
-    let source = Giver::new(alloc, names, &LOADS, &asked.source);
-    let link = Giver::new(alloc, names, &FETCHES, &asked.peers);
-    let node = shared_node(alloc, limit, source, link)?;
-    let mut visitor = Visitor { rt, node: &node };
     let mut plain = PlainNode::new(alloc, limit);
-    read_both(rt, alloc, &mut visitor, &mut plain, names)?;
+    read_shared(rt, alloc, names, &asked, &mut plain)?;
     asked.assert(rt, plain.fetches, plain.loads);
     Ok(())
 }

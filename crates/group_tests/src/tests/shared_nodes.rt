@@ -4,12 +4,13 @@ ghost use Rattle.chunk_group.specs.Outcomes.{clones_of_outcomes, is_outcome};
 
 use super::fixtures::{Gift, Giver, chunk_of, is_chunk_of, names, number_of};
 use super::gates::assert_count;
+use super::node_fixtures::first_node;
 use blob_store::ReadFault;
 use byte_view::Chunk;
 use chunk_group::{Counter, Group, Outcome, Source};
 use host_names::Digest;
 use peer_link::{NoLink, PeerLink};
-use peer_ring::{DigestHash, Ring};
+use peer_ring::DigestHash;
 use single_flight::Loads;
 use std::alloc::{AllocError, Global};
 use std::process::Abort;
@@ -217,10 +218,20 @@ fn visit_all<R: Threads + Wait + Sync, L: PeerLink + Copy + Drop + Sync>(
 
 /// Eight threads that read through a node that is alone, and has room for all chunks.
 fn visit_alone<R: Threads + Wait + Sync>(rt: &R, source: StockSource<'_>) -> Result<(), Fail> {
-    let alloc = source.alloc;
-    let ring = Ring::new(alloc, &["node0"], &DigestHash)?;
-    let node = Group::new(alloc, 1_000_000, ring, 0, source, NoLink, Counter::new())?;
+    let node = first_node(source.alloc, 1_000_000, &["node0"], source, NoLink)?;
     visit_all(rt, &node, source);
+    Ok(())
+}
+
+/// Asserts that each chunk of a source that doesn't fail is loaded once.
+fn assert_loaded_once<R: Threads + Wait + Abort + Sync>(
+    rt: &R,
+    source: StockSource<'_>,
+) -> Result<(), Fail> {
+    visit_alone(rt, source)?;
+    source.stock.assert_right(rt)?;
+    assert_count(rt, &source.stock.loads, CHUNKS as u64, "loads");
+    assert_count(rt, &source.stock.faults, 0, "faults");
     Ok(())
 }
 
@@ -228,17 +239,11 @@ fn visit_alone<R: Threads + Wait + Sync>(rt: &R, source: StockSource<'_>) -> Res
 fn a_chunk_that_is_kept_is_loaded_once(rt: HostRuntime) -> Result<(), Fail> {
     let alloc = rt.alloc();
     let stock = Stock::new(alloc, CHUNKS, false)?;
-    visit_alone(
-        &rt,
-        StockSource {
-            alloc,
-            stock: &stock,
-        },
-    )?;
-    stock.assert_right(&rt)?;
-    assert_count(&rt, &stock.loads, CHUNKS as u64, "loads");
-    assert_count(&rt, &stock.faults, 0, "faults");
-    Ok(())
+    let source = StockSource {
+        alloc,
+        stock: &stock,
+    };
+    assert_loaded_once(&rt, source)
 }
 
 /// What the peer gives, in turn.
@@ -249,9 +254,19 @@ fn visit_with_peer<R: Threads + Wait + Sync>(rt: &R, source: StockSource<'_>) ->
     let alloc = source.alloc;
     let calls = AtomicU64::new(0);
     let link = Giver::new(alloc, source.stock.names.as_slice(), &FETCHES, &calls);
-    let ring = Ring::new(alloc, &["node0", "node1"], &DigestHash)?;
-    let node = Group::new(alloc, 2000, ring, 0, source, link, Counter::new())?;
+    let node = first_node(alloc, 2000, &["node0", "node1"], source, link)?;
     visit_all(rt, &node, source);
+    Ok(())
+}
+
+/// Asserts that reads through a node that has a peer, over a source that fails, are right or fail as that did.
+fn assert_right_or_failed<R: Threads + Wait + Abort + Sync>(
+    rt: &R,
+    source: StockSource<'_>,
+) -> Result<(), Fail> {
+    visit_with_peer(rt, source)?;
+    source.stock.assert_right(rt)?;
+    assert!(rt; source.stock.faults.load(Ordering::SeqCst) > 0);
     Ok(())
 }
 
@@ -259,14 +274,9 @@ fn visit_with_peer<R: Threads + Wait + Sync>(rt: &R, source: StockSource<'_>) ->
 fn each_read_is_right_or_fails_as_the_source_did(rt: HostRuntime) -> Result<(), Fail> {
     let alloc = rt.alloc();
     let stock = Stock::new(alloc, DRAWN_CHUNKS, true)?;
-    visit_with_peer(
-        &rt,
-        StockSource {
-            alloc,
-            stock: &stock,
-        },
-    )?;
-    stock.assert_right(&rt)?;
-    assert!(rt; stock.faults.load(Ordering::SeqCst) > 0);
-    Ok(())
+    let source = StockSource {
+        alloc,
+        stock: &stock,
+    };
+    assert_right_or_failed(&rt, source)
 }

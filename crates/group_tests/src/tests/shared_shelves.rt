@@ -2,11 +2,12 @@
 
 use super::fixtures::{bytes_of, is_chunk_of, names};
 use super::gates::assert_count;
+use super::node_fixtures::first_node;
 use blob_store::{Files, MemShelf, ReadFault};
 use chunk_group::{Counter, Group, SharedSource};
 use host_names::Digest;
 use peer_link::NoLink;
-use peer_ring::{DigestHash, Ring};
+use peer_ring::DigestHash;
 use std::alloc::Global;
 use std::process::Abort;
 use std::sync::atomic::{AtomicU64, Ordering};
@@ -35,9 +36,8 @@ fn node<'a, R: Wait>(
     alloc: Global,
     files: &'a Mutex<Files<MemShelf>>,
 ) -> Result<ShelfNode<'a, R>, Fail> {
-    let ring = Ring::new(alloc, &["node0"], &DigestHash)?;
     let source = SharedSource::new(rt, files);
-    Ok(Group::new(alloc, 10_000, ring, 0, source, NoLink, Counter::new())?)
+    first_node(alloc, 10_000, &["node0"], source, NoLink)
 }
 
 /// Reads each chunk twice, and counts the right answers.
@@ -77,16 +77,40 @@ fn visit_both<R: Threads + Wait + Sync>(
     });
 }
 
+/// Reads through this node, and through another over the same shelf.
+fn visit_beside<R: Threads + Wait + Sync>(
+    rt: &R,
+    alloc: Global,
+    files: &Mutex<Files<MemShelf>>,
+    first: &ShelfNode<'_, R>,
+    names: &[Digest],
+    right: &AtomicU64,
+) -> Result<(), Fail> {
+    let second = node(rt, alloc, files)?;
+    visit_both(rt, alloc, (first, &second), names, right);
+    Ok(())
+}
+
+/// Reads through two nodes over this shelf.
+fn visit_shelf<R: Threads + Wait + Sync>(
+    rt: &R,
+    alloc: Global,
+    files: &Mutex<Files<MemShelf>>,
+    names: &[Digest],
+    right: &AtomicU64,
+) -> Result<(), Fail> {
+    let first = node(rt, alloc, files)?;
+    visit_beside(rt, alloc, files, &first, names, right)
+}
+
 fn assert_shared<R: Threads + Wait + Abort + Sync>(
     rt: &R,
     alloc: Global,
     files: &Mutex<Files<MemShelf>>,
 ) -> Result<(), Fail> {
     let names = names(alloc, CHUNKS + 1)?;
-    let first = node(rt, alloc, files)?;
-    let second = node(rt, alloc, files)?;
     let right = AtomicU64::new(0);
-    visit_both(rt, alloc, (&first, &second), names.as_slice(), &right);
+    visit_shelf(rt, alloc, files, names.as_slice(), &right)?;
     assert_count(rt, &right, 36, "right answers");
     Ok(())
 }
