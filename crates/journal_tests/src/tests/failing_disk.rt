@@ -1,7 +1,8 @@
-//! A disk whose calls fail from one on, and what the first of them leaves.
-ghost use Rattle.std.specs.Prelude.{◌≡◌, [], ⊤, false};
-ghost use Rattle.std.proofs.lemmas.Bool.{false≢true};
-ghost use Rattle.host_disk.specs.Crashes.{CountsFailure};
+//! A disk that stops or that fails once, and what the call leaves that it does so at. It is proved to be one: each clause of `Disk` is met
+//! by a device that fails in the middle of a write or a cut, and goes on after it or not.
+ghost use Rattle.std.specs.Prelude.{◌≡◌, ◌↔◌, ◌⊎◌, ◌<◌, ◌≤◌, ℕ, IfSome, IsTrue, List, length};
+ghost use Rattle.host_disk.specs.Crashes.{CountsFailure, Cut, Elapses, Follows, Torn};
+ghost use Rattle.journal_tests.specs.declared.tests.failing_disk.Turn.TheVariants.{Works};
 
 use host_disk::{DeviceFault, Disk};
 
@@ -21,6 +22,15 @@ pub enum Leaves {
     All,
 }
 
+/// How many calls fail.
+#[derive(Clone, Copy, Debug, PartialEq, Eq)]
+pub enum Fails {
+    /// One alone: the device had a fault.
+    Once,
+    /// All from the first on: the device stopped.
+    Always,
+}
+
 /// Which call this is.
 #[derive(Clone, Copy, Debug, PartialEq, Eq)]
 enum Turn {
@@ -31,12 +41,15 @@ enum Turn {
     Failed,
 }
 
-/// A disk whose calls fail from one on, until it is mended. None of its calls is claimed to do anything.
+/// A disk some of whose calls fail. The first of these leaves some of what it was to do, and the others do nothing. Each call before and
+/// after them is one of the disk within.
 #[derive(Drop)]
 pub struct FailingDisk<D> {
     disk: D,
-    /// How many calls come before the first that fails; without it none fails.
-    before: Option<usize>,
+    /// How many calls come before the first that fails.
+    first: usize,
+    /// How many come before those that work again.
+    end: usize,
     leaves: Leaves,
     calls: usize,
     failures: u64,
@@ -44,7 +57,8 @@ pub struct FailingDisk<D> {
 
 /// The outcome of a call, which is counted where it failed.
 fn counted<T>(failures: &mut u64, outcome: Result<T, DeviceFault>) -> Result<T, DeviceFault>
-    ensures { CountsFailure result failures.old failures.new }
+    ensures same { result ≡ outcome }
+    ensures cause { CountsFailure result failures.old failures.new }
 {
     if outcome.is_err() {
         *failures = failures.saturating_add(1);
@@ -52,12 +66,66 @@ fn counted<T>(failures: &mut u64, outcome: Result<T, DeviceFault>) -> Result<T, 
     outcome
 }
 
+/// What a write that fails puts in place of its bytes.
+fn left_of<'a>(bytes: &'a [u8], leaves: Leaves) -> Option<&'a [u8]>
+    ensures { IfSome result (λ left. length left.now ≤ length bytes.now) }
+{
+    match leaves {
+        Leaves::Nothing => None,
+        Leaves::Half => Some(&bytes[..bytes.len() / 2]),
+        Leaves::Junk => Some(&JUNK[..bytes.len().min(JUNK.len())]),
+        Leaves::All => Some(bytes),
+    }
+}
+
+/// Writes what a write that fails leaves.
+fn leave_written<D: Disk>(disk: &mut D, at: usize, bytes: &[u8], leaves: Leaves)
+    ensures seen { IsTrue D.is_modelled → Torn at (length bytes.now) (D.seen disk.old) (D.seen disk.new) }
+    ensures past { IsTrue D.is_modelled → length (D.seen disk.old) < at → D.seen disk.new ≡ D.seen disk.old }
+    ensures crash { IsTrue D.is_modelled → Follows (Torn at (length bytes.now)) (D.may_leave disk.old) (D.may_leave disk.new) }
+    ensures left { IsTrue D.is_modelled → (c : List ℕ) → D.may_leave disk.old c → D.may_leave disk.new c }
+    ensures past_crash { IsTrue D.is_modelled → length (D.seen disk.old) < at → (c : List ℕ) → D.may_leave disk.new c ↔ D.may_leave disk.old c }
+    ensures time { IsTrue D.is_modelled → Elapses (D.moment disk.old) (D.moment disk.new) (D.left_since disk.old) (D.left_since disk.new) (D.may_leave disk.new) }
+{
+    if let Some(left) = left_of(bytes, leaves) {
+        let _ = disk.write_at(at, left);
+    }
+}
+
+/// The size to which a cut that fails cuts a disk, which has so many bytes more.
+fn size_left(size: usize, more: usize, leaves: Leaves) -> Option<usize>
+    ensures { IfSome result (λ left. size ≤ left) }
+{
+    match leaves {
+        Leaves::Nothing | Leaves::Junk => None,
+        Leaves::Half => Some(size.saturating_add(more / 2)),
+        Leaves::All => Some(size),
+    }
+}
+
+/// Cuts what a cut that fails leaves cut.
+fn leave_cut<D: Disk>(disk: &mut D, size: usize, leaves: Leaves)
+    ensures seen { IsTrue D.is_modelled → Cut size (D.seen disk.old) (D.seen disk.new) }
+    ensures crash { IsTrue D.is_modelled → Follows (Cut size) (D.may_leave disk.old) (D.may_leave disk.new) }
+    ensures left { IsTrue D.is_modelled → (c : List ℕ) → D.may_leave disk.old c → D.may_leave disk.new c }
+    ensures time { IsTrue D.is_modelled → Elapses (D.moment disk.old) (D.moment disk.new) (D.left_since disk.old) (D.left_since disk.new) (D.may_leave disk.new) }
+{
+    let more = disk.len().map_or(0, |len| len.saturating_sub(size));
+    if let Some(left) = size_left(size, more, leaves) {
+        let _ = disk.cut(left);
+    }
+}
+
 impl<D: Disk> FailingDisk<D> {
-    /// A disk whose calls fail after so many others.
-    pub fn new(disk: D, before: usize, leaves: Leaves) -> FailingDisk<D> {
+    /// A disk that fails after so many calls.
+    pub fn new(disk: D, before: usize, fails: Fails, leaves: Leaves) -> FailingDisk<D> {
         FailingDisk {
             disk,
-            before: Some(before),
+            first: before,
+            end: match fails {
+                Fails::Once => before.saturating_add(1),
+                Fails::Always => usize::MAX,
+            },
             leaves,
             calls: 0,
             failures: 0,
@@ -69,121 +137,104 @@ impl<D: Disk> FailingDisk<D> {
         self.calls
     }
 
-    /// Lets all further calls succeed.
+    /// Lets all further calls go to the disk.
     pub fn mend(&mut self) {
-        self.before = None;
+        self.end = 0;
     }
 
     /// Counts a call.
     fn turn(&mut self) -> Turn
-        ensures { self.new.failures ≡ self.old.failures }
+        ensures works { result ≡ Works ↔ ((self.old.calls < self.old.first) ⊎ (self.old.end ≤ self.old.calls)) }
+        ensures disk { self.new.disk ≡ self.old.disk }
+        ensures failures { self.new.failures ≡ self.old.failures }
     {
         let made = self.calls;
         self.calls = made.saturating_add(1);
-        match self.before {
-            Some(before) if made == before => Turn::Fails,
-            Some(before) if made > before => Turn::Failed,
-            _ => Turn::Works,
+        if made < self.first || self.end <= made {
+            return Turn::Works;
         }
-    }
-
-    /// Writes what a write that fails leaves.
-    fn leave_written(&mut self, at: usize, bytes: &[u8])
-        ensures { self.new.failures ≡ self.old.failures }
-    {
-        let left = match self.leaves {
-            Leaves::Nothing => return,
-            Leaves::Half => &bytes[..bytes.len() / 2],
-            Leaves::Junk => &JUNK[..bytes.len().min(JUNK.len())],
-            Leaves::All => bytes,
-        };
-        let _ = self.disk.write_at(at, left);
-    }
-
-    /// Cuts what a cut that fails leaves cut.
-    fn leave_cut(&mut self, size: usize)
-        ensures { self.new.failures ≡ self.old.failures }
-    {
-        let longer = self.disk.len().map_or(0, |len| len.saturating_sub(size));
-        let kept = match self.leaves {
-            Leaves::Nothing | Leaves::Junk => return,
-            Leaves::Half => size.saturating_add(longer / 2),
-            Leaves::All => size,
-        };
-        let _ = self.disk.cut(kept);
+        if made == self.first {
+            Turn::Fails
+        } else {
+            Turn::Failed
+        }
     }
 }
 
 impl<D: Disk> Disk for FailingDisk<D> {
-    ghost is_modelled = { false };
+    ghost is_modelled = { D.is_modelled };
 
-    ghost seen = { λ _. [] };
+    ghost seen = { λ failing. D.seen failing.disk };
 
-    ghost may_leave = { λ _ _. ⊥ };
+    ghost may_leave = { λ failing. D.may_leave failing.disk };
 
-    ghost moment = { λ _. 0 };
+    ghost moment = { λ failing. D.moment failing.disk };
 
-    ghost left_since = { λ _ _ _. ⊥ };
+    ghost left_since = { λ failing. D.left_since failing.disk };
 
-    ghost faults = { λ disk. disk.failures };
+    ghost faults = { λ failing. failing.failures };
 
-    ghost may_fail = { λ _ _. ⊤ };
+    ghost may_fail = { λ failing call. ((failing.first ≤ failing.calls) × (failing.calls < failing.end)) ⊎ D.may_fail failing.disk call };
 
-    ghost may_stay = { λ _ no_model. absurd (false≢true no_model) };
+    ghost may_stay = { λ failing. D.may_stay failing.disk };
 
-    ghost counts_now = { λ _ _ _ no_model. absurd (false≢true no_model) };
+    ghost counts_now = { λ failing. D.counts_now failing.disk };
 
-    ghost only_now = { λ _ _ no_model. absurd (false≢true no_model) };
+    ghost only_now = { λ failing. D.only_now failing.disk };
 
     fn failures(&self) -> u64 {
         self.failures
     }
 
     fn len(&mut self) -> Result<usize, DeviceFault> {
-        let outcome = match self.turn() {
-            Turn::Works => self.disk.len(),
-            _ => Err(DeviceFault),
-        };
+        if self.turn() != Turn::Works {
+            return counted(&mut self.failures, Err(DeviceFault));
+        }
+        let outcome = self.disk.len();
         counted(&mut self.failures, outcome)
     }
 
     fn read(&mut self, at: usize, bytes: &mut [u8]) -> Result<(), DeviceFault> {
-        let outcome = match self.turn() {
-            Turn::Works => self.disk.read(at, bytes),
-            _ => Err(DeviceFault),
-        };
+        if self.turn() != Turn::Works {
+            return counted(&mut self.failures, Err(DeviceFault));
+        }
+        let outcome = self.disk.read(at, bytes);
         counted(&mut self.failures, outcome)
     }
 
     fn write_at(&mut self, at: usize, bytes: &[u8]) -> Result<(), DeviceFault> {
-        let turn = self.turn();
-        if turn == Turn::Fails {
-            self.leave_written(at, bytes);
+        match self.turn() {
+            Turn::Works => {
+                let outcome = self.disk.write_at(at, bytes);
+                counted(&mut self.failures, outcome)
+            }
+            Turn::Fails => {
+                leave_written(&mut self.disk, at, bytes, self.leaves);
+                counted(&mut self.failures, Err(DeviceFault))
+            }
+            Turn::Failed => counted(&mut self.failures, Err(DeviceFault)),
         }
-        let outcome = match turn {
-            Turn::Works => self.disk.write_at(at, bytes),
-            _ => Err(DeviceFault),
-        };
-        counted(&mut self.failures, outcome)
     }
 
     fn cut(&mut self, size: usize) -> Result<(), DeviceFault> {
-        let turn = self.turn();
-        if turn == Turn::Fails {
-            self.leave_cut(size);
+        match self.turn() {
+            Turn::Works => {
+                let outcome = self.disk.cut(size);
+                counted(&mut self.failures, outcome)
+            }
+            Turn::Fails => {
+                leave_cut(&mut self.disk, size, self.leaves);
+                counted(&mut self.failures, Err(DeviceFault))
+            }
+            Turn::Failed => counted(&mut self.failures, Err(DeviceFault)),
         }
-        let outcome = match turn {
-            Turn::Works => self.disk.cut(size),
-            _ => Err(DeviceFault),
-        };
-        counted(&mut self.failures, outcome)
     }
 
     fn sync(&mut self) -> Result<(), DeviceFault> {
-        let outcome = match self.turn() {
-            Turn::Works => self.disk.sync(),
-            _ => Err(DeviceFault),
-        };
+        if self.turn() != Turn::Works {
+            return counted(&mut self.failures, Err(DeviceFault));
+        }
+        let outcome = self.disk.sync();
         counted(&mut self.failures, outcome)
     }
 }

@@ -87,6 +87,11 @@ impl<D: Disk + Drop> Filled<D> {
         Ok(())
     }
 
+    /// Whether the device failed at an entry.
+    pub(crate) fn is_broken(&self) -> bool {
+        self.journal.is_broken()
+    }
+
     /// The journal.
     pub(crate) fn into_journal(self) -> Journal<D> {
         self.journal

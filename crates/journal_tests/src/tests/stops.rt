@@ -1,7 +1,7 @@
 //! A device that fails at each call of an opening and of a put, and what is opened afterwards; and one that is full.
 ghost use Rattle.std.specs.Prelude.{◌≡◌};
 
-use super::failing_disk::{FailingDisk, Leaves};
+use super::failing_disk::{FailingDisk, Fails, Leaves};
 use super::files::{Filled, assert_bytes, bytes_of, disk_of, opened, prepared};
 use change_journal::{Journal, OpenFault, Prepared, PutFault};
 use host_disk::{LentDisk, MemDisk};
@@ -27,7 +27,12 @@ fn halves<'a>(text: &'a str, separator: &str) -> Result<(&'a str, &'a str), Fail
     Ok(text.split_once(separator).ok_or("a text has two halves")?)
 }
 
-/// Puts two entries, the second of which is refused where the device failed at the first.
+/// Whether a journal is broken, and refuses an entry for that.
+fn is_broken(journal: &mut Filled<LentDisk<'_, FailingDisk<MemDisk>>>, entry: Prepared) -> bool {
+    journal.is_broken() && journal.put(entry) == Err(PutFault::Broken)
+}
+
+/// Puts two entries, the second of which is refused where the device failed at the first, since that broke the journal.
 fn put_two(
     journal: &mut Filled<LentDisk<'_, FailingDisk<MemDisk>>>,
     entry: Prepared,
@@ -35,7 +40,7 @@ fn put_two(
 ) -> Stage {
     match journal.put(entry) {
         Ok(()) => Stage::Nothing,
-        Err(PutFault::Device) if journal.put(again) == Err(PutFault::Broken) => Stage::Putting,
+        Err(PutFault::Device) if is_broken(journal, again) => Stage::Putting,
         Err(_) => Stage::Wrong,
     }
 }
@@ -63,10 +68,11 @@ fn stopped(
     alloc: Global,
     file: &str,
     before: usize,
+    fails: Fails,
     leaves: Leaves,
 ) -> Result<(Stage, u64), Fail> {
     let text = bytes_of(alloc, CANCEL)?;
-    let mut disk = FailingDisk::new(disk_of(alloc, file)?, before, leaves);
+    let mut disk = FailingDisk::new(disk_of(alloc, file)?, before, fails, leaves);
     let stage = run(alloc, &mut disk, text.as_slice())?;
     assert_calls(rt, disk.calls(), before, stage);
     disk.mend();
@@ -75,11 +81,17 @@ fn stopped(
 
 /// What becomes of an opening and a put, where the device fails after each number of calls: how many entries are opened
 /// afterwards, for the calls of the opening and then for those of the put.
-fn told_stops(rt: &impl Abort, alloc: Global, file: &str, leaves: Leaves) -> Result<String, Fail> {
+fn told_stops(
+    rt: &impl Abort,
+    alloc: Global,
+    file: &str,
+    fails: Fails,
+    leaves: Leaves,
+) -> Result<String, Fail> {
     let mut text = String::new(alloc);
     let mut last = Stage::Opening;
     for before in 0..1_000 {
-        let (stage, entries) = stopped(rt, alloc, file, before, leaves)?;
+        let (stage, entries) = stopped(rt, alloc, file, before, fails, leaves)?;
         if stage != last {
             write!(text, " {stage:?}")?;
             last = stage;
@@ -109,9 +121,15 @@ fn assert_each(rt: &impl Abort, text: &str, number: &str) {
 
 /// Asserts that a failure at any call of an opening leaves the entries, and that one at a call of a put leaves them or has the new
 /// one too: from the third call on, which opens the gate, where that is done, and else at the fourth.
-fn assert_stops(rt: &impl Abort, alloc: Global, row: &str, leaves: Leaves) -> Result<(), Fail> {
+fn assert_stops(
+    rt: &impl Abort,
+    alloc: Global,
+    row: &str,
+    fails: Fails,
+    leaves: Leaves,
+) -> Result<(), Fail> {
     let (file, had) = halves(row, " | ")?;
-    let text = told_stops(rt, alloc, file, leaves)?;
+    let text = told_stops(rt, alloc, file, fails, leaves)?;
     let (opening, rest) = halves(text.as_str(), " Putting")?;
     assert_each(rt, opening, had);
     let had = had.parse::<u64>()?;
@@ -122,14 +140,24 @@ fn assert_stops(rt: &impl Abort, alloc: Global, row: &str, leaves: Leaves) -> Re
     Ok(())
 }
 
-#[test]
-fn a_stop_leaves_the_entries_with_the_new_one_or_without(rt: HostRuntime) -> Result<(), Fail> {
+/// Asserts what a device leaves that fails so many calls.
+fn assert_all_stops(rt: &impl Abort, alloc: Global, fails: Fails) -> Result<(), Fail> {
     for row in FILES.lines() {
         for leaves in [Leaves::Nothing, Leaves::Half, Leaves::Junk, Leaves::All] {
-            assert_stops(&rt, rt.alloc(), row, leaves)?;
+            assert_stops(rt, alloc, row, fails, leaves)?;
         }
     }
     Ok(())
+}
+
+#[test]
+fn a_stop_leaves_the_entries_with_the_new_one_or_without(rt: HostRuntime) -> Result<(), Fail> {
+    assert_all_stops(&rt, rt.alloc(), Fails::Always)
+}
+
+#[test]
+fn a_device_that_works_again_leaves_the_journal_broken(rt: HostRuntime) -> Result<(), Fail> {
+    assert_all_stops(&rt, rt.alloc(), Fails::Once)
 }
 
 /// Asserts that an entry isn't put, for this reason.
