@@ -1,5 +1,5 @@
 -- What the parts of an opening say of it.
-use Rattle.std.proofs.Common.{◌≡◌, inl, inr, List, IsTrue, ℕ, false, refl, subst, sym}
+use Rattle.std.proofs.Common.{◌≡◌, ◌⊎◌, inl, inr, List, IsTrue, ℕ, false, refl, subst, sym}
 use Rattle.host_names.specs.Blobs.{Contents}
 use Rattle.blob_store.specs.Calls.{Call}
 use Rattle.change_undo.specs.declared.entries.Entry.{Entry}
@@ -56,3 +56,26 @@ journal_stops disk old journal_fault.BadHeader new header bad unwritten spared t
 journal_stops disk old (journal_fault.BadRecord number) new header bad unwritten spared told = (λ modelled. bad modelled number refl, λ modelled. unwritten modelled (λ e. absurd (cc e)))
 journal_stops disk old journal_fault.Device new header bad unwritten spared told = (told.0 refl, spared)
 journal_stops disk old journal_fault.OutOfMemory new header bad unwritten spared told = λ modelled. unwritten modelled (λ e. absurd (cc e))
+
+-- ---- which fault of the journal is told as which
+
+pub was_memory : (why : of_disk.OpenFault) → of_journal why ≡ fault.OutOfMemory → why ≡ journal_fault.OutOfMemory
+was_memory journal_fault.BadHeader told = absurd (cc told)
+was_memory (journal_fault.BadRecord number) told = absurd (cc told)
+was_memory journal_fault.Device told = absurd (cc told)
+was_memory journal_fault.OutOfMemory told = refl
+
+pub was_device : (why : of_disk.OpenFault) → of_journal why ≡ fault.JournalDevice → why ≡ journal_fault.Device
+was_device journal_fault.BadHeader told = absurd (cc told)
+was_device (journal_fault.BadRecord number) told = absurd (cc told)
+was_device journal_fault.Device told = refl
+was_device journal_fault.OutOfMemory told = absurd (cc told)
+
+pub told_as_none : (why : of_disk.OpenFault) → (why ≡ journal_fault.BadHeader) ⊎ (why ≡ journal_fault.Device)
+    → (of_journal why ≡ fault.BadHeader) ⊎ (of_journal why ≡ fault.JournalDevice)
+told_as_none journal_fault.BadHeader is = inl refl
+told_as_none (journal_fault.BadRecord number) (inl is) = absurd (cc is)
+told_as_none (journal_fault.BadRecord number) (inr is) = absurd (cc is)
+told_as_none journal_fault.Device is = inr refl
+told_as_none journal_fault.OutOfMemory (inl is) = absurd (cc is)
+told_as_none journal_fault.OutOfMemory (inr is) = absurd (cc is)

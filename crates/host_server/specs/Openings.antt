@@ -32,6 +32,12 @@ pub record HasJournal {D : Type 0} (disk : Ghosts D) (old : D) (journal : Keeps 
   pub stored : IsTrue disk.is_modelled → AllStored (disk.may_leave journal.disk) journal.entries
   pub no_fault : disk.faults journal.disk ≡ disk.faults old
 
+-- the journal of a disk was opened, and the disk is handed back
+pub record HadJournal {D : Type 0} (disk : Ghosts D) (old new : D) : Type 0 where
+  pub journal : Keeps D
+  pub has_journal : HasJournal disk old journal
+  pub is : new ≡ journal.disk
+
 -- of the files that these entries want, those that the shelf gave whole are known
 pub record HasFiles {S : Type 0} (did : S → Call → S → Type 0) (old : S) (entries : Log) (known : Contents) (new : S) : Type 0 where
   pub wanted : List Wanted
