@@ -11,6 +11,7 @@ use Rattle.std.proofs.lemmas.List.Folds.{list_all-append}
 use Rattle.http.specs.StatusCode.{code_digits, reason_phrase}
 use Rattle.http_header.specs.Token.{is_value_byte}
 use Rattle.http_wire.proofs.Phrases.{Within, phrase_within}
+use Rattle.http_wire.specs.EntityTags.{is_entity_tag, is_entity_tag_byte}
 use Rattle.http_wire.specs.FieldTexts.{is_field_text}
 use Rattle.http_wire.specs.Replies.{HeadFields, IsLine, field_line, head_lines, is_within_line, range_text, status_line}
 use Rattle.http_wire.specs.declared.replies.ContentRange.{ContentRange}
@@ -42,6 +43,16 @@ text_within (b ∷ text) valid =
     let parts = and_parts (is_value_byte b) (list_all is_value_byte text) valid in
     and_from _ _ (value_within b parts.0) (text_within text parts.1)
 
+tag_byte_within : (b : ℕ) → is_entity_tag_byte b ≡ true → is_within_line b ≡ true
+tag_byte_within b tag =
+    byte_within b (λ e. false_true (ap is_entity_tag_byte (sym e) ∙ tag)) (λ e. false_true (ap is_entity_tag_byte (sym e) ∙ tag))
+
+pub tag_within : (text : List ℕ) → IsTrue (is_entity_tag text) → Within text
+tag_within [] valid = refl
+tag_within (b ∷ text) valid =
+    let parts = and_parts (is_entity_tag_byte b) (list_all is_entity_tag_byte text) valid in
+    and_from _ _ (tag_byte_within b parts.0) (tag_within text parts.1)
+
 -- ---- numbers
 
 glyph_within : (d : ℕ) → is_within_line (digit_glyph false d) ≡ true
@@ -64,10 +75,6 @@ digits_within (suc k) n rest within =
 decimal_within : (n : ℕ) → Within (decimal n)
 unfolding digits
 decimal_within n = digits_within 64 n [] refl
-
-length_within : (n : Option ℕ) → WithinIf (option_map decimal n)
-length_within None = tt
-length_within (Some n) = decimal_within n
 
 range_within : (range : ContentRange) → Within (range_text range)
 range_within (Of first last size) =
@@ -113,9 +120,10 @@ field_is_line before (Some value) behind some first last within =
 
 pub lines_are_lines : (h : HeadFields) → WithinIf h.content_type → WithinIf h.etag → WithinIf h.allow → All IsLine (head_lines h)
 lines_are_lines h content_type etag allow =
+    let size = Some (decimal h.content_length) in
     All-cons IsLine _ _ (status_is_line h.status)
     (All-append IsLine _ _ (field_is_line (codes "Content-Type: ") h.content_type [] (lit< tt) refl refl content_type)
-    (All-append IsLine _ _ (field_is_line (codes "Content-Length: ") _ [] (lit< tt) refl refl (length_within h.content_length))
+    (All-append IsLine (field_line (codes "Content-Length: ") size []) _ (field_is_line (codes "Content-Length: ") size [] (lit< tt) refl refl (decimal_within h.content_length))
     (All-append IsLine _ _ (field_is_line (codes "ETag: \"") h.etag (codes "\"") (lit< tt) refl refl etag)
     (All-append IsLine _ _ (field_is_line (codes "Accept-Ranges: ") _ [] (lit< tt) refl refl (flag_within h.accept_ranges (codes "bytes") refl))
     (All-append IsLine _ _ (field_is_line (codes "Content-Range: ") _ [] (lit< tt) refl refl (range_if_within h.content_range))

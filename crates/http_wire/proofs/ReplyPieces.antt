@@ -41,7 +41,7 @@ line_then before value behind lines rest e =
 pub head_is : (h : HeadFields) → head_text h
     ≡ ended_line (status_line h.status)
     ++ (line_of (codes "Content-Type: ") h.content_type crlf
-    ++ (line_of (codes "Content-Length: ") (option_map decimal h.content_length) crlf
+    ++ (line_of (codes "Content-Length: ") (Some (decimal h.content_length)) crlf
     ++ (line_of (codes "ETag: \"") h.etag (codes "\"" ++ crlf)
     ++ (line_of (codes "Accept-Ranges: ") (then_some h.accept_ranges (codes "bytes")) crlf
     ++ (line_of (codes "Content-Range: ") (option_map range_text h.content_range) crlf
@@ -52,7 +52,7 @@ head_is h =
     append_assoc (ended_line (status_line h.status)) _ crlf
     ∙ ap (λ u. ended_line (status_line h.status) ++ u)
     (line_then (codes "Content-Type: ") h.content_type [] _ _
-    (line_then (codes "Content-Length: ") (option_map decimal h.content_length) [] _ _
+    (line_then (codes "Content-Length: ") (Some (decimal h.content_length)) [] _ _
     (line_then (codes "ETag: \"") h.etag (codes "\"") _ _
     (line_then (codes "Accept-Ranges: ") (then_some h.accept_ranges (codes "bytes")) [] _ _
     (line_then (codes "Content-Range: ") (option_map range_text h.content_range) [] _ _

@@ -6,6 +6,7 @@ pub mod Fields
 pub mod Wires
 pub mod Sending
 pub mod FieldTexts
+pub mod EntityTags
 pub mod Replies
 pub mod Connections
 pub mod Expectations

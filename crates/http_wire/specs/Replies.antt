@@ -6,6 +6,8 @@ use Rattle.std.specs.Bool.{then_some}
 use Rattle.http.specs.StatusCode.{code_digits, reason_phrase}
 use Rattle.http_wire.specs.declared.replies.ContentRange.{ContentRange}
 use Rattle.http_wire.specs.declared.replies.ContentRange.TheVariants.{Of, Unsatisfied}
+use Rattle.http_wire.specs.declared.replies.ReplyBody.{ReplyBody}
+use Rattle.http_wire.specs.declared.replies.ReplyBody.TheVariants.{Sent, Withheld}
 use Rattle.http_wire.specs.declared.replies.ReplyHead.{ReplyHead}
 
 -- the end of a line
@@ -31,19 +33,30 @@ range_text (Unsatisfied length) = codes "bytes */" ++ decimal length
 pub record HeadFields : Type 0 where
   pub status : ℕ
   pub content_type : Option (List ℕ)
-  pub content_length : Option ℕ
+  pub content_length : ℕ
   pub etag : Option (List ℕ)
   pub accept_ranges : Bool
   pub content_range : Option ContentRange
   pub allow : Option (List ℕ)
   pub close : Bool
 
--- what the code's type for a head holds
-abbrev pub fields_of : ReplyHead → HeadFields
-fields_of h = record {
+-- the bytes that are sent after the head
+abbrev pub sent_of : ReplyBody → List ℕ
+sent_of (Sent bytes) = bytes.now
+sent_of (Withheld size) = []
+
+-- how many bytes the head says that the body has: those that are sent, or those that a GET would be sent (RFC 9110, sections 8.6
+-- and 9.3.2)
+abbrev pub size_of : ReplyBody → ℕ
+size_of (Sent bytes) = length bytes.now
+size_of (Withheld size) = size
+
+-- what a head says before this body
+abbrev pub fields_of : ReplyHead → ReplyBody → HeadFields
+fields_of h body = record {
   status = h.status;
   content_type = option_map (λ t. t.text.now) h.content_type;
-  content_length = h.content_length;
+  content_length = size_of body;
   etag = option_map (λ t. t.text.now) h.etag;
   accept_ranges = h.accept_ranges;
   content_range = h.content_range;
@@ -56,7 +69,7 @@ abbrev pub head_lines : HeadFields → List (List ℕ)
 head_lines h =
     status_line h.status
     ∷ (field_line (codes "Content-Type: ") h.content_type []
-    ++ (field_line (codes "Content-Length: ") (option_map decimal h.content_length) []
+    ++ (field_line (codes "Content-Length: ") (Some (decimal h.content_length)) []
     ++ (field_line (codes "ETag: \"") h.etag (codes "\"")
     ++ (field_line (codes "Accept-Ranges: ") (then_some h.accept_ranges (codes "bytes")) []
     ++ (field_line (codes "Content-Range: ") (option_map range_text h.content_range) []

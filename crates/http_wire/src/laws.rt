@@ -1,18 +1,18 @@
 //! Laws of the definitions, each the contract of a function that does nothing.
-ghost use Rattle.std.specs.Prelude.{◌≡◌, ◌≤◌, ◌-◌, ℕ, List, [], ◌∷◌, Option, Some, Result, Ok, Err, length};
+ghost use Rattle.std.specs.Prelude.{◌≡◌, ◌≤◌, ◌-◌, ℕ, List, [], ◌∷◌, Option, Some, Result, Ok, Err, length, codes};
 ghost use Rattle.http_wire.specs.declared.faults.BodyFault.TheVariants as body_fault;
 ghost use Rattle.http_wire.specs.declared.faults.HeadFault.TheVariants as head_fault;
 ghost use Rattle.http_wire.specs.declared.faults.LengthFault.{LengthFault};
 ghost use Rattle.http_wire.specs.Fields.{IsBodyLength};
 ghost use Rattle.http_wire.specs.HeadText.{CutShort, HasHead, head_limit};
-ghost use Rattle.http_wire.specs.Replies.{HasLines, fields_of, head_lines, head_text};
+ghost use Rattle.http_wire.specs.Replies.{HasLines, fields_of, head_lines, head_text, status_line};
 ghost use Rattle.http_wire.specs.Requests.{RequestParts, Says, IsBadHead, HasManyFields};
 ghost use Rattle.http_wire.specs.Sending.{AppendsFront, SentFront, WritesText};
 ghost use Rattle.http_wire.specs.Timing.{AtEnd, Event, IsLatest, Moves, NoRead, Ran, ReadFails, Timely, count_reads};
 ghost use Rattle.http_wire.specs.Wires.{AwaitsBody, AwaitsHead, HasWholeHead, ReadsBody, ReadsHead, RefusesHead, RefusesLargeHead, ServesHead};
 
 use crate::duplexes::Duplex;
-use crate::replies::ReplyHead;
+use crate::replies::{ReplyBody, ReplyHead};
 
 /// A stream begins with one head at most. A head's text says one set of parts at most, and where it says one it is
 /// neither bad nor has it too many fields. Fields announce at most one length, or have at most one first reason why not, and
@@ -37,8 +37,15 @@ pub fn few_reads()
 
 /// The head of a reply is the line of its status, one line for each field that is there, and the empty line that ends it:
 /// no text of a field begins another line.
-pub fn a_head_has_its_lines(head: &ReplyHead<'_>)
-    ensures { HasLines (head_text (fields_of head.now)) (head_lines (fields_of head.now)) }
+pub fn a_head_has_its_lines(head: &ReplyHead<'_>, body: ReplyBody<'_>)
+    ensures { HasLines (head_text (fields_of head.now body.entry)) (head_lines (fields_of head.now body.entry)) }
+{}
+
+/// The phrases of 413 and 422 are the older ones (RFC 7231, section 6.5.11; RFC 4918, section 11.2), and not those of RFC 9110, sections
+/// 15.5.14 and 15.5.21: a phrase means nothing to a client (RFC 9112, section 4).
+pub fn two_phrases_are_older()
+    ensures too_large { status_line 413 ≡ codes "HTTP/1.1 413 Payload Too Large" }
+    ensures unprocessable { status_line 422 ≡ codes "HTTP/1.1 422 Unprocessable Entity" }
 {}
 
 /// Of these relations each is refuted of one wrong answer, so none of them holds of everything. Nothing is told of a head where

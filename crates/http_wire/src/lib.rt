@@ -5,6 +5,7 @@ mod bodies;
 mod buffers;
 mod connections;
 mod duplexes;
+mod entity_tags;
 mod expectations;
 mod faults;
 mod field_texts;
@@ -21,13 +22,18 @@ mod wires;
 
 pub use buffers::HEAD_LIMIT;
 pub use duplexes::{Duplex, Pair};
+pub use entity_tags::EntityTag;
 pub use faults::{BodyFault, HeadFault, LengthFault, WriteFault};
 pub use field_texts::FieldText;
 pub use fields::{Fields, Values};
 pub use heads::{FIELD_LIMIT, Head};
-pub use laws::{a_head_has_its_lines, few_reads, one_head, wrong_answers_are_refused};
+pub use laws::{
+    a_head_has_its_lines, few_reads, one_head, two_phrases_are_older, wrong_answers_are_refused,
+};
 pub use lengths::check_body;
-pub use replies::{ContentRange, ReplyHead, decimal_text, range_value, write_interim, write_reply};
+pub use replies::{
+    ContentRange, ReplyBody, ReplyHead, decimal_text, range_value, write_interim, write_reply,
+};
 pub use sinks::{Sink, WriteFailed, Writing, write_all};
 pub use sources::{ReadFailed, Reading, Source};
 pub use wires::Wire;

@@ -4,12 +4,13 @@ ghost use Rattle.std.specs.Option.{option_map};
 ghost use Rattle.std.specs.List.{flat_map};
 ghost use Rattle.arrayvec.specs.ArrayVec.{array_vec_len};
 ghost use Rattle.http_wire.specs.Expectations.{continue_text};
-ghost use Rattle.http_wire.specs.Replies.{crlf, range_text, line_of, fields_of, head_text, reply_text};
+ghost use Rattle.http_wire.specs.Replies.{crlf, range_text, line_of, fields_of, reply_text, sent_of, size_of};
 ghost use Rattle.std.specs.Io.KnownBytes.{Appends};
 ghost use Rattle.http_wire.specs.Sending.{SentFront, WritesText};
 ghost use Rattle.http_wire.specs.Timing.{NoRead, Ran};
 
 use crate::duplexes::Duplex;
+use crate::entity_tags::EntityTag;
 use crate::faults::WriteFault;
 use crate::field_texts::FieldText;
 use crate::sends::write_pieces;
@@ -31,9 +32,7 @@ pub struct ReplyHead<'a> {
     /// The status code, which brings its phrase.
     pub status: StatusCode,
     pub content_type: Option<FieldText<'a>>,
-    pub content_length: Option<u64>,
-    /// The entity tag, without its quotes.
-    pub etag: Option<FieldText<'a>>,
+    pub etag: Option<EntityTag<'a>>,
     /// Whether ranges of bytes are served.
     pub accept_ranges: bool,
     pub content_range: Option<ContentRange>,
@@ -41,6 +40,40 @@ pub struct ReplyHead<'a> {
     pub allow: Option<FieldText<'a>>,
     /// Whether the connection ends after the reply.
     pub close: bool,
+}
+
+/// The body of a reply, whose length the head says.
+#[derive(Clone, Copy, Debug)]
+pub enum ReplyBody<'a> {
+    /// These bytes: the head says how many they are.
+    Sent(&'a [u8]),
+    /// No byte, as in the reply to HEAD: the head says how many a GET would be sent (RFC 9110, sections 8.6 and 9.3.2).
+    Withheld(u64),
+}
+
+impl<'a> ReplyBody<'a> {
+    ghost use Rattle.std.specs.Prelude.{◌≡◌};
+    ghost use Rattle.http_wire.specs.Replies.{sent_of, size_of};
+
+    // The bytes that are sent.
+    fn sent(self) -> &'a [u8]
+        ensures { result.now ≡ sent_of self.entry }
+    {
+        match self {
+            ReplyBody::Sent(bytes) => bytes,
+            ReplyBody::Withheld(_) => &[],
+        }
+    }
+
+    // How many bytes the head says that it has.
+    fn size(self) -> u64
+        ensures { result ≡ size_of self.entry }
+    {
+        match self {
+            ReplyBody::Sent(bytes) => bytes.len() as u64,
+            ReplyBody::Withheld(size) => size,
+        }
+    }
 }
 
 /// The decimal digits of a number, without leading zeros. It takes no memory.
@@ -99,18 +132,18 @@ fn push_line<'a>(pieces: &mut Pieces<'a>, before: &'a str, value: Option<&'a str
     }
 }
 
-// The pieces of a head, whose numbers are written out.
-fn push_head<'a>(
+// The pieces of a reply, whose numbers are written out.
+fn push_reply<'a>(
     pieces: &mut Pieces<'a>,
     head: &'a ReplyHead<'a>,
-    length: Option<&'a str>,
+    body: ReplyBody<'a>,
+    size: &'a str,
     range: Option<&'a str>,
 )
     requires first { pieces.old.items ≡ [] }
-    requires length_is { option_map (λ v. v.now) length ≡ option_map decimal head.now.content_length }
+    requires size_is { size.now ≡ decimal (size_of body) }
     requires range_is { option_map (λ v. v.now) range ≡ option_map range_text head.now.content_range }
-    ensures text { flat_map (λ p. p.now) pieces.new.items ≡ head_text (fields_of head.now) }
-    ensures len { array_vec_len pieces.new < PIECE_ROOM }
+    ensures { flat_map (λ p. p.now) pieces.new.items ≡ reply_text (fields_of head.now body.entry) (sent_of body.entry) }
 {
     let code: &'a str = head.status.as_str();
     let phrase: &'a str = head.status.canonical_reason().unwrap_or("");
@@ -121,13 +154,14 @@ fn push_head<'a>(
     let connection: Option<&'a str> = head.close.then_some("close");
     push_status(pieces, code, phrase);
     push_line(pieces, "Content-Type: ", content_type, "\r\n");
-    push_line(pieces, "Content-Length: ", length, "\r\n");
+    push_line(pieces, "Content-Length: ", Some(size), "\r\n");
     push_line(pieces, "ETag: \"", etag, "\"\r\n");
     push_line(pieces, "Accept-Ranges: ", ranges, "\r\n");
     push_line(pieces, "Content-Range: ", range, "\r\n");
     push_line(pieces, "Allow: ", allow, "\r\n");
     push_line(pieces, "Connection: ", connection, "\r\n");
     pieces.push(b"\r\n");
+    pieces.push(body.sent());
 }
 
 // The pieces of the status line.
@@ -148,40 +182,38 @@ fn push_status<'a>(pieces: &mut Pieces<'a>, code: &'a str, phrase: &'a str)
 fn write_texts<'a, D: Duplex>(
     duplex: &mut D,
     head: &'a ReplyHead<'a>,
-    length: Option<&'a str>,
+    body: ReplyBody<'a>,
+    size: &'a str,
     range: Option<&'a str>,
-    body: &'a [u8],
 ) -> Result<(), WriteFault>
-    requires length_is { option_map (λ v. v.now) length ≡ option_map decimal head.now.content_length }
+    requires size_is { size.now ≡ decimal (size_of body) }
     requires range_is { option_map (λ v. v.now) range ≡ option_map range_text head.now.content_range }
-    ensures { Ran D.saw NoRead duplex.old duplex.new (WritesText result (reply_text (fields_of head.now) body.now)) }
+    ensures { Ran D.saw NoRead duplex.old duplex.new (WritesText result (reply_text (fields_of head.now body.entry) (sent_of body.entry))) }
 {
     let mut pieces = ArrayVec::new();
-    push_head(&mut pieces, head, length, range);
-    pieces.push(body);
+    push_reply(&mut pieces, head, body, size, range);
     write_pieces(duplex, pieces.as_slice())
 }
 
-/// Writes a reply: its head and then the body, which is empty where the request was HEAD. Reads nothing.
+/// Writes a reply: its head and then its body, where that is sent. Reads nothing.
 ///
 /// It takes no memory. A write that takes no byte is a fault, and so is one that fails. Nothing is written after it.
 pub fn write_reply<D: Duplex>(
     duplex: &mut D,
     head: &ReplyHead<'_>,
-    body: &[u8],
+    body: ReplyBody<'_>,
 ) -> Result<(), WriteFault>
-    ensures ok { OnOk result (Appends (D.held duplex.old) (D.held duplex.new) (reply_text (fields_of head.now) body.now)) }
+    ensures ok { OnOk result (Appends (D.held duplex.old) (D.held duplex.new) (reply_text (fields_of head.now body.entry) (sent_of body.entry))) }
 
     // Of a reply that is cut short the first so many bytes were written, and not all.
-    ensures fault { IfErr result (λ fault. SentFront (D.held duplex.old) (D.held duplex.new) (reply_text (fields_of head.now) body.now) fault.0) }
+    ensures fault { IfErr result (λ fault. SentFront (D.held duplex.old) (D.held duplex.new) (reply_text (fields_of head.now body.entry) (sent_of body.entry)) fault.0) }
     ensures cause { OnErr result D.write_fails }
-    ensures ran { Ran D.saw NoRead duplex.old duplex.new (WritesText result (reply_text (fields_of head.now) body.now)) }
+    ensures ran { Ran D.saw NoRead duplex.old duplex.new (WritesText result (reply_text (fields_of head.now body.entry) (sent_of body.entry))) }
 {
-    let length = head.content_length.map(decimal_text);
+    let size = decimal_text(body.size());
     let range = head.content_range.map(range_value);
-    let length = length.as_ref().map(|text| text.as_str());
     let range = range.as_ref().map(|text| text.as_str());
-    write_texts(duplex, head, length, range, body)
+    write_texts(duplex, head, body, size.as_str(), range)
 }
 
 /// Writes the interim reply after which the client sends the body (RFC 9110, section 15.2.1). Reads nothing.
