@@ -7,7 +7,7 @@ ghost use Rattle.range_reply.specs.Multipart.{multipart_text, part_text, text_of
 use crate::boundaries::Boundary;
 use crate::texts::head_texts;
 use byte_view::BlobInfo;
-use http_wire::{ContentRange, range_value};
+use http_wire::{ContentRange, FieldText, range_value};
 use range_spec::Intervals;
 
 /// The total with the lengths of these texts added, if that is a `u64`.
@@ -25,11 +25,11 @@ fn with_part(
     total: u64,
     info: &BlobInfo,
     boundary: &Boundary,
-    content_type: &str,
+    content_type: FieldText<'_>,
     interval: (u64, u64),
 ) -> Option<u64>
     requires { LiesWithin (length info.now) interval }
-    ensures { MatchOption result (2 ^ 64 ≤ total + length (part_text (text_of boundary.now) content_type.now info.now interval)) (λ sum. sum ≡ total + length (part_text (text_of boundary.now) content_type.now info.now interval)) }
+    ensures { MatchOption result (2 ^ 64 ≤ total + length (part_text (text_of boundary.now) content_type.entry.text.now info.now interval)) (λ sum. sum ≡ total + length (part_text (text_of boundary.now) content_type.entry.text.now info.now interval)) }
 {
     let (first, last) = interval;
     let length = info.len() as u64;
@@ -38,7 +38,7 @@ fn with_part(
         last,
         length,
     });
-    let head = head_texts(boundary.as_str(), content_type, range.as_str());
+    let head = head_texts(boundary.as_str(), content_type.as_str(), range.as_str());
     let total = with_texts(total, &head)?;
     with_texts(total.checked_add(last - first + 1)?, &["\r\n"])
 }
@@ -48,11 +48,11 @@ fn with_parts(
     mut total: u64,
     info: &BlobInfo,
     boundary: &Boundary,
-    content_type: &str,
+    content_type: FieldText<'_>,
     intervals: &[(u64, u64)],
 ) -> Option<u64>
     requires { All (LiesWithin (length info.now)) intervals.now }
-    ensures { MatchOption result (2 ^ 64 ≤ total + length (flat_map (part_text (text_of boundary.now) content_type.now info.now) intervals.now)) (λ sum. sum ≡ total + length (flat_map (part_text (text_of boundary.now) content_type.now info.now) intervals.now)) }
+    ensures { MatchOption result (2 ^ 64 ≤ total + length (flat_map (part_text (text_of boundary.now) content_type.entry.text.now info.now) intervals.now)) (λ sum. sum ≡ total + length (flat_map (part_text (text_of boundary.now) content_type.entry.text.now info.now) intervals.now)) }
 {
     for interval in intervals {
         total = with_part(total, info, boundary, content_type, *interval)?;
@@ -65,11 +65,11 @@ fn with_parts(
 pub fn multipart_length(
     info: &BlobInfo,
     boundary: &Boundary,
-    content_type: &str,
+    content_type: FieldText<'_>,
     intervals: &Intervals,
 ) -> Option<u64>
     requires { All (LiesWithin (length info.now)) intervals.now }
-    ensures { MatchOption result (2 ^ 64 ≤ length (multipart_text (text_of boundary.now) content_type.now info.now intervals.now)) (λ sum. sum ≡ length (multipart_text (text_of boundary.now) content_type.now info.now intervals.now)) }
+    ensures { MatchOption result (2 ^ 64 ≤ length (multipart_text (text_of boundary.now) content_type.entry.text.now info.now intervals.now)) (λ sum. sum ≡ length (multipart_text (text_of boundary.now) content_type.entry.text.now info.now intervals.now)) }
 {
     let parts = with_parts(0, info, boundary, content_type, intervals.as_slice())?;
     with_texts(parts, &["--", boundary.as_str(), "--\r\n"])

@@ -9,7 +9,7 @@ ghost use Rattle.range_reply.specs.Slices.{shown};
 use crate::boundaries::Boundary;
 use crate::texts::head_texts;
 use byte_view::{Hold, Pieces};
-use http_wire::{ContentRange, range_value};
+use http_wire::{ContentRange, FieldText, range_value};
 use std::alloc::AllocError;
 
 /// Puts texts into a body.
@@ -47,11 +47,11 @@ fn push_part(
     hold: &Hold,
     size: u64,
     boundary: &Boundary,
-    content_type: &str,
+    content_type: FieldText<'_>,
 ) -> Result<(), AllocError>
     requires { length hold.now.file ≡ size }
     ensures held { IsHeld hold.now }
-    ensures part { OnOk result (body.new.items ≡ body.old.items ++ shown_part (text_of boundary.now) content_type.now hold.now) }
+    ensures part { OnOk result (body.new.items ≡ body.old.items ++ shown_part (text_of boundary.now) content_type.entry.text.now hold.now) }
 {
     let (first, last) = hold.stretch();
     let range = range_value(ContentRange::Of {
@@ -59,7 +59,7 @@ fn push_part(
         last: last as u64,
         length: size,
     });
-    let head = head_texts(boundary.as_str(), content_type, range.as_str());
+    let head = head_texts(boundary.as_str(), content_type.as_str(), range.as_str());
     push_texts(body, &head)?;
     push_shown(body, hold)?;
     push_texts(body, &["\r\n"])
@@ -71,11 +71,11 @@ pub(crate) fn push_parts(
     holds: &[Hold],
     size: u64,
     boundary: &Boundary,
-    content_type: &str,
+    content_type: FieldText<'_>,
 ) -> Result<(), AllocError>
     requires { All (λ h. length h.file ≡ size) holds.now }
     ensures held { OnOk result (All IsHeld holds.now) }
-    ensures parts { OnOk result (body.new.items ≡ body.old.items ++ flat_map (shown_part (text_of boundary.now) content_type.now) holds.now) }
+    ensures parts { OnOk result (body.new.items ≡ body.old.items ++ flat_map (shown_part (text_of boundary.now) content_type.entry.text.now) holds.now) }
 {
     for hold in holds {
         push_part(body, hold, size, boundary, content_type)?;

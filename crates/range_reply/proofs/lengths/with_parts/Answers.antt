@@ -6,7 +6,7 @@ use Rattle.range_reply.proofs.lengths.with_parts.Goals as goal
 
 pub returns-in_err-total : goal.returns-in_err-total
 returns-in_err-total c =
-    let part = part_text (text_of c.args.boundary.now) c.args.content_type.now c.args.info.now in
+    let part = part_text (text_of c.args.boundary.now) c.args.content_type.text.now c.args.info.now in
     let before = length-flat_map-take part c.args.intervals.now c.loop-interval.interval-index (0, 0) c.loop-interval-test.true in
     let long : 2 ^ 64 ≤ c.args.total + length (flat_map part c.args.intervals.now) =
     omega (arith, before, c.loop-interval.invariant, c.in_err-total.ensures) in

@@ -5,4 +5,4 @@ use Rattle.range_reply.proofs.lengths.with_parts.Given as goal
 
 abbrev pub invariant-loop-interval : goal.invariant-loop-interval
 invariant-loop-interval l =
-    l.total ≡ l.fn.total + length (flat_map (part_text (text_of l.boundary) l.content_type l.info) (take l.interval-index l.intervals))
+    l.total ≡ l.fn.total + length (flat_map (part_text (text_of l.boundary) l.content_type.text.now l.info) (take l.interval-index l.intervals))

@@ -10,7 +10,7 @@ use Rattle.range_reply.proofs.parts.push_parts.Goals as goal
 
 pub loop-hold-preserved : goal.loop-hold-preserved
 loop-hold-preserved c =
-    let part = shown_part (text_of c.args.boundary.now) c.args.content_type.now in
+    let part = shown_part (text_of c.args.boundary.now) c.args.content_type.text.now in
     let before = c.args.body.now.items in let holds = c.args.holds.now in
     let i = c.loop-hold.hold-index in let h = c.hold-item.result in
     let next : suc i ≡ i + 1 = omega arith in

@@ -8,5 +8,5 @@ use Rattle.range_reply.proofs.parts.push_parts.Given as goal
 abbrev pub invariant-loop-hold : goal.invariant-loop-hold
 invariant-loop-hold l = record {
   held : All IsHeld (take l.hold-index l.holds);
-  parts : l.body.items ≡ l.initial.body.items ++ flat_map (shown_part (text_of l.boundary) l.content_type) (take l.hold-index l.holds);
+  parts : l.body.items ≡ l.initial.body.items ++ flat_map (shown_part (text_of l.boundary) l.content_type.text.now) (take l.hold-index l.holds);
 }
