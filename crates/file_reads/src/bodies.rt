@@ -13,6 +13,7 @@ use crate::stretches::{hold_for, hold_whole};
 use blob_store::ReadFault;
 use byte_view::{BlobInfo, Hold};
 use host_names::Digest;
+use http_wire::FieldText;
 use range_reply::{Boundary, ReplyPlan, body, boundary};
 use range_spec::Choice;
 use std::alloc::Global;
@@ -55,16 +56,16 @@ fn join(
     holds: &[Hold],
     plan: &ReplyPlan,
     boundary: Option<Boundary>,
-    content_type: &str,
+    content_type: FieldText<'_>,
     info: &BlobInfo,
 ) -> Result<Vec<u8>, ReadFault>
     requires held { AreFor holds.now info.now plan.now }
     requires within { All (LiesWithin (length info.now)) (intervals_in plan.now) }
     requires separated { HasBoundary boundary plan.now }
-    ensures text { IfOk result (λ bytes. bytes.items ≡ shown_text (text_in boundary) content_type.now holds.now plan.now) }
-    ensures pure { ArePure holds.now → IfOk result (λ bytes. bytes.items ≡ body_text (text_in boundary) content_type.now info.now plan.now) }
+    ensures text { IfOk result (λ bytes. bytes.items ≡ shown_text (text_in boundary) content_type.entry.text.now holds.now plan.now) }
+    ensures pure { ArePure holds.now → IfOk result (λ bytes. bytes.items ≡ body_text (text_in boundary) content_type.entry.text.now info.now plan.now) }
     ensures fault { IfErr result (λ fault. fault ≡ OutOfMemory) }
-    ensures memory { IfErr result (λ _. 0 < length (body_text (text_in boundary) content_type.now info.now plan.now)) }
+    ensures memory { IfErr result (λ _. 0 < length (body_text (text_in boundary) content_type.entry.text.now info.now plan.now)) }
 {
     body(alloc, holds, plan, boundary, content_type, info).map_err(|_| ReadFault::OutOfMemory)
 }
@@ -79,7 +80,8 @@ fn read_whole<H: Holder>(
     ensures fault { IfErr result (λ fault. AreNotHeld H.gave H.failed holder.old info.now.value (whole_of (length info.now.value)) fault holder.new) }
 {
     let holds = hold_whole(alloc, holder, info)?;
-    join(alloc, holds.as_slice(), &Choice::Whole, None, "", info)
+    let no_type = FieldText::new("");
+    join(alloc, holds.as_slice(), &Choice::Whole, None, no_type, info)
 }
 
 /// Reads what a plan asks for of a file, and joins it into a body: the stretches are held, and where several parts have no boundary
@@ -89,10 +91,10 @@ pub fn read_body<H: Holder>(
     holder: &mut H,
     info: &Arc<BlobInfo>,
     plan: ReplyPlan,
-    content_type: &str,
+    content_type: FieldText<'_>,
 ) -> Result<FileBody, ReadFault>
     requires { All (LiesWithin (length info.now.value)) (intervals_in plan) }
-    ensures read { IfOk result (λ body. IsRead H.gave holder.old info.now.value plan content_type.now body holder.new) }
+    ensures read { IfOk result (λ body. IsRead H.gave holder.old info.now.value plan content_type.entry.text.now body holder.new) }
     ensures fault { IfErr result (λ fault. IsNotRead H.gave H.failed holder.old info.now.value plan fault holder.new) }
     ensures some { IfErr result (λ _. IsTrue (sends_bytes (length info.now.value) plan)) }
 {

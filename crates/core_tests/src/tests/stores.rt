@@ -4,6 +4,7 @@ use blob_store::{Blobs, LentShelf, MemShelf, OpenFault, ShelfName, UploadFault, 
 use byte_view::BlobInfo;
 use file_reads::read_body;
 use host_names::Digest;
+use http_wire::FieldText;
 use range_reply::{IfRange, plan};
 use range_spec::parse;
 use std::alloc::{AllocError, Global};
@@ -232,7 +233,8 @@ fn assert_read(
     let info = blobs.upload(b"hello world")?;
     let (_, mut files) = blobs.into_parts();
     let planned = plan(&info, &parse(b"bytes=6-"), IfRange::Absent);
-    let body = read_body(alloc, &mut files, &info, planned, "text/plain")?;
+    let plain = FieldText::new("text/plain");
+    let body = read_body(alloc, &mut files, &info, planned, plain)?;
     assert_text(
         rt,
         "a range",

@@ -32,7 +32,7 @@ returns-in-Ok-clause-read g c =
     let file = c.args.info.now.value in
     let plan = c.args.plan in
     let boundary = c.in-Ok.boundary in
-    let content_type = c.args.content_type.now in
+    let content_type = c.args.content_type.text.now in
     let holds = c.in_ok-holds.holds.items in
     let held = c.in_ok-holds.ensures.held in
     let has : HasBoundary boundary plan = c.in-Ok.ensures.separated in
@@ -97,7 +97,7 @@ returns-clause-read g c =
       sent = subst (λ d. IsSent (all_shown xs) d plan None Whole) digest (subst (λ hs. IsSent (all_shown hs) c.digest.result plan None Whole) seen c.in-Err.ensures.shown);
       more = ys;
       more_held = subst (λ p. AreHeld gave c.hold_for.new.holder file (more_of (length file) p None) ys c.read_whole.new.holder) (sym parts.1) read.1;
-      bytes = subst (λ p. c.in_ok-read_whole-in-Err.field-0.items ≡ shown_text (text_in None) c.args.content_type.now (sent_holds xs ys p None) Whole) (sym parts.1) read.2;
+      bytes = subst (λ p. c.in_ok-read_whole-in-Err.field-0.items ≡ shown_text (text_in None) c.args.content_type.text.now (sent_holds xs ys p None) Whole) (sym parts.1) read.2;
       exact = λ pure. record {
         sent = sent_of file (length file) xs c.as_slice.result.now c.digest.result plan None Whole seen digest held.same_file held.in_order c.in-Err.ensures.pure
             (are_pure file xs held.same_file held.lawful (pure-first file xs ys pure));
