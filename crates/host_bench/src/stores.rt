@@ -6,6 +6,7 @@ use blob_store::{Blobs, MemShelf};
 use byte_view::{BlobInfo, MAX_SIZE, PIECE_SIZE};
 use file_reads::read_body;
 use host_names::Digest;
+use http_wire::FieldText;
 use range_spec::Choice;
 use std::alloc::{AllocError, Global};
 use std::sync::Arc;
@@ -100,8 +101,9 @@ pub(crate) fn time_read(rt: &HostRuntime, bytes: usize) -> Result<Duration> {
     let mut blobs = empty_store(rt.alloc());
     let (info, _) = upload(rt, &mut blobs, file.as_slice())?;
     let (_, mut files) = blobs.into_parts();
+    let plain = FieldText::new("text/plain");
     let begun = Instant::now(rt)?;
-    let body = read_body(rt.alloc(), &mut files, &info, Choice::Whole, "text/plain")?;
+    let body = read_body(rt.alloc(), &mut files, &info, Choice::Whole, plain)?;
     let took = begun.elapsed(rt)?;
     if body.bytes != file {
         return Err(anyhow!("other bytes were read"));

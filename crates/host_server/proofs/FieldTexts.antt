@@ -1,4 +1,4 @@
--- The text of an entity tag, and the type of several parts, can be the value of a field.
+-- The hex digits of a digest, and the type of several parts, can be the value of a field.
 use Rattle.std.proofs.Common.{◌≡◌, ◌∙◌, ℕ, zero, suc, ◌+◌, ◌==◌, ◌<◌, ◌&&◌, ◌||◌, Bool, not, nat_le, true, List, [], ◌∷◌, ◌++◌, codes, decimal, length, Ok, refl, sym, ap, subst, arith}
 use Rattle.std.specs.Prelude.{IsTrue}
 use Rattle.std.specs.List.{list_all}
@@ -24,10 +24,13 @@ digits_are_valid (b ∷ text) digits =
     let parts = and_parts (is_hex_digit b) (list_all is_hex_digit text) digits in
     and_from (is_visible b) (is_field_text text) (digit_is_visible b parts.0) (digits_are_valid text parts.1)
 
-pub digest_is_valid : (text bytes : List ℕ) → decode_sized text 20 ≡ Ok bytes → IsTrue (is_field_text text)
-digest_is_valid text bytes is =
+pub digest_is_digits : (text bytes : List ℕ) → decode_sized text 20 ≡ Ok bytes → list_all is_hex_digit text ≡ true
+digest_is_digits text bytes is =
     let whole = sym (decode_sized-twice text 20 (decode_sized-ok text 20 bytes is)) ∙ is in
-    digits_are_valid text (list_all-from_AllPass is_hex_digit text (decode_of-ok text bytes whole).1)
+    list_all-from_AllPass is_hex_digit text (decode_of-ok text bytes whole).1
+
+digest_is_valid : (text bytes : List ℕ) → decode_sized text 20 ≡ Ok bytes → IsTrue (is_field_text text)
+digest_is_valid text bytes is = digits_are_valid text (digest_is_digits text bytes is)
 
 -- ---- the type of several parts
 

@@ -3,6 +3,7 @@ pub mod Committing
 pub mod HoldingUp
 pub mod InRange
 pub mod FieldTexts
+pub mod EntityTags
 pub mod Telling
 pub mod Reading
 pub mod Keeping

@@ -96,7 +96,7 @@ abbrev pub fields_for : Bool → Answer → HeadFields
 fields_for close answer = record {
   status = answer.status;
   content_type = Some answer.content_type;
-  content_length = Some (length answer.body);
+  content_length = length answer.body;
   etag = answer.etag;
   accept_ranges = is_some answer.etag;
   content_range = answer.content_range;

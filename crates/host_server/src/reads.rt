@@ -18,12 +18,13 @@ ghost use Rattle.host_server.specs.Files as spec;
 ghost use Rattle.host_server.specs.Files.{AsksRange, is_read, plan_of, sent_answer};
 
 use crate::host::file;
+use crate::media_types::file_type;
 use crate::replies::Reply;
 use crate::servers::Server;
 use blob_store::{ReadFault, Shelf};
 use byte_view::BlobInfo;
 use file_reads::read_body;
-use host_api::{Refusal, Version, content_type};
+use host_api::{Refusal, Version};
 use host_disk::Disk;
 use host_names::{Digest, FilePath, SiteName};
 use http_wire::Head;
@@ -109,7 +110,7 @@ fn send<S: Shelf>(
         × (reason ≡ spec.refusal_of_read why)) }
     ensures count { S.failures files.old.shelf ≤ S.failures files.new.shelf }
 {
-    match read_body(alloc, files, info, plan, content_type(path)) {
+    match read_body(alloc, files, info, plan, file_type(path)) {
         Ok(body) => Ok(Reply::of_file(path, info, body)),
         Err(why) => Err(refusal_of_read(why)),
     }

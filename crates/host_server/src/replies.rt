@@ -1,8 +1,9 @@
 //! Replies, before they are written.
 ghost use Rattle.std.specs.Prelude.{◌≡◌, ◌≢◌, All, length, false, Some, None, IsTrue, IfOk, IfErr, OnErr, Err, IsErrOf, MatchOption, option_map};
-ghost use Rattle.http_wire.specs.Replies.{fields_of};
+ghost use Rattle.http_wire.specs.Replies.{fields_of, sent_of, size_of};
 ghost use Rattle.http_wire.specs.Sending.{WritesText};
 ghost use Rattle.http_wire.specs.Timing.{NoRead, Ran};
+ghost use Rattle.http_wire.specs.declared.replies.ReplyBody.{ReplyBody as AnyBody};
 ghost use Rattle.host_api.specs.Texts.{has_cell, told_text};
 ghost use Rattle.host_api.specs.declared.refusals.Refusal.TheVariants.{Head, OutOfMemory};
 ghost use Rattle.host_server.specs.Bodies.{answer_of, bytes_of};
@@ -17,14 +18,16 @@ ghost use Rattle.host_server.specs.PartsTypes.{IsOfEight, parts_type};
 ghost use Rattle.host_server.specs.Replies.{told_answer, refused_answer, part_answer, fields_for, sent_text};
 
 use crate::bodies::Body;
-use crate::media_types::MediaType;
+use crate::media_types::{MediaType, file_type};
 use crate::parts_types::PartsType;
 use byte_view::BlobInfo;
 use file_reads::FileBody;
-use host_api::{HeadRefusal, Refusal, Told, content_type, short_text, text};
+use host_api::{HeadRefusal, Refusal, Told, short_text, text};
 use host_names::{Digest, FilePath};
 use http::StatusCode;
-use http_wire::{ContentRange, Duplex, FieldText, ReplyHead, WriteFault, write_reply};
+use http_wire::{
+    ContentRange, Duplex, EntityTag, FieldText, ReplyBody, ReplyHead, WriteFault, write_reply,
+};
 use range_reply::Boundary;
 use range_spec::Choice;
 use std::alloc::{AllocError, Global};
@@ -159,7 +162,7 @@ impl Reply {
     {
         Reply {
             status,
-            content_type: MediaType::Fixed(FieldText::new(content_type(path))),
+            content_type: MediaType::Fixed(file_type(path)),
             etag: Some(info.digest()),
             content_range: range,
             allow: None,
@@ -209,15 +212,14 @@ impl Reply {
         }
     }
 
-    /// Its head, with the text of its entity tag.
-    fn head<'a>(&'a self, etag: Option<FieldText<'a>>, close: bool) -> ReplyHead<'a>
+    /// Its head, with this entity tag.
+    fn head<'a>(&'a self, etag: Option<EntityTag<'a>>, close: bool) -> ReplyHead<'a>
         requires { option_map (λ t. t.text.now) etag ≡ (answer_of self.now).etag }
-        ensures { fields_of result ≡ fields_for close (answer_of self.now) }
+        ensures { (body : AnyBody) → size_of body ≡ length (answer_of self.now).body → fields_of result body ≡ fields_for close (answer_of self.now) }
     {
         ReplyHead {
             status: self.status,
             content_type: Some(self.content_type.as_field()),
-            content_length: Some(self.body.bytes().len() as u64),
             etag,
             accept_ranges: self.etag.is_some(),
             content_range: self.content_range,
@@ -226,18 +228,24 @@ impl Reply {
         }
     }
 
-    /// Its body, or nothing where only the head is wanted.
-    fn sent_body(&self, head_only: bool) -> &[u8]
-        ensures { result.now ≡ spec.sent_body head_only (answer_of self.now) }
+    /// Its body, which is withheld where only the head is wanted.
+    fn sent_body(&self, head_only: bool) -> ReplyBody<'_>
+        ensures sent { sent_of result ≡ spec.sent_body head_only (answer_of self.now) }
+        ensures size { size_of result ≡ length (answer_of self.now).body }
     {
-        if head_only { &[] } else { self.body.bytes() }
+        let bytes = self.body.bytes();
+        if head_only {
+            ReplyBody::Withheld(bytes.len() as u64)
+        } else {
+            ReplyBody::Sent(bytes)
+        }
     }
 
-    /// The same, with the text of its entity tag.
+    /// Writes it with this entity tag, without its body where only the head is wanted.
     fn send_with<D: Duplex>(
         &self,
         duplex: &mut D,
-        etag: Option<FieldText<'_>>,
+        etag: Option<EntityTag<'_>>,
         close: bool,
         head_only: bool,
     ) -> Result<(), WriteFault>
@@ -262,6 +270,6 @@ impl Reply {
             return self.send_with(duplex, None, close, head_only);
         };
         let hex = digest.to_hex();
-        self.send_with(duplex, Some(FieldText::new(hex.as_str())), close, head_only)
+        self.send_with(duplex, Some(EntityTag::new(hex.as_str())), close, head_only)
     }
 }

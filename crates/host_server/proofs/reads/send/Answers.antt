@@ -9,13 +9,13 @@ pub returns-in-Ok-clause-sent : goal.returns-in-Ok-clause-sent
 returns-in-Ok-clause-sent g c = (
   c.in-Ok.body,
   subst (λ (t : List ℕ). IsRead (GaveOfNode g.S.Shelf.did g.S.Shelf.failures) c.args.files.now c.args.info.now.value c.args.plan t c.in-Ok.body c.read_body.new.holder)
-      c.content_type.ensures c.in-Ok.ensures.read,
+      c.file_type.ensures c.in-Ok.ensures.read,
   c.of_file.ensures ∙ ap (λ (f : List ℕ). sent_answer c.args.path.now f c.in-Ok.body) c.deref.ensures,
 )
 
 pub returns-in-Ok-clause-count : goal.returns-in-Ok-clause-count
 returns-in-Ok-clause-count g c =
-    read_goes_on g.S.Shelf.did g.S.Shelf.failures c.args.files.now c.read_body.new.holder c.args.info.now.value c.content_type.result.now c.args.plan c.in-Ok.body c.in-Ok.ensures.read
+    read_goes_on g.S.Shelf.did g.S.Shelf.failures c.args.files.now c.read_body.new.holder c.args.info.now.value c.file_type.result.text.now c.args.plan c.in-Ok.body c.in-Ok.ensures.read
 
 pub returns-in-Err-clause-count : goal.returns-in-Err-clause-count
 returns-in-Err-clause-count g c =
