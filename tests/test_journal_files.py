@@ -62,6 +62,8 @@ NO_TEXTS = [
     ("a path that is no UTF-8", "07 03 6f6e65 0002 2fff"),
     ("a path that is cut", "07 03 6f6e65 0006 2f612e7478"),
     ("a path with a byte after it", "07 03 6f6e65 0006 2f612e747874 00"),
+    ("a renaming without its last byte", "06 03 6f6e65 0006 2f612e747874 0006 2f632e7478"),
+    ("a renaming with a byte after it", "06 03 6f6e65 0006 2f612e747874 0006 2f632e747874 00"),
     ("flags of 4", "01 03 6f6e65 04 00000000"),
     ("flags of 255", "01 03 6f6e65 ff 00000000"),
     ("a count that is too low", "01 03 6f6e65 01 00000000 0002 2f61 00"),
