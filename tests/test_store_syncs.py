@@ -37,12 +37,11 @@ class Uploads(Stored):
         return joined([line for line in lines if " journal" not in line])
 
     def assert_put(self, content, *pieces):
-        """These pieces are put, and last before the table is, which lasts before the reply is sent."""
+        """These pieces are put, and then the table; the names of all last before the reply is sent."""
         puts = [line for piece in pieces for line in put_of(f"c-{digest_of(piece)}")]
-        table = ["fsync folder", *put_of(f"t-{digest_of(content)}"), "fsync folder"]
-        self.assertEqual(self.trace(content), [*puts, *table, "write replies"])
+        self.assertEqual(self.trace(content), [*puts, *put_of(f"t-{digest_of(content)}"), "fsync folder", "write replies"])
 
-    def test_pieces_last_before_their_table_and_this_before_the_reply(self):
+    def test_pieces_and_then_their_table_last_before_the_reply(self):
         content = bytes(range(256)) * 256 + b"rest"
         self.assert_put(content, content[:PIECE], b"rest")
 

@@ -92,7 +92,7 @@ impl<'a, R: Files> DirShelf<'a, R> {
             .map_err(|_| ShelfFault::OutOfMemory)
     }
 
-    /// Writes the file of a name. A table's name is given only once those of the pieces last, and lasts then.
+    /// Writes the file of a name. Once it has written a table, the table's name lasts, and those of all files written before.
     fn write(&self, name: ShelfName, bytes: &[u8]) -> Result<(), ShelfFault> {
         let path = self.path_of(name)?;
         let written = match name {
@@ -107,7 +107,6 @@ impl<'a, R: Files> DirShelf<'a, R> {
     }
 
     fn write_table(&self, path: &PathBuf, bytes: &[u8]) -> io::Result<()> {
-        sync_folder(self.rt, self.folder.as_str())?;
         self.write_under(path, bytes)?;
         sync_folder(self.rt, self.folder.as_str())
     }
