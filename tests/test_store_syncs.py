@@ -20,26 +20,43 @@ def joined(lines):
     return [line for place, line in enumerate(lines) if place == 0 or line != lines[place - 1]]
 
 
+def puts_of(*pieces):
+    return [line for piece in pieces for line in put_of(f"c-{digest_of(piece)}")]
+
+
+def table_of(content):
+    """A table is put as a piece is, and then the names of all last."""
+    return [*put_of(f"t-{digest_of(content)}"), "fsync folder"]
+
+
 class Uploads(Stored):
-    def trace(self, content):
-        """What is done where a file is uploaded that a deploy lacks beside another one, up to the reply."""
-        self.write([opening_of({"/a.bin": content, "/b.txt": b"another"})])
+    def trace(self, *contents, known=()):
+        """What is done over a store with the known files, where those are uploaded in turn that a deploy lacks beside another one, up to
+        the last reply."""
+        listed = {f"/{place}.bin": content for place, content in enumerate([*contents, *known])}
+        self.write([opening_of({**listed, "/b.txt": b"another"})], *known)
         traces = Traces(self.room, self.folder)
         replies = self.folder / "replies"
+        given = b"".join(upload(1, f"{place}.bin", content) for place, content in enumerate(contents))
 
         def run_program(environment):
             with replies.open("wb") as output:
-                ended = run(*self.words, given=upload(1, "a.bin", content), stdout=output, env={**os.environ, **environment})
+                ended = run(*self.words, given=given, stdout=output, env={**os.environ, **environment})
             self.assertEqual(ended, (0, None, b""))
 
         lines = traces.of(run_program)
-        self.assertEqual(replies.read_bytes(), uploaded(content))
+        self.assertEqual(replies.read_bytes(), b"".join(map(uploaded, contents)))
         return joined([line for line in lines if " journal" not in line])
 
-    def assert_put(self, content, *pieces):
-        """These pieces are put, and then the table; the names of all last before the reply is sent."""
-        puts = [line for piece in pieces for line in put_of(f"c-{digest_of(piece)}")]
-        self.assertEqual(self.trace(content), [*puts, *put_of(f"t-{digest_of(content)}"), "fsync folder", "write replies"])
+    def assert_put(self, content, *pieces, known=()):
+        """These pieces of a file are put, and then its table; the names of all last before the reply is sent."""
+        self.assertEqual(self.trace(content, known=known), [*puts_of(*pieces), *table_of(content), "write replies"])
+
+    def assert_put_in_turn(self, *puts):
+        """Of each file in turn these pieces are put, and then its table; or nothing, where there are none of them."""
+        lines = self.trace(*(content for content, *_ in puts))
+        wanted = [line for content, pieces in puts if pieces is not None for line in (*puts_of(*pieces), *table_of(content))]
+        self.assertEqual([line for line in lines if line != "write replies"], wanted)
 
     def test_pieces_and_then_their_table_last_before_the_reply(self):
         content = bytes(range(256)) * 256 + b"rest"
@@ -49,6 +66,16 @@ class Uploads(Stored):
         self.assert_put(ZEROS * 3 + b"rest" + bytes(7), ZEROS, b"rest" + bytes(7))
         self.assert_put(ZEROS * 256, ZEROS)
         self.assertEqual(len(files_of(ZEROS * 256)), 2)
+
+    def test_a_piece_that_an_earlier_upload_put_is_not_put_again(self):
+        one, two = ZEROS + b"one", ZEROS * 2 + b"two"
+        self.assert_put_in_turn((one, [ZEROS, b"one"]), (two, [b"two"]), (ZEROS, []))
+
+    def test_a_piece_of_a_file_that_the_opening_read_is_not_put_again(self):
+        self.assert_put(ZEROS + b"two", b"two", known=[ZEROS + b"one"])
+
+    def test_of_a_file_that_is_known_nothing_is_put(self):
+        self.assert_put_in_turn((b"same", [b"same"]), (b"same", None))
 
     def test_the_empty_file_is_a_table(self):
         self.assert_put(b"")

@@ -15,7 +15,7 @@ use Rattle.blob_store.specs.declared.reading.ReadFault.TheVariants as read_fault
 use Rattle.blob_store.specs.Calls.{Call, Got}
 use Rattle.blob_store.specs.Reads.{Answers, AreAsked, AreNoPieces, ArePiecesFault, GivesInTurn, IsFileFault, IsNextFault, IsNextRead, IsNoPiece, IsTableFault, answers_of, pieces_given}
 use Rattle.blob_store.specs.Tables.{IsTable, Spells, pieces_of, size_of, text_of}
-use Rattle.blob_store.proofs.TableTexts.{is_table, not_empty, size_told, spelled_table}
+use Rattle.blob_store.proofs.TableTexts.{is_table, size_told}
 
 -- ---- answers in turn
 

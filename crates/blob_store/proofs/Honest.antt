@@ -1,8 +1,8 @@
 -- Of a shelf that is honest at the end, each call before was honest.
 use Rattle.std.specs.Prelude.{IsTrue}
-use Rattle.std.proofs.Common.{Bool, ◌≡◌, ◌≢◌, ◌⊎◌, inl, inr, ℕ, List, [], ◌∷◌, Option, Some, None, map, refl, subst}
+use Rattle.std.proofs.Common.{Bool, inl, inr, ℕ, List, [], ◌∷◌, Option, Some, None, subst}
 use Rattle.host_names.specs.declared.digests.Digest.{Digest}
-use Rattle.host_names.specs.Blobs.{digest_of}
+use Rattle.host_names.specs.Blobs.{Contents}
 use Rattle.blob_store.specs.declared.shelves.ShelfFault.{ShelfFault}
 use Rattle.blob_store.specs.declared.shelves.ShelfFault.TheVariants as shelf_fault
 use Rattle.blob_store.specs.declared.shelves.ShelfName.TheVariants.{Part, Table}
@@ -16,9 +16,9 @@ use Rattle.blob_store.specs.declared.openings.Wanted.{Wanted}
 use Rattle.blob_store.specs.Calls.{Call, Got, GetFails, Put, PutFails, PutsFile, PutsInTurn}
 use Rattle.blob_store.specs.Faults.{HasPutPart, HasPutSome, IsChunkFault}
 use Rattle.blob_store.specs.Keeping.{Keeps, Thing, Where}
-use Rattle.blob_store.specs.Openings.{AreTaken, IsOpenFault, IsOpened, IsTaken, IsTakeFault, Need, StopsAmong, Taken}
+use Rattle.blob_store.specs.Openings.{AreTaken, IsOpenFault, IsOpened, IsTaken, IsTakeFault, Need, Taken}
 use Rattle.blob_store.specs.Reads.{Answers, FailsAtFile, FailsAtPiece, GivesFirst, GivesInTurn, IsFileFault, IsFileRead, answers_of, pieces_given}
-use Rattle.blob_store.specs.Stretches.{AreChunksFault, IsStretchFault, chunks_given}
+use Rattle.blob_store.specs.Stretches.{IsStretchFault, chunks_given}
 use Rattle.blob_store.specs.declared.shelves.ShelfName.{ShelfName}
 
 module _ {S : Type 0} (did : S → Call → S → Type 0) (honest : S → Bool) (has : S → ShelfName → Option (List ℕ)) (keeps : Keeps did honest has) where
@@ -39,27 +39,28 @@ module _ {S : Type 0} (did : S → Call → S → Type 0) (honest : S → Bool) 
       let rest = puts is.0 new things fault so is.2 in
       (keeps.before old is.0 (Put t.0 t.1) is.1 rest.0, inr (is.0, (is.1, rest.0), rest.1))
 
-  pub puts_file : (old new : S) (file : List ℕ) (fault : Option ShelfFault) → IsTrue (honest new) → PutsFile did old file fault new
-      → IsTrue (honest old) × PutsFile Well old file fault new
-  puts_file old new file fault so is =
-      let all = puts old new _ fault so is.2 in
-      (all.0, (is.0, is.1, all.1))
+  pub puts_file : (known : Contents) (old new : S) (file : List ℕ) (fault : Option ShelfFault) → IsTrue (honest new) → PutsFile did known old file fault new
+      → IsTrue (honest old) × PutsFile Well known old file fault new
+  puts_file known old new file fault so (stored, are, (pieces, once, is)) =
+      let all = puts old new _ fault so is in
+      (all.0, (stored, are, (pieces, once, all.1)))
 
-  put_part : (old new : S) (file : List ℕ) (why : UploadFault) → IsTrue (honest new) → HasPutPart did old file why new → IsTrue (honest old) × HasPutPart Well old file why new
-  put_part old new file upload_fault.TooLarge so is = (subst (λ s. IsTrue (honest s)) is so, is)
-  put_part old new file upload_fault.Device so is = puts_file old new file (Some shelf_fault.Device) so is
-  put_part old new file upload_fault.OutOfMemory so (inl same) = (subst (λ s. IsTrue (honest s)) same so, inl same)
-  put_part old new file upload_fault.OutOfMemory so (inr is) =
-      let all = puts_file old new file (Some shelf_fault.OutOfMemory) so is in
-      (all.0, inr all.1)
+  module _ (known : Contents) (old new : S) (file : List ℕ) where
+    put_part : (why : UploadFault) → IsTrue (honest new) → HasPutPart did known old file why new → IsTrue (honest old) × HasPutPart Well known old file why new
+    put_part upload_fault.TooLarge so is = (subst (λ s. IsTrue (honest s)) is so, is)
+    put_part upload_fault.Device so is = puts_file known old new file (Some shelf_fault.Device) so is
+    put_part upload_fault.OutOfMemory so (inl same) = (subst (λ s. IsTrue (honest s)) same so, inl same)
+    put_part upload_fault.OutOfMemory so (inr is) =
+        let all = puts_file known old new file (Some shelf_fault.OutOfMemory) so is in
+        (all.0, inr all.1)
 
-  pub put_some : (old new : S) (file : List ℕ) (why : UploadFault) → IsTrue (honest new) → HasPutSome did old file why new → IsTrue (honest old) × HasPutSome Well old file why new
-  put_some old new file why so (inl part) =
-      let all = put_part old new file why so part in
-      (all.0, inl all.1)
-  put_some old new file why so (inr whole) =
-      let all = puts_file old new file None so whole.1 in
-      (all.0, inr (whole.0, all.1))
+    pub put_some : (why : UploadFault) → IsTrue (honest new) → HasPutSome did known old file why new → IsTrue (honest old) × HasPutSome Well known old file why new
+    put_some why so (inl part) =
+        let all = put_part why so part in
+        (all.0, inl all.1)
+    put_some why so (inr whole) =
+        let all = puts_file known old new file None so whole.1 in
+        (all.0, inr (whole.0, all.1))
 
   -- ---- reads
 

@@ -8,7 +8,7 @@ use Rattle.std.specs.declared.cmp.Ordering.{Ordering}
 use Rattle.std.specs.declared.cmp.Ordering.TheVariants.{Less, Equal, Greater}
 use Rattle.host_names.specs.declared.digests.Digest.{Digest}
 use Rattle.host_names.specs.Digests.{digest_cmp, digest_cmp_total, digest_cmp-IsAntisymmetric}
-use Rattle.host_names.specs.Blobs.{digest_of}
+use Rattle.host_names.specs.Blobs.{Contents, digest_of}
 use Rattle.byte_view.specs.Cuts.{cut, names_of}
 use Rattle.byte_view.proofs.CutPieces.{concat-cut}
 use Rattle.blob_store.specs.declared.shelves.ShelfName.{ShelfName}
@@ -18,9 +18,9 @@ use Rattle.blob_store.specs.declared.blobs.UploadFault.{UploadFault}
 use Rattle.blob_store.specs.declared.blobs.UploadFault.TheVariants as upload_fault
 use Rattle.blob_store.specs.declared.shelves.ShelfFault.{ShelfFault}
 use Rattle.blob_store.specs.declared.shelves.ShelfFault.TheVariants as shelf_fault
-use Rattle.blob_store.specs.Calls.{AreOnceEach, Call, Put, PutFails, Got, PutsFile, PutsInTurn, part_of, table_of, things_of}
+use Rattle.blob_store.specs.Calls.{AreKnownNames, AreOnceEach, Call, IsKnownName, Put, PutFails, Got, PutsFile, PutsInTurn, part_of, table_of, things_of}
 use Rattle.blob_store.specs.Faults.{HasPutSome, IsChunkFault}
-use Rattle.blob_store.specs.Keeping.{Agree, AlwaysKeeps, HasAll, HasFile, Thing}
+use Rattle.blob_store.specs.Keeping.{Agree, AgreeWithKnown, AlwaysKeeps, HasAll, HasEach, HasFile, Thing}
 use Rattle.blob_store.specs.Reads.{Answers, GivesInTurn, IsFileFault, IsFileRead, answers_of, pieces_given}
 use Rattle.blob_store.specs.Tables.{text_of}
 use Rattle.blob_store.proofs.FileReads.{all_named, digest_in, given}
@@ -86,6 +86,19 @@ parts_among (p ∷ pieces) = (
 
 part_among : (pieces : List (List ℕ)) (piece : List ℕ) → Contains pieces piece → Contains (map part_of pieces) (part_of piece)
 part_among pieces piece among = All-contains (λ p. Contains (map part_of pieces) (part_of p)) pieces piece (All-from_recursion (λ p. Contains (map part_of pieces) (part_of p)) pieces (parts_among pieces)) among
+
+-- a name among those of pieces is that of one of them
+piece_named : (pieces : List (List ℕ)) (name : Digest) → Contains (map digest_of pieces) name → (piece : List ℕ) × Contains pieces piece × (digest_of piece ≡ name)
+piece_named [] name there = absurd (let below = there.1 in omega (arith, below))
+piece_named (p ∷ pieces) name there = elim (Contains-append_cases (digest_of p ∷ []) (map digest_of pieces) name there) [
+  | inl one ↦ elim (Contains-push_cases [] (digest_of p) name one) [
+    | inl none ↦ absurd (let below = none.1 in omega (arith, below))
+    | inr is ↦ (p, Contains-append_left (p ∷ []) pieces p (Contains-push [] p), is)
+  ]
+  | inr later ↦
+      let (q, among, is) = piece_named pieces name later in
+      (q, Contains-append_right (p ∷ []) pieces q among, is)
+]
 
 -- a shelf that has the same has the same things
 pub moved : {S : Type 0} (has : S → ShelfName → Option (List ℕ)) (old new : S) (things : List Thing) → ((name : ShelfName) → has new name ≡ has old name) → HasAll has old things
@@ -160,6 +173,26 @@ module _ {S : Type 0} (did : S → Call → S → Type 0) (has : S → ShelfName
   its_table new file [] are = are.0
   its_table new file (p ∷ pieces) are = its_table new file pieces are.1
 
+  -- what was there still is, wherever the putting of a file ended
+  pub still_there_after : (known : Contents) (old new : S) (had : List Thing) (file : List ℕ) (outcome : Option ShelfFault) → Agree had (things_of file)
+      → PutsFile did known old file outcome new → HasAll has old had → HasAll has new had
+  still_there_after known old new had file outcome agree (stored, names, (pieces, once, puts)) are =
+      still_there old new had (map part_of pieces ++ table_of file ∷ []) outcome (agree_puts had file pieces once.among agree) puts are
+
+  -- a stored name is that of a piece of a known file, which was there, and is this one
+  stored_piece : (known : Contents) (old new : S) (file piece : List ℕ) (outcome : Option ShelfFault) → AgreeWithKnown known file → HasEach has old known → Contains (cut file) piece
+      → IsKnownName known (digest_of piece) → PutsFile did known old file outcome new → has new (Part (digest_of piece)) ≡ Some piece
+  stored_piece known old new file piece outcome agree there of (digest, other, at, named) puts =
+      let things = things_of other in
+      let (q, among, is) = piece_named (cut other) (digest_of piece) named in
+      let in_things = Contains-append_left (map part_of (cut other)) (table_of other ∷ []) (part_of q) (part_among (cut other) q among) in
+      let in_own = Contains-append_left (map part_of (cut file)) (table_of file ∷ []) (part_of piece) (part_among (cut file) piece of) in
+      let same : q ≡ piece = agreed things (things_of file) (agree digest other at) (part_of q) (part_of piece) in_things in_own (ap Part is) in
+      let P : Thing → Type 0 = λ t. has new t.0 ≡ Some t.1 in
+      let are = still_there_after known old new things file outcome (agree digest other at) puts (there digest other at) in
+      let has_it : has new (Part (digest_of q)) ≡ Some q = All-contains P things (part_of q) (All-from_recursion P things are) in_things in
+      ap (λ d. has new (Part d)) (sym is) ∙ has_it ∙ ap Some same
+
   -- a piece is there, since one of its name is, and is the same
   its_piece : (new : S) (file piece : List ℕ) (pieces : List (List ℕ)) → Agree (things_of file) (things_of file) → Contains (cut file) piece
       → AllByRecursion (Contains (cut file)) pieces → Contains (map digest_of pieces) (digest_of piece) → HasAll has new (map part_of pieces ++ table_of file ∷ [])
@@ -178,38 +211,40 @@ module _ {S : Type 0} (did : S → Call → S → Type 0) (has : S → ShelfName
     | inr later ↦ its_piece new file piece pieces agree of among.1 later are.1
   ]
 
-  all_pieces : (new : S) (file : List ℕ) (pieces : List (List ℕ)) → Agree (things_of file) (things_of file) → AreOnceEach (cut file) pieces
+  all_pieces : (known : Contents) (old new : S) (file : List ℕ) (stored : List Digest) (pieces : List (List ℕ)) → Agree (things_of file) (things_of file)
+      → AgreeWithKnown known file → HasEach has old known → AreKnownNames known stored → PutsFile did known old file None new → AreOnceEach stored (cut file) pieces
       → HasAll has new (map part_of pieces ++ table_of file ∷ [])
-      → (some : List (List ℕ)) → AllByRecursion (Contains (cut file)) some → AllByRecursion (λ piece. Contains (map digest_of pieces) (digest_of piece)) some
+      → (some : List (List ℕ)) → AllByRecursion (Contains (cut file)) some
+      → AllByRecursion (λ piece. Contains stored (digest_of piece) ⊎ Contains (map digest_of pieces) (digest_of piece)) some
       → HasAll has new (map part_of some ++ table_of file ∷ [])
-  all_pieces new file pieces agree once are [] of met = (its_table new file pieces are, tt)
-  all_pieces new file pieces agree once are (piece ∷ some) of met =
-      (its_piece new file piece pieces agree of.0 once.among met.0 are, all_pieces new file pieces agree once are some of.1 met.1)
+  all_pieces known old new file stored pieces agree others there names puts once are [] of met = (its_table new file pieces are, tt)
+  all_pieces known old new file stored pieces agree others there names puts once are (piece ∷ some) of met =
+      let rest = all_pieces known old new file stored pieces agree others there names puts once are some of.1 met.1 in
+      let here : has new (Part (digest_of piece)) ≡ Some piece = elim met.0 [
+        | inl is ↦ stored_piece known old new file piece None others there of.0 (names (digest_of piece) is) puts
+        | inr put ↦ its_piece new file piece pieces agree of.0 once.among put are
+      ] in
+      (here, rest)
 
   -- a file that was put is there
-  pub file_put : (old new : S) (file : List ℕ) → Agree (things_of file) (things_of file) → PutsFile did old file None new → HasFile has new file
-  file_put old new file agree is =
-      let pieces = is.0 in
+  pub file_put : (known : Contents) (old new : S) (file : List ℕ) → Agree (things_of file) (things_of file) → AgreeWithKnown known file → HasEach has old known
+      → PutsFile did known old file None new → HasFile has new file
+  file_put known old new file agree others there is =
+      let (stored, names, (pieces, once, puts)) = is in
+      let among = once.among in
       let things = map part_of pieces ++ table_of file ∷ [] in
-      let among = is.1.among in
       let own = agree_front (things_of file) things things (puts_among file pieces among) (agree_puts (things_of file) file pieces among agree) in
-      let are = all_there old new things own is.2 in
+      let are = all_there old new things own puts in
       let themselves = recursion_from_All (Contains (cut file)) (cut file) (All-contains_itself (cut file)) in
-      all_pieces new file pieces agree is.1 are (cut file) themselves is.1.each
+      all_pieces known old new file stored pieces agree others there names is once are (cut file) themselves once.each
 
-  -- what was there still is, wherever the putting of a file ended
-  pub still_there_after : (old new : S) (had : List Thing) (file : List ℕ) (outcome : Option ShelfFault) → Agree had (things_of file) → PutsFile did old file outcome new
-      → HasAll has old had → HasAll has new had
-  still_there_after old new had file outcome agree is are =
-      still_there old new had (map part_of is.0 ++ table_of file ∷ []) outcome (agree_puts had file is.0 is.1.among agree) is.2 are
-
-  pub there_after_fault : (old new : S) (had : List Thing) (file : List ℕ) (fault : UploadFault) → Agree had (things_of file) → HasPutSome did old file fault new → HasAll has old had
-      → HasAll has new had
-  there_after_fault old new had file upload_fault.TooLarge agree (inl same) are = subst (λ s. HasAll has s had) (sym same) are
-  there_after_fault old new had file upload_fault.Device agree (inl puts) are = still_there_after old new had file (Some shelf_fault.Device) agree puts are
-  there_after_fault old new had file upload_fault.OutOfMemory agree (inl (inl same)) are = subst (λ s. HasAll has s had) (sym same) are
-  there_after_fault old new had file upload_fault.OutOfMemory agree (inl (inr puts)) are = still_there_after old new had file (Some shelf_fault.OutOfMemory) agree puts are
-  there_after_fault old new had file fault agree (inr puts) are = still_there_after old new had file None agree puts.1 are
+  module _ (known : Contents) (old new : S) (had : List Thing) (file : List ℕ) where
+    pub there_after_fault : (fault : UploadFault) → Agree had (things_of file) → HasPutSome did known old file fault new → HasAll has old had → HasAll has new had
+    there_after_fault upload_fault.TooLarge agree (inl same) are = subst (λ s. HasAll has s had) (sym same) are
+    there_after_fault upload_fault.Device agree (inl puts) are = still_there_after known old new had file (Some shelf_fault.Device) agree puts are
+    there_after_fault upload_fault.OutOfMemory agree (inl (inl same)) are = subst (λ s. HasAll has s had) (sym same) are
+    there_after_fault upload_fault.OutOfMemory agree (inl (inr puts)) are = still_there_after known old new had file (Some shelf_fault.OutOfMemory) agree puts are
+    there_after_fault fault agree (inr puts) are = still_there_after known old new had file None agree puts.1 are
 
   -- ---- what is given
 

@@ -3,6 +3,7 @@ mod TableTexts
 mod Shelved
 mod Additions
 mod Once
+mod StoredNames
 mod Turns
 mod FileReads
 mod Stretched

@@ -1,5 +1,5 @@
 -- Pieces of which each name is put once.
-use Rattle.std.proofs.Common.{◌≡◌, ◌≢◌, ◌⊎◌, inl, inr, ℕ, Bool, true, false, cond, ◌||◌, List, [], ◌∷◌, ◌++◌, Contains, length, map, refl, sym, ap, subst, ◌∙◌, arith}
+use Rattle.std.proofs.Common.{◌≡◌, ◌≢◌, ◌⊎◌, inl, inr, ℕ, Bool, true, false, cond, ◌||◌, List, [], ◌∷◌, ◌++◌, Contains, map, refl, sym, ap, subst, ◌∙◌, arith}
 use Rattle.std.proofs.lemmas.Cmp.{eq_by_cmp_equiv}
 use Rattle.std.proofs.lemmas.List.Elements.{Contains-append_cases, Contains-append_left, Contains-append_right, Contains-push, Contains-push_cases}
 use Rattle.std.specs.List.{AllByRecursion, list_any}
@@ -11,23 +11,23 @@ use Rattle.host_names.specs.Digests.{digest_cmp, digest_cmp_total, digest_cmp-Is
 use Rattle.host_names.specs.Blobs.{digest_of}
 use Rattle.blob_store.specs.Calls.{AreApart, AreOnceEach}
 
-is_eq-true : (o : Ordering) → is_eq o ≡ true → o ≡ Equal
+pub is_eq-true : (o : Ordering) → is_eq o ≡ true → o ≡ Equal
 is_eq-true Less e = cc e
 is_eq-true Equal e = refl
 is_eq-true Greater e = cc e
 
 -- ---- elements
 
-contains_here : {X : Type 0} (x : X) (xs : List X) → Contains (x ∷ xs) x
+pub contains_here : {X : Type 0} (x : X) (xs : List X) → Contains (x ∷ xs) x
 contains_here x xs = Contains-append_left (x ∷ []) xs x (Contains-push [] x)
 
-contains_more : {X : Type 0} (x y : X) (xs : List X) → Contains xs y → Contains (x ∷ xs) y
+pub contains_more : {X : Type 0} (x y : X) (xs : List X) → Contains xs y → Contains (x ∷ xs) y
 contains_more x y xs there = Contains-append_right (x ∷ []) xs y there
 
-contains_none : {X : Type 0} (x : X) → Contains [] x → ⊥
+pub contains_none : {X : Type 0} (x : X) → Contains [] x → ⊥
 contains_none x there = let below = there.1 in absurd (omega (arith, below))
 
-first_or : {X : Type 0} (x : X) (xs : List X) {y : X} → Contains (x ∷ xs) y → (x ≡ y) ⊎ Contains xs y
+pub first_or : {X : Type 0} (x : X) (xs : List X) {y : X} → Contains (x ∷ xs) y → (x ≡ y) ⊎ Contains xs y
 first_or x xs {y} there = elim (Contains-append_cases (x ∷ []) xs y there) [
   | inl one ↦ elim (Contains-push_cases [] x y one) [
     | inl none ↦ absurd (contains_none y none)
@@ -53,7 +53,7 @@ among_true (other ∷ names) name e =
       | false ↦ λ tie h. contains_more other name names (among_true names name h)
     ] refl e
 
-or-true : (b : Bool) → (b || true) ≡ true
+pub or-true : (b : Bool) → (b || true) ≡ true
 or-true true = refl
 or-true false = refl
 
@@ -140,13 +140,10 @@ once_apart seen (piece ∷ pieces) =
       )
     ] refl
 
-pub once_each : (pieces : List (List ℕ)) → AllByRecursion (Contains pieces) pieces → AreOnceEach pieces (once [] pieces)
-once_each pieces themselves = record {
-  among = once_among pieces [] pieces themselves;
-  each = all_weaker (λ piece. IsMet [] (once [] pieces) (digest_of piece)) (λ piece. Contains (map digest_of (once [] pieces)) (digest_of piece))
-      (λ piece met. elim met [
-        | inl none ↦ absurd (contains_none (digest_of piece) none)
-        | inr put ↦ put
-      ]) pieces (once_met [] pieces);
-  apart = (once_apart [] pieces).0;
+pub once_each : (stored : List Digest) (pieces : List (List ℕ)) → AllByRecursion (Contains pieces) pieces → AreOnceEach stored pieces (once stored pieces)
+once_each stored pieces themselves = record {
+  among = once_among pieces stored pieces themselves;
+  each = once_met stored pieces;
+  apart = (once_apart stored pieces).0;
+  fresh = (once_apart stored pieces).1;
 }

@@ -1,5 +1,5 @@
 -- What the entries of a map from digests to files mean.
-use Rattle.std.proofs.Common.{◌≡◌, ℕ, Bool, true, false, cond, List, [], ◌∷◌, map, Option, Some, None, option_map, refl, sym, ap, subst, ◌∙◌}
+use Rattle.std.proofs.Common.{◌≡◌, ◌⊎◌, inl, inr, ℕ, Bool, true, false, cond, is_some, List, [], ◌∷◌, Contains, map, Option, Some, None, option_map, refl, sym, ap, subst, ◌∙◌}
 use Rattle.std.specs.BTreeMap.{is_at}
 use Rattle.std.specs.FinMap.{get, find, insert, get-from_entries, get-insert, get-empty, same_map}
 use Rattle.std.specs.Map.{lookup}
@@ -11,7 +11,10 @@ use Rattle.sha1.specs.Sha1 as sha
 use Rattle.host_names.specs.declared.digests.Digest.{Digest}
 use Rattle.host_names.specs.Digests.{digest_cmp, digest_cmp_total, digest_cmp-IsAntisymmetric}
 use Rattle.host_names.specs.Blobs.{Contents, AreDigested, digest_of, with_file}
+use Rattle.byte_view.specs.Cuts.{names_of}
+use Rattle.blob_store.specs.Calls.{AreKnownNames}
 use Rattle.blob_store.specs.Files.{stored}
+use Rattle.blob_store.proofs.Once.{contains_none}
 
 option_map-cond : {A B : Type 0} (f : A → B) (b : Bool) (x : A) (o : Option A) → cond b (Some (f x)) (option_map f o) ≡ option_map f (cond b (Some x) o)
 option_map-cond f true x o = refl
@@ -39,6 +42,39 @@ pub AreDigested-none : {File : Type 0} (bytes : File → List ℕ) (files : List
 AreDigested-none bytes files none digest found e =
     let empty : get (stored bytes []) digest ≡ Some found = rw none at e in
     cc (sym (get-empty {X = List ℕ} digest_cmp digest) ∙ empty)
+
+-- a file that is known stays so with one more
+pub kept_file : (kept : Contents) (text : List ℕ) (digest : Digest) (file : List ℕ) → get kept digest ≡ Some file → get (with_file kept text) digest ≡ Some file
+kept_file kept text digest file at =
+    elim (get kept (digest_of text)) as (λ o. get kept (digest_of text) ≡ o → get (cond (is_some o) kept (insert kept (digest_of text) text)) digest ≡ Some file) [
+      | Some other ↦ λ e. at
+      | None ↦ λ e. get-insert digest_cmp_total kept (digest_of text) text digest
+          ∙ elim (eq_by_cmp digest_cmp digest (digest_of text)) as (λ b. eq_by_cmp digest_cmp digest (digest_of text) ≡ b → cond b (Some text) (get kept digest) ≡ Some file) [
+            | true ↦ λ tie.
+                let is : digest ≡ digest_of text = digest_cmp-IsAntisymmetric digest (digest_of text) (is_eq-true _ tie) in
+                let wrong : None ≡ Some file = sym e ∙ ap (get kept) (sym is) ∙ at in
+                absurd (cc wrong)
+            | false ↦ λ tie. at
+          ] refl
+    ] refl
+
+-- ---- names of pieces of known files
+
+pub no_names : (known : Contents) (names : List Digest) → names ≡ [] → AreKnownNames known names
+no_names known names none name there = absurd (contains_none name (subst (λ l. Contains l name) none there))
+
+pub names_with_file : (kept : Contents) (text : List ℕ) (names : List Digest) → AreKnownNames kept names → AreKnownNames (with_file kept text) names
+names_with_file kept text names are name there =
+    let (digest, file, at, among) = are name there in
+    (digest, file, kept_file kept text digest file at, among)
+
+-- those of one more of them
+pub names_added : (known : Contents) (digest : Digest) (file : List ℕ) (old names new : List Digest) → get known digest ≡ Some file → names ≡ names_of file
+    → ((name : Digest) → Contains new name → Contains old name ⊎ Contains names name) → AreKnownNames known old → AreKnownNames known new
+names_added known digest file old names new at named added are name there = elim (added name there) [
+  | inl was ↦ are name was
+  | inr among ↦ (digest, file, at, subst (λ l. Contains l name) named among)
+]
 
 module _ {File : Type 0} (bytes : File → List ℕ) where
   find-stored : (files : List (Digest × File)) (q : Digest) → find digest_cmp q (map (λ e. (e.0, bytes e.1)) files) ≡ option_map bytes (lookup (is_at (digest_cmp q)) files)

@@ -1,8 +1,9 @@
 -- Calls of a shelf: what it was given, and what it answered.
 use Rattle.std.specs.Prelude.{◌≡◌, ◌≢◌, ◌⊎◌, ℕ, List, [], ◌∷◌, ◌++◌, Option, Some, None, ⊤, Contains, length, map}
+use Rattle.std.specs.FinMap.{get}
 use Rattle.std.specs.List.{AllByRecursion}
 use Rattle.host_names.specs.declared.digests.Digest.{Digest}
-use Rattle.host_names.specs.Blobs.{digest_of}
+use Rattle.host_names.specs.Blobs.{Contents, digest_of}
 use Rattle.byte_view.specs.Cuts.{cut, names_of}
 use Rattle.blob_store.specs.declared.shelves.ShelfName.{ShelfName}
 use Rattle.blob_store.specs.declared.shelves.ShelfName.TheVariants.{Part, Table}
@@ -38,21 +39,35 @@ abbrev pub AreApart : List Digest → Type 0
 AreApart [] = ⊤
 AreApart (name ∷ names) = AllByRecursion (λ other. name ≢ other) names × AreApart names
 
--- some of these pieces, of each name one
-pub record AreOnceEach (pieces some : List (List ℕ)) : Type 0 where
+-- some of these pieces: of each name that isn't stored one, and of the others none
+pub record AreOnceEach (stored : List Digest) (pieces some : List (List ℕ)) : Type 0 where
   pub among : AllByRecursion (Contains pieces) some
-  pub each : AllByRecursion (λ piece. Contains (map digest_of some) (digest_of piece)) pieces
+  pub each : AllByRecursion (λ piece. Contains stored (digest_of piece) ⊎ Contains (map digest_of some) (digest_of piece)) pieces
   pub apart : AreApart (map digest_of some)
+  pub fresh : AllByRecursion (λ name. ¬ (Contains stored name)) (map digest_of some)
 
--- a file is put on a shelf, and no other call is made: of each name among its pieces one, and then its table; all of it, or up to the first of these at
--- which the shelf fails
-abbrev pub PutsFile : {S : Type 0} → (did : S → Call → S → Type 0) → S → List ℕ → Option ShelfFault → S → Type 0
-PutsFile did old file fault new =
-    (pieces : List (List ℕ)) × AreOnceEach (cut file) pieces × PutsInTurn did old (map part_of pieces ++ table_of file ∷ []) fault new
+-- of the pieces of a file one is put of each name that isn't stored, and of the others none, and then its table, and no other call is made; all of it,
+-- or up to the first of these at which the shelf fails
+abbrev pub PutsOthers : {S : Type 0} → (did : S → Call → S → Type 0) → List Digest → S → List ℕ → Option ShelfFault → S → Type 0
+PutsOthers did stored old file fault new =
+    (pieces : List (List ℕ)) × AreOnceEach stored (cut file) pieces × PutsInTurn did old (map part_of pieces ++ table_of file ∷ []) fault new
+
+-- a name is that of a piece of a file that is known
+abbrev pub IsKnownName : Contents → Digest → Type 0
+IsKnownName known name = (digest : Digest) × (file : List ℕ) × (get known digest ≡ Some file) × Contains (names_of file) name
+
+-- each of these is
+abbrev pub AreKnownNames : Contents → List Digest → Type 0
+AreKnownNames known names = (name : Digest) → Contains names name → IsKnownName known name
+
+-- a file is put on a shelf, where some of the names of pieces of known files are stored
+abbrev pub PutsFile : {S : Type 0} → (did : S → Call → S → Type 0) → Contents → S → List ℕ → Option ShelfFault → S → Type 0
+PutsFile did known old file fault new = (stored : List Digest) × AreKnownNames known stored × PutsOthers did stored old file fault new
 
 -- ---- what private functions say
 
--- a piece is put on a shelf, unless its name is one of these
-abbrev pub PutsNew : {S : Type 0} → (did : S → Call → S → Type 0) → S → List Digest → ShelfName × List ℕ → Digest → Option ShelfFault → S → Type 0
-PutsNew did old before thing name fault new =
-    (Contains before name × (fault ≡ None) × (new ≡ old)) ⊎ ((¬ (Contains before name)) × PutsInTurn did old (thing ∷ []) fault new)
+-- a piece is put on a shelf, unless its name is one of those that are stored, or of those before it
+abbrev pub PutsNew : {S : Type 0} → (did : S → Call → S → Type 0) → S → (stored before : List Digest) → ShelfName × List ℕ → Digest → Option ShelfFault → S → Type 0
+PutsNew did old stored before thing name fault new =
+    ((Contains stored name ⊎ Contains before name) × (fault ≡ None) × (new ≡ old))
+    ⊎ ((¬ (Contains stored name)) × (¬ (Contains before name)) × PutsInTurn did old (thing ∷ []) fault new)

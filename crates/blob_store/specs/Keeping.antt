@@ -1,6 +1,9 @@
 -- Shelves that keep what is put on them.
 use Rattle.std.specs.Prelude.{◌≡◌, ◌≢◌, ◌⊎◌, ℕ, Bool, IsTrue, List, Option, Some}
+use Rattle.std.specs.FinMap.{get}
 use Rattle.std.specs.List.{AllByRecursion}
+use Rattle.host_names.specs.Blobs.{Contents}
+use Rattle.host_names.specs.declared.digests.Digest.{Digest}
 use Rattle.blob_store.specs.declared.shelves.ShelfName.{ShelfName}
 use Rattle.blob_store.specs.declared.shelves.ShelfFault.{ShelfFault}
 use Rattle.blob_store.specs.Calls.{Call, Put, PutFails, Got, GetFails, things_of}
@@ -43,3 +46,11 @@ HasFile has shelf file = HasAll has shelf (things_of file)
 -- things of one name are the same in both; so no piece of the one file has the digest of another piece of the other
 abbrev pub Agree : List Thing → List Thing → Type 0
 Agree things others = AllByRecursion (λ (thing : Thing). AllByRecursion (λ (other : Thing). thing.0 ≡ other.0 → thing.1 ≡ other.1) others) things
+
+-- it has each of these files
+abbrev pub HasEach : {S : Type 0} → (has : S → ShelfName → Option (List ℕ)) → S → Contents → Type 0
+HasEach has shelf files = (digest : Digest) (file : List ℕ) → get files digest ≡ Some file → HasFile has shelf file
+
+-- things of a file and of each of these files agree
+abbrev pub AgreeWithKnown : Contents → List ℕ → Type 0
+AgreeWithKnown files file = (digest : Digest) (other : List ℕ) → get files digest ≡ Some other → Agree (things_of other) (things_of file)

@@ -5,7 +5,7 @@ ghost use Rattle.host_names.specs.Blobs.{AreDigested, digest_of, with_file};
 ghost use Rattle.byte_view.specs.Cuts.{names_of};
 ghost use Rattle.blob_store.specs.declared.shelves.ShelfName.TheVariants.{Part};
 ghost use Rattle.blob_store.specs.declared.reading.ReadFault.TheVariants as read_fault;
-ghost use Rattle.blob_store.specs.Calls.{Got, PutsFile, PutsNew, part_of};
+ghost use Rattle.blob_store.specs.Calls.{Got, PutsFile, PutsNew, PutsOthers, part_of};
 ghost use Rattle.blob_store.specs.Faults.{HasPutPart, HasPutSome, IsChunkFault};
 ghost use Rattle.blob_store.specs.Reads.{GivesInTurn};
 ghost use Rattle.blob_store.specs.Stretches.{IsStretchFault, chunks_given};
@@ -20,6 +20,7 @@ use crate::openings::{OpenFault, Wanted, open_files};
 use crate::reading::{ReadFault, read_chunk};
 use crate::shelf_files::Files;
 use crate::shelves::{Shelf, ShelfFault, ShelfName};
+use crate::stored_pieces::StoredPieces;
 use crate::stretches::read_stretch;
 use crate::tables::table_text;
 use byte_view::{BlobInfo, Chunk, Hold, MAX_SIZE, PIECE_SIZE, Uploads};
@@ -73,33 +74,35 @@ fn is_among(name: &Digest, names: &[Digest]) -> bool
     names.contains(name)
 }
 
-/// Puts a piece on a shelf, unless its name is one of those before it.
+/// Puts a piece on a shelf, unless its name is stored, or one of those before it.
 fn put_new<S: Shelf>(
     shelf: &mut S,
+    stored: &StoredPieces,
     before: &[Digest],
     name: &Digest,
     piece: &[u8],
 ) -> Result<(), ShelfFault>
-    ensures put { MatchResult result (λ _. PutsNew S.did shelf.old before.now (Part name.now, piece.now) name.now None shelf.new) (λ fault. PutsNew S.did shelf.old before.now (Part name.now, piece.now) name.now (Some fault) shelf.new) }
+    ensures put { MatchResult result (λ _. PutsNew S.did shelf.old stored.now.names.keys before.now (Part name.now, piece.now) name.now None shelf.new) (λ fault. PutsNew S.did shelf.old stored.now.names.keys before.now (Part name.now, piece.now) name.now (Some fault) shelf.new) }
     ensures device { IfErr result (λ fault. fault ≡ shelf_fault.Device → S.failures shelf.old < S.failures shelf.new) }
     ensures count { S.failures shelf.old ≤ S.failures shelf.new }
 {
-    if is_among(name, before) {
+    if stored.has(name) || is_among(name, before) {
         return Ok(());
     }
     shelf.put(ShelfName::Part(*name), piece)
 }
 
-/// Puts the pieces of a file on a shelf, of each name the first one, and its table after them.
+/// Puts the pieces of a file on a shelf, of each name that isn't stored the first one, and its table after them.
 fn put_file<S: Shelf>(
     shelf: &mut S,
+    stored: &StoredPieces,
     info: &BlobInfo,
     bytes: &[u8],
     table: &[u8],
 ) -> Result<(), ShelfFault>
     requires info { info.now ≡ bytes.now }
     requires table { table.now ≡ text_of (length bytes.now) (names_of bytes.now) }
-    ensures put { MatchResult result (λ _. PutsFile S.did shelf.old bytes.now None shelf.new) (λ fault. PutsFile S.did shelf.old bytes.now (Some fault) shelf.new) }
+    ensures put { MatchResult result (λ _. PutsOthers S.did stored.now.names.keys shelf.old bytes.now None shelf.new) (λ fault. PutsOthers S.did stored.now.names.keys shelf.old bytes.now (Some fault) shelf.new) }
     ensures device { IfErr result (λ fault. fault ≡ shelf_fault.Device → S.failures shelf.old < S.failures shelf.new) }
     ensures count { S.failures shelf.old ≤ S.failures shelf.new }
 {
@@ -107,24 +110,25 @@ fn put_file<S: Shelf>(
     let mut rest = bytes;
     for (index, name) in names.iter().enumerate() {
         let (piece, after) = rest.split_at(rest.len().min(PIECE_SIZE));
-        put_new(shelf, &names[..index], name, piece)?;
+        put_new(shelf, stored, &names[..index], name, piece)?;
         rest = after;
     }
     shelf.put(ShelfName::Table(info.digest()), table)
 }
 
-/// Puts a file of at most `MAX_SIZE` bytes on a shelf, and answers what is kept of it.
+/// Puts a file of at most `MAX_SIZE` bytes on a shelf that has the known files, and answers what is kept of it.
 pub(crate) fn put_whole<S: Shelf>(
     alloc: Global,
     shelf: &mut S,
+    known: &Known,
     digest: Digest,
     bytes: &[u8],
 ) -> Result<Arc<BlobInfo>, UploadFault>
     requires { digest ≡ digest_of bytes.now }
     ensures large { (result ≡ Err upload_fault.TooLarge) ↔ (16777216 < length bytes.now) }
     ensures info { IfOk result (λ info. info.value ≡ bytes.now) }
-    ensures put { OnOk result (PutsFile S.did shelf.old bytes.now None shelf.new) }
-    ensures not_put { IfErr result (λ fault. HasPutPart S.did shelf.old bytes.now fault shelf.new) }
+    ensures put { OnOk result (PutsFile S.did known.now shelf.old bytes.now None shelf.new) }
+    ensures not_put { IfErr result (λ fault. HasPutPart S.did known.now shelf.old bytes.now fault shelf.new) }
     ensures device { IfErr result (λ fault. fault ≡ upload_fault.Device → S.failures shelf.old < S.failures shelf.new) }
     ensures count { S.failures shelf.old ≤ S.failures shelf.new }
 {
@@ -134,7 +138,7 @@ pub(crate) fn put_whole<S: Shelf>(
     let info = BlobInfo::digested(alloc, digest, bytes).map_err(|_| UploadFault::OutOfMemory)?;
     let table = table_text(alloc, info.len(), info.names()).map_err(|_| UploadFault::OutOfMemory)?;
     let info = Arc::new(alloc, info).map_err(|_| UploadFault::OutOfMemory)?;
-    put_file(shelf, &info, bytes, table.as_slice()).map_err(of_shelf)?;
+    put_file(shelf, known.pieces(), &info, bytes, table.as_slice()).map_err(of_shelf)?;
     Ok(info)
 }
 
@@ -200,8 +204,9 @@ impl<S: Shelf> Blobs<S> {
         self.known.find(digest)
     }
 
-    /// Adds a file of at most `MAX_SIZE` bytes, and answers what is kept of it. A piece that the file has again is put once. Of a digest that
-    /// is known nothing is put on the shelf. After a fault the store knows what it knew.
+    /// Adds a file of at most `MAX_SIZE` bytes, and answers what is kept of it. A piece that the file has again is put once, and one that a known
+    /// file has isn't put, unless there was no memory to keep its name. Of a digest that is known nothing is put on the shelf. After a fault the
+    /// store knows what it knew.
     pub fn upload(&mut self, bytes: &[u8]) -> Result<Arc<BlobInfo>, UploadFault>
         ensures large { (result ≡ Err upload_fault.TooLarge) ↔ (16777216 < length bytes.now) }
         ensures info { IfOk result (λ info. map.get self.new.known (digest_of bytes.now) ≡ Some info.value) }
@@ -210,8 +215,8 @@ impl<S: Shelf> Blobs<S> {
         ensures device { IfErr result (λ fault. fault ≡ upload_fault.Device → S.failures self.old.shelf < S.failures self.new.shelf) }
         ensures count { S.failures self.old.shelf ≤ S.failures self.new.shelf }
         ensures known { IsSome (map.get self.old.known (digest_of bytes.now)) → self.new.shelf ≡ self.old.shelf }
-        ensures put { OnOk result (map.get self.old.known (digest_of bytes.now) ≡ None → PutsFile S.did self.old.shelf bytes.now None self.new.shelf) }
-        ensures not_put { IfErr result (λ fault. HasPutSome S.did self.old.shelf bytes.now fault self.new.shelf) }
+        ensures put { OnOk result (map.get self.old.known (digest_of bytes.now) ≡ None → PutsFile S.did self.old.known self.old.shelf bytes.now None self.new.shelf) }
+        ensures not_put { IfErr result (λ fault. HasPutSome S.did self.old.known self.old.shelf bytes.now fault self.new.shelf) }
     {
         if bytes.len() > MAX_SIZE {
             return Err(UploadFault::TooLarge);
@@ -220,7 +225,7 @@ impl<S: Shelf> Blobs<S> {
         if let Some(known) = self.known.find(&digest) {
             return known.clone().map_err(|_| UploadFault::OutOfMemory);
         }
-        let info = put_whole(self.alloc, &mut self.shelf, digest, bytes)?;
+        let info = put_whole(self.alloc, &mut self.shelf, &self.known, digest, bytes)?;
         let kept = info.clone().map_err(|_| UploadFault::OutOfMemory)?;
         self.known.keep(kept).map_err(|_| UploadFault::OutOfMemory)?;
         Ok(info)

@@ -2,7 +2,9 @@
 ghost use Rattle.std.specs.Prelude.{◌≡◌, None, OnErr, OnOk, option_map};
 ghost use Rattle.std.specs.FinMap as map;
 ghost use Rattle.host_names.specs.Blobs.{AreDigested, digest_of, with_file};
+ghost use Rattle.blob_store.specs.Calls.{AreKnownNames};
 
+use crate::stored_pieces::StoredPieces;
 use byte_view::{BlobInfo, Uploads};
 use host_names::Digest;
 use std::alloc::{AllocError, Global};
@@ -10,10 +12,11 @@ use std::collections::BTreeMap;
 use std::marker::Model;
 use std::sync::Arc;
 
-/// What is kept of each file, under its digest. Contracts see the bytes of each.
+/// What is kept of each file, under its digest, and the names of pieces of these files. Contracts see the bytes of each.
 #[derive(Drop)]
 pub struct Known {
     files: BTreeMap<Digest, Arc<BlobInfo>>,
+    pieces: StoredPieces,
 }
 
 impl Model for Known {
@@ -21,6 +24,7 @@ impl Model for Known {
     ghost use Rattle.std.specs.FinMap as map;
     ghost use Rattle.host_names.specs.Digests.{coded_digest};
     ghost use Rattle.host_names.specs.Blobs.{Contents, AreDigested};
+    ghost use Rattle.blob_store.specs.Calls.{AreKnownNames};
     ghost use Rattle.blob_store.specs.Files.{stored};
 
     ghost Value = { Contents };
@@ -29,7 +33,7 @@ impl Model for Known {
 
     ghost view = { λ u. stored (λ file. file.value) u.files.entries };
 
-    ghost invariant = { λ u. AreDigested (stored (λ file. file.value) u.files.entries) };
+    ghost invariant = { λ u. AreDigested (stored (λ file. file.value) u.files.entries) × AreKnownNames (stored (λ file. file.value) u.files.entries) u.pieces.names.keys };
 }
 
 impl Known {
@@ -39,6 +43,7 @@ impl Known {
     {
         Known {
             files: BTreeMap::new(alloc),
+            pieces: StoredPieces::new(alloc),
         }
     }
 
@@ -50,7 +55,15 @@ impl Known {
         self.files.get(digest)
     }
 
-    /// Adds a file. A digest that is known keeps its file, and takes no memory. Without memory nothing changes.
+    /// The names of pieces of its files, but for those for which there was no memory.
+    pub(crate) fn pieces(&self) -> &StoredPieces
+        ensures { AreKnownNames self.now result.now.names.keys }
+    {
+        &self.pieces
+    }
+
+    /// Adds a file. A digest that is known keeps its file, and takes no memory. Without memory for the file nothing changes; where there is none
+    /// for the name of a piece, just that isn't kept.
     pub fn keep(&mut self, file: Arc<BlobInfo>) -> Result<(), AllocError>
         ensures ok { OnOk result (self.new ≡ with_file self.old file.value) }
         ensures err { OnErr result (self.new ≡ self.old) }
@@ -61,7 +74,17 @@ impl Known {
             return Ok(());
         }
         self.files.insert(digest, file)?;
+        self.keep_names(&digest);
         Ok(())
+    }
+
+    /// Keeps the names of the pieces of a known file, up to where there is no memory for them.
+    fn keep_names(&mut self, digest: &Digest)
+        ensures { self.new ≡ self.old }
+    {
+        if let Some(info) = self.files.get(digest) {
+            self.pieces.add(info.names());
+        }
     }
 }
 

@@ -10,14 +10,14 @@ ghost use Rattle.byte_view.specs.Holds.{Held, IsHeld};
 ghost use Rattle.blob_store.specs.declared.reading.ReadFault.TheVariants as read_fault;
 ghost use Rattle.blob_store.specs.declared.shelves.ShelfName.{ShelfName};
 ghost use Rattle.blob_store.specs.declared.shelves.ShelfName.TheVariants.{Part};
-ghost use Rattle.blob_store.specs.Calls.{AreOnceEach, Call, Got, Put, PutsFile, things_of};
+ghost use Rattle.blob_store.specs.Calls.{AreKnownNames, AreOnceEach, Call, Got, Put, PutsFile, things_of};
 ghost use Rattle.blob_store.specs.Faults.{HasPutPart, HasPutSome, IsChunkFault};
 ghost use Rattle.blob_store.specs.Stretches.{HaveWrongLengths, IsStretchFault, chunks_given};
 ghost use Rattle.blob_store.specs.declared.blobs.UploadFault.{UploadFault};
 ghost use Rattle.blob_store.specs.declared.blobs.UploadFault.TheVariants as upload_fault;
 ghost use Rattle.blob_store.specs.declared.mem_shelf.MemShelf.{MemShelf};
 ghost use Rattle.blob_store.specs.declared.reading.ReadFault.{ReadFault};
-ghost use Rattle.blob_store.specs.Keeping.{Agree, AlwaysKeeps, HasFile, Keeps};
+ghost use Rattle.blob_store.specs.Keeping.{Agree, AgreeWithKnown, AlwaysKeeps, HasEach, HasFile, Keeps};
 ghost use Rattle.blob_store.specs.declared.openings.OpenFault.{OpenFault};
 ghost use Rattle.blob_store.specs.declared.openings.OpenFault.TheVariants as open_fault;
 ghost use Rattle.blob_store.specs.declared.openings.Wanted.{Wanted};
@@ -37,15 +37,15 @@ pub fn files_have_tables()
     ensures size { (size : ℕ) (names : List Digest) → size ≤ 16777216 → size_of (text_of size names) ≡ size }
 {}
 
-/// A shelf that keeps what is put there has a file that was uploaded, and the files that it had, where no two pieces, nor the two
-/// files, share a digest and differ. An upload that fails loses none of these either.
+/// A shelf that keeps what is put there, and that has the known files, has a file that was uploaded too, and the files that it had, where no two
+/// pieces, nor two files, share a digest and differ. An upload that fails loses none of these either.
 pub fn uploads_are_kept<S: Shelf>()
-    ensures uploaded { (honest : S → Bool) (has : S → ShelfName → Option (List ℕ)) (old new : S) (file : List ℕ) → Keeps S.did honest has → IsTrue (honest new) → Agree (things_of file) (things_of file)
-        → PutsFile S.did old file None new → HasFile has new file }
-    ensures stays { (honest : S → Bool) (has : S → ShelfName → Option (List ℕ)) (old new : S) (file other : List ℕ) → Keeps S.did honest has → IsTrue (honest new) → Agree (things_of file) (things_of other)
-        → PutsFile S.did old other None new → HasFile has old file → HasFile has new file }
-    ensures stays_after_fault { (honest : S → Bool) (has : S → ShelfName → Option (List ℕ)) (old new : S) (file other : List ℕ) (fault : UploadFault) → Keeps S.did honest has → IsTrue (honest new)
-        → Agree (things_of file) (things_of other) → HasPutSome S.did old other fault new → HasFile has old file → HasFile has new file }
+    ensures uploaded { (honest : S → Bool) (has : S → ShelfName → Option (List ℕ)) (known : Contents) (old new : S) (file : List ℕ) → Keeps S.did honest has → IsTrue (honest new) → Agree (things_of file) (things_of file)
+        → AgreeWithKnown known file → HasEach has old known → PutsFile S.did known old file None new → HasFile has new file }
+    ensures stays { (honest : S → Bool) (has : S → ShelfName → Option (List ℕ)) (known : Contents) (old new : S) (file other : List ℕ) → Keeps S.did honest has → IsTrue (honest new) → Agree (things_of file) (things_of other)
+        → PutsFile S.did known old other None new → HasFile has old file → HasFile has new file }
+    ensures stays_after_fault { (honest : S → Bool) (has : S → ShelfName → Option (List ℕ)) (known : Contents) (old new : S) (file other : List ℕ) (fault : UploadFault) → Keeps S.did honest has → IsTrue (honest new)
+        → Agree (things_of file) (things_of other) → HasPutSome S.did known old other fault new → HasFile has old file → HasFile has new file }
 {}
 
 /// Of a file that such a shelf has, each piece and the whole are read as they are, and neither is missing or damaged.
@@ -112,16 +112,18 @@ pub fn folders_keep<R: Files>()
     ensures begins { (first : ShelfName → Option (List ℕ)) (gave : List Call → Bool) → IsTrue (are_true first gave []) }
 {}
 
-/// Of these relations each is refuted of one wrong answer, so none of them holds of everything. `missed` and `twice` are of what is put of a
+/// Of these relations each is refuted of one wrong answer, so none of them holds of everything. `missed`, `twice` and `again` are of what is put of a
 /// piece, `agrees` says that `Agree` holds of one file, and `keeps` that no shelf keeps what is put there of which nothing is known. `told` is
 /// of a folder that gives other bytes than those that were put there.
 pub fn wrong_answers_are_refused<S: Shelf>()
     ensures table { ¬ (IsTable []) }
     ensures spells { ¬ (Spells [] 0 []) }
-    ensures put_part { (old new : MemShelf) (file : List ℕ) → ¬ (HasPutPart Does old file upload_fault.Device new) }
-    ensures put_some { (old new : MemShelf) (file : List ℕ) → ¬ (HasPutSome Does old file upload_fault.Device new) }
-    ensures missed { (piece : List ℕ) → ¬ (AreOnceEach (piece ∷ []) []) }
-    ensures twice { (piece : List ℕ) → ¬ (AreOnceEach (piece ∷ []) (piece ∷ piece ∷ [])) }
+    ensures put_part { (known : Contents) (old new : MemShelf) (file : List ℕ) → ¬ (HasPutPart Does known old file upload_fault.Device new) }
+    ensures put_some { (known : Contents) (old new : MemShelf) (file : List ℕ) → ¬ (HasPutSome Does known old file upload_fault.Device new) }
+    ensures missed { (piece : List ℕ) → ¬ (AreOnceEach [] (piece ∷ []) []) }
+    ensures twice { (piece : List ℕ) → ¬ (AreOnceEach [] (piece ∷ []) (piece ∷ piece ∷ [])) }
+    ensures again { (piece : List ℕ) → ¬ (AreOnceEach (digest_of piece ∷ []) (piece ∷ []) (piece ∷ [])) }
+    ensures known { (name : Digest) → ¬ (AreKnownNames map.empty (name ∷ [])) }
     ensures chunk { (old new : MemShelf) (name : Digest) → ¬ (IsChunkFault Does old name read_fault.Device new) }
     ensures file { (old new : MemShelf) (digest : Digest) → ¬ (IsFileFault Does old digest read_fault.Device new) }
     ensures of_none { (file : List ℕ) → length file ≤ 16777216 → ¬ (AreOfNone (digest_of file) (answers_of file)) }

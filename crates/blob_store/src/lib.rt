@@ -13,6 +13,7 @@ mod openings;
 mod reading;
 mod shelf_files;
 mod shelves;
+mod stored_pieces;
 mod stretches;
 mod tables;
 

@@ -10,6 +10,7 @@ ghost use Rattle.blob_store.specs.Reads.{GivesInTurn};
 ghost use Rattle.blob_store.specs.Stretches.{IsStretchFault, chunks_given};
 
 use crate::blobs::{UploadFault, put_whole};
+use crate::known::Known;
 use crate::reading::{ReadFault, of_shelf, read_chunk};
 use crate::shelves::{Shelf, ShelfName};
 use crate::stretches::read_stretch;
@@ -40,17 +41,23 @@ impl<S: Shelf> Files<S> {
         self.shelf
     }
 
-    /// Puts a file of at most `MAX_SIZE` bytes on the shelf, each piece once and then its table, and answers what is kept of it.
-    pub fn put(&mut self, digest: Digest, bytes: &[u8]) -> Result<Arc<BlobInfo>, UploadFault>
+    /// Puts a file of at most `MAX_SIZE` bytes on the shelf, each piece once and then its table, and answers what is kept of it. The shelf is to
+    /// have the known files: a piece that one of these has isn't put, unless there was no memory to keep its name.
+    pub fn put(
+        &mut self,
+        known: &Known,
+        digest: Digest,
+        bytes: &[u8],
+    ) -> Result<Arc<BlobInfo>, UploadFault>
         requires { digest ≡ digest_of bytes.now }
         ensures large { (result ≡ Err upload_fault.TooLarge) ↔ (16777216 < length bytes.now) }
         ensures info { IfOk result (λ info. info.value ≡ bytes.now) }
-        ensures put { OnOk result (PutsFile S.did self.old.shelf bytes.now None self.new.shelf) }
-        ensures not_put { IfErr result (λ fault. HasPutPart S.did self.old.shelf bytes.now fault self.new.shelf) }
+        ensures put { OnOk result (PutsFile S.did known.now self.old.shelf bytes.now None self.new.shelf) }
+        ensures not_put { IfErr result (λ fault. HasPutPart S.did known.now self.old.shelf bytes.now fault self.new.shelf) }
         ensures device { IfErr result (λ fault. fault ≡ upload_fault.Device → S.failures self.old.shelf < S.failures self.new.shelf) }
         ensures count { S.failures self.old.shelf ≤ S.failures self.new.shelf }
     {
-        put_whole(self.alloc, &mut self.shelf, digest, bytes)
+        put_whole(self.alloc, &mut self.shelf, known, digest, bytes)
     }
 
     /// What the shelf has as the piece of a name, as it gives it now. It is not checked, and may be any bytes.

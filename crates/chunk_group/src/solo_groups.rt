@@ -20,7 +20,7 @@ use crate::holds::{ChunkReader, hold_stretch};
 use crate::loads::{Given, Suppliers};
 use crate::places::RingPlace;
 use crate::sources::Source;
-use blob_store::{ReadFault, Shelf, UploadFault};
+use blob_store::{Known, ReadFault, Shelf, UploadFault};
 use byte_view::{BlobInfo, Chunk, Hold};
 use chunk_lru::ChunkCache;
 use file_reads::Holder;
@@ -173,20 +173,25 @@ impl<H: RingHash + Copy + Drop, S: Source, L: PeerLink, C: Coin> Holder for Solo
 }
 
 impl<H: RingHash + Copy + Drop, S: Shelf, L, C> SoloGroup<H, FileSource<S>, L, C> {
-    /// Puts a file of at most `MAX_SIZE` bytes on the shelf of the source, each piece once and then its table, and answers what is kept
-    /// of it. What the caches have stays.
-    pub fn put(&mut self, digest: Digest, bytes: &[u8]) -> Result<Arc<BlobInfo>, UploadFault>
+    /// Puts a file of at most `MAX_SIZE` bytes on the shelf of the source, which is to have the known files: each piece that none of these has
+    /// once, and then its table (`Files::put`). It answers what is kept of the file. What the caches have stays.
+    pub fn put(
+        &mut self,
+        known: &Known,
+        digest: Digest,
+        bytes: &[u8],
+    ) -> Result<Arc<BlobInfo>, UploadFault>
         requires { digest ≡ digest_of bytes.now }
         ensures large { (result ≡ Err upload_fault.TooLarge) ↔ (16777216 < length bytes.now) }
         ensures info { IfOk result (λ info. info.value ≡ bytes.now) }
-        ensures put { OnOk result (PutsFile S.did self.old.node.suppliers.source.files.shelf bytes.now None self.new.node.suppliers.source.files.shelf) }
-        ensures not_put { IfErr result (λ fault. HasPutPart S.did self.old.node.suppliers.source.files.shelf bytes.now fault self.new.node.suppliers.source.files.shelf) }
+        ensures put { OnOk result (PutsFile S.did known.now self.old.node.suppliers.source.files.shelf bytes.now None self.new.node.suppliers.source.files.shelf) }
+        ensures not_put { IfErr result (λ fault. HasPutPart S.did known.now self.old.node.suppliers.source.files.shelf bytes.now fault self.new.node.suppliers.source.files.shelf) }
         ensures device { IfErr result (λ fault. fault ≡ upload_fault.Device → S.failures self.old.node.suppliers.source.files.shelf < S.failures self.new.node.suppliers.source.files.shelf) }
         ensures count { S.failures self.old.node.suppliers.source.files.shelf ≤ S.failures self.new.node.suppliers.source.files.shelf }
         ensures caches { self.new.node.caches ≡ self.old.node.caches }
         ensures link { self.new.node.suppliers.link ≡ self.old.node.suppliers.link }
         ensures place { self.new.place ≡ self.old.place }
     {
-        self.node.suppliers.source.files.put(digest, bytes)
+        self.node.suppliers.source.files.put(known, digest, bytes)
     }
 }

@@ -73,7 +73,7 @@ module _ {S D : Type 0} {disk : Ghosts D} (did : S → Call → S → Type 0) (f
         → IsTrue (honest server.files.shelf) × IsStored (Where honest did) uploads server.files.shelf bytes next.files.shelf
     stored uploads bytes (small, inl (there, same)) = (subst (λ (s : S). IsTrue (honest s)) same so, (small, inl (there, same)))
     stored uploads bytes (small, inr (none, puts)) =
-        let all = puts_file did honest has keeps server.files.shelf next.files.shelf bytes None so puts in
+        let all = puts_file did honest has keeps uploads server.files.shelf next.files.shelf bytes None so puts in
         (all.0, (small, inr (none, all.1)))
 
     stored_if : (judged : Result (SiteName × Digest) Refusal) (uploads : Contents) (bytes : List ℕ) → IsStoredIf did judged uploads server.files.shelf bytes next.files.shelf
@@ -90,7 +90,7 @@ module _ {S D : Type 0} {disk : Ghosts D} (did : S → Call → S → Type 0) (f
       refused : (why : UploadFault) → IsRefusedByStore did failures server n path bytes why next → IsTrue (honest server.files.shelf) × IsRefusedByStore (Where honest did) failures server n path bytes why next
       refused why is =
           let none = is.not_stored in
-          let all = put_some did honest has keeps server.files.shelf next.files.shelf bytes why so none.put in
+          let all = put_some did honest has keeps server.house.uploads server.files.shelf next.files.shelf bytes why so none.put in
           let not_stored : IsNotStored (Where honest did) failures server.house.uploads server.files.shelf bytes why next.files.shelf =
           record { large = none.large; unknown = none.unknown; failed = none.failed; put = all.1 } in
           (all.0, record { at = is.at; judged = is.judged; not_stored = not_stored; cache = is.cache; same = is.same })

@@ -88,8 +88,8 @@ module _ {S : Type 0} (did : S → Call → S → Type 0) (failures : S → ℕ)
       let is : with_file uploads bytes ≡ uploads = ap (λ t. cond t uploads (map.insert uploads (digest_of bytes) bytes)) there in
       subst (λ (s : S). HasFile has s file) (sym same) (known digest file (ap (λ (u : Contents). map.get u digest) (sym is) ∙ at))
   stored_known uploads old new bytes agrees known (small, inr (none, puts)) digest file at = elim (known_or_added uploads bytes digest file none at) [
-    | inl had ↦ still_there_after did has keeps old new (things_of file) bytes None (agrees.known digest file had) puts (known digest file had)
-    | inr is ↦ subst (HasFile has new) (sym is) (file_put did has keeps old new bytes agrees.itself puts)
+    | inl had ↦ still_there_after did has keeps uploads old new (things_of file) bytes None (agrees.known digest file had) puts (known digest file had)
+    | inr is ↦ subst (HasFile has new) (sym is) (file_put did has keeps uploads old new bytes agrees.itself agrees.known known puts)
   ]
 
   -- a reading of a known file changes nothing on the shelf, and the cache has pieces of known files then
@@ -165,7 +165,7 @@ module _ {S D : Type 0} {disk : Ghosts D} (did : S → Call → S → Type 0) (f
   refused_known server next n path bytes why agrees known refused = record {
     on_shelf = λ digest file found.
         let had = ap (λ (h : Host). map.get h.uploads digest) (sym refused.same) ∙ found in
-        there_after_fault did has keeps server.files.shelf next.files.shelf (things_of file) bytes why (agrees.known digest file had) refused.not_stored.put
+        there_after_fault did has keeps server.house.uploads server.files.shelf next.files.shelf (things_of file) bytes why (agrees.known digest file had) refused.not_stored.put
         (known.on_shelf digest file had);
     cached = cache_over server next (uploads_of next.house server.house refused.same) refused.cache known;
   }

@@ -19,19 +19,20 @@ use Rattle.host_server.specs.Replies.{Answer, refused_answer, told_answer}
 use Rattle.host_server.specs.ServerJournals.{Breaks, GoesOn}
 use Rattle.host_server.specs.declared.servers.Server.{Server}
 
--- the bytes aren't too many, and are on the shelf: nothing is put of those that are known, and of others each piece once, and then the table
+-- the bytes aren't too many, and are on the shelf: nothing is put of those that are known, and of others each piece once, but for some that known
+-- files have, and then the table
 abbrev pub IsStored : {S : Type 0} → (did : S → Call → S → Type 0) → Contents → S → List ℕ → S → Type 0
 IsStored did uploads old bytes new =
     (length bytes ≤ 16777216)
     × ((IsSome (map.get uploads (digest_of bytes)) × (new ≡ old))
-    ⊎ ((map.get uploads (digest_of bytes) ≡ None) × PutsFile did old bytes None new))
+    ⊎ ((map.get uploads (digest_of bytes) ≡ None) × PutsFile did uploads old bytes None new))
 
 -- why they can't be: where they are too many, that; else they aren't known, and the device failed, or there was no memory
 pub record IsNotStored {S : Type 0} (did : S → Call → S → Type 0) (failures : S → ℕ) (uploads : Contents) (old : S) (bytes : List ℕ) (why : UploadFault) (new : S) : Type 0 where
   pub large : (why ≡ fault.TooLarge) ↔ (16777216 < length bytes)
   pub unknown : length bytes ≤ 16777216 → map.get uploads (digest_of bytes) ≡ None
   pub failed : why ≡ fault.Device → failures old < failures new
-  pub put : HasPutSome did old bytes why new
+  pub put : HasPutSome did uploads old bytes why new
 
 -- the reason, as it is told
 abbrev pub refusal_of_upload : UploadFault → Refusal

@@ -28,7 +28,7 @@ fn refusal_of_upload(why: UploadFault) -> Refusal
 }
 
 impl<S: Shelf, D: Disk> Server<S, D> {
-    /// Stores the bytes of an upload, and knows them from then on. Of those that are known nothing is stored.
+    /// Stores the bytes of an upload, and knows them from then on. Of those that are known nothing is stored, and no piece that a known file has.
     fn keep(&mut self, digest: Digest, bytes: &[u8]) -> Result<(), Refusal>
         requires { digest ≡ digest_of bytes.now }
         ensures stored { OnOk result (IsStored S.did self.old.house.uploads self.old.files.shelf bytes.now self.new.files.shelf) }
@@ -42,10 +42,11 @@ impl<S: Shelf, D: Disk> Server<S, D> {
         ensures count { S.failures self.old.files.shelf ≤ S.failures self.new.files.shelf }
         ensures cache { self.new.files.cache ≡ self.old.files.cache }
     {
-        if bytes.len() <= MAX_SIZE && self.house.uploads().find(&digest).is_some() {
+        let known = self.house.uploads();
+        if bytes.len() <= MAX_SIZE && known.find(&digest).is_some() {
             return Ok(());
         }
-        let info = match self.files.put(digest, bytes) {
+        let info = match self.files.put(known, digest, bytes) {
             Ok(info) => info,
             Err(why) => return Err(refusal_of_upload(why)),
         };

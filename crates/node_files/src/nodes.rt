@@ -7,7 +7,7 @@ ghost use Rattle.blob_store.specs.declared.blobs.UploadFault.TheVariants as uplo
 ghost use Rattle.chunk_lru.specs.Caches.{empty};
 ghost use Rattle.node_files.specs.Cached.{FailedOfNode, GaveOfNode};
 
-use blob_store::{Files, ReadFault, Shelf, UploadFault};
+use blob_store::{Files, Known, ReadFault, Shelf, UploadFault};
 use byte_view::{BlobInfo, Hold};
 use chunk_group::{Counter, FileSource, SoloGroup};
 use chunk_lru::ChunkCache;
@@ -65,19 +65,24 @@ impl<S: Shelf> NodeFiles<S> {
         Ok(NodeFiles { group })
     }
 
-    /// Puts a file of at most `MAX_SIZE` bytes on the shelf, each piece once and then its table, and answers what is kept of it. What is
-    /// in the cache stays.
-    pub fn put(&mut self, digest: Digest, bytes: &[u8]) -> Result<Arc<BlobInfo>, UploadFault>
+    /// Puts a file of at most `MAX_SIZE` bytes on the shelf, which is to have the known files: each piece that none of these has once, and then
+    /// its table (`Files::put`). It answers what is kept of the file. What is in the cache stays.
+    pub fn put(
+        &mut self,
+        known: &Known,
+        digest: Digest,
+        bytes: &[u8],
+    ) -> Result<Arc<BlobInfo>, UploadFault>
         requires { digest ≡ digest_of bytes.now }
         ensures large { (result ≡ Err upload_fault.TooLarge) ↔ (16777216 < length bytes.now) }
         ensures info { IfOk result (λ info. info.value ≡ bytes.now) }
-        ensures put { OnOk result (PutsFile S.did self.old.shelf bytes.now None self.new.shelf) }
-        ensures not_put { IfErr result (λ fault. HasPutPart S.did self.old.shelf bytes.now fault self.new.shelf) }
+        ensures put { OnOk result (PutsFile S.did known.now self.old.shelf bytes.now None self.new.shelf) }
+        ensures not_put { IfErr result (λ fault. HasPutPart S.did known.now self.old.shelf bytes.now fault self.new.shelf) }
         ensures device { IfErr result (λ fault. fault ≡ upload_fault.Device → S.failures self.old.shelf < S.failures self.new.shelf) }
         ensures count { S.failures self.old.shelf ≤ S.failures self.new.shelf }
         ensures cache { self.new.cache ≡ self.old.cache }
     {
-        self.group.put(digest, bytes)
+        self.group.put(known, digest, bytes)
     }
 
     /// A stretch of a file, from its first to its last byte, with the chunks that it meets. They are read in turn, each from the cache or

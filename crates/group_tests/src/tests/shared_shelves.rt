@@ -3,7 +3,7 @@
 use super::fixtures::{bytes_of, is_chunk_of, names};
 use super::gates::assert_count;
 use super::node_fixtures::first_node;
-use blob_store::{Files, MemShelf, ReadFault};
+use blob_store::{Files, Known, MemShelf, ReadFault};
 use chunk_group::{Counter, Group, SharedSource};
 use host_names::Digest;
 use peer_link::NoLink;
@@ -24,9 +24,10 @@ type ShelfNode<'a, R> = Group<DigestHash, SharedSource<'a, R, MemShelf>, NoLink,
 /// A shelf with these chunks, each of which is a file.
 fn files(alloc: Global) -> Result<Files<MemShelf>, Fail> {
     let mut files = Files::new(alloc, MemShelf::new(alloc));
+    let known = Known::new(alloc);
     for number in 0..CHUNKS {
         let bytes = bytes_of(alloc, number)?;
-        files.put(Digest::of_bytes(bytes.as_slice()), bytes.as_slice())?;
+        files.put(&known, Digest::of_bytes(bytes.as_slice()), bytes.as_slice())?;
     }
     Ok(files)
 }

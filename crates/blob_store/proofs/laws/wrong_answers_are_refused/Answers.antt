@@ -1,6 +1,8 @@
-use Rattle.std.proofs.Common.{◌≡◌, inl, inr, true, false, cond, ◌&&◌, List, [], ◌∷◌, Some, None, refl, sym, ap, ◌∙◌, arith}
+use Rattle.std.proofs.Common.{◌≡◌, inl, inr, true, false, ℕ, cond, ◌&&◌, List, [], ◌∷◌, Some, None, refl, sym, ap, ◌∙◌}
 use Rattle.std.specs.BTreeMap.{is_at}
+use Rattle.std.specs.FinMap.{get-empty}
 use Rattle.std.proofs.lemmas.Cmp.{eq_by_cmp_equiv}
+use Rattle.host_names.specs.Blobs.{digest_of}
 use Rattle.host_names.specs.Digests.{digest_cmp, digest_cmp_total}
 use Rattle.blob_store.specs.Calls.{PutsInTurn}
 use Rattle.blob_store.specs.Folders.{is_answer, is_name}
@@ -9,6 +11,7 @@ use Rattle.blob_store.specs.Shelves.{Does}
 use Rattle.blob_store.specs.declared.mem_shelf.MemShelf.{MemShelf}
 use Rattle.blob_store.specs.declared.shelves.ShelfFault.TheVariants.{Device, OutOfMemory}
 use Rattle.blob_store.specs.declared.shelves.ShelfName.TheVariants.{Part}
+use Rattle.blob_store.proofs.Once.{contains_here, contains_none}
 use Rattle.blob_store.proofs.laws.wrong_answers_are_refused.Goals as goal
 
 pub returns-clause-order : goal.returns-clause-order
@@ -34,17 +37,29 @@ no_device old new (t ∷ things) (inl failed) =
 no_device old new (t ∷ things) (inr put) = no_device put.0 new things put.2
 
 pub returns-clause-put_part : goal.returns-clause-put_part
-returns-clause-put_part g c old new file puts = no_device old new _ puts.2
+returns-clause-put_part g c known old new file (stored, are, (pieces, once, puts)) = no_device old new _ puts
 
 pub returns-clause-put_some : goal.returns-clause-put_some
-returns-clause-put_some g c old new file (inl part) = no_device old new _ part.2
-returns-clause-put_some g c old new file (inr whole) = absurd (cc whole.0)
+returns-clause-put_some g c known old new file (inl (stored, are, (pieces, once, puts))) = no_device old new _ puts
+returns-clause-put_some g c known old new file (inr whole) = absurd (cc whole.0)
 
 pub returns-clause-missed : goal.returns-clause-missed
-returns-clause-missed g c piece is = let below = is.each.0.1 in absurd (omega (arith, below))
+returns-clause-missed g c piece is = elim is.each.0 [
+  | inl there ↦ contains_none (digest_of piece) there
+  | inr there ↦ contains_none (digest_of piece) there
+]
 
 pub returns-clause-twice : goal.returns-clause-twice
 returns-clause-twice g c piece is = is.apart.0.0 refl
+
+pub returns-clause-again : goal.returns-clause-again
+returns-clause-again g c piece is = is.fresh.0 (contains_here (digest_of piece) [])
+
+pub returns-clause-known : goal.returns-clause-known
+returns-clause-known g c name are =
+    let (digest, file, at, named) = are name (contains_here name []) in
+    let wrong : None ≡ Some file = sym (get-empty {X = List ℕ} digest_cmp digest) ∙ at in
+    absurd (cc wrong)
 
 pub returns-clause-told : goal.returns-clause-told
 returns-clause-told g c first gave name is =
