@@ -185,11 +185,11 @@ class Calls(Journals):
         body = journal.encode(CANCEL)
         gate = len(file) - 1
         record = (len(body).to_bytes(4, "big") + body + b"\x00").hex()
-        opening = ["fdatasync journal"]
+        opening = ["fsync folder", "fdatasync journal"]
         put = [f"pwrite journal {gate + 1} {record}", "fdatasync journal", f"pwrite journal {gate} 01", "fdatasync journal"]
         self.assertEqual(self.trace("put", self.file, "1"), opening + put)
 
-    def test_a_new_file_is_synced_with_its_folder(self):
+    def test_a_file_is_synced_with_its_folder_when_it_is_opened(self):
         made = [
             "fsync folder", "fdatasync journal",
             "pwrite journal 0 00", "fdatasync journal",
@@ -197,19 +197,19 @@ class Calls(Journals):
             "pwrite journal 0 01", "fdatasync journal",
         ]
         self.assertEqual(self.trace("open", self.file, "1"), made)
-        self.assertEqual(self.trace("open", self.file, "1"), ["fdatasync journal"])
+        self.assertEqual(self.trace("open", self.file, "1"), ["fsync folder", "fdatasync journal"])
 
     def test_what_a_stop_left_is_shut_and_cut(self):
         file = journal.write(ENTRIES[:2])
         self.file.write_bytes(file[:-1] + b"\x07tail")
         gate = len(file) - 1
         mended = [f"pwrite journal {gate} 00", "fdatasync journal", f"ftruncate journal {gate + 1}", "fdatasync journal"]
-        self.assertEqual(self.trace("open", self.file, "1"), ["fdatasync journal", *mended])
+        self.assertEqual(self.trace("open", self.file, "1"), ["fsync folder", "fdatasync journal", *mended])
 
     def test_nothing_is_written_to_what_is_no_journal(self):
         for file in (b"a file of another kind", journal.write(ENTRIES)[:100]):
             self.file.write_bytes(file)
-            self.assertEqual(self.trace("open", self.file, "1"), ["fdatasync journal"])
+            self.assertEqual(self.trace("open", self.file, "1"), ["fsync folder", "fdatasync journal"])
 
 
 class Reader(unittest.TestCase):

@@ -24,8 +24,7 @@ pub struct FileDisk {
 
 impl FileDisk {
     /// Opens the file of a path, and makes it where there is none. It fails where another process has the file open as a
-    /// disk, where the path is no file, and where the folder of a new file can't be synced. It has
-    /// no failed call yet.
+    /// disk, where the path is no file, and where its folder can't be synced. It has no failed call yet.
     pub fn open<R: Files<File = File>>(rt: &R, path: &str) -> Result<FileDisk, DeviceFault>
         ensures failures { IfOk result (λ disk. ⟦<FileDisk as Disk>⟧.faults disk ≡ 0) }
     {
@@ -34,8 +33,8 @@ impl FileDisk {
     }
 }
 
-/// Opens a file under a lock, for which it doesn't wait. An empty file may be new, by this call or by one that was stopped, so its
-/// name is made to last before anything is written to it.
+/// Opens a file under a lock, for which it doesn't wait. A program that was stopped may have given names to files in this folder that
+/// don't last yet: they are made to last before anything is read on the strength of them, and so is the name of this file.
 fn open_locked<R: Files<File = File>>(rt: &R, path: &str) -> io::Result<File> {
     let file = OpenOptions::new()
         .read(true)
@@ -47,9 +46,7 @@ fn open_locked<R: Files<File = File>>(rt: &R, path: &str) -> io::Result<File> {
     if !found.is_file() {
         return Err(io::ErrorKind::Unsupported.into());
     }
-    if found.len() == 0 {
-        sync_folder(rt, path)?;
-    }
+    sync_folder(rt, path)?;
     Ok(file)
 }
 
