@@ -44,9 +44,10 @@ class Uploads(Stored):
                 ended = run(*self.words, given=given, stdout=output, env={**os.environ, **environment})
             self.assertEqual(ended, (0, None, b""))
 
-        lines = traces.of(run_program)
+        first, *lines = [line for line in traces.of(run_program) if " journal" not in line]
+        self.assertEqual(first, "fsync folder", "the opening makes the names last that a stopped program left")
         self.assertEqual(replies.read_bytes(), b"".join(map(uploaded, contents)))
-        return joined([line for line in lines if " journal" not in line])
+        return joined(lines)
 
     def assert_put(self, content, *pieces, known=()):
         """These pieces of a file are put, and then its table; the names of all last before the reply is sent."""
