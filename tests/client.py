@@ -22,7 +22,7 @@ REQUESTS = 100
 LARGEST_FILE = 16_777_216
 HELLO = hashlib.sha1(b"hello").hexdigest()
 ABC = hashlib.sha1(b"abc").hexdigest()
-SECONDS = 60
+SECONDS = 120
 PATIENCE = 20
 
 # The phrases of the status codes that replies have (RFC 9110, section 15).
