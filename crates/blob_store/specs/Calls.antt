@@ -1,5 +1,5 @@
 -- Calls of a shelf: what it was given, and what it answered.
-use Rattle.std.specs.Prelude.{◌≡◌, ◌≢◌, ◌⊎◌, ℕ, List, [], ◌∷◌, ◌++◌, Option, Some, None, ⊤, Contains, length, map}
+use Rattle.std.specs.Prelude.{◌≡◌, ◌≢◌, ◌⊎◌, ℕ, List, [], ◌∷◌, ◌++◌, Option, Some, None, Result, MatchResult, ⊤, Contains, length, map}
 use Rattle.std.specs.FinMap.{get}
 use Rattle.std.specs.List.{AllByRecursion}
 use Rattle.host_names.specs.declared.digests.Digest.{Digest}
@@ -65,6 +65,10 @@ abbrev pub PutsFile : {S : Type 0} → (did : S → Call → S → Type 0) → C
 PutsFile did known old file fault new = (stored : List Digest) × AreKnownNames known stored × PutsOthers did stored old file fault new
 
 -- ---- what private functions say
+
+-- what holds without a fault, and with each one, of what a call that may fail leaves
+abbrev pub HoldsOfFault : {F : Type 0} → Result ⊤ F → (Option F → Type 0) → Type 0
+HoldsOfFault result holds = MatchResult result (λ _. holds None) (λ fault. holds (Some fault))
 
 -- a piece is put on a shelf, unless its name is one of those that are stored, or of those before it
 abbrev pub PutsNew : {S : Type 0} → (did : S → Call → S → Type 0) → S → (stored before : List Digest) → ShelfName × List ℕ → Digest → Option ShelfFault → S → Type 0

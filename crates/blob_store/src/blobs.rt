@@ -5,7 +5,7 @@ ghost use Rattle.host_names.specs.Blobs.{AreDigested, digest_of, with_file};
 ghost use Rattle.byte_view.specs.Cuts.{names_of};
 ghost use Rattle.blob_store.specs.declared.shelves.ShelfName.TheVariants.{Part};
 ghost use Rattle.blob_store.specs.declared.reading.ReadFault.TheVariants as read_fault;
-ghost use Rattle.blob_store.specs.Calls.{Got, PutsFile, PutsNew, PutsOthers, part_of};
+ghost use Rattle.blob_store.specs.Calls.{Got, HoldsOfFault, PutsFile, PutsNew, PutsOthers, part_of};
 ghost use Rattle.blob_store.specs.Faults.{HasPutPart, HasPutSome, IsChunkFault};
 ghost use Rattle.blob_store.specs.Reads.{GivesInTurn};
 ghost use Rattle.blob_store.specs.Stretches.{IsStretchFault, chunks_given};
@@ -82,7 +82,8 @@ fn put_new<S: Shelf>(
     name: &Digest,
     piece: &[u8],
 ) -> Result<(), ShelfFault>
-    ensures put { MatchResult result (λ _. PutsNew S.did shelf.old stored.now.names.keys before.now (Part name.now, piece.now) name.now None shelf.new) (λ fault. PutsNew S.did shelf.old stored.now.names.keys before.now (Part name.now, piece.now) name.now (Some fault) shelf.new) }
+    ensures put { HoldsOfFault result (λ fault.
+        PutsNew S.did shelf.old stored.now.names.keys before.now (Part name.now, piece.now) name.now fault shelf.new) }
     ensures device { IfErr result (λ fault. fault ≡ shelf_fault.Device → S.failures shelf.old < S.failures shelf.new) }
     ensures count { S.failures shelf.old ≤ S.failures shelf.new }
 {
@@ -102,7 +103,8 @@ fn put_file<S: Shelf>(
 ) -> Result<(), ShelfFault>
     requires info { info.now ≡ bytes.now }
     requires table { table.now ≡ text_of (length bytes.now) (names_of bytes.now) }
-    ensures put { MatchResult result (λ _. PutsOthers S.did stored.now.names.keys shelf.old bytes.now None shelf.new) (λ fault. PutsOthers S.did stored.now.names.keys shelf.old bytes.now (Some fault) shelf.new) }
+    ensures put { HoldsOfFault result (λ fault.
+        PutsOthers S.did stored.now.names.keys shelf.old bytes.now fault shelf.new) }
     ensures device { IfErr result (λ fault. fault ≡ shelf_fault.Device → S.failures shelf.old < S.failures shelf.new) }
     ensures count { S.failures shelf.old ≤ S.failures shelf.new }
 {
@@ -215,8 +217,10 @@ impl<S: Shelf> Blobs<S> {
         ensures device { IfErr result (λ fault. fault ≡ upload_fault.Device → S.failures self.old.shelf < S.failures self.new.shelf) }
         ensures count { S.failures self.old.shelf ≤ S.failures self.new.shelf }
         ensures known { IsSome (map.get self.old.known (digest_of bytes.now)) → self.new.shelf ≡ self.old.shelf }
-        ensures put { OnOk result (map.get self.old.known (digest_of bytes.now) ≡ None → PutsFile S.did self.old.known self.old.shelf bytes.now None self.new.shelf) }
-        ensures not_put { IfErr result (λ fault. HasPutSome S.did self.old.known self.old.shelf bytes.now fault self.new.shelf) }
+        ensures put { OnOk result (map.get self.old.known (digest_of bytes.now) ≡ None
+            → PutsFile S.did self.old.known self.old.shelf bytes.now None self.new.shelf) }
+        ensures not_put { IfErr result
+            (λ fault. HasPutSome S.did self.old.known self.old.shelf bytes.now fault self.new.shelf) }
     {
         if bytes.len() > MAX_SIZE {
             return Err(UploadFault::TooLarge);

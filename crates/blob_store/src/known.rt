@@ -33,7 +33,8 @@ impl Model for Known {
 
     ghost view = { λ u. stored (λ file. file.value) u.files.entries };
 
-    ghost invariant = { λ u. AreDigested (stored (λ file. file.value) u.files.entries) × AreKnownNames (stored (λ file. file.value) u.files.entries) u.pieces.names.keys };
+    ghost invariant = { λ u. AreDigested (stored (λ file. file.value) u.files.entries)
+        × AreKnownNames (stored (λ file. file.value) u.files.entries) u.pieces.names.keys };
 }
 
 impl Known {

@@ -40,12 +40,17 @@ pub fn files_have_tables()
 /// A shelf that keeps what is put there, and that has the known files, has a file that was uploaded too, and the files that it had, where no two
 /// pieces, nor two files, share a digest and differ. An upload that fails loses none of these either.
 pub fn uploads_are_kept<S: Shelf>()
-    ensures uploaded { (honest : S → Bool) (has : S → ShelfName → Option (List ℕ)) (known : Contents) (old new : S) (file : List ℕ) → Keeps S.did honest has → IsTrue (honest new) → Agree (things_of file) (things_of file)
-        → AgreeWithKnown known file → HasEach has old known → PutsFile S.did known old file None new → HasFile has new file }
-    ensures stays { (honest : S → Bool) (has : S → ShelfName → Option (List ℕ)) (known : Contents) (old new : S) (file other : List ℕ) → Keeps S.did honest has → IsTrue (honest new) → Agree (things_of file) (things_of other)
+    ensures uploaded { (honest : S → Bool) (has : S → ShelfName → Option (List ℕ)) (known : Contents) (old new : S)
+        (file : List ℕ) → Keeps S.did honest has → IsTrue (honest new) → Agree (things_of file) (things_of file)
+        → AgreeWithKnown known file → HasEach has old known → PutsFile S.did known old file None new
+        → HasFile has new file }
+    ensures stays { (honest : S → Bool) (has : S → ShelfName → Option (List ℕ)) (known : Contents) (old new : S)
+        (file other : List ℕ) → Keeps S.did honest has → IsTrue (honest new) → Agree (things_of file) (things_of other)
         → PutsFile S.did known old other None new → HasFile has old file → HasFile has new file }
-    ensures stays_after_fault { (honest : S → Bool) (has : S → ShelfName → Option (List ℕ)) (known : Contents) (old new : S) (file other : List ℕ) (fault : UploadFault) → Keeps S.did honest has → IsTrue (honest new)
-        → Agree (things_of file) (things_of other) → HasPutSome S.did known old other fault new → HasFile has old file → HasFile has new file }
+    ensures stays_after_fault { (honest : S → Bool) (has : S → ShelfName → Option (List ℕ)) (known : Contents)
+        (old new : S) (file other : List ℕ) (fault : UploadFault) → Keeps S.did honest has → IsTrue (honest new)
+        → Agree (things_of file) (things_of other) → HasPutSome S.did known old other fault new
+        → HasFile has old file → HasFile has new file }
 {}
 
 /// Of a file that such a shelf has, each piece and the whole are read as they are, and neither is missing or damaged.
@@ -118,8 +123,10 @@ pub fn folders_keep<R: Files>()
 pub fn wrong_answers_are_refused<S: Shelf>()
     ensures table { ¬ (IsTable []) }
     ensures spells { ¬ (Spells [] 0 []) }
-    ensures put_part { (known : Contents) (old new : MemShelf) (file : List ℕ) → ¬ (HasPutPart Does known old file upload_fault.Device new) }
-    ensures put_some { (known : Contents) (old new : MemShelf) (file : List ℕ) → ¬ (HasPutSome Does known old file upload_fault.Device new) }
+    ensures put_part { (known : Contents) (old new : MemShelf) (file : List ℕ)
+        → ¬ (HasPutPart Does known old file upload_fault.Device new) }
+    ensures put_some { (known : Contents) (old new : MemShelf) (file : List ℕ)
+        → ¬ (HasPutSome Does known old file upload_fault.Device new) }
     ensures missed { (piece : List ℕ) → ¬ (AreOnceEach [] (piece ∷ []) []) }
     ensures twice { (piece : List ℕ) → ¬ (AreOnceEach [] (piece ∷ []) (piece ∷ piece ∷ [])) }
     ensures again { (piece : List ℕ) → ¬ (AreOnceEach (digest_of piece ∷ []) (piece ∷ []) (piece ∷ [])) }

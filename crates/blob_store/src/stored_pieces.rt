@@ -31,7 +31,8 @@ impl StoredPieces {
 
     /// Adds names. One for which there is no memory is left out.
     pub(crate) fn add(&mut self, names: &[Digest])
-        ensures added { (name : Name) → Contains self.new.names.keys name → Contains self.old.names.keys name ⊎ Contains names.now name }
+        ensures added { (name : Name) → Contains self.new.names.keys name
+            → Contains self.old.names.keys name ⊎ Contains names.now name }
         ensures still { (name : Name) → Contains self.old.names.keys name → Contains self.new.names.keys name }
     {
         for name in names {

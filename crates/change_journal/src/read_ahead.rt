@@ -80,7 +80,8 @@ impl<D: Disk> ReadAhead<D> {
         ensures reason { IsTrue D.is_modelled → at ≤ length (D.seen self.old.disk) → OnErr result (MayFailReading D.seen D.may_fail (D.seen self.old.disk)) }
         ensures cause { CountsFailure result (D.faults self.old.disk) (D.faults self.new.disk) }
         ensures ahead { IsTrue D.is_modelled → OnOk result ((self.new.start ≡ at)
-            × (take self.new.len self.new.buffer.items ≡ take (length self.old.buffer.items) (drop at (D.seen self.old.disk)))) }
+            × (take self.new.len self.new.buffer.items
+            ≡ take (length self.old.buffer.items) (drop at (D.seen self.old.disk)))) }
     {
         self.forget();
         let size = self.disk.len()?;

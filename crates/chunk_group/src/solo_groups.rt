@@ -184,8 +184,11 @@ impl<H: RingHash + Copy + Drop, S: Shelf, L, C> SoloGroup<H, FileSource<S>, L, C
         requires { digest ≡ digest_of bytes.now }
         ensures large { (result ≡ Err upload_fault.TooLarge) ↔ (16777216 < length bytes.now) }
         ensures info { IfOk result (λ info. info.value ≡ bytes.now) }
-        ensures put { OnOk result (PutsFile S.did known.now self.old.node.suppliers.source.files.shelf bytes.now None self.new.node.suppliers.source.files.shelf) }
-        ensures not_put { IfErr result (λ fault. HasPutPart S.did known.now self.old.node.suppliers.source.files.shelf bytes.now fault self.new.node.suppliers.source.files.shelf) }
+        ensures put { OnOk result (PutsFile S.did known.now self.old.node.suppliers.source.files.shelf bytes.now None
+            self.new.node.suppliers.source.files.shelf) }
+        ensures not_put { IfErr result
+            (λ fault. HasPutPart S.did known.now self.old.node.suppliers.source.files.shelf bytes.now fault
+            self.new.node.suppliers.source.files.shelf) }
         ensures device { IfErr result (λ fault. fault ≡ upload_fault.Device → S.failures self.old.node.suppliers.source.files.shelf < S.failures self.new.node.suppliers.source.files.shelf) }
         ensures count { S.failures self.old.node.suppliers.source.files.shelf ≤ S.failures self.new.node.suppliers.source.files.shelf }
         ensures caches { self.new.node.caches ≡ self.old.node.caches }

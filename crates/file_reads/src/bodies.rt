@@ -62,10 +62,14 @@ fn join(
     requires held { AreFor holds.now info.now plan.now }
     requires within { All (LiesWithin (length info.now)) (intervals_in plan.now) }
     requires separated { HasBoundary boundary plan.now }
-    ensures text { IfOk result (λ bytes. bytes.items ≡ shown_text (text_in boundary) content_type.entry.text.now holds.now plan.now) }
-    ensures pure { ArePure holds.now → IfOk result (λ bytes. bytes.items ≡ body_text (text_in boundary) content_type.entry.text.now info.now plan.now) }
+    ensures text { IfOk result (λ bytes. bytes.items
+        ≡ shown_text (text_in boundary) content_type.entry.text.now holds.now plan.now) }
+    ensures pure { ArePure holds.now
+        → IfOk result (λ bytes. bytes.items
+        ≡ body_text (text_in boundary) content_type.entry.text.now info.now plan.now) }
     ensures fault { IfErr result (λ fault. fault ≡ OutOfMemory) }
-    ensures memory { IfErr result (λ _. 0 < length (body_text (text_in boundary) content_type.entry.text.now info.now plan.now)) }
+    ensures memory { IfErr result
+        (λ _. 0 < length (body_text (text_in boundary) content_type.entry.text.now info.now plan.now)) }
 {
     body(alloc, holds, plan, boundary, content_type, info).map_err(|_| ReadFault::OutOfMemory)
 }
@@ -94,7 +98,8 @@ pub fn read_body<H: Holder>(
     content_type: FieldText<'_>,
 ) -> Result<FileBody, ReadFault>
     requires { All (LiesWithin (length info.now.value)) (intervals_in plan) }
-    ensures read { IfOk result (λ body. IsRead H.gave holder.old info.now.value plan content_type.entry.text.now body holder.new) }
+    ensures read { IfOk result
+        (λ body. IsRead H.gave holder.old info.now.value plan content_type.entry.text.now body holder.new) }
     ensures fault { IfErr result (λ fault. IsNotRead H.gave H.failed holder.old info.now.value plan fault holder.new) }
     ensures some { IfErr result (λ _. IsTrue (sends_bytes (length info.now.value) plan)) }
 {

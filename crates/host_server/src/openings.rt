@@ -11,7 +11,8 @@ ghost use Rattle.chunk_lru.specs.Caches.{empty};
 ghost use Rattle.host_disk.specs.Crashes.{LeavesOnly};
 ghost use Rattle.host_server.specs.Openings as spec;
 ghost use Rattle.host_server.specs.Openings.{HadJournal, HasFiles, IsHostFault, IsNoRecordFault, IsOpened, IsOpenFault};
-ghost use Rattle.host_server.specs.declared.openings.OpenFault.TheVariants.{BadHeader, BlobsDevice, JournalDevice, OutOfMemory};
+ghost use Rattle.host_server.specs.declared.openings.OpenFault.TheVariants.{BadHeader, BlobsDevice, JournalDevice};
+ghost use Rattle.host_server.specs.declared.openings.OpenFault.TheVariants.{OutOfMemory};
 
 use crate::host::SoloHouse;
 use crate::servers::Server;
@@ -178,9 +179,12 @@ impl<S: Shelf, D: Disk> Server<S, D> {
         ensures fault { IfErr result (λ stop. IsOpenFault D.Disk S.did disk shelf limit stop.fault stop.disk stop.shelf) }
         ensures kept { IsTrue D.is_modelled → (had : logs.Log) → logs.last_number had ≤ 1000000 → HoldsEntries had (D.seen disk) → MatchResult result (λ server. server.house.entries ≡ had) (λ stop. IsNoRecordFault stop.fault) }
         ensures any_moment { IsTrue D.is_modelled → (had : logs.Log) (next : Line) → ((c : List ℕ) → D.may_leave disk c → MayHoldNext had next c) → MatchResult result (λ server. (journal : Keeps _) → server.journal ≡ Some journal → LeavesOnly D.moment D.left_since disk journal.disk (MayHoldNext had next)) (λ stop. LeavesOnly D.moment D.left_since disk stop.disk (MayHoldNext had next)) }
-        ensures memory { IsTrue D.is_modelled → IfErr result (λ stop. stop.fault ≡ OutOfMemory → HasRecord (D.seen disk) ⊎ HadJournal D.Disk disk stop.disk) }
-        ensures no_journal { IsTrue D.is_modelled → IsNoJournal (D.seen disk) → MatchResult result (λ _. ⊥) (λ stop. (stop.fault ≡ BadHeader) ⊎ (stop.fault ≡ JournalDevice)) }
-        ensures reason { IsTrue D.is_modelled → IsRefused IsText (D.seen disk) → IfErr result (λ stop. stop.fault ≡ JournalDevice → MayFailReading D.seen D.may_fail (D.seen disk)) }
+        ensures memory { IsTrue D.is_modelled → IfErr result (λ stop. stop.fault ≡ OutOfMemory
+            → HasRecord (D.seen disk) ⊎ HadJournal D.Disk disk stop.disk) }
+        ensures no_journal { IsTrue D.is_modelled → IsNoJournal (D.seen disk)
+            → MatchResult result (λ _. ⊥) (λ stop. (stop.fault ≡ BadHeader) ⊎ (stop.fault ≡ JournalDevice)) }
+        ensures reason { IsTrue D.is_modelled → IsRefused IsText (D.seen disk)
+            → IfErr result (λ stop. stop.fault ≡ JournalDevice → MayFailReading D.seen D.may_fail (D.seen disk)) }
         ensures device { IfErr result (λ stop. stop.fault ≡ BlobsDevice → S.failures shelf < S.failures stop.shelf) }
         ensures count { MatchResult result (λ server. S.failures shelf ≤ S.failures server.files.shelf) (λ stop. S.failures shelf ≤ S.failures stop.shelf) }
     {

@@ -215,7 +215,8 @@ impl Reply {
     /// Its head, with this entity tag.
     fn head<'a>(&'a self, etag: Option<EntityTag<'a>>, close: bool) -> ReplyHead<'a>
         requires { option_map (λ t. t.text.now) etag ≡ (answer_of self.now).etag }
-        ensures { (body : AnyBody) → size_of body ≡ length (answer_of self.now).body → fields_of result body ≡ fields_for close (answer_of self.now) }
+        ensures { (body : AnyBody) → size_of body ≡ length (answer_of self.now).body
+            → fields_of result body ≡ fields_for close (answer_of self.now) }
     {
         ReplyHead {
             status: self.status,

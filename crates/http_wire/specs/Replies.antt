@@ -88,6 +88,10 @@ head_text h = flat_map ended_line (head_lines h) ++ crlf
 abbrev pub reply_text : HeadFields → List ℕ → List ℕ
 reply_text h body = head_text h ++ body
 
+-- the same of a head and a body as they are given
+abbrev pub sent_reply : ReplyHead → ReplyBody → List ℕ
+sent_reply h body = reply_text (fields_of h body) (sent_of body)
+
 -- a byte that is neither CR nor LF
 abbrev pub is_within_line : ℕ → Bool
 is_within_line b = not (b == 13) && not (b == 10)

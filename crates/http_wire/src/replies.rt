@@ -4,7 +4,7 @@ ghost use Rattle.std.specs.Option.{option_map};
 ghost use Rattle.std.specs.List.{flat_map};
 ghost use Rattle.arrayvec.specs.ArrayVec.{array_vec_len};
 ghost use Rattle.http_wire.specs.Expectations.{continue_text};
-ghost use Rattle.http_wire.specs.Replies.{crlf, range_text, line_of, fields_of, reply_text, sent_of, size_of};
+ghost use Rattle.http_wire.specs.Replies.{crlf, range_text, line_of, sent_reply, size_of};
 ghost use Rattle.std.specs.Io.KnownBytes.{Appends};
 ghost use Rattle.http_wire.specs.Sending.{SentFront, WritesText};
 ghost use Rattle.http_wire.specs.Timing.{NoRead, Ran};
@@ -143,7 +143,7 @@ fn push_reply<'a>(
     requires first { pieces.old.items ≡ [] }
     requires size_is { size.now ≡ decimal (size_of body) }
     requires range_is { option_map (λ v. v.now) range ≡ option_map range_text head.now.content_range }
-    ensures { flat_map (λ p. p.now) pieces.new.items ≡ reply_text (fields_of head.now body.entry) (sent_of body.entry) }
+    ensures { flat_map (λ p. p.now) pieces.new.items ≡ sent_reply head.now body.entry }
 {
     let code: &'a str = head.status.as_str();
     let phrase: &'a str = head.status.canonical_reason().unwrap_or("");
@@ -188,14 +188,15 @@ fn write_texts<'a, D: Duplex>(
 ) -> Result<(), WriteFault>
     requires size_is { size.now ≡ decimal (size_of body) }
     requires range_is { option_map (λ v. v.now) range ≡ option_map range_text head.now.content_range }
-    ensures { Ran D.saw NoRead duplex.old duplex.new (WritesText result (reply_text (fields_of head.now body.entry) (sent_of body.entry))) }
+    ensures { Ran D.saw NoRead duplex.old duplex.new (WritesText result (sent_reply head.now body.entry)) }
 {
     let mut pieces = ArrayVec::new();
     push_reply(&mut pieces, head, body, size, range);
     write_pieces(duplex, pieces.as_slice())
 }
 
-/// Writes a reply: its head and then its body, where that is sent. Reads nothing.
+/// Writes a reply: its head and then its body, where that is sent. Reads nothing. The head always has a Content-Length, so
+/// that it fits no reply of status 1xx or 204 (RFC 9110, section 8.6).
 ///
 /// It takes no memory. A write that takes no byte is a fault, and so is one that fails. Nothing is written after it.
 pub fn write_reply<D: Duplex>(
@@ -203,12 +204,13 @@ pub fn write_reply<D: Duplex>(
     head: &ReplyHead<'_>,
     body: ReplyBody<'_>,
 ) -> Result<(), WriteFault>
-    ensures ok { OnOk result (Appends (D.held duplex.old) (D.held duplex.new) (reply_text (fields_of head.now body.entry) (sent_of body.entry))) }
+    ensures ok { OnOk result (Appends (D.held duplex.old) (D.held duplex.new) (sent_reply head.now body.entry)) }
 
     // Of a reply that is cut short the first so many bytes were written, and not all.
-    ensures fault { IfErr result (λ fault. SentFront (D.held duplex.old) (D.held duplex.new) (reply_text (fields_of head.now body.entry) (sent_of body.entry)) fault.0) }
+    ensures fault { IfErr result
+        (λ fault. SentFront (D.held duplex.old) (D.held duplex.new) (sent_reply head.now body.entry) fault.0) }
     ensures cause { OnErr result D.write_fails }
-    ensures ran { Ran D.saw NoRead duplex.old duplex.new (WritesText result (reply_text (fields_of head.now body.entry) (sent_of body.entry))) }
+    ensures ran { Ran D.saw NoRead duplex.old duplex.new (WritesText result (sent_reply head.now body.entry)) }
 {
     let size = decimal_text(body.size());
     let range = head.content_range.map(range_value);

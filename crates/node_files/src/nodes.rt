@@ -77,7 +77,8 @@ impl<S: Shelf> NodeFiles<S> {
         ensures large { (result ≡ Err upload_fault.TooLarge) ↔ (16777216 < length bytes.now) }
         ensures info { IfOk result (λ info. info.value ≡ bytes.now) }
         ensures put { OnOk result (PutsFile S.did known.now self.old.shelf bytes.now None self.new.shelf) }
-        ensures not_put { IfErr result (λ fault. HasPutPart S.did known.now self.old.shelf bytes.now fault self.new.shelf) }
+        ensures not_put { IfErr result
+            (λ fault. HasPutPart S.did known.now self.old.shelf bytes.now fault self.new.shelf) }
         ensures device { IfErr result (λ fault. fault ≡ upload_fault.Device → S.failures self.old.shelf < S.failures self.new.shelf) }
         ensures count { S.failures self.old.shelf ≤ S.failures self.new.shelf }
         ensures cache { self.new.cache ≡ self.old.cache }

@@ -1,5 +1,5 @@
 -- Several ranges of a file in one body: `multipart/byteranges` (RFC 9110, section 14.6; RFC 2046, section 5.1.1).
-use Rattle.std.specs.Prelude.{ℕ, List, ◌++◌, length, codes, decimal}
+use Rattle.std.specs.Prelude.{◌≡◌, ◌≤◌, ◌^◌, ℕ, List, ◌++◌, Option, MatchOption, length, codes, decimal}
 use Rattle.std.specs.List.{flat_map}
 use Rattle.hex.specs.Hex.{encode_lower}
 use Rattle.byte_view.specs.Cuts.{slice}
@@ -35,6 +35,10 @@ part_text boundary content_type file interval =
 -- the last boundary's line
 abbrev pub last_line : List ℕ → List ℕ
 last_line boundary = codes "--" ++ (boundary ++ codes "--\r\n")
+
+-- a count, if a `u64` holds it
+abbrev pub IsCount : Option ℕ → ℕ → Type 0
+IsCount found count = MatchOption found (2 ^ 64 ≤ count) (λ sum. sum ≡ count)
 
 -- the whole body: the parts in the order given, neither sorted nor joined (RFC 9110, section 15.3.7.2), and the last boundary
 abbrev pub multipart_text : List ℕ → List ℕ → List ℕ → List (ℕ × ℕ) → List ℕ

@@ -44,7 +44,9 @@ fn multipart_body(
     requires same_file { All (λ h. h.file ≡ info.now) holds.now }
     requires within { All (LiesWithin (length info.now)) intervals.now }
     ensures held { IfOk result (λ _. All IsHeld holds.now) }
-    ensures parts { IfOk result (λ body. body.items ≡ flat_map (shown_part (text_of boundary.now) content_type.entry.text.now) holds.now ++ last_line (text_of boundary.now)) }
+    ensures parts { IfOk result (λ body. body.items
+        ≡ flat_map (shown_part (text_of boundary.now) content_type.entry.text.now) holds.now
+        ++ last_line (text_of boundary.now)) }
 {
     let length = multipart_length(info, boundary, content_type, intervals).ok_or(AllocError)?;
     let mut body = Vec::with_capacity(alloc, length as usize)?;
@@ -67,10 +69,15 @@ pub fn body(
     requires held { AreFor holds.now info.now plan.now }
     requires within { All (LiesWithin (length info.now)) (intervals_in plan.now) }
     requires separated { HasBoundary boundary plan.now }
-    ensures text { IfOk result (λ body. body.items ≡ shown_text (text_in boundary) content_type.entry.text.now holds.now plan.now) }
-    ensures size { IfOk result (λ body. length body.items ≡ length (body_text (text_in boundary) content_type.entry.text.now info.now plan.now)) }
-    ensures pure { ArePure holds.now → IfOk result (λ body. body.items ≡ body_text (text_in boundary) content_type.entry.text.now info.now plan.now) }
-    ensures memory { IfErr result (λ _. 0 < length (body_text (text_in boundary) content_type.entry.text.now info.now plan.now)) }
+    ensures text { IfOk result (λ body. body.items
+        ≡ shown_text (text_in boundary) content_type.entry.text.now holds.now plan.now) }
+    ensures size { IfOk result (λ body. length body.items
+        ≡ length (body_text (text_in boundary) content_type.entry.text.now info.now plan.now)) }
+    ensures pure { ArePure holds.now
+        → IfOk result (λ body. body.items
+        ≡ body_text (text_in boundary) content_type.entry.text.now info.now plan.now) }
+    ensures memory { IfErr result
+        (λ _. 0 < length (body_text (text_in boundary) content_type.entry.text.now info.now plan.now)) }
 {
     match plan {
         Choice::Many(intervals) => {

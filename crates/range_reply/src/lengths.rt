@@ -1,8 +1,8 @@
 //! How long a body of several ranges is.
-ghost use Rattle.std.specs.Prelude.{◌≡◌, ◌≤◌, ◌+◌, ◌^◌, All, MatchOption, length};
+ghost use Rattle.std.specs.Prelude.{◌+◌, All, length};
 ghost use Rattle.std.specs.List.{flat_map};
 ghost use Rattle.range_spec.specs.Chosen.{LiesWithin};
-ghost use Rattle.range_reply.specs.Multipart.{multipart_text, part_text, text_of};
+ghost use Rattle.range_reply.specs.Multipart.{IsCount, multipart_text, part_text, text_of};
 
 use crate::boundaries::Boundary;
 use crate::texts::head_texts;
@@ -12,7 +12,7 @@ use range_spec::Intervals;
 
 /// The total with the lengths of these texts added, if that is a `u64`.
 fn with_texts(mut total: u64, texts: &[&str]) -> Option<u64>
-    ensures { MatchOption result (2 ^ 64 ≤ total + length (flat_map (λ text. text.now) texts.now)) (λ sum. sum ≡ total + length (flat_map (λ text. text.now) texts.now)) }
+    ensures { IsCount result (total + length (flat_map (λ text. text.now) texts.now)) }
 {
     for text in texts {
         total = total.checked_add(text.len() as u64)?;
@@ -29,7 +29,8 @@ fn with_part(
     interval: (u64, u64),
 ) -> Option<u64>
     requires { LiesWithin (length info.now) interval }
-    ensures { MatchOption result (2 ^ 64 ≤ total + length (part_text (text_of boundary.now) content_type.entry.text.now info.now interval)) (λ sum. sum ≡ total + length (part_text (text_of boundary.now) content_type.entry.text.now info.now interval)) }
+    ensures { IsCount result
+        (total + length (part_text (text_of boundary.now) content_type.entry.text.now info.now interval)) }
 {
     let (first, last) = interval;
     let length = info.len() as u64;
@@ -52,7 +53,8 @@ fn with_parts(
     intervals: &[(u64, u64)],
 ) -> Option<u64>
     requires { All (LiesWithin (length info.now)) intervals.now }
-    ensures { MatchOption result (2 ^ 64 ≤ total + length (flat_map (part_text (text_of boundary.now) content_type.entry.text.now info.now) intervals.now)) (λ sum. sum ≡ total + length (flat_map (part_text (text_of boundary.now) content_type.entry.text.now info.now) intervals.now)) }
+    ensures { IsCount result (total
+        + length (flat_map (part_text (text_of boundary.now) content_type.entry.text.now info.now) intervals.now)) }
 {
     for interval in intervals {
         total = with_part(total, info, boundary, content_type, *interval)?;
@@ -69,7 +71,8 @@ pub fn multipart_length(
     intervals: &Intervals,
 ) -> Option<u64>
     requires { All (LiesWithin (length info.now)) intervals.now }
-    ensures { MatchOption result (2 ^ 64 ≤ length (multipart_text (text_of boundary.now) content_type.entry.text.now info.now intervals.now)) (λ sum. sum ≡ length (multipart_text (text_of boundary.now) content_type.entry.text.now info.now intervals.now)) }
+    ensures { IsCount result
+        (length (multipart_text (text_of boundary.now) content_type.entry.text.now info.now intervals.now)) }
 {
     let parts = with_parts(0, info, boundary, content_type, intervals.as_slice())?;
     with_texts(parts, &["--", boundary.as_str(), "--\r\n"])

@@ -51,7 +51,8 @@ fn push_part(
 ) -> Result<(), AllocError>
     requires { length hold.now.file ≡ size }
     ensures held { IsHeld hold.now }
-    ensures part { OnOk result (body.new.items ≡ body.old.items ++ shown_part (text_of boundary.now) content_type.entry.text.now hold.now) }
+    ensures part { OnOk result (body.new.items
+        ≡ body.old.items ++ shown_part (text_of boundary.now) content_type.entry.text.now hold.now) }
 {
     let (first, last) = hold.stretch();
     let range = range_value(ContentRange::Of {
@@ -75,7 +76,8 @@ pub(crate) fn push_parts(
 ) -> Result<(), AllocError>
     requires { All (λ h. length h.file ≡ size) holds.now }
     ensures held { OnOk result (All IsHeld holds.now) }
-    ensures parts { OnOk result (body.new.items ≡ body.old.items ++ flat_map (shown_part (text_of boundary.now) content_type.entry.text.now) holds.now) }
+    ensures parts { OnOk result (body.new.items
+        ≡ body.old.items ++ flat_map (shown_part (text_of boundary.now) content_type.entry.text.now) holds.now) }
 {
     for hold in holds {
         push_part(body, hold, size, boundary, content_type)?;

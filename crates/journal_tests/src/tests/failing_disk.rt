@@ -82,10 +82,14 @@ fn left_of<'a>(bytes: &'a [u8], leaves: Leaves) -> Option<&'a [u8]>
 fn leave_written<D: Disk>(disk: &mut D, at: usize, bytes: &[u8], leaves: Leaves)
     ensures seen { IsTrue D.is_modelled → Torn at (length bytes.now) (D.seen disk.old) (D.seen disk.new) }
     ensures past { IsTrue D.is_modelled → length (D.seen disk.old) < at → D.seen disk.new ≡ D.seen disk.old }
-    ensures crash { IsTrue D.is_modelled → Follows (Torn at (length bytes.now)) (D.may_leave disk.old) (D.may_leave disk.new) }
+    ensures crash { IsTrue D.is_modelled
+        → Follows (Torn at (length bytes.now)) (D.may_leave disk.old) (D.may_leave disk.new) }
     ensures left { IsTrue D.is_modelled → (c : List ℕ) → D.may_leave disk.old c → D.may_leave disk.new c }
-    ensures past_crash { IsTrue D.is_modelled → length (D.seen disk.old) < at → (c : List ℕ) → D.may_leave disk.new c ↔ D.may_leave disk.old c }
-    ensures time { IsTrue D.is_modelled → Elapses (D.moment disk.old) (D.moment disk.new) (D.left_since disk.old) (D.left_since disk.new) (D.may_leave disk.new) }
+    ensures past_crash { IsTrue D.is_modelled → length (D.seen disk.old) < at
+        → (c : List ℕ) → D.may_leave disk.new c ↔ D.may_leave disk.old c }
+    ensures time { IsTrue D.is_modelled
+        → Elapses (D.moment disk.old) (D.moment disk.new) (D.left_since disk.old) (D.left_since disk.new)
+        (D.may_leave disk.new) }
 {
     if let Some(left) = left_of(bytes, leaves) {
         let _ = disk.write_at(at, left);
@@ -108,7 +112,9 @@ fn leave_cut<D: Disk>(disk: &mut D, size: usize, leaves: Leaves)
     ensures seen { IsTrue D.is_modelled → Cut size (D.seen disk.old) (D.seen disk.new) }
     ensures crash { IsTrue D.is_modelled → Follows (Cut size) (D.may_leave disk.old) (D.may_leave disk.new) }
     ensures left { IsTrue D.is_modelled → (c : List ℕ) → D.may_leave disk.old c → D.may_leave disk.new c }
-    ensures time { IsTrue D.is_modelled → Elapses (D.moment disk.old) (D.moment disk.new) (D.left_since disk.old) (D.left_since disk.new) (D.may_leave disk.new) }
+    ensures time { IsTrue D.is_modelled
+        → Elapses (D.moment disk.old) (D.moment disk.new) (D.left_since disk.old) (D.left_since disk.new)
+        (D.may_leave disk.new) }
 {
     let more = disk.len().map_or(0, |len| len.saturating_sub(size));
     if let Some(left) = size_left(size, more, leaves) {
@@ -174,7 +180,8 @@ impl<D: Disk> Disk for FailingDisk<D> {
 
     ghost faults = { λ failing. failing.failures };
 
-    ghost may_fail = { λ failing call. ((failing.first ≤ failing.calls) × (failing.calls < failing.end)) ⊎ D.may_fail failing.disk call };
+    ghost may_fail = { λ failing call. ((failing.first ≤ failing.calls) × (failing.calls < failing.end))
+        ⊎ D.may_fail failing.disk call };
 
     ghost may_stay = { λ failing. D.may_stay failing.disk };
 
