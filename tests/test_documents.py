@@ -1,12 +1,12 @@
-"""The documents against what they speak of: names of edits, clauses, functions, files and crates, the first run, and the limits
-of files and functions."""
+"""The documents against what they speak of: names of functions, files and crates, the first run, and the limits of pages, files and
+functions."""
 
 import pathlib
 import re
 import unittest
 
 TOP = pathlib.Path(__file__).resolve().parent.parent
-PAGES = sorted(page for pattern in ("*.md", "*/*.md") for page in TOP.glob(pattern))
+PAGES = sorted(page for pattern in ("*.md", "*/*.md", "crates/*/PROMISES.md") for page in TOP.glob(pattern))
 
 
 def read(*path):
@@ -17,24 +17,6 @@ def crates():
     """The crates of crates.txt, each with what it stands on."""
     lines = (line.partition("#")[0].partition(":") for line in read("crates.txt").splitlines())
     return {name.strip(): set(rest.split()) for name, _, rest in lines if name.strip()}
-
-
-def edits(crate, folder):
-    return {file.stem for file in (TOP / "crates" / crate / folder).glob("*.edit")}
-
-
-def sections(text):
-    """The sections of docs/PROOFS.md that are named after a crate, by its name."""
-    parts = re.split(r"(?m)^## ", text)
-    found = ((re.match(r"`(\w+)`", part), part) for part in parts)
-    return {named[1]: part for named, part in found if named}
-
-
-def rows(section):
-    """The rows of a section's tables of promises: promise, function, clause, edits."""
-    lines = [line for line in section.splitlines() if line.startswith("| ") and not line.startswith(("| Promise", "|---"))]
-    cells = [line.strip().strip("|").split(" | ") for line in lines]
-    return [[cell.strip() for cell in row] for row in cells if len(row) == 4]
 
 
 def code_of(crate):
@@ -49,37 +31,6 @@ def titles(page):
 def anchor_of(title):
     """The anchor by which a link leads to a title."""
     return re.sub(r"[^\w -]", "", title.lower()).replace(" ", "-")
-
-
-class Proofs(unittest.TestCase):
-    """docs/PROOFS.md."""
-
-    sections = sections(read("docs", "PROOFS.md"))
-
-    def test_has_a_section_for_each_crate_with_a_promise(self):
-        for crate in crates():
-            if edits(crate, "must-fail"):
-                self.assertIn(crate, self.sections)
-
-    def test_names_each_edit_of_a_crate_and_no_other(self):
-        for crate, section in self.sections.items():
-            named = {word for row in rows(section) for word in re.findall(r"(?<![\w-])[a-z0-9]+(?:-[a-z0-9]+)+\*?", row[3])}
-            wanted = edits(crate, "must-fail") | {f"{name}*" for name in edits(crate, "wrong-bodies")}
-            if rows(section):
-                with self.subTest(crate=crate):
-                    self.assertEqual(named ^ wanted, set())
-
-    def test_names_functions_and_clauses_that_are_there(self):
-        for crate, section in self.sections.items():
-            code = code_of(crate)
-            for _, functions, clauses, _ in rows(section):
-                for name in re.findall(r"`([\w:]+)`", functions):
-                    with self.subTest(crate=crate, function=name):
-                        self.assertTrue(re.search(rf"\b{name.rpartition('::')[2]}\b", code))
-                for name in re.findall(r"`(\w+)`", clauses):
-                    with self.subTest(crate=crate, functions=functions, clause=name):
-                        clause = r"ensures \{" if name == "ensures" else rf"ensures {name}\b|ghost {name} =|fn {name}\b"
-                        self.assertTrue(re.search(rf"\b{clause}", code))
 
 
 class Architecture(unittest.TestCase):

@@ -19,7 +19,7 @@ from sandbox import TOP, Sandbox
 
 # Scripts outside of scripts/ and bench/.
 OTHERS = ("test", "tests/run", "examples/listen", "examples/make-deploy")
-OF_CRATES = ("scripts/draw-bugs --seed 1", "scripts/fail-allocations", "scripts/slow-proofs", "scripts/try-wrong-bodies")
+OF_CRATES = ("scripts/draw-bugs --seed 1", "scripts/fail-allocations", "scripts/slow-proofs", "scripts/try-wrong-bodies", "scripts/wrong-bodies")
 
 
 def scripts():

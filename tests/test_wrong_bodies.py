@@ -42,11 +42,12 @@ class Edits(unittest.TestCase):
 
     def test_were_refused_by_the_contracts_that_are_there(self):
         # Those of a crate whose contracts have changed since are tried by scripts/try-wrong-bodies; until then the document names it.
-        text = (TOP / "docs" / "PROOFS.md").read_text()
+        text = (TOP / "docs" / "GATE.md").read_text()
         named = set(re.findall(r"`(\w+)`", text.partition("Still to be tried over the contracts as they are: ")[2].partition(".")[0]))
         tried = [crate for crate in CRATES if any((crate / "wrong-bodies").glob("*.edit"))]
         changed = {crate.name for crate in tried if contracts.kept(crate) != contracts.digest_of(crate)}
-        self.assertEqual(changed, named, "run scripts/try-wrong-bodies, or name the crates in docs/PROOFS.md")
+        self.assertEqual(changed, named, "run scripts/try-wrong-bodies, or name the crates in docs/GATE.md")
+
 
 class Contracts(unittest.TestCase):
     """What the digest of a crate's contracts goes by."""
