@@ -1,4 +1,4 @@
-"""A plain model of the host, written from docs/HTTP.md alone, over that of histories.
+"""A plain model of the host, written from docs/HTTP.md and docs/WIRE.md alone, over that of histories.
 
 `Model.answer` is the reply that the program has to send. What no test asks of it is left out: running out of memory,
 heads that are refused, and bodies that are too large.

@@ -1,6 +1,6 @@
 """What the other bodies ask for, which are ignored, and how deep and how long a body may be.
 
-What is expected follows from docs/HTTP.md: "Limits of bodies", "The body of a deploy" and "The other bodies".
+What is expected follows from docs/WIRE.md, "Limits of bodies"; docs/HTTP.md, "The body of a deploy" and "The other bodies".
 """
 
 import json

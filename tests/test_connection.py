@@ -1,6 +1,6 @@
 """A connection from outside: its heads and bodies, its replies, and where it ends.
 
-What is expected follows from docs/HTTP.md and docs/DECISIONS.md.
+What is expected follows from docs/WIRE.md, docs/HTTP.md and docs/DECISIONS.md.
 """
 
 import socket

@@ -33,6 +33,16 @@ def anchor_of(title):
     return re.sub(r"[^\w -]", "", title.lower()).replace(" ", "-")
 
 
+def assert_files_are_there(test, text, least):
+    """The files of code that a page names as CRATE/FILE.rt are there."""
+    named = set(re.findall(r"(?<![\w/])((?:[a-z_]+/)+[a-z_]+\.rt)\b", text)) - {"src/lib.rt"}
+    test.assertGreater(len(named), least)
+    for name in sorted(named):
+        crate, _, file = name.partition("/")
+        with test.subTest(name):
+            test.assertTrue((TOP / "crates" / crate / "src" / file).is_file())
+
+
 class Architecture(unittest.TestCase):
     """docs/ARCHITECTURE.md."""
 
@@ -42,9 +52,51 @@ class Architecture(unittest.TestCase):
         table = re.findall(r"(?m)^\| `(\w+)` \| [^|]* \| ([^|]*) \|$", self.text.partition("```")[0])
         self.assertEqual({name: set(re.findall(r"`(\w+)`", rest)) for name, rest in table}, crates())
 
+    def test_names_files_of_crates_that_are_there(self):
+        assert_files_are_there(self, self.text, 5)
+
+
+class Map(unittest.TestCase):
+    """docs/MAP.md."""
+
+    text = read("docs", "MAP.md")
+    groups = re.split(r"(?m)^## ", text.partition("\n# ")[0])[1:]
+
+    # What a maintainer looks for, in the words by which a row or a group begins.
+    looked_for = (
+        "accept", "adding a command", "body limit", "cache eviction", "clash", "content hash", "dedupe", "deploy JSON", "ETag", "exit status", "Expect",
+        "fsync", "head parsed", "If-None-Match", "If-Range", "index.html", "journal entry bytes", "MIME", "multipart", "order of syncs",
+        "404 and refusal names", "owner of a key", "path decoding", "publishes itself", "Range", "store lock", "timeouts", "torn tail", "undo",
+        "who may deploy",
+    )
+
+    def test_has_eight_groups(self):
+        titles = [group.partition("\n")[0] for group in self.groups]
+        self.assertEqual(titles, re.findall(r"(?m)^\d\. \[(.*?)\]", self.text))
+        self.assertEqual(len(titles), 8)
+        self.assertIn("Not in the program", titles)
+
+    def test_leads_with_the_words_that_are_looked_for(self):
+        leads = re.findall(r"(?m)^\| (\*\*.*?) \| ", self.text)
+        for word in self.looked_for:
+            with self.subTest(word):
+                self.assertTrue([lead for lead in leads if re.search(rf"\*\*{re.escape(word)}\b[^*]*\*\*", lead)])
+
+    def test_names_each_source_file(self):
+        named = set(re.findall(r"(?<![\w/])((?:[a-z_]+/)+[a-z_]+\.rt)\b", self.text))
+        folders = set(re.findall(r"crates/((?:[a-z_]+/)+)(?=[ ,)])", self.text))
+        anywhere = set(re.findall(r"`([a-z_]+\.rt)`", self.text.partition("\n## ")[0]))
+        for file in sorted((TOP / "crates").glob("*/src/**/*.rt")):
+            path = str(file.relative_to(TOP / "crates"))
+            with self.subTest(path):
+                self.assertTrue(path.replace("/src/", "/", 1) in named or file.name in anywhere or any(map(path.startswith, folders)))
+
+    def test_names_files_of_crates_that_are_there(self):
+        assert_files_are_there(self, self.text, 200)
+
     def test_says_where_each_definition_is(self):
-        rows = re.findall(r"(?m)^\| [^|`]* \| ([^|]*\.antt\)[^|]*) \| ([^|]*) \| ([^|]*) \|$", self.text)
-        self.assertGreater(len(rows), 24)
+        rows = re.findall(r"(?m)^\| [^|]* \| ([^|]*\.antt\)[^|]*) \| ([^|]*) \| ([^|]*) \|$", self.text)
+        self.assertGreater(len(rows), 80)
         for definitions, functions, files in rows:
             specs = [read("crates", crate, "specs", file) for crate, file in re.findall(r"(\w+)/(\w+\.antt)", definitions)]
             code = "\n".join(map(code_of, {file.partition("/")[0] for file in files.split(", ")} | {"host_server"}))
@@ -53,36 +105,34 @@ class Architecture(unittest.TestCase):
                     self.assertTrue(re.search(rf"(?m)^(?:\w+ )*{name}\b[^=\n]*:", "\n".join(specs)))
             for name in re.findall(r"`(?:\w+::)?(\w+)`", functions):
                 with self.subTest(function=name):
-                    self.assertTrue(re.search(rf"\b(fn|ensures|ghost|for|impl) {name}\b", code))
+                    self.assertTrue(re.search(rf"\b(fn|ensures|ghost|for|impl|trait) {name}\b", code))
 
-    def test_names_files_of_crates_that_are_there(self):
-        named = set(re.findall(r"(?<![\w/])((?:[a-z_]+/)+[a-z_]+\.rt)\b", self.text)) - {"src/lib.rt"}
-        self.assertGreater(len(named), 20)
-        for name in sorted(named):
-            crate, _, file = name.partition("/")
-            with self.subTest(name):
-                self.assertTrue((TOP / "crates" / crate / "src" / file).is_file())
-
-
-class Interface(unittest.TestCase):
-    """docs/HTTP.md."""
-
-    def test_names_definitions_and_calls_of_each_section(self):
+    def test_names_definitions_and_calls_of_each_section_of_the_interface_and_the_wire(self):
         crates = ("http_wire", "host_api", "host_server", "range_spec", "range_reply", "host_names")
         files = [file for crate in crates for folder in ("specs", "src") for file in (TOP / "crates" / crate / folder).rglob("*.*")]
         text = "\n".join(file.read_text() for file in files)
-        told = read("docs", "HTTP.md").partition("\n## Where the contracts say this\n")[2]
-        rows = re.findall(r"(?m)^\| ([A-Z][^|`]*) \| (`[^|]*) \|$", told)
-        self.assertGreater(len(rows), 18)
-        for section, names in rows:
-            self.assertIn(f"\n## {section}\n", read("docs", "HTTP.md"))
-            for name in re.findall(r"`(\w+)`", names):
-                with self.subTest(section=section, name=name):
-                    self.assertTrue(re.search(rf"(?m)^(?:\w+ )*{name}\b[^=\n]*:|\b(?:fn|enum|struct) {name}\b", text))
+        for page in ("HTTP.md", "WIRE.md"):
+            told = self.text.partition(f"\ndocs/{page}:\n")[2].partition("\n\ndocs/")[0]
+            rows = re.findall(r"(?m)^\| ([A-Z][^|`]*) \| (`[^|]*) \|$", told)
+            sections = set(re.findall(r"(?m)^## (.*)$", read("docs", page))) - {"What to write in a client", "Not supported"}
+            self.assertEqual({section for section, _ in rows}, sections)
+            for section, names in rows:
+                for name in re.findall(r"`(\w+)`", names):
+                    with self.subTest(section=section, name=name):
+                        self.assertTrue(re.search(rf"(?m)^(?:\w+ )*{name}\b[^=\n]*:|\b(?:fn|enum|struct) {name}\b", text))
 
 
 class Pages(unittest.TestCase):
     """Every page."""
+
+    def test_are_short_enough_to_be_read(self):
+        """Those of docs/ and the promises of the crates: 400 lines, and 160 columns but in tables."""
+        for page in PAGES:
+            if page.parent == TOP / "docs" or page.name == "PROMISES.md":
+                lines = page.read_text().splitlines()
+                with self.subTest(page=str(page.relative_to(TOP))):
+                    self.assertLessEqual(len(lines), 400)
+                    self.assertEqual([line for line in lines if len(line) > 160 and not line.startswith("|")], [])
 
     def test_name_files_of_the_repository_that_are_there(self):
         for page in PAGES:

@@ -1,6 +1,6 @@
 """A store over a connection whose stream is cut, or whose reads or writes fail: what was done is kept, and nothing else.
 
-What is expected follows from docs/HTTP.md, "When a connection ends".
+What is expected follows from docs/WIRE.md, "When a connection ends".
 """
 
 import socket

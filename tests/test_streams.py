@@ -1,6 +1,6 @@
 """A connection as a stream: the pieces in which bytes come, where they end, and reads and writes that fail.
 
-What is expected follows from docs/HTTP.md and docs/DECISIONS.md.
+What is expected follows from docs/WIRE.md, docs/HTTP.md and docs/DECISIONS.md.
 """
 
 import os

@@ -1,6 +1,6 @@
 """What the wire itself answers: each fault of a head or of a length, the interim reply, and the old version, HTTP/1.0.
 
-What is expected follows from docs/HTTP.md; the interim reply from RFC 9110, section 10.1.1.
+What is expected follows from docs/WIRE.md; the interim reply from RFC 9110, section 10.1.1.
 """
 
 import unittest

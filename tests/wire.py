@@ -1,6 +1,6 @@
 """What the wire itself answers, before any route: the interim reply, and the refusals of heads and lengths.
 
-They follow from docs/HTTP.md; the interim reply from RFC 9110, section 10.1.1.
+They follow from docs/WIRE.md; the interim reply from RFC 9110, section 10.1.1.
 """
 
 from client import closing, refused, request, told
