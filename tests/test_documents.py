@@ -64,8 +64,8 @@ class Map(unittest.TestCase):
 
     # What a maintainer looks for, in the words by which a row or a group begins.
     looked_for = (
-        "accept", "adding a command", "body limit", "cache eviction", "clash", "content hash", "dedupe", "deploy JSON", "ETag", "exit status", "Expect",
-        "fsync", "head parsed", "If-None-Match", "If-Range", "index.html", "journal entry bytes", "MIME", "multipart", "order of syncs",
+        "accept", "adding a command", "body limit", "cache eviction", "clash", "content hash", "dedupe", "deploy JSON", "ETag", "exit status",
+        "Expect", "fsync", "head parsed", "If-None-Match", "If-Range", "index.html", "journal entry bytes", "MIME", "multipart", "order of syncs",
         "404 and refusal names", "owner of a key", "path decoding", "publishes itself", "Range", "store lock", "timeouts", "torn tail", "undo",
         "who may deploy",
     )

@@ -149,6 +149,10 @@ class WrongBodies(unittest.TestCase):
             self.assertEqual(counts[crate], [str(gate), str(outside)])
         self.assertEqual(sum(map(int, counts["all"])), sum(len(edits(crate)) for crate in crates()))
 
+    def test_tells_which_are_to_be_tried_again(self):
+        told = read("docs", "GATE.md").partition("Still to be tried over the contracts as they are: ")[2].partition(".")[0]
+        self.assertEqual(set(self.printed("--untried")), set(re.findall(r"`(\w+)`", told)))
+
 
 if __name__ == "__main__":
     unittest.main()
