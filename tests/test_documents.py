@@ -141,6 +141,17 @@ class Pages(unittest.TestCase):
                     with self.subTest(page=page.name, name=name):
                         self.assertTrue((TOP / name).exists())
 
+    def test_are_there_where_code_names_them(self):
+        folders = [TOP / folder for folder in ("crates", "tests", "scripts", "bench", "examples")]
+        files = [file for folder in folders for file in folder.rglob("*") if file.is_file() and "/out/" not in str(file)]
+        count = 0
+        for file in (TOP / "test", TOP / "filehost", *(file for file in files if file.suffix in ("", ".py", ".rt", ".antt", ".c"))):
+            for name in re.findall(r"\bdocs/\w+\.md\b", file.read_text()):
+                count += 1
+                with self.subTest(file=str(file.relative_to(TOP)), name=name):
+                    self.assertTrue((TOP / name).is_file())
+        self.assertGreater(count, 30)
+
     def test_name_files_without_their_folders_that_are_there(self):
         files = {path.name for folder in TOP.iterdir() if folder.name != ".git" for path in (folder.rglob("*") if folder.is_dir() else [folder])}
         for page in PAGES:
