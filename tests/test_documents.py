@@ -98,7 +98,7 @@ class Map(unittest.TestCase):
         rows = re.findall(r"(?m)^\| [^|]* \| ([^|]*\.antt\)[^|]*) \| ([^|]*) \| ([^|]*) \|$", self.text)
         self.assertGreater(len(rows), 80)
         for definitions, functions, files in rows:
-            specs = [read("crates", crate, "specs", file) for crate, file in re.findall(r"(\w+)/(\w+\.antt)", definitions)]
+            specs = [read("crates", crate, "specs", file) for crate, file in re.findall(r"(\w+)/((?:\w+/)*\w+\.antt)", definitions)]
             code = "\n".join(map(code_of, {file.partition("/")[0] for file in files.split(", ")} | {"host_server"}))
             for name in re.findall(r"`(\w+)`", definitions):
                 with self.subTest(definition=name):
