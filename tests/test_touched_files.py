@@ -5,7 +5,7 @@ import re
 import unittest
 
 TOP = pathlib.Path(__file__).resolve().parent.parent
-FILE = re.compile(r"\b(?:[a-z_]+/(?:src|specs|proofs)/\w+\.(?:rt|antt)|docs/\w+\.md)\b")
+FILE = re.compile(r"\b(?:[a-z_]+/(?:src|specs|proofs)/(?:\w+/)*\w+\.(?:rt|antt)|docs/\w+\.md)\b")
 
 
 def lists():

@@ -1,11 +1,4 @@
--- what public clauses say
-pub mod Spells
-pub mod Reading
-pub mod Frames
-pub mod Settled
-pub mod Walks
-pub mod Ahead
-pub mod Openings
-pub mod Texts
-pub mod Held
-pub mod Failures
+-- what public clauses say: of the text of an entry, of a file of records, and of the entries that such a file holds
+pub mod texts
+pub mod file
+pub mod entries

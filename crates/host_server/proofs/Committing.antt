@@ -1,6 +1,6 @@
 -- An entry is made beside the old history, and put into the journal.
 use Rattle.std.proofs.Common.{◌≡◌, ◌⊎◌, inl, inr, ℕ, List, [], ◌∷◌, ◌++◌, false, Some, Result, Ok, Err, refl, sym, ap, subst, ◌∙◌}
-use Rattle.change_journal.specs.Held.{Keeps}
+use Rattle.change_journal.specs.entries.Held.{Keeps}
 use Rattle.change_undo.specs.declared.entries.Entry.{Entry}
 use Rattle.host_server.specs.declared.host.entry_errors.EntryError.{EntryError}
 use Rattle.host_server.specs.declared.host.entry_errors.EntryError.TheVariants.{Device, OutOfMemory}

@@ -2,7 +2,7 @@
 use Rattle.std.proofs.Common.{◌≡◌, Bool, true, false, ◌&&◌, ℕ, List, Option, Some, None, Ok, is_some, refl, ap, subst}
 use Rattle.host_names.specs.declared.digests.Digest.{Digest}
 use Rattle.host_names.specs.declared.names.SiteName.{SiteName}
-use Rattle.change_journal.specs.Held.{Keeps}
+use Rattle.change_journal.specs.entries.Held.{Keeps}
 use Rattle.change_undo.specs.Histories.{entry_at}
 use Rattle.host_api.specs.declared.bodies.Ask.{Ask}
 use Rattle.host_server.specs.HeldUp.{IsWholeFor, is_held_up, may_change}

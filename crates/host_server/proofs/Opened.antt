@@ -3,12 +3,12 @@ use Rattle.std.proofs.Common.{◌≡◌, ◌⊎◌, inl, inr, List, IsTrue, ℕ,
 use Rattle.host_names.specs.Blobs.{Contents}
 use Rattle.blob_store.specs.Calls.{Call}
 use Rattle.change_undo.specs.declared.entries.Entry.{Entry}
-use Rattle.change_journal.specs.Held.{Keeps}
-use Rattle.change_journal.specs.Openings.{IsFound, IsNoJournal}
-use Rattle.change_journal.specs.Texts.{AllStored, IsText, texts}
-use Rattle.change_journal.specs.Walks.{IsBadRecord, IsOnlyRead, TellsStop}
-use Rattle.change_journal.specs.declared.faults.OpenFault as of_disk
-use Rattle.change_journal.specs.declared.faults.OpenFault.TheVariants as journal_fault
+use Rattle.change_journal.specs.entries.Held.{Keeps}
+use Rattle.change_journal.specs.file.Openings.{IsFound, IsNoJournal}
+use Rattle.change_journal.specs.entries.Texts.{AllStored, IsText, texts}
+use Rattle.change_journal.specs.file.Walks.{IsBadRecord, IsOnlyRead, TellsStop}
+use Rattle.change_journal.specs.declared.file.faults.OpenFault as of_disk
+use Rattle.change_journal.specs.declared.file.faults.OpenFault.TheVariants as journal_fault
 use Rattle.host_disk.specs.declared.disks.Disk.{Ghosts}
 use Rattle.host_opening.specs.Replays.{StopsAt}
 use Rattle.host_opening.specs.declared.replays.ReplayFault.{ReplayFault}

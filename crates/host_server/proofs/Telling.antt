@@ -21,7 +21,7 @@ use Rattle.host_server.specs.Files.{IsReadReply, ReadRunsOut}
 use Rattle.host_server.specs.Storing.{DoesUpload, IsRefusedByStore, IsUploadReply, UploadRunsOut, refusal_of_upload}
 use Rattle.host_server.specs.declared.servers.Server.{Server}
 use Rattle.host_server.specs.Bodies.{answer_of}
-use Rattle.change_journal.specs.Held.{Keeps}
+use Rattle.change_journal.specs.entries.Held.{Keeps}
 use Rattle.host_server.specs.Hosts.{Host, state_of}
 use Rattle.host_server.specs.Journals.{BreaksOff, IsJournaled, IsStopped, KeepsUp}
 use Rattle.host_server.specs.ServerJournals.{GoesOn}

@@ -3,7 +3,7 @@ use Rattle.std.specs.Prelude.{◌≡◌, ℕ, [], ◌∷◌, true, Option, Some,
 use Rattle.host_names.specs.declared.refusals.ChangeError.{ChangeError}
 use Rattle.host_names.specs.declared.refusals.ChangeError.TheVariants as change
 use Rattle.host_names.specs.declared.refusals.ChangeRefusal.{ChangeRefusal}
-use Rattle.change_journal.specs.Held.{Keeps}
+use Rattle.change_journal.specs.entries.Held.{Keeps}
 use Rattle.change_undo.specs.declared.entries.Entry.{Entry}
 use Rattle.change_undo.specs.Histories.{may_take_memory}
 use Rattle.host_api.specs.declared.refusals.Refusal.{Refusal}

@@ -1,8 +1,8 @@
 -- What becomes of a journal where a host gets more entries.
 use Rattle.std.specs.Prelude.{◌≡◌, ◌⊎◌, ℕ, List, [], ◌∷◌, Bool, true, false, Option, Some, None, Result, Err}
-use Rattle.change_journal.specs.Held.{Keeps}
-use Rattle.change_journal.specs.Settled.{TellsBreak}
-use Rattle.change_journal.specs.declared.records.PutFault.TheVariants as put_fault
+use Rattle.change_journal.specs.entries.Held.{Keeps}
+use Rattle.change_journal.specs.file.Settled.{TellsBreak}
+use Rattle.change_journal.specs.declared.file.records.PutFault.TheVariants as put_fault
 use Rattle.change_undo.specs.Logs as logs
 use Rattle.change_undo.specs.declared.entries.Entry.{Entry}
 use Rattle.host_api.specs.declared.refusals.Refusal.{Refusal}

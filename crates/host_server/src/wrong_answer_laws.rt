@@ -11,7 +11,7 @@ ghost use Rattle.http_wire.specs.Requests.{RequestParts};
 ghost use Rattle.http_wire.specs.Timing.{AtEnd};
 ghost use Rattle.site_change.specs.declared.commands.Command.{Command};
 ghost use Rattle.change_undo.specs.declared.entries.Entry.{Entry};
-ghost use Rattle.change_journal.specs.Held.{Keeps};
+ghost use Rattle.change_journal.specs.entries.Held.{Keeps};
 ghost use Rattle.host_api.specs.declared.bodies.Ask.TheVariants as ask;
 ghost use Rattle.host_api.specs.declared.refusals.HeadRefusal.TheVariants.{CodingRefused};
 ghost use Rattle.host_api.specs.declared.refusals.Refusal.{Refusal};

@@ -1,6 +1,6 @@
 //! Entries by their numbers.
 ghost use Rattle.std.specs.Prelude.{◌≡◌, ◌≤◌, IfOk, length};
-ghost use Rattle.change_journal.specs.Spells.{IsCommandInRange, IsInRange, IsNumber};
+ghost use Rattle.change_journal.specs.texts.Spells.{IsCommandInRange, IsInRange, IsNumber};
 
 use anyhow::Result;
 use change_undo::Entry;

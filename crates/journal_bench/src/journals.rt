@@ -1,7 +1,7 @@
 //! Journals in files.
 ghost use Rattle.std.specs.Prelude.{◌≡◌, ◌≤◌};
 ghost use Rattle.change_undo.specs.Logs.{last_number};
-ghost use Rattle.change_journal.specs.Spells.{IsInRange};
+ghost use Rattle.change_journal.specs.texts.Spells.{IsInRange};
 
 use crate::entries::numbered;
 use anyhow::{Result, anyhow};

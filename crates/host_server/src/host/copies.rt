@@ -4,7 +4,7 @@ ghost use Rattle.host_names.specs.Blobs.{Contents};
 ghost use Rattle.host_names.specs.Refusals.{IsRefusedBy};
 ghost use Rattle.host_names.specs.declared.names.SiteName.{SiteName as Site};
 ghost use Rattle.site_change.specs.declared.commands.Command.{Command as Change};
-ghost use Rattle.change_journal.specs.Spells.{IsInRange};
+ghost use Rattle.change_journal.specs.texts.Spells.{IsInRange};
 ghost use Rattle.change_undo.specs.Histories;
 ghost use Rattle.change_undo.specs.Histories.{IsUndoRefusedBy};
 ghost use Rattle.change_undo.specs.Logs.{with_entry};

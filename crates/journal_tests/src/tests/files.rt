@@ -2,9 +2,8 @@
 ghost use Rattle.std.specs.Prelude.{◌≡◌, ◌≤◌};
 ghost use Rattle.change_undo.specs.Logs.{last_number};
 
-use change_journal::{
-    Journal, OpenFault, Prepared, PutFault, an_entry_with_a_text_is_in_range, decode, prepare,
-};
+use change_journal::laws::an_entry_with_a_text_is_in_range;
+use change_journal::{Journal, OpenFault, Prepared, PutFault, decode, prepare};
 use host_disk::{Disk, LentDisk, MemDisk};
 use std::alloc::Global;
 use std::process::Abort;

@@ -3,7 +3,8 @@
 ghost use Rattle.std.specs.Prelude.{◌≡◌};
 
 use super::files::{Filled, assert_bytes, bytes_of, disk_of, opened, prepared};
-use change_journal::{OpenFault, an_entry_with_a_text_is_in_range, decode, encode};
+use change_journal::laws::an_entry_with_a_text_is_in_range;
+use change_journal::{OpenFault, decode, encode};
 use host_disk::{Disk, LentDisk, MemDisk};
 use std::alloc::Global;
 use std::process::Abort;

@@ -1,5 +1,5 @@
 use Rattle.std.proofs.Common.{◌≡◌, ◌⊎◌, inl, inr, ℕ, List, [], ◌∷◌, Option, Some, None, true, false, refl, sym, ◌∙◌}
-use Rattle.change_journal.specs.Held.{Keeps}
+use Rattle.change_journal.specs.entries.Held.{Keeps}
 use Rattle.change_undo.specs.declared.entries.Entry.{Entry}
 use Rattle.host_server.specs.Journals.{Puts}
 use Rattle.host_server.proofs.wrong_answer_laws.wrong_changes_are_refused.Goals as goal

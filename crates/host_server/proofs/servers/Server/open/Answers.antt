@@ -1,6 +1,6 @@
 use Rattle.std.proofs.Common.{◌≡◌, ◌⊎◌, ◌∙◌, inl, inr, refl, subst, sym}
-use Rattle.change_journal.specs.Held.{Keeps}
-use Rattle.change_journal.specs.Texts.{MayHoldNext}
+use Rattle.change_journal.specs.entries.Held.{Keeps}
+use Rattle.change_journal.specs.entries.Texts.{MayHoldNext}
 use Rattle.host_disk.specs.Crashes.{LeavesOnly}
 use Rattle.host_server.specs.Openings.{HasFiles, IsHostFault, IsJournalFault}
 use Rattle.host_server.specs.declared.openings.OpenFault.TheVariants.{BadHeader, JournalDevice}

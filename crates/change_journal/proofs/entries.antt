@@ -1,0 +1,4 @@
+mod Entrywise
+mod HeldLists
+mod JournalSteps
+mod OpenedJournals

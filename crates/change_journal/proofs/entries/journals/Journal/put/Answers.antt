@@ -1,0 +1,65 @@
+use Rattle.std.proofs.Common.{[], ◌∷◌, ◌++◌, ap, sym, ◌∙◌}
+use Rattle.std.proofs.lemmas.Bool.{false≢true}
+use Rattle.change_undo.specs.declared.entries.Entry.{Entry}
+use Rattle.change_journal.specs.entries.Held.{entries_of}
+use Rattle.change_journal.specs.declared.entries.held.Held.{Held}
+use Rattle.change_journal.specs.declared.file.places.Place.{Place}
+use Rattle.change_journal.proofs.entries.JournalSteps.{record_length, next_moments, held_moments, sound_with, torn_put}
+use Rattle.change_journal.proofs.entries.journals.Journal.put.Goals as goal
+
+pub put-requires-clause-long : goal.put-requires-clause-long
+put-requires-clause-long g c = (record_length c.args.prepared c.bytes.result.now c.bytes.ensures).0
+
+pub put-requires-clause-short : goal.put-requires-clause-short
+put-requires-clause-short g c = (record_length c.args.prepared c.bytes.result.now c.bytes.ensures).1
+
+pub returns-in_err-put-clause-any_moment : goal.returns-in_err-put-clause-any_moment
+returns-in_err-put-clause-any_moment g c =
+    rw (← c.self.view_is) (λ modelled whole.
+    next_moments g.D.Disk.moment g.D.Disk.left_since c.self.inside.records.disk c.put.new.self.disk _ c.args.prepared c.self.invariant.writable c.bytes.ensures.writable
+    (c.put.ensures.any_moment modelled _ _ c.bytes.ensures.is (c.self.invariant.settled modelled whole)))
+
+pub returns-in_err-put-clause-held : goal.returns-in_err-put-clause-held
+returns-in_err-put-clause-held g c =
+    rw (← c.self.view_is) (λ modelled whole.
+    held_moments g.D.Disk.moment g.D.Disk.left_since c.self.inside.records.disk c.put.new.self.disk _ c.args.prepared
+    (next_moments g.D.Disk.moment g.D.Disk.left_since c.self.inside.records.disk c.put.new.self.disk _ c.args.prepared c.self.invariant.writable c.bytes.ensures.writable
+    (c.put.ensures.any_moment modelled _ _ c.bytes.ensures.is (c.self.invariant.settled modelled whole))))
+
+pub returns-clause-any_moment : goal.returns-clause-any_moment
+returns-clause-any_moment g c =
+    rw (← c.self.view_is) (λ modelled whole.
+    next_moments g.D.Disk.moment g.D.Disk.left_since c.self.inside.records.disk c.put.new.self.disk _ c.args.prepared c.self.invariant.writable c.bytes.ensures.writable
+    (c.put.ensures.any_moment modelled _ _ c.bytes.ensures.is (c.self.invariant.settled modelled whole)))
+
+pub returns-clause-held : goal.returns-clause-held
+returns-clause-held g c =
+    rw (← c.self.view_is) (λ modelled whole.
+    held_moments g.D.Disk.moment g.D.Disk.left_since c.self.inside.records.disk c.put.new.self.disk _ c.args.prepared
+    (next_moments g.D.Disk.moment g.D.Disk.left_since c.self.inside.records.disk c.put.new.self.disk _ c.args.prepared c.self.invariant.writable c.bytes.ensures.writable
+    (c.put.ensures.any_moment modelled _ _ c.bytes.ensures.is (c.self.invariant.settled modelled whole))))
+
+pub invariant_of-self : goal.invariant_of-self
+invariant_of-self g c =
+    let was = c.self.inside.records in
+    let now = c.put.new.self in
+    let broken = c.in_err-put.ensures.breaks in
+    record {
+      writable = c.self.invariant.writable;
+      count = ap (λ (p : Place). p.count) c.in_err-put.ensures.place ∙ c.self.invariant.count;
+      settled = λ modelled whole. absurd (false≢true (sym whole ∙ broken));
+      torn = λ modelled is.
+          torn_put g.D.Disk.moment g.D.Disk.left_since g.D.Disk.may_leave was now _ c.args.prepared (λ t f later left. g.met.D.Disk.counts_now now.disk t f modelled later left)
+          (λ failed. c.self.invariant.torn modelled failed) (λ failed. (c.put.ensures.refused failed).1) (λ whole.
+          next_moments g.D.Disk.moment g.D.Disk.left_since was.disk now.disk _ c.args.prepared c.self.invariant.writable c.bytes.ensures.writable
+          (c.put.ensures.any_moment modelled _ _ c.bytes.ensures.is (c.self.invariant.settled modelled whole)));
+    }
+
+pub invariant_of-self-2 : goal.invariant_of-self-2
+invariant_of-self-2 g c =
+    let was = c.self.invariant in
+    let held = c.self.inside.held in
+    let put = c.in_ok-put.ensures in
+    let more = ap (λ (h : Held). entries_of h ++ c.of-2.result.value ∷ []) c.of.ensures ∙ ap (λ (e : Entry). entries_of held ++ e ∷ []) c.of-2.ensures in
+    sound_with g.D.Disk.is_modelled g.D.Disk.may_leave c.self.inside.records c.put.new.self (entries_of held) _ c.args.prepared more was.writable c.bytes.ensures.writable was.count put.place put.breaks (λ failed. (c.put.ensures.refused failed).1)
+    was.settled (λ modelled settled. put.stored modelled _ _ c.bytes.ensures.is settled)

@@ -1,0 +1,10 @@
+pub mod Taking
+pub mod NameTexts
+pub mod Numbers
+pub mod Rising
+pub mod Listed
+pub mod Wholes
+pub mod FileLoop
+pub mod Lengths
+pub mod Entries
+pub mod BeforeMemory

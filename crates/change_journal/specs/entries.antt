@@ -1,0 +1,3 @@
+-- the entries that a file holds
+pub mod Texts
+pub mod Held

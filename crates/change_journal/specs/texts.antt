@@ -1,0 +1,3 @@
+-- the text of an entry
+pub mod Spells
+pub mod Reading

@@ -1,0 +1,18 @@
+//! A file of records, each a body behind a gate: opened, mended, and put to. It knows nothing of entries.
+
+mod bodies;
+mod faults;
+mod mending;
+mod openings;
+mod places;
+mod read_ahead;
+mod records;
+mod starts;
+mod synced;
+mod walks;
+
+pub(crate) use bodies::{Bodies, BodyFault};
+pub use faults::OpenFault;
+pub(crate) use openings::open_ahead;
+pub use records::PutFault;
+pub(crate) use records::Records;

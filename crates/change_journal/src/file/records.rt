@@ -1,0 +1,101 @@
+//! The file of a journal: records with the bodies of entries, each behind a gate.
+ghost use Rattle.std.specs.Prelude.{◌≡◌, ◌+◌, ◌<◌, ◌≤◌, ◌^◌, Err, IsErrOf, IsTrue, List, MatchResult, OnOk, [], ◌∷◌, ◌++◌, length, false, true, ℕ};
+ghost use Rattle.host_disk.specs.Crashes.{CountsFailure, LeavesOnly};
+ghost use Rattle.change_journal.specs.file.Frames.{AllShut, MayHold, framed, opened};
+ghost use Rattle.change_journal.specs.file.Settled.{IsSettled, TellsBreak};
+ghost use Rattle.change_journal.specs.declared.file.records.PutFault.TheVariants.{Broken};
+
+use super::places::Place;
+use super::synced::write_synced;
+use host_disk::{DeviceFault, Disk};
+use thiserror::Error;
+
+/// Why a body isn't put.
+#[derive(Clone, Copy, Debug, PartialEq, Eq, Error)]
+pub enum PutFault {
+    /// The device failed at an earlier call.
+    #[error("the journal is broken until it is opened again")]
+    Broken,
+    #[error("the device failed")]
+    Device,
+}
+
+/// A journal's file that is open.
+#[derive(Drop)]
+pub(crate) struct Records<D> {
+    disk: D,
+    /// Where the gate of the next record is.
+    place: Place,
+    broken: bool,
+}
+
+/// Puts a record behind the gate that ends the file, and opens that gate. The bytes end in the gate of the next record.
+fn put_record<D: Disk>(disk: &mut D, gate: usize, bytes: &[u8]) -> Result<(), DeviceFault>
+    requires { gate + 1 < 2 ^ 64 }
+    ensures stored { IsTrue D.is_modelled → (bodies : List (List ℕ)) (body : List ℕ) → gate ≡ length (opened bodies) → bytes.now ≡ framed body ++ 0 ∷ [] → AllShut (D.may_leave disk.old) bodies → OnOk result (AllShut (D.may_leave disk.new) (bodies ++ body ∷ [])) }
+    ensures any_moment { IsTrue D.is_modelled → (bodies : List (List ℕ)) (body : List ℕ) → gate ≡ length (opened bodies) → bytes.now ≡ framed body ++ 0 ∷ [] → AllShut (D.may_leave disk.old) bodies → LeavesOnly D.moment D.left_since disk.old disk.new (MayHold bodies body) }
+    ensures cause { CountsFailure result (D.faults disk.old) (D.faults disk.new) }
+{
+    write_synced(disk, gate + 1, bytes)?;
+    write_synced(disk, gate, &[1])
+}
+
+impl<D: Disk> Records<D> {
+    /// The records of a disk that was opened.
+    pub(crate) fn at(disk: D, place: Place) -> Records<D>
+        ensures { (result.disk ≡ disk) × (result.place ≡ place) × (result.broken ≡ false) }
+    {
+        Records {
+            disk,
+            place,
+            broken: false,
+        }
+    }
+
+    /// The number of its records.
+    pub(crate) fn count(&self) -> usize
+        ensures value { result ≡ self.now.place.count }
+        ensures most { result ≤ 1000000 }
+    {
+        self.place.count
+    }
+
+    /// Whether the device has failed here.
+    pub(crate) fn is_broken(&self) -> bool
+        ensures { result ≡ self.now.broken }
+    {
+        self.broken
+    }
+
+    /// Hands out the disk.
+    pub(crate) fn into_disk(self) -> D
+        ensures { result ≡ self.disk }
+    {
+        self.disk
+    }
+
+    /// Puts a body behind the others, by the bytes of its record, which end in the gate of the next one. Once the device has failed
+    /// here, each further call answers `Broken` and does nothing.
+    pub(crate) fn put(&mut self, bytes: &[u8]) -> Result<(), PutFault>
+        requires few { self.old.broken ≡ false → self.old.place.count < 1000000 }
+        requires long { 5 ≤ length bytes.now }
+        requires short { length bytes.now ≤ 10470075 }
+        ensures stored { IsTrue D.is_modelled → (bodies : List (List ℕ)) (body : List ℕ) → bytes.now ≡ framed body ++ 0 ∷ [] → IsSettled D.may_leave self.old bodies → OnOk result (IsSettled D.may_leave self.new (bodies ++ body ∷ [])) }
+        ensures any_moment { IsTrue D.is_modelled → (bodies : List (List ℕ)) (body : List ℕ) → bytes.now ≡ framed body ++ 0 ∷ [] → IsSettled D.may_leave self.old bodies → LeavesOnly D.moment D.left_since self.old.disk self.new.disk (MayHold bodies body) }
+        ensures refused { IsTrue self.old.broken → (result ≡ Err Broken) × (self.new ≡ self.old) }
+        ensures broken { IsErrOf result Broken → IsTrue self.old.broken }
+        ensures breaks { MatchResult result (λ _. self.new.broken ≡ false) (λ _. self.new.broken ≡ true) }
+        ensures place { MatchResult result (λ _. self.new.place.count ≡ self.old.place.count + 1) (λ _. self.new.place ≡ self.old.place) }
+        ensures cause { MatchResult result (λ _. D.faults self.new.disk ≡ D.faults self.old.disk) (λ fault. TellsBreak fault (D.faults self.old.disk) (D.faults self.new.disk)) }
+    {
+        if self.broken {
+            return Err(PutFault::Broken);
+        }
+        if put_record(&mut self.disk, self.place.gate, bytes).is_err() {
+            self.broken = true;
+            return Err(PutFault::Device);
+        }
+        self.place = self.place.after(bytes.len() - 5);
+        Ok(())
+    }
+}

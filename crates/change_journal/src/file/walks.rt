@@ -1,0 +1,196 @@
+//! The walk from gate to gate.
+ghost use Rattle.std.specs.Prelude.{◌≡◌, ◌≢◌, ◌⊎◌, ◌+◌, ◌<◌, ◌≤◌, ◌^◌, IfErr, IfOk, IfSome, IsErrOf, IsNone, IsTrue, List, OnErr, OnOk, [], ◌∷◌, ◌++◌, drop, length, ℕ};
+ghost use Rattle.std.specs.Int.{to_be_bytes, w32};
+ghost use Rattle.host_disk.specs.Crashes.{CountsFailure};
+ghost use Rattle.change_journal.specs.declared.file.faults.OpenFault.TheVariants.{BadHeader, BadRecord, Device, OutOfMemory};
+ghost use Rattle.change_journal.specs.file.Failures.{MayFailReading};
+ghost use Rattle.change_journal.specs.file.Frames.{framed, opened};
+ghost use Rattle.change_journal.specs.file.Walks.{IsOnlyRead, HasCounted, HasEnded, HasRecord, HasWalked, IsBadRecord, IsNoRecord, IsNotWhole, IsOpened, IsShort, TellsDevice};
+
+use super::bodies::{Bodies, BodyFault};
+use super::faults::OpenFault;
+use super::places::{LONGEST_BODY, MOST_RECORDS, Place};
+use host_disk::{DeviceFault, Disk};
+use std::alloc::Global;
+
+/// The gate at a place.
+pub(crate) fn read_gate<D: Disk>(disk: &mut D, at: usize) -> Result<u8, DeviceFault>
+    ensures gate { IsTrue D.is_modelled → IfOk result (λ gate. drop at (D.seen disk.old) ≡ gate ∷ drop (at + 1) (D.seen disk.old)) }
+    ensures same { IsTrue D.is_modelled → IsOnlyRead D.seen D.may_leave D.moment D.left_since disk.old disk.new }
+    ensures reason { IsTrue D.is_modelled → at < length (D.seen disk.old) → OnErr result (MayFailReading D.seen D.may_fail (D.seen disk.old)) }
+    ensures cause { CountsFailure result (D.faults disk.old) (D.faults disk.new) }
+{
+    let mut gate = [0];
+    disk.read(at, &mut gate)?;
+    Ok(gate[0])
+}
+
+/// The length that 4 bytes tell, the highest first.
+#[tactic(auto, using(std::proofs::lemmas::Nat::be_bytes_4))]
+fn told_length(bytes: [u8; 4]) -> usize
+    ensures told { to_be_bytes w32 result ≡ bytes }
+    ensures fits { result < 2 ^ 32 }
+{
+    u32::from_be_bytes(bytes) as usize
+}
+
+/// The length at a place.
+fn read_length<D: Disk>(disk: &mut D, at: usize) -> Result<usize, DeviceFault>
+    ensures length { IsTrue D.is_modelled → IfOk result (λ size. drop at (D.seen disk.old) ≡ to_be_bytes w32 size ++ drop (at + 4) (D.seen disk.old)) }
+    ensures fits { IfOk result (λ size. size < 2 ^ 32) }
+    ensures same { IsTrue D.is_modelled → IsOnlyRead D.seen D.may_leave D.moment D.left_since disk.old disk.new }
+    ensures reason { IsTrue D.is_modelled → at + 4 ≤ length (D.seen disk.old) → OnErr result (MayFailReading D.seen D.may_fail (D.seen disk.old)) }
+    ensures cause { CountsFailure result (D.faults disk.old) (D.faults disk.new) }
+{
+    let mut size = [0; 4];
+    disk.read(at, &mut size)?;
+    Ok(told_length(size))
+}
+
+/// Reads so many bytes from a place on into the place of what was read before.
+fn read_body<D: Disk>(
+    disk: &mut D,
+    at: usize,
+    size: usize,
+    body: &mut Vec<u8>,
+) -> Result<(), OpenFault>
+    ensures body { IsTrue D.is_modelled → OnOk result (drop at (D.seen disk.old) ≡ body.new.items ++ drop (at + size) (D.seen disk.old)) }
+    ensures size { OnOk result (length body.new.items ≡ size) }
+    ensures fault { IfErr result (λ fault. (i : ℕ) → fault ≡ BadRecord i → ⊥) }
+    ensures same { IsTrue D.is_modelled → IsOnlyRead D.seen D.may_leave D.moment D.left_since disk.old disk.new }
+    ensures header { IsErrOf result BadHeader → ⊥ }
+    ensures reason { IsTrue D.is_modelled → at + size ≤ length (D.seen disk.old) → IsErrOf result Device → MayFailReading D.seen D.may_fail (D.seen disk.old) }
+    ensures cause { TellsDevice result (D.faults disk.old) (D.faults disk.new) }
+{
+    body.resize(size, 0)?;
+    disk.read(at, body)?;
+    Ok(())
+}
+
+/// The length of the body behind the open gate at a place.
+fn record_length<D: Disk>(disk: &mut D, size: usize, place: Place) -> Result<usize, OpenFault>
+    requires { place.gate < size }
+    ensures length { IsTrue D.is_modelled → IfOk result (λ n. drop (place.gate + 1) (D.seen disk.old) ≡ to_be_bytes w32 n ++ drop (place.gate + 5) (D.seen disk.old)) }
+    ensures short { IfOk result (λ n. n ≤ 10470070) }
+    ensures within { IfOk result (λ n. place.gate + 5 + n < size) }
+    ensures few { IfOk result (λ _. place.count < 1000000) }
+    ensures bad { IsTrue D.is_modelled → size ≡ length (D.seen disk.old) → IfErr result (λ fault. (i : ℕ) → fault ≡ BadRecord i → (i ≡ place.count + 1) × (IsNotWhole (drop (place.gate + 1) (D.seen disk.old)) ⊎ (1000000 ≤ place.count))) }
+    ensures same { IsTrue D.is_modelled → IsOnlyRead D.seen D.may_leave D.moment D.left_since disk.old disk.new }
+    ensures header { IsErrOf result BadHeader → ⊥ }
+    ensures memory { IsErrOf result OutOfMemory → ⊥ }
+    ensures reason { IsTrue D.is_modelled → size ≡ length (D.seen disk.old) → IsErrOf result Device → MayFailReading D.seen D.may_fail (D.seen disk.old) }
+    ensures cause { TellsDevice result (D.faults disk.old) (D.faults disk.new) }
+{
+    let behind = size - place.gate - 1;
+    if place.count == MOST_RECORDS || behind < 5 {
+        return Err(place.bad_record());
+    }
+    let length = read_length(disk, place.gate + 1)?;
+    if length > LONGEST_BODY || length > behind - 5 {
+        return Err(place.bad_record());
+    }
+    Ok(length)
+}
+
+/// Reads the body behind the open gate at a place.
+fn read_record<D: Disk>(
+    disk: &mut D,
+    size: usize,
+    place: Place,
+    body: &mut Vec<u8>,
+) -> Result<(), OpenFault>
+    requires { place.gate < size }
+    ensures body { IsTrue D.is_modelled → OnOk result (drop (place.gate + 1) (D.seen disk.old) ≡ framed body.new.items ++ drop (place.gate + 5 + length body.new.items) (D.seen disk.old)) }
+    ensures short { OnOk result (length body.new.items ≤ 10470070) }
+    ensures within { OnOk result (place.gate + 5 + length body.new.items < size) }
+    ensures few { OnOk result (place.count < 1000000) }
+    ensures bad { IsTrue D.is_modelled → size ≡ length (D.seen disk.old) → IfErr result (λ fault. (i : ℕ) → fault ≡ BadRecord i → (i ≡ place.count + 1) × (IsNotWhole (drop (place.gate + 1) (D.seen disk.old)) ⊎ (1000000 ≤ place.count))) }
+    ensures same { IsTrue D.is_modelled → IsOnlyRead D.seen D.may_leave D.moment D.left_since disk.old disk.new }
+    ensures header { IsErrOf result BadHeader → ⊥ }
+    ensures reason { IsTrue D.is_modelled → size ≡ length (D.seen disk.old) → IsErrOf result Device → MayFailReading D.seen D.may_fail (D.seen disk.old) }
+    ensures cause { TellsDevice result (D.faults disk.old) (D.faults disk.new) }
+{
+    let length = record_length(disk, size, place)?;
+    read_body(disk, place.gate + 5, length, body)
+}
+
+/// Hands on a body that was read behind the gate at a place.
+fn take_body<B: Bodies>(bodies: &mut B, body: &[u8], place: Place) -> Result<(), OpenFault>
+    ensures taken { (had : List (List ℕ)) → B.has bodies.old had → OnOk result (B.has bodies.new (had ++ body.now ∷ [])) }
+    ensures lawful { OnOk result (B.is_lawful body.now) }
+    ensures bad { IfErr result (λ fault. (i : ℕ) → fault ≡ BadRecord i → (i ≡ place.count + 1) × (B.is_lawful body.now → ⊥)) }
+    ensures header { IsErrOf result BadHeader → ⊥ }
+    ensures device { IfErr result (λ fault. fault ≡ Device → ⊥) }
+{
+    bodies.take(body).map_err(|fault| match fault {
+        BodyFault::Bad => place.bad_record(),
+        BodyFault::OutOfMemory => OpenFault::OutOfMemory,
+    })
+}
+
+/// Where a walk ended: a place, and its gate, which isn't open.
+#[derive(Clone, Copy)]
+pub(crate) struct End {
+    pub place: Place,
+    pub gate: u8,
+}
+
+/// Reads the gate at a place. Where it is open, the body behind it is read and handed on.
+fn hand_on<D: Disk, B: Bodies>(
+    disk: &mut D,
+    size: usize,
+    place: Place,
+    body: &mut Vec<u8>,
+    bodies: &mut B,
+) -> Result<Option<u8>, OpenFault>
+    requires { place.gate < size }
+    ensures end { IsTrue D.is_modelled → IfOk result (λ gate. IfSome gate (λ gate. (gate ≢ 1) × (drop place.gate (D.seen disk.old) ≡ gate ∷ drop (place.gate + 1) (D.seen disk.old)))) }
+    ensures stays { IfOk result (λ gate. IfSome gate (λ _. bodies.new ≡ bodies.old)) }
+    ensures open { IsTrue D.is_modelled → IfOk result (λ gate. IsNone gate → drop place.gate (D.seen disk.old) ≡ 1 ∷ (framed body.new.items ++ drop (place.gate + 5 + length body.new.items) (D.seen disk.old))) }
+    ensures taken { (had : List (List ℕ)) → B.has bodies.old had → IfOk result (λ gate. IsNone gate → B.has bodies.new (had ++ body.new.items ∷ [])) }
+    ensures lawful { IfOk result (λ gate. IsNone gate → IsShort body.new.items × B.is_lawful body.new.items) }
+    ensures within { IfOk result (λ gate. IsNone gate → place.gate + 5 + length body.new.items < size) }
+    ensures few { IfOk result (λ gate. IsNone gate → place.count < 1000000) }
+    ensures bad { IsTrue D.is_modelled → size ≡ length (D.seen disk.old) → IfErr result (λ fault. (i : ℕ) → fault ≡ BadRecord i → (i ≡ place.count + 1) × (drop place.gate (D.seen disk.old) ≡ 1 ∷ drop (place.gate + 1) (D.seen disk.old)) × (IsNoRecord B.is_lawful (drop (place.gate + 1) (D.seen disk.old)) ⊎ (1000000 ≤ place.count))) }
+    ensures same { IsTrue D.is_modelled → IsOnlyRead D.seen D.may_leave D.moment D.left_since disk.old disk.new }
+    ensures header { IsErrOf result BadHeader → ⊥ }
+    ensures memory { IsTrue D.is_modelled → IsErrOf result OutOfMemory → drop place.gate (D.seen disk.old) ≡ 1 ∷ drop (place.gate + 1) (D.seen disk.old) }
+    ensures reason { IsTrue D.is_modelled → size ≡ length (D.seen disk.old) → IsErrOf result Device → MayFailReading D.seen D.may_fail (D.seen disk.old) }
+    ensures cause { TellsDevice result (D.faults disk.old) (D.faults disk.new) }
+{
+    let gate = read_gate(disk, place.gate)?;
+    if gate != 1 {
+        return Ok(Some(gate));
+    }
+    read_record(disk, size, place, body)?;
+    take_body(bodies, body, place)?;
+    Ok(None)
+}
+
+/// Hands on the bodies of a file with an opened header, up to the first gate that isn't open. Says where that is.
+pub(crate) fn walk_records<D: Disk, B: Bodies>(
+    alloc: Global,
+    disk: &mut D,
+    size: usize,
+    bodies: &mut B,
+) -> Result<End, OpenFault>
+    requires { 8 < size }
+    ensures end { IsTrue D.is_modelled → size ≡ length (D.seen disk.old) → IsOpened (D.seen disk.old) → B.has bodies.old [] → IfOk result (λ end. HasEnded (B.has bodies.new) B.is_lawful end.place.gate end.place.count end.gate (D.seen disk.old)) }
+    ensures count { B.has bodies.old [] → IfOk result (λ end. HasCounted (B.has bodies.new) end.place.count) }
+    ensures within { IfOk result (λ end. end.place.gate < size) }
+    ensures bad { IsTrue D.is_modelled → size ≡ length (D.seen disk.old) → IsOpened (D.seen disk.old) → B.has bodies.old [] → IfErr result (λ fault. (i : ℕ) → fault ≡ BadRecord i → IsBadRecord B.is_lawful i (D.seen disk.old)) }
+    ensures same { IsTrue D.is_modelled → IsOnlyRead D.seen D.may_leave D.moment D.left_since disk.old disk.new }
+    ensures header { IsErrOf result BadHeader → ⊥ }
+    ensures memory { IsTrue D.is_modelled → IsOpened (D.seen disk.old) → B.has bodies.old [] → IsErrOf result OutOfMemory → HasRecord (D.seen disk.old) }
+    ensures reason { IsTrue D.is_modelled → size ≡ length (D.seen disk.old) → IsErrOf result Device → MayFailReading D.seen D.may_fail (D.seen disk.old) }
+    ensures cause { TellsDevice result (D.faults disk.old) (D.faults disk.new) }
+{
+    let mut body = Vec::new(alloc);
+    let mut place = Place::first();
+    loop {
+        if let Some(gate) = hand_on(disk, size, place, &mut body, bodies)? {
+            return Ok(End { place, gate });
+        }
+        place = place.after(body.len());
+    }
+}
