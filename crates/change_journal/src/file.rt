@@ -4,7 +4,7 @@ mod bodies;
 mod faults;
 mod mending;
 mod openings;
-mod places;
+mod positions;
 mod read_ahead;
 mod records;
 mod starts;

@@ -8,4 +8,4 @@ mod texts;
 
 pub use entries::{Journal, NotOpened, Prepared, laws, prepare};
 pub use file::{OpenFault, PutFault};
-pub use texts::{DecodeFault, GREATEST_LENGTH, decode, encode};
+pub use texts::{DecodeFault, decode, encode};

@@ -8,4 +8,4 @@ mod listings;
 
 pub use decode_faults::DecodeFault;
 pub use decoding::decode;
-pub use encoding::{GREATEST_LENGTH, encode};
+pub use encoding::encode;

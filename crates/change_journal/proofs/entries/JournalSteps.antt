@@ -50,7 +50,7 @@ torn_put {D} moment left_since may_leave old new entries entry counts was same r
 
 -- a journal with the entry that was put
 pub sound_with : {D : Type 0} (modelled : Bool) (may_leave : D → List ℕ → Type 0) (old new : Records D) (entries more : List Entry) (entry : Entry)
-    → more ≡ entries ++ entry ∷ [] → All IsWritable entries → IsWritable entry → old.place.count ≡ length entries → new.place.count ≡ old.place.count + 1 → new.broken ≡ false → (old.broken ≡ true → new ≡ old)
+    → more ≡ entries ++ entry ∷ [] → All IsWritable entries → IsWritable entry → old.position.count ≡ length entries → new.position.count ≡ old.position.count + 1 → new.broken ≡ false → (old.broken ≡ true → new ≡ old)
     → (IsTrue modelled → old.broken ≡ false → IsSettled may_leave old (texts entries)) → (IsTrue modelled → IsSettled may_leave old (texts entries) → IsSettled may_leave new (texts entries ++ entry_text entry ∷ [])) → IsSound modelled may_leave new more
 sound_with {D} modelled may_leave old new entries more entry more_is writable lawful count next whole same settled settles = record {
   writable = subst (All IsWritable) (sym more_is) (All-push IsWritable entries entry writable lawful);

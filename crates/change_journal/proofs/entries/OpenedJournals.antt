@@ -5,7 +5,7 @@ use Rattle.host_disk.specs.Crashes.{LeavesOnly}
 use Rattle.change_undo.specs.declared.entries.Entry.{Entry}
 use Rattle.change_journal.specs.declared.file.faults.OpenFault.{OpenFault}
 use Rattle.change_journal.specs.declared.file.faults.OpenFault.TheVariants.{BadHeader, BadRecord, Device, OutOfMemory}
-use Rattle.change_journal.specs.declared.file.places.Place.{Place}
+use Rattle.change_journal.specs.declared.file.positions.Position.{Position}
 use Rattle.change_journal.specs.declared.file.records.Records.{Records}
 use Rattle.change_journal.specs.file.Frames.{opened}
 use Rattle.change_journal.specs.entries.Held.{IsSound}
@@ -25,17 +25,17 @@ pub none_taken : (log : List Entry) → log ≡ [] → AreOf log []
 none_taken [] none = (refl, λ k d low. absurd (omega (arith, low)))
 none_taken (e ∷ log) none = absurd (omega (arith, ap length none))
 
-pub opened_sound : {D : Type 0} (modelled : Bool) (may_leave : D → List ℕ → Type 0) (file : Records D) (disk : D) (place : Place) (held log : List Entry) (old seen : List ℕ) → held ≡ log → file.disk ≡ disk → file.place ≡ place → file.broken ≡ false
-    → HasCounted (AreOf log) place.count → (IsTrue modelled → HasOpened (AreOf log) IsText place.gate place.count old seen (may_leave disk)) → IsSound modelled may_leave file held
-opened_sound {D} modelled may_leave file disk place held log old seen held_is disk_is place_is whole_is counted has = record {
+pub opened_sound : {D : Type 0} (modelled : Bool) (may_leave : D → List ℕ → Type 0) (file : Records D) (disk : D) (position : Position) (held log : List Entry) (old seen : List ℕ) → held ≡ log → file.disk ≡ disk → file.position ≡ position → file.broken ≡ false
+    → HasCounted (AreOf log) position.count → (IsTrue modelled → HasOpened (AreOf log) IsText position.gate position.count old seen (may_leave disk)) → IsSound modelled may_leave file held
+opened_sound {D} modelled may_leave file disk position held log old seen held_is disk_is position_is whole_is counted has = record {
   writable = subst (All IsWritable) (sym held_is) counted.has.1;
-  count = ap (λ (p : Place). p.count) place_is ∙ counted.count_is ∙ ap length counted.has.0 ∙ length-texts log ∙ ap length (sym held_is);
+  count = ap (λ (p : Position). p.count) position_is ∙ counted.count_is ∙ ap length counted.has.0 ∙ length-texts log ∙ ap length (sym held_is);
   settled = λ is_modelled whole.
       let o = has is_modelled in
       let bodies_are : o.bodies ≡ texts held = o.has.0 ∙ ap texts (sym held_is) in record {
         whole = whole;
-        gate = ap (λ (p : Place). p.gate) place_is ∙ o.gate_is ∙ ap (λ (bs : List (List ℕ)). length (opened bs)) bodies_are;
-        count = ap (λ (p : Place). p.count) place_is ∙ o.count_is ∙ ap length bodies_are;
+        gate = ap (λ (p : Position). p.gate) position_is ∙ o.gate_is ∙ ap (λ (bs : List (List ℕ)). length (opened bs)) bodies_are;
+        count = ap (λ (p : Position). p.count) position_is ∙ o.count_is ∙ ap length bodies_are;
         shut = λ c left. record {
           rest = [];
           is = o.exactly.only c (subst (λ (d : D). may_leave d c) disk_is left) ∙ ap (λ (bs : List (List ℕ)). opened bs ++ 0 ∷ []) bodies_are;

@@ -103,8 +103,8 @@ found_no_refusal IsLawful bodies file lawful few (inl found) (inr bad) = no_brea
 found_no_refusal IsLawful bodies file lawful few (inr found) (inl none) = none.not_new found.1
 found_no_refusal IsLawful bodies file lawful few (inr found) (inr bad) = new_or_opened file bad.1.bodies 1 bad.1.breaks.rest found.1 bad.1.breaks.is
 
-pub ended_no_refusal : (Has : List (List ℕ) → Type 0) (IsLawful : List ℕ → Type 0) (place count gate : ℕ) (file : List ℕ) → HasEnded Has IsLawful place count gate file → count ≤ 1000000 → IsRefused IsLawful file → ⊥
-ended_no_refusal Has IsLawful place count gate file ended few =
+pub ended_no_refusal : (Has : List (List ℕ) → Type 0) (IsLawful : List ℕ → Type 0) (at count gate : ℕ) (file : List ℕ) → HasEnded Has IsLawful at count gate file → count ≤ 1000000 → IsRefused IsLawful file → ⊥
+ended_no_refusal Has IsLawful at count gate file ended few =
     let taken = ended.walked.taken in
     found_no_refusal IsLawful taken file ended.walked.lawful (omega (arith, ended.walked.count_is, few))
-    (inl (gate, record { rest = drop (place + 1) file; closed = ended.closed; is = ended.walked.is ∙ ap (λ (l : List ℕ). opened taken ++ l) ended.is }))
+    (inl (gate, record { rest = drop (at + 1) file; closed = ended.closed; is = ended.walked.is ∙ ap (λ (l : List ℕ). opened taken ++ l) ended.is }))

@@ -17,7 +17,7 @@ none_ahead file bytes start len at none = rw (at, none) (none_read file)
 pub filled_ahead : (file : List ℕ) (at len : ℕ) (bytes behind : List ℕ) → length bytes ≡ len → IsRead file at bytes → IsRead file at (take len (bytes ++ behind))
 filled_ahead file at len bytes behind size is = subst (IsRead file at) (sym (take_at bytes behind len size)) is
 
--- as many bytes of a file from a place on as find place
+-- as many bytes of a file from an offset on as have room
 pub all_ahead : (file bytes : List ℕ) (at size len : ℕ) → length bytes ≡ size → len ≡ min size (length file - at) → IsRead file at (take len bytes) → take len bytes ≡ take size (drop at file)
 all_ahead file bytes at size len size_is len_is read =
     let few : len ≤ size = omega (arith, len_is) in

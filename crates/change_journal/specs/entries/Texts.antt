@@ -1,5 +1,5 @@
 -- Which entries a journal's file holds, whatever a crash leaves of it.
-use Rattle.std.specs.Prelude.{◌≡◌, ℕ, List, [], ◌∷◌, ◌++◌, map, All}
+use Rattle.std.specs.Prelude.{◌≡◌, ℕ, List, [], ◌∷◌, ◌++◌, length, map, All}
 use Rattle.change_undo.specs.Logs.{Log, own_entries, with_entry}
 use Rattle.change_undo.specs.declared.entries.Entry.{Entry}
 use Rattle.change_journal.specs.file.Frames.{framed, Holds, IsShut}
@@ -9,6 +9,11 @@ use Rattle.change_journal.specs.texts.Spells.{IsWritable, Spells, entry_text}
 -- the texts of the entries of a log
 abbrev pub texts : Log → List (List ℕ)
 texts log = map entry_text (own_entries log)
+
+-- How many records a file has with the entries of a log: one for each that is the log's own. Only as long as each log begins after the number 0
+-- is that its last number, by which the clauses of journals tell how much room a file has.
+abbrev pub record_count : Log → ℕ
+record_count log = length (own_entries log)
 
 -- the text of an entry behind its length, and the gate of the next record, which is shut
 pub record IsRecordOf (entry : Entry) (bytes : List ℕ) : Type 0 where

@@ -73,10 +73,10 @@ pub record HasCounted (Has : List (List ℕ) → Type 0) (count : ℕ) : Type 0 
   pub count_is : count ≡ length taken
 
 -- where a walk ended: the gate there isn't open
-pub record HasEnded (Has : List (List ℕ) → Type 0) (IsLawful : List ℕ → Type 0) (place count gate : ℕ) (file : List ℕ) : Type 0 where
-  pub walked : HasWalked Has IsLawful place count file
+pub record HasEnded (Has : List (List ℕ) → Type 0) (IsLawful : List ℕ → Type 0) (at count gate : ℕ) (file : List ℕ) : Type 0 where
+  pub walked : HasWalked Has IsLawful at count file
   pub closed : gate ≢ 1
-  pub is : drop place file ≡ gate ∷ drop (place + 1) file
+  pub is : drop at file ≡ gate ∷ drop (at + 1) file
 
 -- the record with this number, behind an open gate, is the first that is none, or is the 1,000,001st
 pub record IsBadRecord (IsLawful : List ℕ → Type 0) (number : ℕ) (file : List ℕ) : Type 0 where

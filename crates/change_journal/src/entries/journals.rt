@@ -75,23 +75,15 @@ impl<D: Disk> Journal<D> {
         let mut collected = Collected::new(alloc);
         let (disk, opened) = open_ahead(alloc, disk, &mut collected);
         match opened {
-            Ok(place) => Ok((
+            Ok(position) => Ok((
                 Journal {
-                    records: Records::at(disk, place),
+                    records: Records::at(disk, position),
                     held: Held::Found(Snapshot::of(&collected.log)),
                 },
                 collected.log,
             )),
             Err(fault) => Err(NotOpened { fault, disk }),
         }
-    }
-
-    /// The number of its entries, of which there are at most 1,000,000.
-    pub fn len(&self) -> usize
-        ensures value { result ≡ last_number self.now.entries }
-        ensures most { result ≤ 1000000 }
-    {
-        self.records.count()
     }
 
     /// Whether the device failed while an entry was put. Then nothing more is put, and the journal has to be opened again.

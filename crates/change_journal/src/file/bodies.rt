@@ -1,7 +1,7 @@
 //! What the bodies of a journal's file are handed to: the seam between the file, which is lists of bytes, and its entries.
 //!
 //! `openings::open_file` hands each body, in order, to a `Bodies`. For entries, `has self bodies` says that these bodies are the
-//! texts of the entries taken so far, each of which has a text, and `is_lawful body` says that an entry spells it. The place that it
+//! texts of the entries taken so far, each of which has a text, and `is_lawful body` says that an entry spells it. The position that it
 //! answers makes `Records`, whose `put` takes the bytes of a record: `framed body ++ 0`.
 ghost use Rattle.std.specs.Prelude.{IsErrOf, List, OnOk, [], ◌∷◌, ◌++◌, ℕ};
 ghost use Rattle.change_journal.specs.declared.file.bodies.BodyFault.TheVariants.{Bad};

@@ -6,7 +6,7 @@ ghost use Rattle.change_journal.specs.file.Openings.{HasShut, HasSomeGate, IsExa
 use super::synced::{cut_synced, write_synced};
 use host_disk::{DeviceFault, Disk};
 
-/// Shuts the gate at a place, where it isn't shut by a 0.
+/// Shuts the gate at an offset, where it isn't shut by a 0.
 fn shut_gate<D: Disk>(disk: &mut D, at: usize, gate: u8) -> Result<(), DeviceFault>
     ensures shut { IsTrue D.is_modelled → (front rest : List ℕ) → at ≡ length front → D.seen disk.old ≡ front ++ gate ∷ rest → Only (D.seen disk.old) (D.may_leave disk.old) → OnOk result (IsExactly (front ++ 0 ∷ rest) (D.seen disk.new) (D.may_leave disk.new)) }
     ensures any_moment { IsTrue D.is_modelled → (front rest : List ℕ) → at ≡ length front → D.seen disk.old ≡ front ++ gate ∷ rest → Only (D.seen disk.old) (D.may_leave disk.old) → LeavesOnly D.moment D.left_since disk.old disk.new (HasSomeGate front gate rest) }

@@ -11,7 +11,7 @@ ghost use Rattle.change_journal.specs.file.Walks.{HasCounted, HasRecord, IsBadRe
 use super::bodies::Bodies;
 use super::faults::OpenFault;
 use super::mending::mend;
-use super::places::Place;
+use super::positions::Position;
 use super::read_ahead::ReadAhead;
 use super::starts::{Start, begin, look};
 use super::walks::walk_records;
@@ -24,10 +24,10 @@ fn open_records<D: Disk, B: Bodies>(
     disk: &mut D,
     size: usize,
     bodies: &mut B,
-) -> Result<Place, OpenFault>
+) -> Result<Position, OpenFault>
     requires { 8 < size }
-    ensures opened { IsTrue D.is_modelled → size ≡ length (D.seen disk.old) → IsOpened (D.seen disk.old) → Only (D.seen disk.old) (D.may_leave disk.old) → B.has bodies.old [] → IfOk result (λ place. HasOpened (B.has bodies.new) B.is_lawful place.gate place.count (D.seen disk.old) (D.seen disk.new) (D.may_leave disk.new)) }
-    ensures count { B.has bodies.old [] → IfOk result (λ place. HasCounted (B.has bodies.new) place.count) }
+    ensures opened { IsTrue D.is_modelled → size ≡ length (D.seen disk.old) → IsOpened (D.seen disk.old) → Only (D.seen disk.old) (D.may_leave disk.old) → B.has bodies.old [] → IfOk result (λ position. HasOpened (B.has bodies.new) B.is_lawful position.gate position.count (D.seen disk.old) (D.seen disk.new) (D.may_leave disk.new)) }
+    ensures count { B.has bodies.old [] → IfOk result (λ position. HasCounted (B.has bodies.new) position.count) }
     ensures bad { IsTrue D.is_modelled → size ≡ length (D.seen disk.old) → IsOpened (D.seen disk.old) → B.has bodies.old [] → IfErr result (λ fault. (i : ℕ) → fault ≡ BadRecord i → IsBadRecord B.is_lawful i (D.seen disk.old)) }
     ensures unwritten { IsTrue D.is_modelled → IfErr result (λ fault. (fault ≡ Device → ⊥) → IsOnlyRead D.seen D.may_leave D.moment D.left_since disk.old disk.new) }
     ensures refused { IsTrue D.is_modelled → size ≡ length (D.seen disk.old) → IsOpened (D.seen disk.old) → B.has bodies.old [] → IsRefused B.is_lawful (D.seen disk.old) → IsOnlyRead D.seen D.may_leave D.moment D.left_since disk.old disk.new }
@@ -38,20 +38,20 @@ fn open_records<D: Disk, B: Bodies>(
     ensures cause { TellsDevice result (D.faults disk.old) (D.faults disk.new) }
 {
     let end = walk_records(alloc, disk, size, bodies)?;
-    mend(disk, end.place.gate, end.gate, size)?;
-    Ok(end.place)
+    mend(disk, end.position.gate, end.gate, size)?;
+    Ok(end.position)
 }
 
 /// Makes a journal without records of a file that is none yet. Says where the first record goes.
-fn open_new<D: Disk>(disk: &mut D, start: Start, size: usize) -> Result<Place, OpenFault>
+fn open_new<D: Disk>(disk: &mut D, start: Start, size: usize) -> Result<Position, OpenFault>
     ensures made { IsTrue D.is_modelled → size ≡ length (D.seen disk.old) → IsStart start (D.seen disk.old) → IsNew (D.seen disk.old) → Only (D.seen disk.old) (D.may_leave disk.old) → IfOk result (λ _. IsExactly (opened [] ++ 0 ∷ []) (D.seen disk.new) (D.may_leave disk.new)) }
-    ensures place { IfOk result (λ place. (place.gate ≡ 8) × (place.count ≡ 0)) }
+    ensures position { IfOk result (λ position. (position.gate ≡ 8) × (position.count ≡ 0)) }
     ensures device { IfErr result (λ fault. fault ≡ Device) }
     ensures any_moment { IsTrue D.is_modelled → size ≡ length (D.seen disk.old) → IsStart start (D.seen disk.old) → IsNew (D.seen disk.old) → Only (D.seen disk.old) (D.may_leave disk.old) → LeavesOnly D.moment D.left_since disk.old disk.new IsStarting }
     ensures cause { TellsDevice result (D.faults disk.old) (D.faults disk.new) }
 {
     begin(disk, start, size)?;
-    Ok(Place::first())
+    Ok(Position::first())
 }
 
 /// Hands on the bodies of a file that starts so, and mends it.
@@ -61,10 +61,10 @@ fn open_started<D: Disk, B: Bodies>(
     start: Start,
     size: usize,
     bodies: &mut B,
-) -> Result<Place, OpenFault>
+) -> Result<Position, OpenFault>
     requires { start ≡ Opened → 8 < size }
-    ensures opened { IsTrue D.is_modelled → size ≡ length (D.seen disk.old) → IsStart start (D.seen disk.old) → Only (D.seen disk.old) (D.may_leave disk.old) → B.has bodies.old [] → IfOk result (λ place. HasOpened (B.has bodies.new) B.is_lawful place.gate place.count (D.seen disk.old) (D.seen disk.new) (D.may_leave disk.new)) }
-    ensures count { B.has bodies.old [] → IfOk result (λ place. HasCounted (B.has bodies.new) place.count) }
+    ensures opened { IsTrue D.is_modelled → size ≡ length (D.seen disk.old) → IsStart start (D.seen disk.old) → Only (D.seen disk.old) (D.may_leave disk.old) → B.has bodies.old [] → IfOk result (λ position. HasOpened (B.has bodies.new) B.is_lawful position.gate position.count (D.seen disk.old) (D.seen disk.new) (D.may_leave disk.new)) }
+    ensures count { B.has bodies.old [] → IfOk result (λ position. HasCounted (B.has bodies.new) position.count) }
     ensures bad { IsTrue D.is_modelled → size ≡ length (D.seen disk.old) → IsStart start (D.seen disk.old) → B.has bodies.old [] → IfErr result (λ fault. (i : ℕ) → fault ≡ BadRecord i → IsBadRecord B.is_lawful i (D.seen disk.old)) }
     ensures unwritten { IsTrue D.is_modelled → IfErr result (λ fault. (fault ≡ Device → ⊥) → IsOnlyRead D.seen D.may_leave D.moment D.left_since disk.old disk.new) }
     ensures refused { IsTrue D.is_modelled → size ≡ length (D.seen disk.old) → IsStart start (D.seen disk.old) → B.has bodies.old [] → IsRefused B.is_lawful (D.seen disk.old) → IsOnlyRead D.seen D.may_leave D.moment D.left_since disk.old disk.new }
@@ -98,9 +98,9 @@ fn open_measured<D: Disk, B: Bodies>(
     disk: &mut D,
     size: usize,
     bodies: &mut B,
-) -> Result<Place, OpenFault>
-    ensures opened { IsTrue D.is_modelled → size ≡ length (D.seen disk.old) → Only (D.seen disk.old) (D.may_leave disk.old) → B.has bodies.old [] → IfOk result (λ place. HasOpened (B.has bodies.new) B.is_lawful place.gate place.count (D.seen disk.old) (D.seen disk.new) (D.may_leave disk.new)) }
-    ensures count { B.has bodies.old [] → IfOk result (λ place. HasCounted (B.has bodies.new) place.count) }
+) -> Result<Position, OpenFault>
+    ensures opened { IsTrue D.is_modelled → size ≡ length (D.seen disk.old) → Only (D.seen disk.old) (D.may_leave disk.old) → B.has bodies.old [] → IfOk result (λ position. HasOpened (B.has bodies.new) B.is_lawful position.gate position.count (D.seen disk.old) (D.seen disk.new) (D.may_leave disk.new)) }
+    ensures count { B.has bodies.old [] → IfOk result (λ position. HasCounted (B.has bodies.new) position.count) }
     ensures bad_header { IsTrue D.is_modelled → size ≡ length (D.seen disk.old) → IsErrOf result BadHeader → IsNoJournal (D.seen disk.old) }
     ensures bad_record { IsTrue D.is_modelled → size ≡ length (D.seen disk.old) → B.has bodies.old [] → IfErr result (λ fault. (i : ℕ) → fault ≡ BadRecord i → IsBadRecord B.is_lawful i (D.seen disk.old)) }
     ensures unwritten { IsTrue D.is_modelled → IfErr result (λ fault. (fault ≡ Device → ⊥) → IsOnlyRead D.seen D.may_leave D.moment D.left_since disk.old disk.new) }
@@ -120,9 +120,9 @@ pub(crate) fn open_file<D: Disk, B: Bodies>(
     alloc: Global,
     disk: &mut D,
     bodies: &mut B,
-) -> Result<Place, OpenFault>
-    ensures opened { IsTrue D.is_modelled → B.has bodies.old [] → IfOk result (λ place. HasOpened (B.has bodies.new) B.is_lawful place.gate place.count (D.seen disk.old) (D.seen disk.new) (D.may_leave disk.new)) }
-    ensures count { B.has bodies.old [] → IfOk result (λ place. HasCounted (B.has bodies.new) place.count) }
+) -> Result<Position, OpenFault>
+    ensures opened { IsTrue D.is_modelled → B.has bodies.old [] → IfOk result (λ position. HasOpened (B.has bodies.new) B.is_lawful position.gate position.count (D.seen disk.old) (D.seen disk.new) (D.may_leave disk.new)) }
+    ensures count { B.has bodies.old [] → IfOk result (λ position. HasCounted (B.has bodies.new) position.count) }
     ensures bad_header { IsTrue D.is_modelled → IsErrOf result BadHeader → IsNoJournal (D.seen disk.old) }
     ensures bad_record { IsTrue D.is_modelled → B.has bodies.old [] → IfErr result (λ fault. (i : ℕ) → fault ≡ BadRecord i → IsBadRecord B.is_lawful i (D.seen disk.old)) }
     ensures unwritten { IsTrue D.is_modelled → IfErr result (λ fault. (fault ≡ Device → ⊥) → IsOnlyRead D.seen D.may_leave D.moment D.left_since disk.old disk.new) }
@@ -141,9 +141,9 @@ pub(crate) fn open_ahead<D: Disk, B: Bodies>(
     alloc: Global,
     disk: D,
     bodies: &mut B,
-) -> (D, Result<Place, OpenFault>)
-    ensures opened { IsTrue D.is_modelled → B.has bodies.old [] → IfOk result.1 (λ place. HasOpened (B.has bodies.new) B.is_lawful place.gate place.count (D.seen disk) (D.seen result.0) (D.may_leave result.0)) }
-    ensures count { B.has bodies.old [] → IfOk result.1 (λ place. HasCounted (B.has bodies.new) place.count) }
+) -> (D, Result<Position, OpenFault>)
+    ensures opened { IsTrue D.is_modelled → B.has bodies.old [] → IfOk result.1 (λ position. HasOpened (B.has bodies.new) B.is_lawful position.gate position.count (D.seen disk) (D.seen result.0) (D.may_leave result.0)) }
+    ensures count { B.has bodies.old [] → IfOk result.1 (λ position. HasCounted (B.has bodies.new) position.count) }
     ensures bad_header { IsTrue D.is_modelled → IsErrOf result.1 BadHeader → IsNoJournal (D.seen disk) }
     ensures bad_record { IsTrue D.is_modelled → B.has bodies.old [] → IfErr result.1 (λ fault. (i : ℕ) → fault ≡ BadRecord i → IsBadRecord B.is_lawful i (D.seen disk)) }
     ensures unwritten { IsTrue D.is_modelled → IfErr result.1 (λ fault. (fault ≡ Device → ⊥) → IsOnlyRead D.seen D.may_leave D.moment D.left_since disk result.0) }

@@ -43,7 +43,7 @@ impl<D: Disk> ReadAhead<D> {
         self.disk
     }
 
-    /// So many bytes from a place on, where they were read.
+    /// So many bytes from an offset on, where they were read.
     fn held(&self, at: usize, len: usize) -> Option<&[u8]>
         ensures read { IsTrue D.is_modelled → IfSome result (λ bytes. IsRead (D.seen self.now.disk) at bytes.now) }
         ensures len { IfSome result (λ bytes. length bytes.now ≡ len) }
@@ -53,7 +53,7 @@ impl<D: Disk> ReadAhead<D> {
         part_of(ahead, from, len)
     }
 
-    /// Copies bytes from a place on, where they were read, and says whether they were.
+    /// Copies bytes from an offset on, where they were read, and says whether they were.
     fn give(&self, at: usize, bytes: &mut [u8]) -> bool
         ensures { IsTrue D.is_modelled → IsTrue result → IsRead (D.seen self.now.disk) at bytes.new }
     {
@@ -74,7 +74,7 @@ impl<D: Disk> ReadAhead<D> {
         self.len = 0;
     }
 
-    /// Reads the bytes from a place on, as many as are there and find place.
+    /// Reads the bytes from an offset on, as many as are there and have room.
     fn fill(&mut self, at: usize) -> Result<(), DeviceFault>
         ensures same { IsTrue D.is_modelled → IsUnchanged D.seen D.may_leave D.moment D.left_since self.old.disk self.new.disk }
         ensures reason { IsTrue D.is_modelled → at ≤ length (D.seen self.old.disk) → OnErr result (MayFailReading D.seen D.may_fail (D.seen self.old.disk)) }
@@ -92,7 +92,7 @@ impl<D: Disk> ReadAhead<D> {
         Ok(())
     }
 
-    /// Reads ahead from a place on, where so many bytes find place and were not read.
+    /// Reads ahead from an offset on, where so many bytes have room and were not read.
     fn read_on(&mut self, at: usize, len: usize) -> Result<(), DeviceFault>
         ensures same { IsTrue D.is_modelled → IsUnchanged D.seen D.may_leave D.moment D.left_since self.old.disk self.new.disk }
         ensures reason { IsTrue D.is_modelled → at ≤ length (D.seen self.old.disk) → OnErr result (MayFailReading D.seen D.may_fail (D.seen self.old.disk)) }
@@ -105,7 +105,7 @@ impl<D: Disk> ReadAhead<D> {
     }
 }
 
-/// So many bytes from a place on, where they are there.
+/// So many bytes from an offset on, where they are there.
 fn part_of(bytes: &[u8], from: usize, len: usize) -> Option<&[u8]>
     ensures part { IfSome result (λ part. part.now ≡ take len (drop from bytes.now)) }
     ensures within { IfSome result (λ _. from + len ≤ length bytes.now) }
@@ -113,7 +113,7 @@ fn part_of(bytes: &[u8], from: usize, len: usize) -> Option<&[u8]>
     bytes.get(from..)?.get(..len)
 }
 
-/// Reads so many bytes from a place on into the front of others.
+/// Reads so many bytes from an offset on into the front of others.
 fn read_front<D: Disk>(
     disk: &mut D,
     at: usize,
@@ -151,7 +151,7 @@ fn read_into<D: Disk>(
     read_front(disk, at, len, buffer)
 }
 
-/// A place for what is read ahead, which has no room where there is no memory.
+/// A buffer for what is read ahead, which has no room where there is no memory.
 fn empty_buffer(alloc: Global) -> Vec<u8> {
     let mut buffer = Vec::new(alloc);
     let _ = buffer.resize(MOST_AHEAD, 0);

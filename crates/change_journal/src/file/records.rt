@@ -5,7 +5,7 @@ ghost use Rattle.change_journal.specs.file.Frames.{AllShut, MayHold, framed, ope
 ghost use Rattle.change_journal.specs.file.Settled.{IsSettled, TellsBreak};
 ghost use Rattle.change_journal.specs.declared.file.records.PutFault.TheVariants.{Broken};
 
-use super::places::Place;
+use super::positions::Position;
 use super::synced::write_synced;
 use host_disk::{DeviceFault, Disk};
 use thiserror::Error;
@@ -25,7 +25,7 @@ pub enum PutFault {
 pub(crate) struct Records<D> {
     disk: D,
     /// Where the gate of the next record is.
-    place: Place,
+    position: Position,
     broken: bool,
 }
 
@@ -42,22 +42,14 @@ fn put_record<D: Disk>(disk: &mut D, gate: usize, bytes: &[u8]) -> Result<(), De
 
 impl<D: Disk> Records<D> {
     /// The records of a disk that was opened.
-    pub(crate) fn at(disk: D, place: Place) -> Records<D>
-        ensures { (result.disk ≡ disk) × (result.place ≡ place) × (result.broken ≡ false) }
+    pub(crate) fn at(disk: D, position: Position) -> Records<D>
+        ensures { (result.disk ≡ disk) × (result.position ≡ position) × (result.broken ≡ false) }
     {
         Records {
             disk,
-            place,
+            position,
             broken: false,
         }
-    }
-
-    /// The number of its records.
-    pub(crate) fn count(&self) -> usize
-        ensures value { result ≡ self.now.place.count }
-        ensures most { result ≤ 1000000 }
-    {
-        self.place.count
     }
 
     /// Whether the device has failed here.
@@ -77,7 +69,7 @@ impl<D: Disk> Records<D> {
     /// Puts a body behind the others, by the bytes of its record, which end in the gate of the next one. Once the device has failed
     /// here, each further call answers `Broken` and does nothing.
     pub(crate) fn put(&mut self, bytes: &[u8]) -> Result<(), PutFault>
-        requires few { self.old.broken ≡ false → self.old.place.count < 1000000 }
+        requires few { self.old.broken ≡ false → self.old.position.count < 1000000 }
         requires long { 5 ≤ length bytes.now }
         requires short { length bytes.now ≤ 10470075 }
         ensures stored { IsTrue D.is_modelled → (bodies : List (List ℕ)) (body : List ℕ) → bytes.now ≡ framed body ++ 0 ∷ [] → IsSettled D.may_leave self.old bodies → OnOk result (IsSettled D.may_leave self.new (bodies ++ body ∷ [])) }
@@ -85,17 +77,17 @@ impl<D: Disk> Records<D> {
         ensures refused { IsTrue self.old.broken → (result ≡ Err Broken) × (self.new ≡ self.old) }
         ensures broken { IsErrOf result Broken → IsTrue self.old.broken }
         ensures breaks { MatchResult result (λ _. self.new.broken ≡ false) (λ _. self.new.broken ≡ true) }
-        ensures place { MatchResult result (λ _. self.new.place.count ≡ self.old.place.count + 1) (λ _. self.new.place ≡ self.old.place) }
+        ensures position { MatchResult result (λ _. self.new.position.count ≡ self.old.position.count + 1) (λ _. self.new.position ≡ self.old.position) }
         ensures cause { MatchResult result (λ _. D.faults self.new.disk ≡ D.faults self.old.disk) (λ fault. TellsBreak fault (D.faults self.old.disk) (D.faults self.new.disk)) }
     {
         if self.broken {
             return Err(PutFault::Broken);
         }
-        if put_record(&mut self.disk, self.place.gate, bytes).is_err() {
+        if put_record(&mut self.disk, self.position.gate, bytes).is_err() {
             self.broken = true;
             return Err(PutFault::Device);
         }
-        self.place = self.place.after(bytes.len() - 5);
+        self.position = self.position.after(bytes.len() - 5);
         Ok(())
     }
 }

@@ -9,11 +9,11 @@ ghost use Rattle.change_journal.specs.file.Walks.{IsOnlyRead, HasCounted, HasEnd
 
 use super::bodies::{Bodies, BodyFault};
 use super::faults::OpenFault;
-use super::places::{LONGEST_BODY, MOST_RECORDS, Place};
+use super::positions::{LONGEST_BODY, MOST_RECORDS, Position};
 use host_disk::{DeviceFault, Disk};
 use std::alloc::Global;
 
-/// The gate at a place.
+/// The gate at an offset.
 pub(crate) fn read_gate<D: Disk>(disk: &mut D, at: usize) -> Result<u8, DeviceFault>
     ensures gate { IsTrue D.is_modelled → IfOk result (λ gate. drop at (D.seen disk.old) ≡ gate ∷ drop (at + 1) (D.seen disk.old)) }
     ensures same { IsTrue D.is_modelled → IsOnlyRead D.seen D.may_leave D.moment D.left_since disk.old disk.new }
@@ -34,7 +34,7 @@ fn told_length(bytes: [u8; 4]) -> usize
     u32::from_be_bytes(bytes) as usize
 }
 
-/// The length at a place.
+/// The length at an offset.
 fn read_length<D: Disk>(disk: &mut D, at: usize) -> Result<usize, DeviceFault>
     ensures length { IsTrue D.is_modelled → IfOk result (λ size. drop at (D.seen disk.old) ≡ to_be_bytes w32 size ++ drop (at + 4) (D.seen disk.old)) }
     ensures fits { IfOk result (λ size. size < 2 ^ 32) }
@@ -47,7 +47,7 @@ fn read_length<D: Disk>(disk: &mut D, at: usize) -> Result<usize, DeviceFault>
     Ok(told_length(size))
 }
 
-/// Reads so many bytes from a place on into the place of what was read before.
+/// Reads so many bytes from an offset on, in place of what was read before.
 fn read_body<D: Disk>(
     disk: &mut D,
     at: usize,
@@ -67,103 +67,103 @@ fn read_body<D: Disk>(
     Ok(())
 }
 
-/// The length of the body behind the open gate at a place.
-fn record_length<D: Disk>(disk: &mut D, size: usize, place: Place) -> Result<usize, OpenFault>
-    requires { place.gate < size }
-    ensures length { IsTrue D.is_modelled → IfOk result (λ n. drop (place.gate + 1) (D.seen disk.old) ≡ to_be_bytes w32 n ++ drop (place.gate + 5) (D.seen disk.old)) }
+/// The length of the body behind the open gate at a position.
+fn record_length<D: Disk>(disk: &mut D, size: usize, position: Position) -> Result<usize, OpenFault>
+    requires { position.gate < size }
+    ensures length { IsTrue D.is_modelled → IfOk result (λ n. drop (position.gate + 1) (D.seen disk.old) ≡ to_be_bytes w32 n ++ drop (position.gate + 5) (D.seen disk.old)) }
     ensures short { IfOk result (λ n. n ≤ 10470070) }
-    ensures within { IfOk result (λ n. place.gate + 5 + n < size) }
-    ensures few { IfOk result (λ _. place.count < 1000000) }
-    ensures bad { IsTrue D.is_modelled → size ≡ length (D.seen disk.old) → IfErr result (λ fault. (i : ℕ) → fault ≡ BadRecord i → (i ≡ place.count + 1) × (IsNotWhole (drop (place.gate + 1) (D.seen disk.old)) ⊎ (1000000 ≤ place.count))) }
+    ensures within { IfOk result (λ n. position.gate + 5 + n < size) }
+    ensures few { IfOk result (λ _. position.count < 1000000) }
+    ensures bad { IsTrue D.is_modelled → size ≡ length (D.seen disk.old) → IfErr result (λ fault. (i : ℕ) → fault ≡ BadRecord i → (i ≡ position.count + 1) × (IsNotWhole (drop (position.gate + 1) (D.seen disk.old)) ⊎ (1000000 ≤ position.count))) }
     ensures same { IsTrue D.is_modelled → IsOnlyRead D.seen D.may_leave D.moment D.left_since disk.old disk.new }
     ensures header { IsErrOf result BadHeader → ⊥ }
     ensures memory { IsErrOf result OutOfMemory → ⊥ }
     ensures reason { IsTrue D.is_modelled → size ≡ length (D.seen disk.old) → IsErrOf result Device → MayFailReading D.seen D.may_fail (D.seen disk.old) }
     ensures cause { TellsDevice result (D.faults disk.old) (D.faults disk.new) }
 {
-    let behind = size - place.gate - 1;
-    if place.count == MOST_RECORDS || behind < 5 {
-        return Err(place.bad_record());
+    let behind = size - position.gate - 1;
+    if position.count == MOST_RECORDS || behind < 5 {
+        return Err(position.bad_record());
     }
-    let length = read_length(disk, place.gate + 1)?;
+    let length = read_length(disk, position.gate + 1)?;
     if length > LONGEST_BODY || length > behind - 5 {
-        return Err(place.bad_record());
+        return Err(position.bad_record());
     }
     Ok(length)
 }
 
-/// Reads the body behind the open gate at a place.
+/// Reads the body behind the open gate at a position.
 fn read_record<D: Disk>(
     disk: &mut D,
     size: usize,
-    place: Place,
+    position: Position,
     body: &mut Vec<u8>,
 ) -> Result<(), OpenFault>
-    requires { place.gate < size }
-    ensures body { IsTrue D.is_modelled → OnOk result (drop (place.gate + 1) (D.seen disk.old) ≡ framed body.new.items ++ drop (place.gate + 5 + length body.new.items) (D.seen disk.old)) }
+    requires { position.gate < size }
+    ensures body { IsTrue D.is_modelled → OnOk result (drop (position.gate + 1) (D.seen disk.old) ≡ framed body.new.items ++ drop (position.gate + 5 + length body.new.items) (D.seen disk.old)) }
     ensures short { OnOk result (length body.new.items ≤ 10470070) }
-    ensures within { OnOk result (place.gate + 5 + length body.new.items < size) }
-    ensures few { OnOk result (place.count < 1000000) }
-    ensures bad { IsTrue D.is_modelled → size ≡ length (D.seen disk.old) → IfErr result (λ fault. (i : ℕ) → fault ≡ BadRecord i → (i ≡ place.count + 1) × (IsNotWhole (drop (place.gate + 1) (D.seen disk.old)) ⊎ (1000000 ≤ place.count))) }
+    ensures within { OnOk result (position.gate + 5 + length body.new.items < size) }
+    ensures few { OnOk result (position.count < 1000000) }
+    ensures bad { IsTrue D.is_modelled → size ≡ length (D.seen disk.old) → IfErr result (λ fault. (i : ℕ) → fault ≡ BadRecord i → (i ≡ position.count + 1) × (IsNotWhole (drop (position.gate + 1) (D.seen disk.old)) ⊎ (1000000 ≤ position.count))) }
     ensures same { IsTrue D.is_modelled → IsOnlyRead D.seen D.may_leave D.moment D.left_since disk.old disk.new }
     ensures header { IsErrOf result BadHeader → ⊥ }
     ensures reason { IsTrue D.is_modelled → size ≡ length (D.seen disk.old) → IsErrOf result Device → MayFailReading D.seen D.may_fail (D.seen disk.old) }
     ensures cause { TellsDevice result (D.faults disk.old) (D.faults disk.new) }
 {
-    let length = record_length(disk, size, place)?;
-    read_body(disk, place.gate + 5, length, body)
+    let length = record_length(disk, size, position)?;
+    read_body(disk, position.gate + 5, length, body)
 }
 
-/// Hands on a body that was read behind the gate at a place.
-fn take_body<B: Bodies>(bodies: &mut B, body: &[u8], place: Place) -> Result<(), OpenFault>
+/// Hands on a body that was read behind the gate at a position.
+fn take_body<B: Bodies>(bodies: &mut B, body: &[u8], position: Position) -> Result<(), OpenFault>
     ensures taken { (had : List (List ℕ)) → B.has bodies.old had → OnOk result (B.has bodies.new (had ++ body.now ∷ [])) }
     ensures lawful { OnOk result (B.is_lawful body.now) }
-    ensures bad { IfErr result (λ fault. (i : ℕ) → fault ≡ BadRecord i → (i ≡ place.count + 1) × (B.is_lawful body.now → ⊥)) }
+    ensures bad { IfErr result (λ fault. (i : ℕ) → fault ≡ BadRecord i → (i ≡ position.count + 1) × (B.is_lawful body.now → ⊥)) }
     ensures header { IsErrOf result BadHeader → ⊥ }
     ensures device { IfErr result (λ fault. fault ≡ Device → ⊥) }
 {
     bodies.take(body).map_err(|fault| match fault {
-        BodyFault::Bad => place.bad_record(),
+        BodyFault::Bad => position.bad_record(),
         BodyFault::OutOfMemory => OpenFault::OutOfMemory,
     })
 }
 
-/// Where a walk ended: a place, and its gate, which isn't open.
+/// Where a walk ended: a position, and its gate, which isn't open.
 #[derive(Clone, Copy)]
 pub(crate) struct End {
-    pub place: Place,
+    pub position: Position,
     pub gate: u8,
 }
 
-/// Reads the gate at a place. Where it is open, the body behind it is read and handed on.
+/// Reads the gate at a position. Where it is open, the body behind it is read and handed on.
 fn hand_on<D: Disk, B: Bodies>(
     disk: &mut D,
     size: usize,
-    place: Place,
+    position: Position,
     body: &mut Vec<u8>,
     bodies: &mut B,
 ) -> Result<Option<u8>, OpenFault>
-    requires { place.gate < size }
-    ensures end { IsTrue D.is_modelled → IfOk result (λ gate. IfSome gate (λ gate. (gate ≢ 1) × (drop place.gate (D.seen disk.old) ≡ gate ∷ drop (place.gate + 1) (D.seen disk.old)))) }
+    requires { position.gate < size }
+    ensures end { IsTrue D.is_modelled → IfOk result (λ gate. IfSome gate (λ gate. (gate ≢ 1) × (drop position.gate (D.seen disk.old) ≡ gate ∷ drop (position.gate + 1) (D.seen disk.old)))) }
     ensures stays { IfOk result (λ gate. IfSome gate (λ _. bodies.new ≡ bodies.old)) }
-    ensures open { IsTrue D.is_modelled → IfOk result (λ gate. IsNone gate → drop place.gate (D.seen disk.old) ≡ 1 ∷ (framed body.new.items ++ drop (place.gate + 5 + length body.new.items) (D.seen disk.old))) }
+    ensures open { IsTrue D.is_modelled → IfOk result (λ gate. IsNone gate → drop position.gate (D.seen disk.old) ≡ 1 ∷ (framed body.new.items ++ drop (position.gate + 5 + length body.new.items) (D.seen disk.old))) }
     ensures taken { (had : List (List ℕ)) → B.has bodies.old had → IfOk result (λ gate. IsNone gate → B.has bodies.new (had ++ body.new.items ∷ [])) }
     ensures lawful { IfOk result (λ gate. IsNone gate → IsShort body.new.items × B.is_lawful body.new.items) }
-    ensures within { IfOk result (λ gate. IsNone gate → place.gate + 5 + length body.new.items < size) }
-    ensures few { IfOk result (λ gate. IsNone gate → place.count < 1000000) }
-    ensures bad { IsTrue D.is_modelled → size ≡ length (D.seen disk.old) → IfErr result (λ fault. (i : ℕ) → fault ≡ BadRecord i → (i ≡ place.count + 1) × (drop place.gate (D.seen disk.old) ≡ 1 ∷ drop (place.gate + 1) (D.seen disk.old)) × (IsNoRecord B.is_lawful (drop (place.gate + 1) (D.seen disk.old)) ⊎ (1000000 ≤ place.count))) }
+    ensures within { IfOk result (λ gate. IsNone gate → position.gate + 5 + length body.new.items < size) }
+    ensures few { IfOk result (λ gate. IsNone gate → position.count < 1000000) }
+    ensures bad { IsTrue D.is_modelled → size ≡ length (D.seen disk.old) → IfErr result (λ fault. (i : ℕ) → fault ≡ BadRecord i → (i ≡ position.count + 1) × (drop position.gate (D.seen disk.old) ≡ 1 ∷ drop (position.gate + 1) (D.seen disk.old)) × (IsNoRecord B.is_lawful (drop (position.gate + 1) (D.seen disk.old)) ⊎ (1000000 ≤ position.count))) }
     ensures same { IsTrue D.is_modelled → IsOnlyRead D.seen D.may_leave D.moment D.left_since disk.old disk.new }
     ensures header { IsErrOf result BadHeader → ⊥ }
-    ensures memory { IsTrue D.is_modelled → IsErrOf result OutOfMemory → drop place.gate (D.seen disk.old) ≡ 1 ∷ drop (place.gate + 1) (D.seen disk.old) }
+    ensures memory { IsTrue D.is_modelled → IsErrOf result OutOfMemory → drop position.gate (D.seen disk.old) ≡ 1 ∷ drop (position.gate + 1) (D.seen disk.old) }
     ensures reason { IsTrue D.is_modelled → size ≡ length (D.seen disk.old) → IsErrOf result Device → MayFailReading D.seen D.may_fail (D.seen disk.old) }
     ensures cause { TellsDevice result (D.faults disk.old) (D.faults disk.new) }
 {
-    let gate = read_gate(disk, place.gate)?;
+    let gate = read_gate(disk, position.gate)?;
     if gate != 1 {
         return Ok(Some(gate));
     }
-    read_record(disk, size, place, body)?;
-    take_body(bodies, body, place)?;
+    read_record(disk, size, position, body)?;
+    take_body(bodies, body, position)?;
     Ok(None)
 }
 
@@ -175,9 +175,9 @@ pub(crate) fn walk_records<D: Disk, B: Bodies>(
     bodies: &mut B,
 ) -> Result<End, OpenFault>
     requires { 8 < size }
-    ensures end { IsTrue D.is_modelled → size ≡ length (D.seen disk.old) → IsOpened (D.seen disk.old) → B.has bodies.old [] → IfOk result (λ end. HasEnded (B.has bodies.new) B.is_lawful end.place.gate end.place.count end.gate (D.seen disk.old)) }
-    ensures count { B.has bodies.old [] → IfOk result (λ end. HasCounted (B.has bodies.new) end.place.count) }
-    ensures within { IfOk result (λ end. end.place.gate < size) }
+    ensures end { IsTrue D.is_modelled → size ≡ length (D.seen disk.old) → IsOpened (D.seen disk.old) → B.has bodies.old [] → IfOk result (λ end. HasEnded (B.has bodies.new) B.is_lawful end.position.gate end.position.count end.gate (D.seen disk.old)) }
+    ensures count { B.has bodies.old [] → IfOk result (λ end. HasCounted (B.has bodies.new) end.position.count) }
+    ensures within { IfOk result (λ end. end.position.gate < size) }
     ensures bad { IsTrue D.is_modelled → size ≡ length (D.seen disk.old) → IsOpened (D.seen disk.old) → B.has bodies.old [] → IfErr result (λ fault. (i : ℕ) → fault ≡ BadRecord i → IsBadRecord B.is_lawful i (D.seen disk.old)) }
     ensures same { IsTrue D.is_modelled → IsOnlyRead D.seen D.may_leave D.moment D.left_since disk.old disk.new }
     ensures header { IsErrOf result BadHeader → ⊥ }
@@ -186,11 +186,11 @@ pub(crate) fn walk_records<D: Disk, B: Bodies>(
     ensures cause { TellsDevice result (D.faults disk.old) (D.faults disk.new) }
 {
     let mut body = Vec::new(alloc);
-    let mut place = Place::first();
+    let mut position = Position::first();
     loop {
-        if let Some(gate) = hand_on(disk, size, place, &mut body, bodies)? {
-            return Ok(End { place, gate });
+        if let Some(gate) = hand_on(disk, size, position, &mut body, bodies)? {
+            return Ok(End { position, gate });
         }
-        place = place.after(body.len());
+        position = position.after(body.len());
     }
 }

@@ -11,9 +11,6 @@ use site_change::Command;
 use site_state::Listing;
 use std::alloc::{AllocError, Global};
 
-/// The greatest length of an entry's text.
-pub const GREATEST_LENGTH: usize = 10_470_070;
-
 fn put_name(out: &mut Vec<u8>, name: &Name) -> Result<(), AllocError>
     ensures lawful { OnOk result (IsName name.now) }
     ensures bytes { OnOk result (out.new.items ≡ out.old.items ++ name_text name.now) }
@@ -206,11 +203,11 @@ fn put_entry(out: &mut Vec<u8>, entry: &Entry) -> Result<(), AllocError>
     }
 }
 
-/// The text of an entry whose numbers are from 1 to 1,000,000 and which lists at most 10,000 paths.
+/// The text of an entry whose numbers are from 1 to 1,000,000 and which lists at most 10,000 paths: at most 10,470,070 bytes.
 pub fn encode(alloc: Global, entry: &Entry) -> Result<Vec<u8>, AllocError>
     requires { IsInRange entry.now }
     ensures spelled { IfOk result (λ text. Spells text.items entry.now) }
-    ensures bounded { IfOk result (λ text. length text.items ≤ GREATEST_LENGTH) }
+    ensures bounded { IfOk result (λ text. length text.items ≤ 10470070) }
 {
     let mut text = Vec::new(alloc);
     put_entry(&mut text, entry)?;

@@ -10,8 +10,8 @@ returns-clause-opened g c modelled size only has =
     let read = c.look.ensures.same modelled in
     let new = c.open_started.new in
     let start = subst (IsStart c.in_ok-start.start) (sym read.same) (c.in_ok-start.ensures.start modelled size) in
-    if_ok c.open_started.result _ _ (λ place made.
-    subst (λ f. HasOpened (g.B.Bodies.has new.bodies) g.B.Bodies.is_lawful place.gate place.count f (g.D.Disk.seen new.disk) (g.D.Disk.may_leave new.disk)) read.same made)
+    if_ok c.open_started.result _ _ (λ position made.
+    subst (λ f. HasOpened (g.B.Bodies.has new.bodies) g.B.Bodies.is_lawful position.gate position.count f (g.D.Disk.seen new.disk) (g.D.Disk.may_leave new.disk)) read.same made)
     (c.open_started.ensures.opened modelled (size ∙ sym (ap length read.same)) start (λ f left. only f (read.crash f left) ∙ sym read.same) has)
 
 pub returns-in_err-start-clause-any_moment : goal.returns-in_err-start-clause-any_moment

@@ -20,7 +20,7 @@ returns-in_err-mend-clause-any_moment g c modelled size opens only has had body 
     let read = c.walk_records.ensures.same modelled in
     let taken = ended.walked.taken in
     let gate = c.in_ok-end.end.gate in
-    let rest = drop (c.in_ok-end.end.place.gate + 1) file in
+    let rest = drop (c.in_ok-end.end.position.gate + 1) file in
     let is : file ≡ opened taken ++ gate ∷ rest = ended.walked.is ∙ ap (λ (l : List ℕ). opened taken ++ l) ended.is in
     let first = weaker g.D.Disk.moment g.D.Disk.left_since old mid (g.D.Disk.may_leave old) (MayFind had body) (λ f left. subst (MayFind had body) (sym (only f left)) find) read.time in
     let second = weaker g.D.Disk.moment g.D.Disk.left_since mid c.mend.new.disk (IsMending (opened taken) gate rest) (MayFind had body) (mending_holds g.B.Bodies.is_lawful had body put taken ended.walked.lawful gate rest file ended.closed is find)
@@ -36,7 +36,7 @@ returns-clause-any_moment g c modelled size opens only has had body put find =
     let read = c.walk_records.ensures.same modelled in
     let taken = ended.walked.taken in
     let gate = c.in_ok-end.end.gate in
-    let rest = drop (c.in_ok-end.end.place.gate + 1) file in
+    let rest = drop (c.in_ok-end.end.position.gate + 1) file in
     let is : file ≡ opened taken ++ gate ∷ rest = ended.walked.is ∙ ap (λ (l : List ℕ). opened taken ++ l) ended.is in
     let first = weaker g.D.Disk.moment g.D.Disk.left_since old mid (g.D.Disk.may_leave old) (MayFind had body) (λ f left. subst (MayFind had body) (sym (only f left)) find) read.time in
     let second = weaker g.D.Disk.moment g.D.Disk.left_since mid c.mend.new.disk (IsMending (opened taken) gate rest) (MayFind had body) (mending_holds g.B.Bodies.is_lawful had body put taken ended.walked.lawful gate rest file ended.closed is find)
@@ -45,12 +45,12 @@ returns-clause-any_moment g c modelled size opens only has had body put find =
 
 pub returns-in_err-mend-clause-refused : goal.returns-in_err-mend-clause-refused
 returns-in_err-mend-clause-refused g c modelled size opens has refused =
-    absurd (ended_no_refusal _ _ _ _ _ _ (c.in_ok-end.ensures.end modelled size opens has) c.in_ok-end.end.place.few refused)
+    absurd (ended_no_refusal _ _ _ _ _ _ (c.in_ok-end.ensures.end modelled size opens has) c.in_ok-end.end.position.few refused)
 
 pub returns-clause-refused : goal.returns-clause-refused
 returns-clause-refused g c modelled size opens has refused =
-    absurd (ended_no_refusal _ _ _ _ _ _ (c.in_ok-end.ensures.end modelled size opens has) c.in_ok-end.end.place.few refused)
+    absurd (ended_no_refusal _ _ _ _ _ _ (c.in_ok-end.ensures.end modelled size opens has) c.in_ok-end.end.position.few refused)
 
 pub returns-in_err-mend-clause-reason : goal.returns-in_err-mend-clause-reason
 returns-in_err-mend-clause-reason g c modelled size opens has refused told =
-    absurd (ended_no_refusal _ _ _ _ _ _ (c.in_ok-end.ensures.end modelled size opens has) c.in_ok-end.end.place.few refused)
+    absurd (ended_no_refusal _ _ _ _ _ _ (c.in_ok-end.ensures.end modelled size opens has) c.in_ok-end.end.position.few refused)

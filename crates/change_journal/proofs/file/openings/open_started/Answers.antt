@@ -14,7 +14,7 @@ returns-in-Opened-clause-any_moment g c modelled size start only has had body pu
 pub returns-in_default-clause-opened : goal.returns-in_default-clause-opened
 returns-in_default-clause-opened g c modelled size start only has =
     let new = new_start c.args.start (g.D.Disk.seen c.args.disk.now) start c.in_default.not-Opened in
-    both_if_ok c.open_new.result _ _ _ (λ place at made. record {
+    both_if_ok c.open_new.result _ _ _ (λ position at made. record {
       bodies = [];
       has = has;
       lawful = λ k d low. absurd (omega arith);
@@ -22,11 +22,11 @@ returns-in_default-clause-opened g c modelled size start only has =
       gate_is = at.0 ∙ sym length-opened;
       count_is = at.1;
       exactly = made;
-    }) c.open_new.ensures.place (c.open_new.ensures.made modelled size start new only)
+    }) c.open_new.ensures.position (c.open_new.ensures.made modelled size start new only)
 
 pub returns-in_default-clause-count : goal.returns-in_default-clause-count
 returns-in_default-clause-count g c has =
-    if_ok c.open_new.result _ _ (λ place at. record { taken = []; has = has; count_is = at.1 }) c.open_new.ensures.place
+    if_ok c.open_new.result _ _ (λ position at. record { taken = []; has = has; count_is = at.1 }) c.open_new.ensures.position
 
 pub returns-in_default-clause-any_moment : goal.returns-in_default-clause-any_moment
 returns-in_default-clause-any_moment g c modelled size start only has had body put find =

@@ -7,7 +7,7 @@ use Rattle.change_journal.proofs.file.walks.hand_on.Goals as goal
 pub returns-in_err-take_body-clause-bad : goal.returns-in_err-take_body-clause-bad
 returns-in_err-take_body-clause-bad g c modelled size =
     let file = g.D.Disk.seen c.args.disk.now in
-    let at = c.args.place.gate in
+    let at = c.args.position.gate in
     let gate : drop at file ≡ c.in_ok-gate.gate ∷ drop (at + 1) file = c.in_ok-gate.ensures.gate modelled in
     let opens : c.in_ok-gate.gate ≡ 1 = search rules in
     let same = (c.in_ok-gate.ensures.same modelled).same in

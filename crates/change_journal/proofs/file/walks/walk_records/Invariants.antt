@@ -4,12 +4,12 @@ use Rattle.change_journal.proofs.file.walks.walk_records.Given as goal
 
 abbrev pub invariant-loop-body : goal.invariant-loop-body
 invariant-loop-body g l = record {
-  within : l.place.gate < l.size;
+  within : l.position.gate < l.size;
   same : IsTrue g.D.Disk.is_modelled → IsOnlyRead g.D.Disk.seen g.D.Disk.may_leave g.D.Disk.moment g.D.Disk.left_since l.fn.disk l.disk;
   counted : g.D.Disk.faults l.disk ≡ g.D.Disk.faults l.fn.disk;
-  taken : g.B.Bodies.has l.fn.bodies [] → HasCounted (g.B.Bodies.has l.bodies) l.place.count;
-  walked : IsTrue g.D.Disk.is_modelled → IsOpened (g.D.Disk.seen l.fn.disk) → g.B.Bodies.has l.fn.bodies [] → HasWalked (g.B.Bodies.has l.bodies) g.B.Bodies.is_lawful l.place.gate l.place.count (g.D.Disk.seen l.fn.disk);
+  taken : g.B.Bodies.has l.fn.bodies [] → HasCounted (g.B.Bodies.has l.bodies) l.position.count;
+  walked : IsTrue g.D.Disk.is_modelled → IsOpened (g.D.Disk.seen l.fn.disk) → g.B.Bodies.has l.fn.bodies [] → HasWalked (g.B.Bodies.has l.bodies) g.B.Bodies.is_lawful l.position.gate l.position.count (g.D.Disk.seen l.fn.disk);
 }
 
 abbrev pub decreases-loop-body : goal.decreases-loop-body
-decreases-loop-body g l = l.size - l.place.gate
+decreases-loop-body g l = l.size - l.position.gate

@@ -9,7 +9,7 @@ pub invariant_of-result : goal.invariant_of-result
 invariant_of-result g c =
     let begun = none_taken c.new-collected.result.log c.new-collected.ensures in
     let disk = c.open_ahead-disk.result.0 in
-    opened_sound g.D.Disk.is_modelled g.D.Disk.may_leave c.at.result disk c.in-Ok.place c.of.result.value c.open_ahead-disk.new.bodies.log (g.D.Disk.seen c.args.disk) (g.D.Disk.seen disk) c.of.ensures c.at.ensures.0 c.at.ensures.1 c.at.ensures.2
+    opened_sound g.D.Disk.is_modelled g.D.Disk.may_leave c.at.result disk c.in-Ok.position c.of.result.value c.open_ahead-disk.new.bodies.log (g.D.Disk.seen c.args.disk) (g.D.Disk.seen disk) c.of.ensures c.at.ensures.0 c.at.ensures.1 c.at.ensures.2
     (rw c.in-Ok.is at c.open_ahead-disk.ensures.count begun) (λ modelled. rw c.in-Ok.is at c.open_ahead-disk.ensures.opened modelled begun)
 
 pub returns-in-Ok-clause-found : goal.returns-in-Ok-clause-found
@@ -43,7 +43,7 @@ returns-in-Err-clause-any_moment g c modelled had next left =
 pub returns-in-Ok-clause-refused : goal.returns-in-Ok-clause-refused
 returns-in-Ok-clause-refused g c modelled refused =
     let begun = none_taken c.new-collected.result.log c.new-collected.ensures in
-    not_refused (g.D.Disk.may_leave c.open_ahead-disk.result.0) c.open_ahead-disk.new.bodies.log _ _ (g.D.Disk.seen c.args.disk) _ (rw c.in-Ok.is at c.open_ahead-disk.ensures.opened modelled begun) c.in-Ok.place.few refused
+    not_refused (g.D.Disk.may_leave c.open_ahead-disk.result.0) c.open_ahead-disk.new.bodies.log _ _ (g.D.Disk.seen c.args.disk) _ (rw c.in-Ok.is at c.open_ahead-disk.ensures.opened modelled begun) c.in-Ok.position.few refused
 
 pub returns-in-Err-clause-refused : goal.returns-in-Err-clause-refused
 returns-in-Err-clause-refused g c modelled refused =
@@ -52,7 +52,7 @@ returns-in-Err-clause-refused g c modelled refused =
 pub returns-in-Ok-clause-no_journal : goal.returns-in-Ok-clause-no_journal
 returns-in-Ok-clause-no_journal g c modelled none =
     let begun = none_taken c.new-collected.result.log c.new-collected.ensures in
-    not_refused (g.D.Disk.may_leave c.open_ahead-disk.result.0) c.open_ahead-disk.new.bodies.log _ _ (g.D.Disk.seen c.args.disk) _ (rw c.in-Ok.is at c.open_ahead-disk.ensures.opened modelled begun) c.in-Ok.place.few (inl none)
+    not_refused (g.D.Disk.may_leave c.open_ahead-disk.result.0) c.open_ahead-disk.new.bodies.log _ _ (g.D.Disk.seen c.args.disk) _ (rw c.in-Ok.is at c.open_ahead-disk.ensures.opened modelled begun) c.in-Ok.position.few (inl none)
 
 pub returns-in-Err-clause-no_journal : goal.returns-in-Err-clause-no_journal
 returns-in-Err-clause-no_journal g c modelled none =

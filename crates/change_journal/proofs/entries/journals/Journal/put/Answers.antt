@@ -3,7 +3,7 @@ use Rattle.std.proofs.lemmas.Bool.{false≢true}
 use Rattle.change_undo.specs.declared.entries.Entry.{Entry}
 use Rattle.change_journal.specs.entries.Held.{entries_of}
 use Rattle.change_journal.specs.declared.entries.held.Held.{Held}
-use Rattle.change_journal.specs.declared.file.places.Place.{Place}
+use Rattle.change_journal.specs.declared.file.positions.Position.{Position}
 use Rattle.change_journal.proofs.entries.JournalSteps.{record_length, next_moments, held_moments, sound_with, torn_put}
 use Rattle.change_journal.proofs.entries.journals.Journal.put.Goals as goal
 
@@ -46,7 +46,7 @@ invariant_of-self g c =
     let broken = c.in_err-put.ensures.breaks in
     record {
       writable = c.self.invariant.writable;
-      count = ap (λ (p : Place). p.count) c.in_err-put.ensures.place ∙ c.self.invariant.count;
+      count = ap (λ (p : Position). p.count) c.in_err-put.ensures.position ∙ c.self.invariant.count;
       settled = λ modelled whole. absurd (false≢true (sym whole ∙ broken));
       torn = λ modelled is.
           torn_put g.D.Disk.moment g.D.Disk.left_since g.D.Disk.may_leave was now _ c.args.prepared (λ t f later left. g.met.D.Disk.counts_now now.disk t f modelled later left)
@@ -61,5 +61,5 @@ invariant_of-self-2 g c =
     let held = c.self.inside.held in
     let put = c.in_ok-put.ensures in
     let more = ap (λ (h : Held). entries_of h ++ c.of-2.result.value ∷ []) c.of.ensures ∙ ap (λ (e : Entry). entries_of held ++ e ∷ []) c.of-2.ensures in
-    sound_with g.D.Disk.is_modelled g.D.Disk.may_leave c.self.inside.records c.put.new.self (entries_of held) _ c.args.prepared more was.writable c.bytes.ensures.writable was.count put.place put.breaks (λ failed. (c.put.ensures.refused failed).1)
+    sound_with g.D.Disk.is_modelled g.D.Disk.may_leave c.self.inside.records c.put.new.self (entries_of held) _ c.args.prepared more was.writable c.bytes.ensures.writable was.count put.position put.breaks (λ failed. (c.put.ensures.refused failed).1)
     was.settled (λ modelled settled. put.stored modelled _ _ c.bytes.ensures.is settled)

@@ -6,7 +6,7 @@ use Rattle.change_journal.proofs.file.records.Records.put.Goals as goal
 
 pub returns-clause-stored : goal.returns-clause-stored
 returns-clause-stored g c modelled bodies body spelled settled =
-    let next : c.args.self.now.place.gate + length c.args.bytes.now ≡ length (opened (bodies ++ body ∷ [])) = next_gate bodies body c.args.bytes.now _ settled.gate spelled in
+    let next : c.args.self.now.position.gate + length c.args.bytes.now ≡ length (opened (bodies ++ body ∷ [])) = next_gate bodies body c.args.bytes.now _ settled.gate spelled in
     record {
       whole = c.if-self.false;
       gate = omega (arith, next, c.after-self.ensures.gate, c.requires.long);

@@ -1,4 +1,4 @@
-//! A place between the records of a journal's file.
+//! A position between the records of a journal's file.
 ghost use Rattle.std.specs.Prelude.{◌≡◌, ◌+◌, ◌*◌, ◌<◌, ◌≤◌};
 ghost use Rattle.change_journal.specs.declared.file.faults.OpenFault.TheVariants.{BadRecord};
 
@@ -7,27 +7,27 @@ use super::faults::OpenFault;
 /// The most records of a file.
 pub(crate) const MOST_RECORDS: usize = 1_000_000;
 
-/// The most bytes of a body.
+/// The most bytes of a body: as many as the longest text of an entry has.
 pub(crate) const LONGEST_BODY: usize = 10_470_070;
 
 /// Where a gate is, and how many records stand before it.
 #[derive(Clone, Copy)]
-pub(crate) struct Place {
+pub(crate) struct Position {
     pub gate: usize,
     pub count: usize,
     ghost few: { count ≤ 1000000 },
     ghost near: { gate ≤ 8 + 10470075 * count },
 }
 
-impl Place {
+impl Position {
     /// Where the first gate behind the header is.
-    pub(crate) fn first() -> Place
+    pub(crate) fn first() -> Position
         ensures { (result.gate ≡ 8) × (result.count ≡ 0) }
     {
-        Place { gate: 8, count: 0 }
+        Position { gate: 8, count: 0 }
     }
 
-    /// The fault that the record behind this place is none.
+    /// The fault that the record behind this position is none.
     pub(crate) fn bad_record(self) -> OpenFault
         ensures { result ≡ BadRecord (self.count + 1) }
     {
@@ -35,13 +35,13 @@ impl Place {
     }
 
     /// Where the next gate is, behind a record with a body of so many bytes.
-    pub(crate) fn after(self, body: usize) -> Place
+    pub(crate) fn after(self, body: usize) -> Position
         requires few { self.count < 1000000 }
         requires short { body ≤ 10470070 }
         ensures gate { result.gate ≡ self.gate + 5 + body }
         ensures count { result.count ≡ self.count + 1 }
     {
-        Place {
+        Position {
             gate: self.gate + 5 + body,
             count: self.count + 1,
         }
