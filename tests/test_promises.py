@@ -63,7 +63,7 @@ class Promises(unittest.TestCase):
             if name == "ensures":
                 self.assertTrue(re.search(r"\bensures \{", stated), "each clause has a name")
             else:
-                is_there = re.search(rf"\bensures {name} ", stated) or re.search(rf"\bghost {name}\b|\bfn {name}\b", code)
+                is_there = re.search(rf"\bensures\*? {name} ", stated) or re.search(rf"\bghost {name}\b|\bfn {name}\b", code)
                 self.assertTrue(is_there, f"there is no clause {name}")
 
     def test_each_row_names_functions_and_clauses_that_are_there(self):

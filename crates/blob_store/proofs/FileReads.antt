@@ -10,8 +10,8 @@ use Rattle.byte_view.proofs.CutPieces.{concat-cut, length-cut}
 use Rattle.byte_view.proofs.NextPieces.{follows_in, length-digest, names-next}
 use Rattle.blob_store.specs.declared.shelves.ShelfName.{ShelfName}
 use Rattle.blob_store.specs.declared.shelves.ShelfName.TheVariants.{Part, Table}
-use Rattle.blob_store.specs.declared.reading.ReadFault.{ReadFault}
-use Rattle.blob_store.specs.declared.reading.ReadFault.TheVariants as read_fault
+use Rattle.chunk_reads.specs.declared.faults.ReadFault.{ReadFault}
+use Rattle.chunk_reads.specs.declared.faults.ReadFault.TheVariants as read_fault
 use Rattle.blob_store.specs.Calls.{Call, Got}
 use Rattle.blob_store.specs.Reads.{Answers, AreAsked, AreNoPieces, ArePiecesFault, GivesInTurn, IsFileFault, IsNextFault, IsNextRead, IsNoPiece, IsTableFault, answers_of, pieces_given}
 use Rattle.blob_store.specs.Tables.{IsTable, Spells, pieces_of, size_of, text_of}

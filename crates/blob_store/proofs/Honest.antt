@@ -6,8 +6,8 @@ use Rattle.host_names.specs.Blobs.{Contents}
 use Rattle.blob_store.specs.declared.shelves.ShelfFault.{ShelfFault}
 use Rattle.blob_store.specs.declared.shelves.ShelfFault.TheVariants as shelf_fault
 use Rattle.blob_store.specs.declared.shelves.ShelfName.TheVariants.{Part, Table}
-use Rattle.blob_store.specs.declared.reading.ReadFault.{ReadFault}
-use Rattle.blob_store.specs.declared.reading.ReadFault.TheVariants as read_fault
+use Rattle.chunk_reads.specs.declared.faults.ReadFault.{ReadFault}
+use Rattle.chunk_reads.specs.declared.faults.ReadFault.TheVariants as read_fault
 use Rattle.blob_store.specs.declared.blobs.UploadFault.{UploadFault}
 use Rattle.blob_store.specs.declared.blobs.UploadFault.TheVariants as upload_fault
 use Rattle.blob_store.specs.declared.openings.OpenFault.{OpenFault}
@@ -18,7 +18,6 @@ use Rattle.blob_store.specs.Faults.{HasPutPart, HasPutSome, IsChunkFault}
 use Rattle.blob_store.specs.Keeping.{Keeps, Thing, Where}
 use Rattle.blob_store.specs.Openings.{AreTaken, IsOpenFault, IsOpened, IsTaken, IsTakeFault, Need, Taken}
 use Rattle.blob_store.specs.Reads.{Answers, FailsAtFile, FailsAtPiece, GivesFirst, GivesInTurn, IsFileFault, IsFileRead, answers_of, pieces_given}
-use Rattle.blob_store.specs.Stretches.{IsStretchFault, chunks_given}
 use Rattle.blob_store.specs.declared.shelves.ShelfName.{ShelfName}
 
 module _ {S : Type 0} (did : S → Call → S → Type 0) (honest : S → Bool) (has : S → ShelfName → Option (List ℕ)) (keeps : Keeps did honest has) where
@@ -69,19 +68,6 @@ module _ {S : Type 0} (did : S → Call → S → Type 0) (honest : S → Bool) 
   chunk old new name read_fault.Damaged so is = (keeps.before old new (Got (Part name) (Some is.0)) is.2 so, (is.0, is.1, (is.2, so)))
   chunk old new name read_fault.Device so is = (keeps.before old new (GetFails (Part name) shelf_fault.Device) is so, (is, so))
   chunk old new name read_fault.OutOfMemory so is = (keeps.before old new (GetFails (Part name) shelf_fault.OutOfMemory) is so, (is, so))
-
-  pub stretch : (old new : S) (file : List ℕ) (first last : ℕ) (why : ReadFault) → IsTrue (honest new) → IsStretchFault did old file first last why new
-      → IsTrue (honest old) × IsStretchFault Well old file first last why new
-  stretch old new file first last why so (inl (inl is)) =
-      let one = chunk is.0 new is.1 why so is.4 in
-      let before = gives old is.0 (chunks_given is.3.0) one.0 is.3.2 in
-      (before.0, inl (inl (is.0, is.1, is.2, (is.3.0, is.3.1, before.1), one.1)))
-  stretch old new file first last why so (inl (inr is)) =
-      let all = gives old new (chunks_given is.1.0) so is.1.4 in
-      (all.0, inl (inr (is.0, (is.1.0, is.1.1, is.1.2, is.1.3, all.1))))
-  stretch old new file first last why so (inr is) =
-      let all = gives old new (chunks_given is.1.0) so is.1.2 in
-      (all.0, inr (is.0, (is.1.0, is.1.1, all.1)))
 
   pub file_read : (old new : S) (digest : Digest) (file : List ℕ) → IsTrue (honest new) → IsFileRead did old digest file new → IsTrue (honest old) × IsFileRead Well old digest file new
   file_read old new digest file so is =

@@ -13,7 +13,8 @@ use Rattle.byte_view.specs.Cuts.{cut, names_of}
 use Rattle.byte_view.proofs.CutPieces.{concat-cut}
 use Rattle.blob_store.specs.declared.shelves.ShelfName.{ShelfName}
 use Rattle.blob_store.specs.declared.shelves.ShelfName.TheVariants.{Part, Table}
-use Rattle.blob_store.specs.declared.reading.ReadFault.TheVariants as read_fault
+use Rattle.chunk_reads.specs.declared.faults.ReadFault.{ReadFault}
+use Rattle.chunk_reads.specs.declared.faults.ReadFault.TheVariants as read_fault
 use Rattle.blob_store.specs.declared.blobs.UploadFault.{UploadFault}
 use Rattle.blob_store.specs.declared.blobs.UploadFault.TheVariants as upload_fault
 use Rattle.blob_store.specs.declared.shelves.ShelfFault.{ShelfFault}
@@ -253,6 +254,13 @@ module _ {S : Type 0} (did : S → Call → S → Type 0) (has : S → ShelfName
   same_after old new (a ∷ answers) gives name = same_after gives.0 new answers gives.2 name ∙ keeps.stays old gives.0 a.0 name a.1 gives.1
 
   -- each answer is what is there
+  -- nor does a chunk that can't be read
+  pub chunk_stays : (old new : S) (asked : Digest) (why : ReadFault) (name : ShelfName) → IsChunkFault did old asked why new → has new name ≡ has old name
+  chunk_stays old new asked read_fault.Missing name fault = keeps.stays old new (Part asked) name None fault
+  chunk_stays old new asked read_fault.Damaged name fault = keeps.stays old new (Part asked) name (Some fault.0) fault.2
+  chunk_stays old new asked read_fault.Device name fault = keeps.get_fails old new (Part asked) name shelf_fault.Device fault
+  chunk_stays old new asked read_fault.OutOfMemory name fault = keeps.get_fails old new (Part asked) name shelf_fault.OutOfMemory fault
+
   pub given_there : (first old new : S) (answers : Answers) → ((name : ShelfName) → has old name ≡ has first name) → GivesInTurn did old answers new
       → AllByRecursion (λ (a : ShelfName × Option (List ℕ)). a.1 ≡ has first a.0) answers
   given_there first old new [] same gives = tt

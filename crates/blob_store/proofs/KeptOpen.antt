@@ -14,12 +14,12 @@ use Rattle.host_names.specs.Digests.{digest_cmp, digest_cmp_total, digest_cmp-Is
 use Rattle.host_names.specs.Blobs.{Contents, digest_of, with_file}
 use Rattle.blob_store.specs.declared.openings.OpenFault.TheVariants as open_fault
 use Rattle.blob_store.specs.declared.openings.Wanted.{Wanted}
-use Rattle.blob_store.specs.declared.reading.ReadFault.TheVariants as read_fault
+use Rattle.chunk_reads.specs.declared.faults.ReadFault.TheVariants as read_fault
 use Rattle.blob_store.specs.declared.shelves.ShelfName.{ShelfName}
 use Rattle.blob_store.specs.declared.shelves.ShelfName.TheVariants.{Part, Table}
 use Rattle.blob_store.specs.declared.shelves.ShelfFault.{ShelfFault}
 use Rattle.blob_store.specs.declared.shelves.ShelfFault.TheVariants as shelf_fault
-use Rattle.blob_store.specs.declared.reading.ReadFault.{ReadFault}
+use Rattle.chunk_reads.specs.declared.faults.ReadFault.{ReadFault}
 use Rattle.blob_store.specs.declared.openings.OpenFault.{OpenFault}
 use Rattle.byte_view.specs.Cuts.{cut}
 use Rattle.blob_store.specs.Calls.{Call, part_of, table_of, things_of}

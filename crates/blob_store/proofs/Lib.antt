@@ -6,10 +6,8 @@ mod Once
 mod StoredNames
 mod Turns
 mod FileReads
-mod Stretched
 mod WantedOrder
 pub mod Kept
-pub mod KeptStretches
 pub mod KeptOpen
 pub mod Honest
 mod Foldered

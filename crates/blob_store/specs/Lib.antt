@@ -4,7 +4,6 @@ pub mod Tables
 pub mod Calls
 pub mod Faults
 pub mod Reads
-pub mod Stretches
 pub mod Shelves
 pub mod Openings
 pub mod Keeping

@@ -11,7 +11,7 @@ use Rattle.host_names.specs.Blobs.{Contents, with_file}
 use Rattle.blob_store.specs.declared.openings.OpenFault.{OpenFault}
 use Rattle.blob_store.specs.declared.openings.OpenFault.TheVariants as open_fault
 use Rattle.blob_store.specs.declared.openings.Wanted.{Wanted}
-use Rattle.blob_store.specs.declared.reading.ReadFault.TheVariants as read_fault
+use Rattle.chunk_reads.specs.declared.faults.ReadFault.TheVariants as read_fault
 use Rattle.blob_store.specs.Calls.{Call}
 use Rattle.blob_store.specs.Reads.{IsFileFault, IsFileRead}
 

@@ -7,8 +7,8 @@ use Rattle.blob_store.specs.declared.shelves.ShelfName.{ShelfName}
 use Rattle.blob_store.specs.declared.shelves.ShelfName.TheVariants.{Part, Table}
 use Rattle.blob_store.specs.declared.shelves.ShelfFault.{ShelfFault}
 use Rattle.blob_store.specs.declared.shelves.ShelfFault.TheVariants as shelf_fault
-use Rattle.blob_store.specs.declared.reading.ReadFault.{ReadFault}
-use Rattle.blob_store.specs.declared.reading.ReadFault.TheVariants as read_fault
+use Rattle.chunk_reads.specs.declared.faults.ReadFault.{ReadFault}
+use Rattle.chunk_reads.specs.declared.faults.ReadFault.TheVariants as read_fault
 use Rattle.blob_store.specs.Calls.{Call, Got, GetFails}
 use Rattle.blob_store.specs.Tables.{IsTable, Spells, size_of, text_of}
 

@@ -4,11 +4,9 @@ ghost use Rattle.std.specs.FinMap as map;
 ghost use Rattle.host_names.specs.Blobs.{AreDigested, digest_of, with_file};
 ghost use Rattle.byte_view.specs.Cuts.{names_of};
 ghost use Rattle.blob_store.specs.declared.shelves.ShelfName.TheVariants.{Part};
-ghost use Rattle.blob_store.specs.declared.reading.ReadFault.TheVariants as read_fault;
+ghost use Rattle.chunk_reads.specs.declared.faults.ReadFault.TheVariants as read_fault;
 ghost use Rattle.blob_store.specs.Calls.{Got, HoldsOfFault, PutsFile, PutsNew, PutsOthers, part_of};
 ghost use Rattle.blob_store.specs.Faults.{HasPutPart, HasPutSome, IsChunkFault};
-ghost use Rattle.blob_store.specs.Reads.{GivesInTurn};
-ghost use Rattle.blob_store.specs.Stretches.{IsStretchFault, chunks_given};
 ghost use Rattle.blob_store.specs.Openings.{IsOpenFault, IsOpened};
 ghost use Rattle.blob_store.specs.Tables.{text_of};
 ghost use Rattle.blob_store.specs.declared.openings.OpenFault.TheVariants as open_fault;
@@ -17,13 +15,13 @@ ghost use Rattle.blob_store.specs.declared.blobs.UploadFault.TheVariants as uplo
 
 use crate::known::Known;
 use crate::openings::{OpenFault, Wanted, open_files};
-use crate::reading::{ReadFault, read_chunk};
+use crate::reading::read_chunk;
 use crate::shelf_files::Files;
 use crate::shelves::{Shelf, ShelfFault, ShelfName};
 use crate::stored_pieces::StoredPieces;
-use crate::stretches::read_stretch;
 use crate::tables::table_text;
-use byte_view::{BlobInfo, Chunk, Hold, MAX_SIZE, PIECE_SIZE, Uploads};
+use byte_view::{BlobInfo, Chunk, MAX_SIZE, PIECE_SIZE, Uploads};
+use chunk_reads::ReadFault;
 use host_names::Digest;
 use std::alloc::Global;
 use std::sync::Arc;
@@ -245,26 +243,6 @@ impl<S: Shelf> Blobs<S> {
         ensures known { self.new.known ≡ self.old.known }
     {
         read_chunk(&mut self.shelf, *name)
-    }
-
-    /// A stretch of a file, from its first to its last byte, with the chunks that it meets, as the shelf gives them now. The shelf
-    /// is asked once for each piece that it meets, and gives a chunk of its name and length. What is known stays.
-    pub fn hold(
-        &mut self,
-        info: Arc<BlobInfo>,
-        first: usize,
-        last: usize,
-    ) -> Result<Hold, ReadFault>
-        requires ordered { first ≤ last }
-        requires within { last < length info.value }
-        ensures stretch { IfOk result (λ hold. (hold.file ≡ info.value) × (hold.first ≡ first) × (hold.last ≡ last)) }
-        ensures given { IfOk result (λ hold. GivesInTurn S.did self.old.shelf (chunks_given hold.chunks) self.new.shelf) }
-        ensures fault { IfErr result (λ fault. IsStretchFault S.did self.old.shelf info.value first last fault self.new.shelf) }
-        ensures device { IfErr result (λ fault. fault ≡ read_fault.Device → S.failures self.old.shelf < S.failures self.new.shelf) }
-        ensures count { S.failures self.old.shelf ≤ S.failures self.new.shelf }
-        ensures known { self.new.known ≡ self.old.known }
-    {
-        read_stretch(self.alloc, &mut self.shelf, info, first, last)
     }
 }
 

@@ -1,16 +1,17 @@
 //! Files that are read from a shelf whole.
 ghost use Rattle.std.specs.Prelude.{◌≡◌, ◌<◌, ◌≤◌, IfErr, IfOk, Some};
 ghost use Rattle.byte_view.specs.Cuts.{names_of};
-ghost use Rattle.blob_store.specs.declared.reading.ReadFault.TheVariants as read_fault;
+ghost use Rattle.chunk_reads.specs.declared.faults.ReadFault.TheVariants as read_fault;
 ghost use Rattle.blob_store.specs.declared.shelves.ShelfName.TheVariants as shelf_name;
 ghost use Rattle.blob_store.specs.Calls.{Got};
 ghost use Rattle.blob_store.specs.Reads.{ArePiecesFault, GivesInTurn, IsFileFault, IsFileRead, IsNextFault, IsNextRead, IsTableFault, pieces_given};
 ghost use Rattle.blob_store.specs.Tables.{Spells};
 
-use crate::reading::{ReadFault, of_shelf, read_chunk};
+use crate::reading::{of_shelf, read_chunk};
 use crate::shelves::{Shelf, ShelfName};
 use crate::tables::{Table, TableFault};
 use byte_view::{BlobInfo, JoinFault, Joined};
+use chunk_reads::ReadFault;
 use host_names::Digest;
 use std::alloc::Global;
 

@@ -5,24 +5,21 @@ ghost use Rattle.std.specs.Prelude.{◌≡◌, Bool, true, IsTrue, ℕ, ◌≤�
 ghost use Rattle.std.specs.List.{Contains};
 ghost use Rattle.host_names.specs.Blobs.{Contents, digest_of};
 ghost use Rattle.host_names.specs.declared.digests.Digest.{Digest};
-ghost use Rattle.byte_view.specs.Cuts.{IsPure, cut, pieces_met};
-ghost use Rattle.byte_view.specs.Holds.{Held, IsHeld};
-ghost use Rattle.blob_store.specs.declared.reading.ReadFault.TheVariants as read_fault;
+ghost use Rattle.byte_view.specs.Cuts.{cut};
+ghost use Rattle.chunk_reads.specs.declared.faults.ReadFault.TheVariants as read_fault;
 ghost use Rattle.blob_store.specs.declared.shelves.ShelfName.{ShelfName};
 ghost use Rattle.blob_store.specs.declared.shelves.ShelfName.TheVariants.{Part};
 ghost use Rattle.blob_store.specs.Calls.{AreKnownNames, AreOnceEach, Call, Got, Put, PutsFile, things_of};
 ghost use Rattle.blob_store.specs.Faults.{HasPutPart, HasPutSome, IsChunkFault};
-ghost use Rattle.blob_store.specs.Stretches.{HaveWrongLengths, IsStretchFault, chunks_given};
 ghost use Rattle.blob_store.specs.declared.blobs.UploadFault.{UploadFault};
 ghost use Rattle.blob_store.specs.declared.blobs.UploadFault.TheVariants as upload_fault;
 ghost use Rattle.blob_store.specs.declared.mem_shelf.MemShelf.{MemShelf};
-ghost use Rattle.blob_store.specs.declared.reading.ReadFault.{ReadFault};
 ghost use Rattle.blob_store.specs.Keeping.{Agree, AgreeWithKnown, AlwaysKeeps, HasEach, HasFile, Keeps};
 ghost use Rattle.blob_store.specs.declared.openings.OpenFault.{OpenFault};
 ghost use Rattle.blob_store.specs.declared.openings.OpenFault.TheVariants as open_fault;
 ghost use Rattle.blob_store.specs.declared.openings.Wanted.{Wanted};
 ghost use Rattle.blob_store.specs.Openings.{IsOpenFault, IsOpened, IsOrderOf, need_of};
-ghost use Rattle.blob_store.specs.Reads.{AreOfNone, GivesInTurn, IsFileFault, IsFileRead, answers_of};
+ghost use Rattle.blob_store.specs.Reads.{AreOfNone, IsFileFault, IsFileRead, answers_of};
 ghost use Rattle.blob_store.specs.Shelves.{Does, found_in};
 ghost use Rattle.blob_store.specs.Folders.{are_true, calls_of, there_after};
 ghost use Rattle.blob_store.specs.Tables.{IsTable, Spells, pieces_of, size_of, text_of};
@@ -67,22 +64,6 @@ pub fn kept_files_are_read<S: Shelf>()
         → ¬ (IsFileFault S.did old (digest_of file) read_fault.Missing new) }
     ensures file_whole { (honest : S → Bool) (has : S → ShelfName → Option (List ℕ)) (old new : S) (file : List ℕ) → Keeps S.did honest has → IsTrue (honest new) → HasFile has old file → length file ≤ 16777216
         → ¬ (IsFileFault S.did old (digest_of file) read_fault.Damaged new) }
-{}
-
-/// Of a file that such a shelf has, each stretch is read as it is, and is neither missing nor damaged. Reading it changes nothing on the shelf.
-pub fn kept_stretches_are_held<S: Shelf>()
-    ensures held { (honest : S → Bool) (has : S → ShelfName → Option (List ℕ)) (old new : S) (hold : Held) → Keeps S.did honest has → IsTrue (honest new) → HasFile has old hold.file → IsHeld hold
-        → GivesInTurn S.did old (chunks_given hold.chunks) new → hold.chunks ≡ pieces_met hold.file hold.first hold.last }
-    ensures pure { (honest : S → Bool) (has : S → ShelfName → Option (List ℕ)) (old new : S) (hold : Held) → Keeps S.did honest has → IsTrue (honest new) → HasFile has old hold.file
-        → GivesInTurn S.did old (chunks_given hold.chunks) new → All (IsPure hold.file) hold.chunks }
-    ensures there { (honest : S → Bool) (has : S → ShelfName → Option (List ℕ)) (old new : S) (file : List ℕ) (first last : ℕ) → Keeps S.did honest has → IsTrue (honest new) → HasFile has old file
-        → ¬ (IsStretchFault S.did old file first last read_fault.Missing new) }
-    ensures whole { (honest : S → Bool) (has : S → ShelfName → Option (List ℕ)) (old new : S) (file : List ℕ) (first last : ℕ) → Keeps S.did honest has → IsTrue (honest new) → HasFile has old file
-        → ¬ (IsStretchFault S.did old file first last read_fault.Damaged new) }
-    ensures stays { (honest : S → Bool) (has : S → ShelfName → Option (List ℕ)) (old new : S) (chunks : List (List ℕ)) (name : ShelfName) → Keeps S.did honest has → IsTrue (honest new)
-        → GivesInTurn S.did old (chunks_given chunks) new → has new name ≡ has old name }
-    ensures stays_after_fault { (honest : S → Bool) (has : S → ShelfName → Option (List ℕ)) (old new : S) (file : List ℕ) (first last : ℕ) (fault : ReadFault) (name : ShelfName) → Keeps S.did honest has → IsTrue (honest new)
-        → IsStretchFault S.did old file first last fault new → has new name ≡ has old name }
 {}
 
 /// A store that is opened over such a shelf knows each wanted file that the shelf has, and no such file keeps it from being opened. The shelf has
@@ -134,7 +115,6 @@ pub fn wrong_answers_are_refused<S: Shelf>()
     ensures chunk { (old new : MemShelf) (name : Digest) → ¬ (IsChunkFault Does old name read_fault.Device new) }
     ensures file { (old new : MemShelf) (digest : Digest) → ¬ (IsFileFault Does old digest read_fault.Device new) }
     ensures of_none { (file : List ℕ) → length file ≤ 16777216 → ¬ (AreOfNone (digest_of file) (answers_of file)) }
-    ensures lengths { (file : List ℕ) (first last : ℕ) → ¬ (HaveWrongLengths (pieces_met file first last) file first last) }
     ensures order { (digest : Digest) (must : Bool) → ¬ (IsOrderOf [] ((digest, must) ∷ [])) }
     ensures agree { (name : ShelfName) → ¬ (Agree ((name, []) ∷ []) ((name, 0 ∷ []) ∷ [])) }
     ensures agrees { Agree (things_of []) (things_of []) }

@@ -6,7 +6,7 @@ mod call_logs;
 mod dir_shelf;
 mod files;
 mod known;
-mod laws;
+pub mod laws;
 mod lent_shelf;
 mod mem_shelf;
 mod openings;
@@ -14,21 +14,14 @@ mod reading;
 mod shelf_files;
 mod shelves;
 mod stored_pieces;
-mod stretches;
 mod tables;
 
 pub use blobs::{Blobs, NotOpened, UploadFault};
 pub use dir_shelf::DirShelf;
 pub use files::read_file;
 pub use known::Known;
-pub use laws::{
-    files_have_tables, folders_keep, kept_files_are_known, kept_files_are_read,
-    kept_stretches_are_held, shelves_in_memory_keep, uploads_are_kept, wrong_answers_are_refused,
-};
 pub use lent_shelf::LentShelf;
 pub use mem_shelf::MemShelf;
 pub use openings::{OpenFault, Wanted};
-pub use reading::ReadFault;
 pub use shelf_files::Files;
 pub use shelves::{Shelf, ShelfFault, ShelfName};
-pub use tables::{Table, TableFault, table_text};

@@ -5,8 +5,8 @@ ghost use Rattle.blob_store.specs.Openings.{AreTaken, IsOpenFault, IsOpened, IsO
 
 use crate::files::read_file;
 use crate::known::Known;
-use crate::reading::ReadFault;
 use crate::shelves::Shelf;
+use chunk_reads::ReadFault;
 use host_names::Digest;
 use std::alloc::{AllocError, Global};
 use std::collections::BTreeMap;

@@ -3,29 +3,14 @@ ghost use Rattle.std.specs.Prelude.{◌≡◌, ◌<◌, ◌≤◌, IfErr, IfOk, 
 ghost use Rattle.host_names.specs.Blobs.{digest_of};
 ghost use Rattle.blob_store.specs.declared.shelves.ShelfFault.TheVariants as shelf_fault;
 ghost use Rattle.blob_store.specs.declared.shelves.ShelfName.TheVariants.{Part};
-ghost use Rattle.blob_store.specs.declared.reading.ReadFault.TheVariants as read_fault;
+ghost use Rattle.chunk_reads.specs.declared.faults.ReadFault.TheVariants as read_fault;
 ghost use Rattle.blob_store.specs.Calls.{Got};
 ghost use Rattle.blob_store.specs.Faults.{IsChunkFault};
 
 use crate::shelves::{Shelf, ShelfFault, ShelfName};
 use byte_view::Chunk;
+use chunk_reads::ReadFault;
 use host_names::Digest;
-use thiserror::Error;
-
-/// Why something can't be read from a shelf.
-#[derive(Clone, Copy, Debug, PartialEq, Eq, Error)]
-pub enum ReadFault {
-    #[error("the shelf doesn't have it")]
-    Missing,
-    /// The shelf gave other bytes than those of what is read; where a file is read whole, also no bytes for a piece that its
-    /// table names.
-    #[error("the shelf has other bytes")]
-    Damaged,
-    #[error("the device failed")]
-    Device,
-    #[error("out of memory")]
-    OutOfMemory,
-}
 
 /// What a read answers for a fault of the shelf.
 pub(crate) fn of_shelf(fault: ShelfFault) -> ReadFault

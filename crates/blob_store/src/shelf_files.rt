@@ -2,19 +2,17 @@
 ghost use Rattle.std.specs.Prelude.{◌≡◌, ◌↔◌, ◌<◌, ◌≤◌, Err, IfErr, IfOk, None, OnOk, Some, length, option_map};
 ghost use Rattle.host_names.specs.Blobs.{digest_of};
 ghost use Rattle.blob_store.specs.declared.blobs.UploadFault.TheVariants as upload_fault;
-ghost use Rattle.blob_store.specs.declared.reading.ReadFault.TheVariants as read_fault;
+ghost use Rattle.chunk_reads.specs.declared.faults.ReadFault.TheVariants as read_fault;
 ghost use Rattle.blob_store.specs.declared.shelves.ShelfName.TheVariants.{Part};
 ghost use Rattle.blob_store.specs.Calls.{Got, PutsFile};
 ghost use Rattle.blob_store.specs.Faults.{HasPutPart, IsChunkFault};
-ghost use Rattle.blob_store.specs.Reads.{GivesInTurn};
-ghost use Rattle.blob_store.specs.Stretches.{IsStretchFault, chunks_given};
 
 use crate::blobs::{UploadFault, put_whole};
 use crate::known::Known;
-use crate::reading::{ReadFault, of_shelf, read_chunk};
+use crate::reading::{of_shelf, read_chunk};
 use crate::shelves::{Shelf, ShelfName};
-use crate::stretches::read_stretch;
-use byte_view::{BlobInfo, Chunk, Hold};
+use byte_view::{BlobInfo, Chunk};
+use chunk_reads::ReadFault;
 use host_names::Digest;
 use std::alloc::Global;
 use std::sync::Arc;
@@ -83,24 +81,5 @@ impl<S: Shelf> Files<S> {
         ensures count { S.failures self.old.shelf ≤ S.failures self.new.shelf }
     {
         read_chunk(&mut self.shelf, *name)
-    }
-
-    /// A stretch of a file, from its first to its last byte, with the chunks that it meets, as the shelf gives them now. The shelf
-    /// is asked once for each piece that it meets, and gives a chunk of its name and length.
-    pub fn hold(
-        &mut self,
-        info: Arc<BlobInfo>,
-        first: usize,
-        last: usize,
-    ) -> Result<Hold, ReadFault>
-        requires ordered { first ≤ last }
-        requires within { last < length info.value }
-        ensures stretch { IfOk result (λ hold. (hold.file ≡ info.value) × (hold.first ≡ first) × (hold.last ≡ last)) }
-        ensures given { IfOk result (λ hold. GivesInTurn S.did self.old.shelf (chunks_given hold.chunks) self.new.shelf) }
-        ensures fault { IfErr result (λ fault. IsStretchFault S.did self.old.shelf info.value first last fault self.new.shelf) }
-        ensures device { IfErr result (λ fault. fault ≡ read_fault.Device → S.failures self.old.shelf < S.failures self.new.shelf) }
-        ensures count { S.failures self.old.shelf ≤ S.failures self.new.shelf }
-    {
-        read_stretch(self.alloc, &mut self.shelf, info, first, last)
     }
 }

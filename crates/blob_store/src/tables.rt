@@ -12,14 +12,14 @@ use thiserror::Error;
 
 /// The size of a file and the names of its pieces.
 #[derive(Debug, Drop)]
-pub struct Table {
+pub(crate) struct Table {
     pub size: usize,
     pub names: Vec<Digest>,
 }
 
 /// Why a table can't be read.
 #[derive(Clone, Copy, Debug, PartialEq, Eq, Error)]
-pub enum TableFault {
+pub(crate) enum TableFault {
     /// No file has these bytes as its table.
     #[error("no file has this table")]
     Damaged,
@@ -28,7 +28,11 @@ pub enum TableFault {
 }
 
 /// The text of the table of a file: its size in 8 bytes, the highest first, and the 20 bytes of each name.
-pub fn table_text(alloc: Global, size: usize, names: &[Digest]) -> Result<Vec<u8>, AllocError>
+pub(crate) fn table_text(
+    alloc: Global,
+    size: usize,
+    names: &[Digest],
+) -> Result<Vec<u8>, AllocError>
     ensures { IfOk result (λ text. text.items ≡ text_of size names.now) }
 {
     let mut text = Vec::from_slice(alloc, &(size as u64).to_be_bytes())?;
@@ -76,7 +80,7 @@ fn names_in(alloc: Global, bytes: &[u8]) -> Result<Vec<Digest>, AllocError>
 impl Table {
     /// The table with this text. Memory is taken only for the names of a file of at most `MAX_SIZE` bytes, and none for the
     /// empty file.
-    pub fn read(alloc: Global, text: &[u8]) -> Result<Table, TableFault>
+    pub(crate) fn read(alloc: Global, text: &[u8]) -> Result<Table, TableFault>
         ensures read { IfOk result (λ table. Spells text.now table.size table.names.items) }
         ensures judged { IfErr result (λ fault. (fault ≡ OutOfMemory) ↔ IsTable text.now) }
         ensures memory { IfErr result (λ fault. fault ≡ OutOfMemory → size_of text.now ≢ 0) }

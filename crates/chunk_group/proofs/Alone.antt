@@ -2,7 +2,7 @@
 use Rattle.std.proofs.Common.{◌≡◌, inl, inr, ℕ, ◌<◌, List, Result, Ok, Err, sym, ap, subst, ◌∙◌, arith}
 use Rattle.hex.specs.Hex.{encode_lower}
 use Rattle.host_names.specs.declared.digests.Digest.{Digest}
-use Rattle.blob_store.specs.declared.reading.ReadFault.{ReadFault}
+use Rattle.chunk_reads.specs.declared.faults.ReadFault.{ReadFault}
 use Rattle.peer_ring.proofs.Placed.{owner_is_peer}
 use Rattle.chunk_group.specs.Fills.{IsMiss, IsPassedOn}
 use Rattle.chunk_group.specs.Kept.{Drew}

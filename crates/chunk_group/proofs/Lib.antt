@@ -1,5 +1,8 @@
 pub mod Alone
 mod Misses
 mod Outcomes
-mod ReadInTurn
 mod SharedHolds
+pub mod LoneReads
+pub mod CachedChunks
+pub mod Pieces
+pub mod KeptReads

@@ -2,7 +2,7 @@
 use Rattle.std.proofs.Common.{◌≡◌, true, Bool, List, ℕ, Result, Ok, Err, IfOk, IfErr}
 use Rattle.host_names.specs.declared.digests.Digest.{Digest}
 use Rattle.host_names.specs.Blobs.{digest_of}
-use Rattle.blob_store.specs.declared.reading.ReadFault.{ReadFault}
+use Rattle.chunk_reads.specs.declared.faults.ReadFault.{ReadFault}
 use Rattle.chunk_lru.proofs.Sizes.{same_name}
 use Rattle.chunk_group.specs.Faults.{may_answer}
 use Rattle.chunk_group.specs.Outcomes.{is_outcome}

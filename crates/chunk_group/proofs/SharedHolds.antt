@@ -4,9 +4,10 @@ use Rattle.std.proofs.lemmas.List.Elements.{Contains-append_right}
 use Rattle.host_names.specs.declared.digests.Digest.{Digest}
 use Rattle.host_names.specs.Blobs.{digest_of}
 use Rattle.byte_view.specs.Cuts.{pieces_met}
-use Rattle.blob_store.specs.declared.reading.ReadFault.{ReadFault}
+use Rattle.chunk_reads.specs.declared.faults.ReadFault.{ReadFault}
 use Rattle.chunk_group.specs.Faults.{may_answer}
-use Rattle.chunk_group.specs.Holding.{IsNotHeld, MayNotHold, Reads}
+use Rattle.chunk_group.specs.Holding.{MayNotHold}
+use Rattle.chunk_reads.specs.Reading.{IsNotHeld, Reads}
 
 -- what is known of a read in threads
 abbrev pub Allowed : {N : Type 0} → (allows : Digest → ReadFault → Bool) → Reads N

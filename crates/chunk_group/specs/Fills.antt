@@ -1,8 +1,8 @@
 -- A read of a chunk through the caches of a node: what is found in them, or else who is asked, and what is kept.
 use Rattle.std.specs.Prelude.{◌≡◌, ◌⊎◌, ℕ, List, None, Some, Result, Ok, Err}
 use Rattle.host_names.specs.declared.digests.Digest.{Digest}
-use Rattle.blob_store.specs.declared.reading.ReadFault.{ReadFault}
-use Rattle.blob_store.specs.declared.reading.ReadFault.TheVariants.{OutOfMemory}
+use Rattle.chunk_reads.specs.declared.faults.ReadFault.{ReadFault}
+use Rattle.chunk_reads.specs.declared.faults.ReadFault.TheVariants.{OutOfMemory}
 use Rattle.chunk_lru.specs.Rules.{held, looked_up}
 use Rattle.chunk_group.specs.declared.caches.Caches.{Caches}
 use Rattle.chunk_group.specs.declared.loads.Giver.{Giver}

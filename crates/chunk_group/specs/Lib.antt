@@ -9,3 +9,5 @@ pub mod Holding
 pub mod Nodes
 pub mod Stores
 pub mod Lone
+pub mod Cached
+pub mod Shelves

@@ -2,8 +2,8 @@
 use Rattle.std.specs.Prelude.{◌≡◌, ◌≢◌, ◌⊎◌, ℕ, List, Option, Some, Result, Ok, Err}
 use Rattle.host_names.specs.declared.digests.Digest.{Digest}
 use Rattle.host_names.specs.Blobs.{digest_of}
-use Rattle.blob_store.specs.declared.reading.ReadFault.{ReadFault}
-use Rattle.blob_store.specs.declared.reading.ReadFault.TheVariants.{Damaged}
+use Rattle.chunk_reads.specs.declared.faults.ReadFault.{ReadFault}
+use Rattle.chunk_reads.specs.declared.faults.ReadFault.TheVariants.{Damaged}
 use Rattle.chunk_group.specs.declared.loads.Giver.{Giver}
 use Rattle.chunk_group.specs.declared.loads.Giver.TheVariants.{Source, Peer}
 use Rattle.chunk_group.specs.declared.loads.Suppliers.{Suppliers}

@@ -1,8 +1,8 @@
 -- Nodes that are alone.
 use Rattle.std.specs.Prelude.{◌≡◌, ◌⊎◌, ℕ, List, None, Result, Ok, Err, length}
 use Rattle.host_names.specs.declared.digests.Digest.{Digest}
-use Rattle.blob_store.specs.declared.reading.ReadFault.{ReadFault}
-use Rattle.blob_store.specs.declared.reading.ReadFault.TheVariants.{OutOfMemory}
+use Rattle.chunk_reads.specs.declared.faults.ReadFault.{ReadFault}
+use Rattle.chunk_reads.specs.declared.faults.ReadFault.TheVariants.{OutOfMemory}
 use Rattle.chunk_lru.specs.Caches.{Cache}
 use Rattle.chunk_lru.specs.Rules.{held}
 use Rattle.chunk_lru.specs.declared.caches.Which.TheVariants.{Main}

@@ -2,7 +2,7 @@
 use Rattle.std.specs.Prelude.{◌≡◌, ℕ, List}
 use Rattle.chunk_group.specs.declared.solo_groups.SoloGroup.{SoloGroup}
 use Rattle.chunk_group.specs.Fills.{Fills}
-use Rattle.chunk_group.specs.Holding.{Reads}
+use Rattle.chunk_reads.specs.Reading.{Reads}
 use Rattle.chunk_group.specs.Kept.{Drew}
 use Rattle.chunk_group.specs.Loads.{Fetched, Loaded}
 use Rattle.chunk_group.specs.Owners.{Owns}

@@ -2,7 +2,7 @@
 use Rattle.std.specs.Prelude.{◌≡◌, Bool, true, List, ℕ, Result, Ok, Err}
 use Rattle.std.proofs.Common.{ap, ◌∙◌}
 use Rattle.host_names.specs.declared.digests.Digest.{Digest}
-use Rattle.blob_store.specs.declared.reading.ReadFault.{ReadFault}
+use Rattle.chunk_reads.specs.declared.faults.ReadFault.{ReadFault}
 use Rattle.chunk_lru.specs.Recent.{has_name}
 use Rattle.chunk_group.specs.Faults.{may_answer}
 

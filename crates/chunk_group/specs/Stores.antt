@@ -2,8 +2,8 @@
 use Rattle.std.specs.Prelude.{◌≡◌, ℕ, ◌<◌, ◌≤◌, List, Some, Result, Ok, Err}
 use Rattle.host_names.specs.declared.digests.Digest.{Digest}
 use Rattle.host_names.specs.Blobs.{digest_of}
-use Rattle.blob_store.specs.declared.reading.ReadFault.{ReadFault}
-use Rattle.blob_store.specs.declared.reading.ReadFault.TheVariants.{Device}
+use Rattle.chunk_reads.specs.declared.faults.ReadFault.{ReadFault}
+use Rattle.chunk_reads.specs.declared.faults.ReadFault.TheVariants.{Device}
 use Rattle.blob_store.specs.declared.shelves.ShelfName.TheVariants.{Part}
 use Rattle.blob_store.specs.Calls.{Call, Got}
 use Rattle.blob_store.specs.Faults.{IsChunkFault}

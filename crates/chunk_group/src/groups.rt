@@ -1,34 +1,36 @@
 //! The group of a node that threads share.
 ghost use Rattle.std.specs.Prelude.{◌≡◌, ◌<◌, ◌≤◌, true, IfErr, IfOk, IfSome, MatchResult, length};
 ghost use Rattle.host_names.specs.Blobs.{digest_of};
-ghost use Rattle.blob_store.specs.declared.reading.ReadFault.TheVariants.{OutOfMemory};
+ghost use Rattle.chunk_reads.specs.declared.faults.ReadFault.TheVariants.{OutOfMemory};
 ghost use Rattle.chunk_group.specs.Faults.{may_answer};
 ghost use Rattle.chunk_group.specs.Holding.{MayNotHold};
 
 use crate::caches::Caches;
 use crate::coins::Coin;
-use crate::holds::{ChunkReader, hold_stretch};
 use crate::loads::{Given, Suppliers};
 use crate::places::RingPlace;
-use crate::sources::{Outcome, Source};
-use blob_store::ReadFault;
+use crate::sources::{Loading, Outcome, Source};
 use byte_view::{BlobInfo, Chunk, Hold};
 use chunk_lru::ChunkCache;
+use chunk_reads::{ChunkReader, ReadFault, hold_stretch};
 use host_names::Digest;
 use peer_link::PeerLink;
 use peer_ring::{Ring, RingHash};
-use single_flight::Flights;
+use single_flight::{Flights, Loads};
 use std::alloc::{AllocError, Global};
 use std::sync::{Arc, Mutex, Wait};
 
 /// A node of a group, for threads: what they read chunks through. Each call works with a copy of the source and of the link.
 #[derive(Drop)]
-pub struct Group<H: RingHash + Drop, S: Source, L, C> {
+pub struct Group<H: RingHash + Drop, S: Source, L, C>
+where
+    Loading<S>: Loads<Outcome>,
+{
     alloc: Global,
     place: RingPlace<H>,
     suppliers: Suppliers<S, L>,
     caches: Mutex<Caches<C>>,
-    flights: Flights<Outcome, S>,
+    flights: Flights<Outcome, Loading<S>>,
 }
 
 impl<H: RingHash + Copy + Drop, S: Source + Copy, L: PeerLink + Copy, C: Coin + Drop> Group<
@@ -99,6 +101,7 @@ impl<H: RingHash + Copy + Drop, S: Source + Copy, L: PeerLink + Copy, C: Coin + 
             Err(_) => Err(ReadFault::OutOfMemory),
         }
     }
+
     /// A stretch of a file, from its first to its last byte, with the chunks that it meets. Each is read once, and has the name and
     /// the length of its piece.
     pub fn hold<R: Wait>(
@@ -120,7 +123,10 @@ impl<H: RingHash + Copy + Drop, S: Source + Copy, L: PeerLink + Copy, C: Coin + 
 
 /// A group that is read through by one thread, which may wait.
 #[derive(Drop)]
-struct Reading<'a, R, H: RingHash + Drop, S: Source, L, C> {
+struct Reading<'a, R, H: RingHash + Drop, S: Source, L, C>
+where
+    Loading<S>: Loads<Outcome>,
+{
     rt: &'a R,
     group: &'a Group<H, S, L, C>,
 }

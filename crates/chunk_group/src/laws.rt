@@ -1,16 +1,20 @@
-//! What the relations of the contracts refuse. The function does nothing: its contract is the law.
-ghost use Rattle.std.specs.Prelude.{◌≡◌, ◌≢◌, ◌<◌, ℕ, List, [], Result, Some, Ok, Err, false};
+//! Laws of nodes. Each function does nothing: its contract is the law.
+ghost use Rattle.std.specs.Prelude.{◌≡◌, ◌≢◌, ◌<◌, ℕ, List, [], ◌∷◌, Option, None, Result, Some, Ok, Err, false};
 ghost use Rattle.host_names.specs.Blobs.{digest_of};
 ghost use Rattle.host_names.specs.declared.digests.Digest.{Digest};
-ghost use Rattle.blob_store.specs.declared.reading.ReadFault.{ReadFault};
-ghost use Rattle.blob_store.specs.declared.reading.ReadFault.TheVariants.{Device, Missing};
+ghost use Rattle.chunk_reads.specs.declared.faults.ReadFault.{ReadFault};
+ghost use Rattle.chunk_reads.specs.declared.faults.ReadFault.TheVariants.{Device, Missing};
+ghost use Rattle.blob_store.specs.declared.shelves.ShelfName.{ShelfName};
+ghost use Rattle.chunk_lru.specs.Caches.{empty};
 ghost use Rattle.chunk_lru.specs.Rules.{held};
 ghost use Rattle.peer_ring.specs.Rings.{Peers};
+ghost use Rattle.chunk_group.specs.Cached.{AllCached, HasCached, IsCached};
 ghost use Rattle.chunk_group.specs.declared.file_sources.FileSource.{FileSource};
 ghost use Rattle.chunk_group.specs.declared.solo_groups.Node.{Node};
 ghost use Rattle.chunk_group.specs.declared.solo_groups.SoloGroup.{SoloGroup};
 ghost use Rattle.chunk_group.specs.Fills.{Fills};
-ghost use Rattle.chunk_group.specs.Holding.{AreNotRead, MayNotHold};
+ghost use Rattle.chunk_group.specs.Holding.{MayNotHold};
+ghost use Rattle.chunk_reads.specs.Reading.{AreNotRead};
 ghost use Rattle.chunk_group.specs.Loads.{IsGiven, IsGivenFault};
 ghost use Rattle.chunk_group.specs.Nodes.{ReadsOf};
 ghost use Rattle.chunk_group.specs.Owners.{IsOther, Owns};
@@ -21,6 +25,11 @@ use crate::sources::Source;
 use blob_store::Shelf;
 use peer_link::PeerLink;
 use peer_ring::RingHash;
+
+/// A shelf has what is in an empty cache, so that what is said of such shelves is said of a node that is new.
+pub fn an_empty_cache_is_on_each_shelf<S: Shelf>()
+    ensures { (has : S → ShelfName → Option (List ℕ)) (shelf : S) (limit : ℕ) → HasCached has (record { shelf = shelf; cache = empty limit }) }
+{}
 
 /// A chunk that a cache has is what a read of its name gives, and nobody is asked for it. Of the others each is refuted of one wrong answer,
 /// so none of these relations holds of everything: of no names no read fails, and without a fault that a source may give no piece is missing.
@@ -33,6 +42,9 @@ pub fn wrong_answers_are_refused<H: RingHash, S: Source, L: PeerLink, C: Coin, T
         → T.failures old.files.shelf < T.failures new.files.shelf }
     ensures may_not { (file : List ℕ) (first last : ℕ) → ¬ (MayNotHold (λ key fault. false) file first last Missing) }
     ensures other { (ring : Peers H) (key : Digest) (me : ℕ) → ¬ (IsOther (Owns H.hashed ring key) me me) }
+    ensures cached { (limit : ℕ) (chunk : List ℕ) → ¬ (IsCached (empty limit) chunk) }
+    ensures all { ¬ (AllCached (λ chunk. ⊥) (record { limit = 100; main = [] ∷ []; hot = [] })) }
+    ensures has { (shelf : T) → ¬ (HasCached (λ shelf name. None) (record { shelf = shelf; cache = record { limit = 100; main = [] ∷ []; hot = [] } })) }
     ensures given { (old new : S) (key : Digest) (bytes : List ℕ) → digest_of bytes ≢ key → ¬ (IsGiven S.loaded old key (Ok bytes) new) }
     ensures read { (old new : SoloGroup H S L C) (fault : ReadFault) → ¬ (AreNotRead (ReadsOf S.loaded L.fetched C.drew H.hashed) old [] fault new) }
 {}

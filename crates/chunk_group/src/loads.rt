@@ -8,8 +8,8 @@ ghost use Rattle.chunk_group.specs.Owners.{Owns};
 
 use crate::places::RingPlace;
 use crate::sources::Source;
-use blob_store::ReadFault;
 use byte_view::Chunk;
+use chunk_reads::ReadFault;
 use host_names::Digest;
 use peer_link::PeerLink;
 use peer_ring::RingHash;

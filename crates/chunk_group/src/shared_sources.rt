@@ -1,13 +1,12 @@
 //! The source of nodes that share a shelf.
 ghost use Rattle.std.specs.Prelude.{◌≡◌, true, ⊤};
-ghost use Rattle.chunk_group.specs.Outcomes.{clones_of_outcomes, is_outcome};
 ghost use Rattle.chunk_group.specs.Stores.{LoadedThroughLock};
 
-use crate::sources::{Outcome, Source};
-use blob_store::{Files, ReadFault, Shelf};
+use crate::sources::Source;
+use blob_store::{Files, Shelf};
 use byte_view::Chunk;
+use chunk_reads::ReadFault;
 use host_names::Digest;
-use single_flight::Loads;
 use std::alloc::AllocError;
 use std::sync::{Mutex, Wait};
 
@@ -39,20 +38,10 @@ impl<R, S> Clone for SharedSource<'_, R, S> {
     }
 }
 
-impl<R, S> Loads<Outcome> for SharedSource<'_, R, S> {
-    ghost fits = { is_outcome (λ share. share.value) (λ _ _. true) };
-
-    ghost clones_fit = { clones_of_outcomes (λ share. share.value) (λ _ _. true) _ (λ _ _ same. same) (λ _ _ wrong. wrong) (λ _ _ wrong. wrong) (λ _ _ same. same) };
-}
-
 impl<R: Wait, S: Shelf> Source for SharedSource<'_, R, S> {
-    ghost use Rattle.std.specs.Prelude.{refl};
-
     ghost allows = { λ _ _. true };
 
     ghost loaded = { LoadedThroughLock };
-
-    ghost agrees = { λ _ _. refl };
 
     fn load(&mut self, key: &Digest) -> Result<Chunk, ReadFault> {
         let piece = self.files.lock(self.rt).piece(key)?;

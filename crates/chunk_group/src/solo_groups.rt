@@ -1,29 +1,23 @@
 //! The group of a node on one thread.
 ghost use Rattle.std.specs.Prelude.{◌≡◌, ◌↔◌, ◌<◌, ◌≤◌, ◌≢◌, Err, IfErr, IfOk, None, Ok, OnOk, length};
 ghost use Rattle.host_names.specs.Blobs.{digest_of};
-ghost use Rattle.blob_store.specs.Calls.{PutsFile};
-ghost use Rattle.blob_store.specs.Faults.{HasPutPart};
-ghost use Rattle.blob_store.specs.declared.blobs.UploadFault.TheVariants as upload_fault;
-ghost use Rattle.blob_store.specs.declared.reading.ReadFault.TheVariants.{OutOfMemory};
+ghost use Rattle.chunk_reads.specs.declared.faults.ReadFault.TheVariants.{OutOfMemory};
 ghost use Rattle.chunk_lru.specs.Caches.{empty};
 ghost use Rattle.chunk_lru.specs.Rules.{held};
 ghost use Rattle.chunk_group.specs.Fills.{Fills, IsMiss};
 ghost use Rattle.chunk_group.specs.Loads.{IsGivenFault};
 ghost use Rattle.chunk_group.specs.Owners.{Owns};
-ghost use Rattle.chunk_group.specs.Holding.{IsNotHeld, ReadsInTurn};
+ghost use Rattle.chunk_reads.specs.Reading.{IsNotHeld, ReadsInTurn};
 ghost use Rattle.chunk_group.specs.Nodes.{ReadsOf};
 
 use crate::caches::Caches;
 use crate::coins::Coin;
-use crate::file_sources::FileSource;
-use crate::holds::{ChunkReader, hold_stretch};
 use crate::loads::{Given, Suppliers};
 use crate::places::RingPlace;
 use crate::sources::Source;
-use blob_store::{Known, ReadFault, Shelf, UploadFault};
 use byte_view::{BlobInfo, Chunk, Hold};
 use chunk_lru::ChunkCache;
-use file_reads::Holder;
+use chunk_reads::{ChunkReader, Holder, ReadFault, hold_stretch};
 use host_names::Digest;
 use peer_link::PeerLink;
 use peer_ring::{Ring, RingHash};
@@ -34,7 +28,7 @@ use std::sync::Arc;
 #[derive(Drop)]
 pub(crate) struct Node<S, L, C> {
     caches: Caches<C>,
-    suppliers: Suppliers<S, L>,
+    pub(crate) suppliers: Suppliers<S, L>,
 }
 
 impl<S: Source, L: PeerLink, C: Coin> Node<S, L, C> {
@@ -63,7 +57,7 @@ impl<S: Source, L: PeerLink, C: Coin> Node<S, L, C> {
 pub struct SoloGroup<H: RingHash + Drop, S, L, C> {
     alloc: Global,
     place: RingPlace<H>,
-    node: Node<S, L, C>,
+    pub(crate) node: Node<S, L, C>,
 }
 
 impl<H: RingHash + Copy + Drop, S: Source + Drop, L: PeerLink + Drop, C: Coin + Drop> SoloGroup<
@@ -169,32 +163,5 @@ impl<H: RingHash + Copy + Drop, S: Source, L: PeerLink, C: Coin> Holder for Solo
 
     fn hold(&mut self, info: Arc<BlobInfo>, first: usize, last: usize) -> Result<Hold, ReadFault> {
         self.hold(info, first, last)
-    }
-}
-
-impl<H: RingHash + Copy + Drop, S: Shelf, L, C> SoloGroup<H, FileSource<S>, L, C> {
-    /// Puts a file of at most `MAX_SIZE` bytes on the shelf of the source, which is to have the known files: each piece that none of these has
-    /// once, and then its table (`Files::put`). It answers what is kept of the file. What the caches have stays.
-    pub fn put(
-        &mut self,
-        known: &Known,
-        digest: Digest,
-        bytes: &[u8],
-    ) -> Result<Arc<BlobInfo>, UploadFault>
-        requires { digest ≡ digest_of bytes.now }
-        ensures large { (result ≡ Err upload_fault.TooLarge) ↔ (16777216 < length bytes.now) }
-        ensures info { IfOk result (λ info. info.value ≡ bytes.now) }
-        ensures put { OnOk result (PutsFile S.did known.now self.old.node.suppliers.source.files.shelf bytes.now None
-            self.new.node.suppliers.source.files.shelf) }
-        ensures not_put { IfErr result
-            (λ fault. HasPutPart S.did known.now self.old.node.suppliers.source.files.shelf bytes.now fault
-            self.new.node.suppliers.source.files.shelf) }
-        ensures device { IfErr result (λ fault. fault ≡ upload_fault.Device → S.failures self.old.node.suppliers.source.files.shelf < S.failures self.new.node.suppliers.source.files.shelf) }
-        ensures count { S.failures self.old.node.suppliers.source.files.shelf ≤ S.failures self.new.node.suppliers.source.files.shelf }
-        ensures caches { self.new.node.caches ≡ self.old.node.caches }
-        ensures link { self.new.node.suppliers.link ≡ self.old.node.suppliers.link }
-        ensures place { self.new.place ≡ self.old.place }
-    {
-        self.node.suppliers.source.files.put(known, digest, bytes)
     }
 }

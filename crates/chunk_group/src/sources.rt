@@ -1,24 +1,24 @@
 //! Sources of chunks.
 ghost use Rattle.std.specs.Prelude.{◌≡◌, ◌≢◌, true, Err, IfErr, IfOk, MatchResult, Ok};
 ghost use Rattle.host_names.specs.Blobs.{digest_of};
-ghost use Rattle.blob_store.specs.declared.reading.ReadFault.TheVariants.{Damaged};
+ghost use Rattle.chunk_reads.specs.declared.faults.ReadFault.TheVariants.{Damaged};
 ghost use Rattle.chunk_group.specs.Faults.{may_answer};
 
-use blob_store::ReadFault;
 use byte_view::Chunk;
+use chunk_reads::ReadFault;
 use host_names::Digest;
 use single_flight::Loads;
+use std::marker::PhantomData;
 use std::sync::Arc;
 
 /// What a read of a chunk comes to.
 pub type Outcome = Result<Arc<Chunk>, ReadFault>;
 
 /// Where a node has those chunks from that no peer gives it. It is not trusted: what it gives may be the chunk of another name.
-pub trait Source: Loads<Outcome> {
+pub trait Source {
     ghost use Rattle.std.specs.Prelude.{Bool, List, Result, ℕ};
     ghost use Rattle.host_names.specs.declared.digests.Digest.{Digest};
-    ghost use Rattle.blob_store.specs.declared.reading.ReadFault.{ReadFault};
-    ghost use Rattle.chunk_group.specs.Outcomes.{is_outcome};
+    ghost use Rattle.chunk_reads.specs.declared.faults.ReadFault.{ReadFault};
 
     /// Which faults a source of this type may answer for a key, want of memory left out.
     ghost allows: { Digest → ReadFault → Bool };
@@ -31,7 +31,17 @@ pub trait Source: Loads<Outcome> {
         ensures loaded { MatchResult result (λ chunk. loaded self.old key.now (Ok chunk) self.new) (λ fault. loaded self.old key.now (Err fault) self.new) }
         ensures fault { IfErr result (λ fault. may_answer allows key.now fault ≡ true) }
         ensures other { IfOk result (λ chunk. digest_of chunk ≢ key.now → allows key.now Damaged ≡ true) };
+}
 
-    // The outcomes of its flights are those.
-    ghost agrees: { (key : Digest) (outcome : _) → Self.fits key outcome ≡ is_outcome (λ share. share.value) allows key outcome };
+/// The flights of loads from a source. For clauses alone: none is made.
+pub(crate) struct Loading<S> {
+    of: PhantomData<S>,
+}
+
+impl<S: Source> Loads<Outcome> for Loading<S> {
+    ghost use Rattle.chunk_group.specs.Outcomes.{clones_of_outcomes, is_outcome};
+
+    ghost fits = { is_outcome (λ share. share.value) S.allows };
+
+    ghost clones_fit = { clones_of_outcomes (λ share. share.value) S.allows _ (λ _ _ same. same) (λ _ _ wrong. wrong) (λ _ _ wrong. wrong) (λ _ _ same. same) };
 }

@@ -3,8 +3,8 @@ use Rattle.std.proofs.Common.{◌≡◌, inl, inr, ℕ, List, [], ◌∷◌, ◌
 use Rattle.std.proofs.lemmas.List.{append-nil, append_assoc, map-append}
 use Rattle.std.proofs.lemmas.List.Elements.{All-append, All-cons, All-nil}
 use Rattle.byte_view.specs.Holds.{Held, IsHeld}
-use Rattle.blob_store.specs.declared.reading.ReadFault.{ReadFault}
-use Rattle.blob_store.specs.declared.reading.ReadFault.TheVariants.{OutOfMemory}
+use Rattle.chunk_reads.specs.declared.faults.ReadFault.{ReadFault}
+use Rattle.chunk_reads.specs.declared.faults.ReadFault.TheVariants.{OutOfMemory}
 use Rattle.range_reply.specs.Bodies.{stretch_of}
 use Rattle.file_reads.specs.Holding.{AreHeld, AreNotHeld, GivesHolds, IsNextFault, IsNextHold}
 

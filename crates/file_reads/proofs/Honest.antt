@@ -1,18 +1,11 @@
 -- Where a holder is honest at the end, each hold before was honest.
 use Rattle.std.specs.Prelude.{IsTrue}
-use Rattle.std.proofs.Common.{◌≡◌, inl, inr, Bool, ℕ, List, [], ◌∷◌, Option, subst}
+use Rattle.std.proofs.Common.{◌≡◌, inl, inr, Bool, ℕ, List, [], ◌∷◌, subst}
 use Rattle.byte_view.specs.Holds.{Held}
-use Rattle.blob_store.proofs.Honest.{gives, stretch}
-use Rattle.blob_store.specs.Calls.{Call}
-use Rattle.blob_store.specs.Keeping.{Keeps, Where}
-use Rattle.blob_store.specs.Stretches.{chunks_given}
-use Rattle.blob_store.specs.declared.reading.ReadFault.{ReadFault}
-use Rattle.blob_store.specs.declared.shelf_files.Files.{Files}
-use Rattle.blob_store.specs.declared.shelves.ShelfName.{ShelfName}
+use Rattle.chunk_reads.specs.declared.faults.ReadFault.{ReadFault}
 use Rattle.range_spec.specs.declared.selection.Choice.{Choice}
 use Rattle.file_reads.specs.Holding.{AreHeld, AreNotHeld, GivesHolds}
 use Rattle.file_reads.specs.Sending.{IsNotRead, IsRead, more_of}
-use Rattle.file_reads.specs.Stores.{FailedOfFiles, GaveOfFiles}
 use Rattle.file_reads.specs.declared.bodies.FileBody.{FileBody}
 
 module _ {H : Type 0} (honest : H → Bool) (gave well : H → Held → H → Type 0)
@@ -69,28 +62,3 @@ module _ {H : Type 0} (honest : H → Bool) (gave well : H → Held → H → Ty
         let rest = not_held mid new file _ why so is in
         let all = are_held old mid file intervals holds rest.0 held in
         (all.0, inr (intervals, holds, mid, many, all.1, alone, rest.1))
-
-module _ {S : Type 0} (did : S → Call → S → Type 0) (failures : S → ℕ) (honest : S → Bool) (has : S → ShelfName → Option (List ℕ)) (keeps : Keeps did honest has) where
-  abbrev Well : S → Call → S → Type 0
-  Well = Where honest did
-
-  files_gave : (old new : Files S) (h : Held) → IsTrue (honest new.shelf) → GaveOfFiles did failures old h new
-      → IsTrue (honest old.shelf) × GaveOfFiles Well failures old h new
-  files_gave old new h so is =
-      let all = gives did honest has keeps old.shelf new.shelf (chunks_given h.chunks) so is.0 in
-      (all.0, (all.1, is.1))
-
-  files_failed : (old new : Files S) (file : List ℕ) (first last : ℕ) (why : ReadFault) → IsTrue (honest new.shelf) → FailedOfFiles did failures old file first last why new
-      → IsTrue (honest old.shelf) × FailedOfFiles Well failures old file first last why new
-  files_failed old new file first last why so is =
-      let all = stretch did honest has keeps old.shelf new.shelf file first last why so is.0 in
-      (all.0, (all.1, is.1, is.2))
-
-  pub files_read : (old new : Files S) (file : List ℕ) (plan : Choice) (content_type : List ℕ) (body : FileBody) → IsTrue (honest new.shelf)
-      → IsRead (GaveOfFiles did failures) old file plan content_type body new → IsTrue (honest old.shelf) × IsRead (GaveOfFiles Well failures) old file plan content_type body new
-  files_read = is_read (λ files. honest files.shelf) (GaveOfFiles did failures) (GaveOfFiles Well failures) files_gave
-
-  pub files_not_read : (old new : Files S) (file : List ℕ) (plan : Choice) (why : ReadFault) → IsTrue (honest new.shelf)
-      → IsNotRead (GaveOfFiles did failures) (FailedOfFiles did failures) old file plan why new
-      → IsTrue (honest old.shelf) × IsNotRead (GaveOfFiles Well failures) (FailedOfFiles Well failures) old file plan why new
-  files_not_read = not_read (λ files. honest files.shelf) (GaveOfFiles did failures) (GaveOfFiles Well failures) files_gave (FailedOfFiles did failures) (FailedOfFiles Well failures) files_failed

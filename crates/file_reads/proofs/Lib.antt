@@ -1,5 +1,4 @@
 mod HeldInTurn
 mod Joined
 pub mod Passing
-pub mod Stored
 pub mod Honest

@@ -4,8 +4,8 @@ use Rattle.std.proofs.lemmas.List.Elements.{All-append, All-from_recursion, recu
 use Rattle.std.specs.List.{AllByRecursion}
 use Rattle.byte_view.specs.Cuts.{IsPure}
 use Rattle.byte_view.specs.Holds.{Held, IsHeld}
-use Rattle.blob_store.specs.declared.reading.ReadFault.{ReadFault}
-use Rattle.blob_store.specs.declared.reading.ReadFault.TheVariants.{OutOfMemory}
+use Rattle.chunk_reads.specs.declared.faults.ReadFault.{ReadFault}
+use Rattle.chunk_reads.specs.declared.faults.ReadFault.TheVariants.{OutOfMemory}
 use Rattle.range_spec.specs.declared.selection.Choice.{Choice}
 use Rattle.file_reads.specs.declared.bodies.FileBody.{FileBody}
 use Rattle.file_reads.specs.Holding.{AreHeld, AreNotHeld, GivesHolds}

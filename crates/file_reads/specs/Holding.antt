@@ -1,8 +1,8 @@
 -- Stretches of a file that are held one after another.
 use Rattle.std.specs.Prelude.{◌≡◌, ◌⊎◌, ℕ, List, [], ◌∷◌, ◌++◌, All, map}
 use Rattle.byte_view.specs.Holds.{Held, IsHeld}
-use Rattle.blob_store.specs.declared.reading.ReadFault.{ReadFault}
-use Rattle.blob_store.specs.declared.reading.ReadFault.TheVariants.{OutOfMemory}
+use Rattle.chunk_reads.specs.declared.faults.ReadFault.{ReadFault}
+use Rattle.chunk_reads.specs.declared.faults.ReadFault.TheVariants.{OutOfMemory}
 use Rattle.range_reply.specs.Bodies.{stretch_of}
 
 -- a holder gives these holds one after another, and nothing else is done with it

@@ -1,4 +1,3 @@
 -- what public clauses say
-pub mod Stores
 pub mod Holding
 pub mod Sending

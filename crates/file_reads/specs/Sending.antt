@@ -14,7 +14,7 @@ use Rattle.range_reply.specs.Boundaries.{HasNoBoundary, IsBoundaryFor}
 use Rattle.range_reply.specs.Multipart.{text_of}
 use Rattle.range_reply.specs.Slices.{all_shown}
 use Rattle.file_reads.specs.declared.bodies.FileBody.{FileBody}
-use Rattle.blob_store.specs.declared.reading.ReadFault.{ReadFault}
+use Rattle.chunk_reads.specs.declared.faults.ReadFault.{ReadFault}
 use Rattle.file_reads.specs.Holding.{AreHeld, AreNotHeld}
 
 -- what is sent where a plan asks for that: several parts have a boundary that occurs in none of these texts, and where there is none, all

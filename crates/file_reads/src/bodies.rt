@@ -1,6 +1,6 @@
 //! The body that sends some bytes of a file.
 ghost use Rattle.std.specs.Prelude.{◌≡◌, ◌<◌, All, IfErr, IfOk, IsTrue, MatchResult, None, length};
-ghost use Rattle.blob_store.specs.declared.reading.ReadFault.TheVariants.{OutOfMemory};
+ghost use Rattle.chunk_reads.specs.declared.faults.ReadFault.TheVariants.{OutOfMemory};
 ghost use Rattle.range_reply.specs.Bodies.{AreFor, HasBoundary, body_text, shown_text, text_in, whole_of};
 ghost use Rattle.range_reply.specs.Slices.{ArePure, all_meant, all_shown};
 ghost use Rattle.range_spec.specs.Chosen.{LiesWithin, intervals_in};
@@ -8,10 +8,9 @@ ghost use Rattle.range_spec.specs.declared.selection.Choice.TheVariants as choic
 ghost use Rattle.file_reads.specs.Holding.{AreNotHeld};
 ghost use Rattle.file_reads.specs.Sending.{HasParts, IsNotRead, IsRead, IsSent, IsWholeRead, sends_bytes};
 
-use crate::holders::Holder;
 use crate::stretches::{hold_for, hold_whole};
-use blob_store::ReadFault;
 use byte_view::{BlobInfo, Hold};
+use chunk_reads::{Holder, ReadFault};
 use host_names::Digest;
 use http_wire::FieldText;
 use range_reply::{Boundary, ReplyPlan, body, boundary};

@@ -2,10 +2,7 @@
 #![tactic(auto)]
 
 mod bodies;
-mod holders;
-mod laws;
+pub mod laws;
 mod stretches;
 
 pub use bodies::{FileBody, read_body};
-pub use holders::Holder;
-pub use laws::{a_whole_file_is_its_body, kept_files_are_sent, reads_count_failures};

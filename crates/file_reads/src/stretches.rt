@@ -5,9 +5,8 @@ ghost use Rattle.range_reply.specs.Bodies.{stretches, whole_of};
 ghost use Rattle.range_spec.specs.Chosen.{LiesWithin, intervals_in};
 ghost use Rattle.file_reads.specs.Holding.{AreHeld, AreNotHeld, IsNextFault, IsNextHold};
 
-use crate::holders::Holder;
-use blob_store::ReadFault;
 use byte_view::{BlobInfo, Hold};
+use chunk_reads::{Holder, ReadFault};
 use range_reply::ReplyPlan;
 use range_spec::Choice;
 use std::alloc::Global;

@@ -1,13 +1,11 @@
 //! Chunks by their numbers, and a source that makes them.
-ghost use Rattle.std.specs.Prelude.{◌≡◌, true, refl};
-ghost use Rattle.chunk_group.specs.Outcomes.{clones_of_outcomes, is_outcome};
+ghost use Rattle.std.specs.Prelude.{true};
 
 use anyhow::anyhow;
-use blob_store::ReadFault;
 use byte_view::Chunk;
-use chunk_group::{Outcome, Source};
+use chunk_group::Source;
+use chunk_reads::ReadFault;
 use host_names::Digest;
-use single_flight::Loads;
 use std::alloc::{AllocError, Global};
 use std::sync::atomic::{AtomicU64, Ordering};
 
@@ -61,18 +59,10 @@ impl<'a> ChunkMaker<'a> {
     }
 }
 
-impl Loads<Outcome> for ChunkMaker<'_> {
-    ghost fits = { is_outcome (λ share. share.value) (λ _ _. true) };
-
-    ghost clones_fit = { clones_of_outcomes (λ share. share.value) (λ _ _. true) _ (λ _ _ same. same) (λ _ _ wrong. wrong) (λ _ _ wrong. wrong) (λ _ _ same. same) };
-}
-
 impl Source for ChunkMaker<'_> {
     ghost allows = { λ _ _. true };
 
     ghost loaded = { λ _ _ _ _. Unit {0} };
-
-    ghost agrees = { λ _ _. refl };
 
     fn load(&mut self, key: &Digest) -> Result<Chunk, ReadFault> {
         self.loads.fetch_add(1, Ordering::SeqCst);

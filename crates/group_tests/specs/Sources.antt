@@ -2,8 +2,8 @@
 use Rattle.std.specs.Prelude.{◌≡◌, ◌≢◌, ℕ, Bool, true, false, List, Result, Ok, Err}
 use Rattle.host_names.specs.declared.digests.Digest.{Digest}
 use Rattle.host_names.specs.Blobs.{digest_of}
-use Rattle.blob_store.specs.declared.reading.ReadFault.{ReadFault}
-use Rattle.blob_store.specs.declared.reading.ReadFault.TheVariants.{Damaged, Device, Missing, OutOfMemory}
+use Rattle.chunk_reads.specs.declared.faults.ReadFault.{ReadFault}
+use Rattle.chunk_reads.specs.declared.faults.ReadFault.TheVariants.{Damaged, Device, Missing, OutOfMemory}
 
 -- it may lack the chunk of a key; none is damaged, and there is no device to fail
 abbrev pub may_lack : Digest → ReadFault → Bool

@@ -4,6 +4,7 @@ ghost use Rattle.std.specs.Prelude.{◌≡◌};
 use anyhow::{Result, anyhow};
 use blob_store::{Blobs, MemShelf};
 use byte_view::{BlobInfo, MAX_SIZE, PIECE_SIZE};
+use chunk_group::NodeFiles;
 use file_reads::read_body;
 use host_names::Digest;
 use http_wire::FieldText;
@@ -100,10 +101,13 @@ pub(crate) fn time_read(rt: &HostRuntime, bytes: usize) -> Result<Duration> {
     let file = random(rt.alloc(), bytes, 1)?;
     let mut blobs = empty_store(rt.alloc());
     let (info, _) = upload(rt, &mut blobs, file.as_slice())?;
-    let (_, mut files) = blobs.into_parts();
+    let (_, files) = blobs.into_parts();
+    let mut node = NodeFiles::new(rt.alloc(), files).map_err(|_| anyhow!(
+        "there is no memory for a node"
+    ))?;
     let plain = FieldText::new("text/plain");
     let begun = Instant::now(rt)?;
-    let body = read_body(rt.alloc(), &mut files, &info, Choice::Whole, plain)?;
+    let body = read_body(rt.alloc(), &mut node, &info, Choice::Whole, plain)?;
     let took = begun.elapsed(rt)?;
     if body.bytes != file {
         return Err(anyhow!("other bytes were read"));

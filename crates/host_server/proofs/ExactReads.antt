@@ -6,8 +6,8 @@ use Rattle.blob_store.specs.Calls.{Call}
 use Rattle.blob_store.specs.Keeping.{AlwaysKeeps, HasFile}
 use Rattle.blob_store.specs.declared.shelves.ShelfName.{ShelfName}
 use Rattle.range_spec.specs.declared.selection.Choice.{Choice}
-use Rattle.node_files.specs.Cached.{CachedShelf, HasCached}
-use Rattle.node_files.proofs.Stored.{fault_why, sent_exact}
+use Rattle.chunk_group.specs.Cached.{CachedShelf, HasCached}
+use Rattle.host_server.proofs.StoredReads.{fault_why, sent_exact}
 use Rattle.http_wire.specs.Requests.{RequestParts}
 use Rattle.host_api.specs.Types.{type_of}
 use Rattle.host_api.specs.declared.bodies.Ask.{Ask}

@@ -9,10 +9,10 @@ use Rattle.blob_store.specs.Calls.{Call}
 use Rattle.blob_store.specs.Keeping.{Keeps, Where}
 use Rattle.blob_store.specs.declared.blobs.UploadFault.{UploadFault}
 use Rattle.blob_store.specs.declared.blobs.UploadFault.TheVariants as fault
-use Rattle.blob_store.specs.declared.reading.ReadFault.TheVariants as read_fault
+use Rattle.chunk_reads.specs.declared.faults.ReadFault.TheVariants as read_fault
 use Rattle.blob_store.specs.declared.shelves.ShelfName.{ShelfName}
-use Rattle.node_files.proofs.Honest.{node_not_read, node_read}
-use Rattle.node_files.specs.Cached.{CachedShelf}
+use Rattle.host_server.proofs.HonestReads.{node_not_read, node_read}
+use Rattle.chunk_group.specs.Cached.{CachedShelf}
 use Rattle.range_spec.specs.declared.selection.Choice.{Choice}
 use Rattle.http_wire.specs.Requests.{RequestParts}
 use Rattle.host_api.specs.Types.{type_of}

@@ -12,13 +12,13 @@ use Rattle.blob_store.specs.Calls.{Call, things_of}
 use Rattle.blob_store.specs.Keeping.{AlwaysKeeps, HasFile, Thing}
 use Rattle.blob_store.specs.declared.blobs.UploadFault.{UploadFault}
 use Rattle.blob_store.specs.declared.blobs.UploadFault.TheVariants as fault
-use Rattle.blob_store.specs.declared.reading.ReadFault.TheVariants as read_fault
+use Rattle.chunk_reads.specs.declared.faults.ReadFault.TheVariants as read_fault
 use Rattle.blob_store.specs.declared.shelves.ShelfName.{ShelfName}
 use Rattle.blob_store.specs.declared.shelves.ShelfName.TheVariants.{Part}
 use Rattle.blob_store.proofs.Kept.{file_put, moved, still_there_after, there_after_fault}
 use Rattle.chunk_lru.specs.Caches.{Cache}
-use Rattle.node_files.specs.Cached.{AllCached, CachedShelf, HasCached}
-use Rattle.node_files.proofs.Stored.{fault_cached, fault_stays, read_cached, read_stays}
+use Rattle.chunk_group.specs.Cached.{AllCached, CachedShelf, HasCached}
+use Rattle.host_server.proofs.StoredReads.{fault_cached, fault_stays, read_cached, read_stays}
 use Rattle.range_spec.specs.declared.selection.Choice.{Choice}
 use Rattle.http_wire.specs.Requests.{RequestParts}
 use Rattle.site_change.proofs.MoreUploads.{kept-with_file}

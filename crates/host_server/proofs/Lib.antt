@@ -5,6 +5,9 @@ pub mod InRange
 pub mod FieldTexts
 pub mod EntityTags
 pub mod Telling
+mod KeptByReads
+mod StoredReads
+mod HonestReads
 pub mod Reading
 pub mod Keeping
 mod FilesKnown

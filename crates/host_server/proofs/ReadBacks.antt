@@ -7,7 +7,7 @@ use Rattle.blob_store.specs.Calls.{Call}
 use Rattle.blob_store.specs.Keeping.{Keeps, Where}
 use Rattle.blob_store.specs.declared.shelves.ShelfName.{ShelfName}
 use Rattle.chunk_lru.specs.Caches.{Cache}
-use Rattle.node_files.specs.Cached.{AllCached}
+use Rattle.chunk_group.specs.Cached.{AllCached}
 use Rattle.host_disk.specs.declared.disks.Disk.{Ghosts}
 use Rattle.host_server.specs.Asks.{IsAnswer}
 use Rattle.host_server.specs.Openings.{IsOpened}

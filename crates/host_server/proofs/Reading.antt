@@ -2,8 +2,8 @@
 use Rattle.std.proofs.Common.{◌≡◌, ◌⊎◌, inl, inr, ℕ, List, Option, Some, None, Result, Ok, Err, IfOk, IfErr, IsTrue, length, refl, sym, ap, subst, ◌∙◌}
 use Rattle.host_names.specs.declared.digests.Digest.{Digest}
 use Rattle.blob_store.specs.Calls.{Call}
-use Rattle.blob_store.specs.declared.reading.ReadFault.{ReadFault}
-use Rattle.blob_store.specs.declared.reading.ReadFault.TheVariants as fault
+use Rattle.chunk_reads.specs.declared.faults.ReadFault.{ReadFault}
+use Rattle.chunk_reads.specs.declared.faults.ReadFault.TheVariants as fault
 use Rattle.range_spec.specs.declared.grammar.Asked.{Asked}
 use Rattle.range_spec.specs.declared.selection.Choice.{Choice}
 use Rattle.range_spec.specs.declared.selection.Choice.TheVariants.{Whole, One, Many, None416}
@@ -11,7 +11,7 @@ use Rattle.range_reply.specs.Bodies.{text_in}
 use Rattle.range_reply.specs.declared.boundaries.Boundary.{Boundary}
 use Rattle.file_reads.specs.Sending.{IsNotRead, IsRead, IsSent}
 use Rattle.file_reads.specs.declared.bodies.FileBody.{FileBody}
-use Rattle.node_files.specs.Cached.{FailedOfNode, GaveOfNode}
+use Rattle.chunk_group.specs.Cached.{FailedOfNode, GaveOfNode}
 use Rattle.http_wire.specs.Requests.{RequestParts}
 use Rattle.host_api.specs.Types.{type_of}
 use Rattle.host_api.specs.declared.refusals.Refusal.{Refusal}

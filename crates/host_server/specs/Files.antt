@@ -5,8 +5,8 @@ use Rattle.std.specs.Str.{bytes_eq}
 use Rattle.host_names.specs.Blobs.{digest_of}
 use Rattle.host_names.specs.declared.digests.Digest.{Digest}
 use Rattle.blob_store.specs.Calls.{Call}
-use Rattle.blob_store.specs.declared.reading.ReadFault.{ReadFault}
-use Rattle.blob_store.specs.declared.reading.ReadFault.TheVariants as fault
+use Rattle.chunk_reads.specs.declared.faults.ReadFault.{ReadFault}
+use Rattle.chunk_reads.specs.declared.faults.ReadFault.TheVariants as fault
 use Rattle.range_spec.specs.declared.grammar.Asked.{Asked}
 use Rattle.range_spec.specs.declared.grammar.Asked.TheVariants.{Ignore}
 use Rattle.range_spec.specs.declared.selection.Choice.{Choice}
@@ -18,7 +18,7 @@ use Rattle.range_reply.specs.Plans.{planned}
 use Rattle.range_reply.specs.declared.boundaries.Boundary.{Boundary}
 use Rattle.file_reads.specs.Sending.{IsNotRead, IsRead}
 use Rattle.file_reads.specs.declared.bodies.FileBody.{FileBody}
-use Rattle.node_files.specs.Cached.{CachedShelf, FailedOfNode, GaveOfNode}
+use Rattle.chunk_group.specs.Cached.{CachedShelf, FailedOfNode, GaveOfNode}
 use Rattle.http_wire.specs.Fields.{values_of}
 use Rattle.http_wire.specs.Requests.{RequestParts}
 use Rattle.http_wire.specs.declared.replies.ContentRange.TheVariants.{Of}

@@ -14,7 +14,7 @@ use Rattle.range_spec.specs.declared.selection.Choice.{Choice}
 use Rattle.range_spec.specs.declared.selection.Choice.TheVariants.{None416}
 use Rattle.file_reads.specs.Sending.{IsExact}
 use Rattle.file_reads.specs.declared.bodies.FileBody.{FileBody}
-use Rattle.node_files.specs.Cached.{AllCached}
+use Rattle.chunk_group.specs.Cached.{AllCached}
 use Rattle.http_wire.specs.Requests.{RequestParts}
 use Rattle.host_api.specs.Types.{type_of}
 use Rattle.host_api.specs.declared.bodies.Ask.TheVariants.{Read, Upload}

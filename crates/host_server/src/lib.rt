@@ -7,7 +7,7 @@ mod changing;
 mod connections;
 mod held_up;
 mod host;
-mod laws;
+pub mod laws;
 mod media_types;
 mod opening_lines;
 mod openings;
@@ -20,18 +20,13 @@ mod services;
 mod solo;
 mod stores;
 mod storing;
-mod wrong_answer_laws;
 
 pub use answers::{Request, answer};
 pub use connections::{ConnectionFault, serve_connection};
 pub use host::{HostView, SoloHouse, list_changes, show_deploy};
-pub use laws::uploads_are_read_back;
 pub use openings::{NotOpened, OpenFault};
 pub use replies::Reply;
 pub use servers::Server;
 pub use services::Service;
 pub use solo::run_solo;
 pub use stores::run_store;
-pub use wrong_answer_laws::{
-    wrong_answers_are_refused, wrong_changes_are_refused, wrong_runs_are_refused,
-};

@@ -19,10 +19,10 @@ use crate::servers::Server;
 use blob_store::{Blobs, Files, Shelf};
 use change_journal::Journal;
 use change_undo::Log;
+use chunk_group::NodeFiles;
 use host_disk::Disk;
 use host_names::Digest;
 use host_opening::{ReplayFault, replay, wanted};
-use node_files::NodeFiles;
 use std::alloc::{AllocError, Global};
 
 /// Why a server can't be opened.

@@ -7,8 +7,8 @@ ghost use Rattle.host_server.specs.Journals.{Agrees};
 use crate::host::SoloHouse;
 use blob_store::{Files, Shelf};
 use change_journal::Journal;
+use chunk_group::NodeFiles;
 use host_disk::Disk;
-use node_files::NodeFiles;
 use std::alloc::{AllocError, Global};
 
 /// A host on one thread, the journal of its entries, if it has one, and the shelf that its files are on, which are read through a cache.

@@ -46,7 +46,7 @@ impl<S: Shelf, D: Disk> Server<S, D> {
         if bytes.len() <= MAX_SIZE && known.find(&digest).is_some() {
             return Ok(());
         }
-        let info = match self.files.put(known, digest, bytes) {
+        let info = match self.files.files_mut().put(known, digest, bytes) {
             Ok(info) => info,
             Err(why) => return Err(refusal_of_upload(why)),
         };

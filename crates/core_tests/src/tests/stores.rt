@@ -2,6 +2,7 @@
 use super::fixtures::{assert_text, halves};
 use blob_store::{Blobs, LentShelf, MemShelf, OpenFault, ShelfName, UploadFault, Wanted};
 use byte_view::BlobInfo;
+use chunk_group::NodeFiles;
 use file_reads::read_body;
 use host_names::Digest;
 use http_wire::FieldText;
@@ -198,32 +199,7 @@ world !hello -> damaged aaf4c61ddcc5e8a2dabede0f3b482cd9aea9434d
     Ok(())
 }
 
-/// Asserts the two bytes of a file at the edge of its first chunk.
-fn assert_edge(
-    rt: &impl Abort,
-    blobs: &mut Blobs<MemShelf>,
-    info: Arc<BlobInfo>,
-) -> Result<(), Fail> {
-    if info.len() != 65_537 {
-        return Err(Fail::from("the file has another size"));
-    }
-    let hold = blobs.hold(info, 65_535, 65_536)?;
-    let mut pieces = hold.pieces(65_535, 65_536);
-    assert_eq!(rt; pieces.next(), Some([24u8].as_slice()));
-    assert_eq!(rt; pieces.next(), Some([25u8].as_slice()));
-    assert_eq!(rt; pieces.next(), None);
-    Ok(())
-}
-
-#[test]
-fn a_stretch_is_held_across_the_edge_of_a_chunk(rt: HostRuntime) -> Result<(), Fail> {
-    let file = file_of(rt.alloc(), 65_537)?;
-    let mut blobs = no_uploads(rt.alloc());
-    let info = blobs.upload(file.as_slice())?;
-    assert_edge(&rt, &mut blobs, info)
-}
-
-/// Asserts what is read of `hello world`, by the files of a store alone, for a value of Range.
+/// Asserts what is read of `hello world`, through a node over a store's shelf, for a value of Range.
 fn assert_read(
     rt: &impl Abort,
     alloc: Global,
@@ -231,10 +207,11 @@ fn assert_read(
     wanted: &str,
 ) -> Result<(), Fail> {
     let info = blobs.upload(b"hello world")?;
-    let (_, mut files) = blobs.into_parts();
+    let (_, files) = blobs.into_parts();
+    let mut node = NodeFiles::new(alloc, files).map_err(|_| "there is no memory for a node")?;
     let planned = plan(&info, &parse(b"bytes=6-"), IfRange::Absent);
     let plain = FieldText::new("text/plain");
-    let body = read_body(alloc, &mut files, &info, planned, plain)?;
+    let body = read_body(alloc, &mut node, &info, planned, plain)?;
     assert_text(
         rt,
         "a range",
@@ -245,6 +222,6 @@ fn assert_read(
 }
 
 #[test]
-fn a_range_is_read_of_the_files_of_a_shelf(rt: HostRuntime) -> Result<(), Fail> {
+fn a_range_is_read_through_a_node(rt: HostRuntime) -> Result<(), Fail> {
     assert_read(&rt, rt.alloc(), no_uploads(rt.alloc()), "world")
 }

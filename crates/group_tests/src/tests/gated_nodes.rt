@@ -1,17 +1,15 @@
 //! Reads through a node that threads share, whose loads are held back for each other.
-ghost use Rattle.std.specs.Prelude.{◌≡◌, true, refl};
-ghost use Rattle.chunk_group.specs.Outcomes.{clones_of_outcomes, is_outcome};
+ghost use Rattle.std.specs.Prelude.{true};
 
 use super::fixtures::{chunk_of, is_chunk_of, name_of};
 use super::gates::{ATTEMPTS, CALLERS, Gate};
 use super::node_fixtures::first_node;
-use blob_store::ReadFault;
 use byte_view::Chunk;
 use chunk_group::{Counter, Group, Outcome, Source};
+use chunk_reads::ReadFault;
 use host_names::Digest;
 use peer_link::NoLink;
 use peer_ring::DigestHash;
-use single_flight::Loads;
 use std::alloc::Global;
 use std::process::Abort;
 use std::sync::Wait;
@@ -28,18 +26,10 @@ struct GatedSource<'a> {
     is_missing: bool,
 }
 
-impl Loads<Outcome> for GatedSource<'_> {
-    ghost fits = { is_outcome (λ share. share.value) (λ _ _. true) };
-
-    ghost clones_fit = { clones_of_outcomes (λ share. share.value) (λ _ _. true) _ (λ _ _ same. same) (λ _ _ wrong. wrong) (λ _ _ wrong. wrong) (λ _ _ same. same) };
-}
-
 impl Source for GatedSource<'_> {
     ghost allows = { λ _ _. true };
 
     ghost loaded = { λ _ _ _ _. Unit {0} };
-
-    ghost agrees = { λ _ _. refl };
 
     fn load(&mut self, key: &Digest) -> Result<Chunk, ReadFault> {
         if *key != self.shared {

@@ -2,10 +2,10 @@
 use super::fixtures::{Giver, bytes_of, names};
 use super::gates::assert_count;
 use super::node_fixtures::first_node;
-use blob_store::{Blobs, Files, MemShelf, ReadFault};
+use blob_store::{Blobs, Files, MemShelf};
 use byte_view::{BlobInfo, Hold};
 use chunk_group::{Counter, FileSource, Group, SoloGroup};
-use file_reads::Holder;
+use chunk_reads::{Holder, ReadFault};
 use host_names::Digest;
 use peer_link::NoLink;
 use peer_ring::{DigestHash, Ring};

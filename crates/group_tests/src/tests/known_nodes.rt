@@ -1,18 +1,16 @@
 //! Reads through a node that threads share, over a source of which all that it may answer is known.
-ghost use Rattle.std.specs.Prelude.{◌≡◌, ◌≢◌, ◌∷◌, [], refl, IfErr, IfOk};
+ghost use Rattle.std.specs.Prelude.{◌≡◌, ◌≢◌, ◌∷◌, [], IfErr, IfOk};
 ghost use Rattle.host_names.specs.Blobs.{digest_of};
-ghost use Rattle.blob_store.specs.declared.reading.ReadFault.TheVariants.{Damaged, Device};
-ghost use Rattle.chunk_group.specs.Outcomes.{clones_of_outcomes, is_outcome};
+ghost use Rattle.chunk_reads.specs.declared.faults.ReadFault.TheVariants.{Damaged, Device};
 ghost use Rattle.group_tests.specs.Sources.{GivesAlone, may_lack};
 
 use super::node_fixtures::first_node;
-use blob_store::ReadFault;
 use byte_view::Chunk;
 use chunk_group::{Counter, Group, Outcome, Source};
+use chunk_reads::ReadFault;
 use host_names::Digest;
 use peer_link::NoLink;
 use peer_ring::DigestHash;
-use single_flight::Loads;
 use std::alloc::Global;
 use std::process::Abort;
 use std::sync::Wait;
@@ -25,18 +23,10 @@ struct OneByte {
     byte: u8,
 }
 
-impl Loads<Outcome> for OneByte {
-    ghost fits = { is_outcome (λ share. share.value) may_lack };
-
-    ghost clones_fit = { clones_of_outcomes (λ share. share.value) may_lack _ (λ _ _ same. same) (λ _ _ wrong. wrong) (λ _ _ wrong. wrong) (λ _ _ same. same) };
-}
-
 impl Source for OneByte {
     ghost allows = { may_lack };
 
     ghost loaded = { λ old key answer new. GivesAlone (old.byte ∷ []) key answer × (new ≡ old) };
-
-    ghost agrees = { λ _ _. refl };
 
     fn load(&mut self, key: &Digest) -> Result<Chunk, ReadFault> {
         let bytes = Vec::from_elem(self.alloc, self.byte, 1).map_err(|_| ReadFault::OutOfMemory)?;

@@ -2,8 +2,8 @@
 
 use super::fixtures::{Gift, Giver, is_chunk_of, names};
 use super::nodes_with_peers::{Asked, PEERS, Reads, Visitor, lone_node, shared_node};
-use blob_store::ReadFault;
 use chunk_group::Outcome;
+use chunk_reads::ReadFault;
 use host_names::Digest;
 use peer_ring::{DigestHash, Ring};
 use std::alloc::Global;

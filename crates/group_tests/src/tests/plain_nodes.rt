@@ -1,7 +1,7 @@
 //! A node by the plainest means: lists of numbers, and a count of draws.
 
 use super::fixtures::{Gift, gift_at};
-use blob_store::ReadFault;
+use chunk_reads::ReadFault;
 use std::alloc::{AllocError, Global};
 
 /// What its peers give, in turn.

@@ -3,8 +3,8 @@
 use super::fixtures::{Giver, is_chunk_of, names};
 use super::nodes_with_peers::{Asked, PEERS, Reads, Visitor, lone_node, shared_node};
 use super::plain_nodes::{FETCHES, LOADS, PlainNode};
-use blob_store::ReadFault;
 use chunk_group::Outcome;
+use chunk_reads::ReadFault;
 use host_names::Digest;
 use peer_ring::{DigestHash, Ring};
 use std::alloc::{AllocError, Global};

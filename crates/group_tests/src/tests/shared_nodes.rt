@@ -1,17 +1,15 @@
 //! Many reads of many chunks through a node that threads share.
-ghost use Rattle.std.specs.Prelude.{◌≡◌, true, refl};
-ghost use Rattle.chunk_group.specs.Outcomes.{clones_of_outcomes, is_outcome};
+ghost use Rattle.std.specs.Prelude.{true};
 
 use super::fixtures::{Gift, Giver, chunk_of, is_chunk_of, names, number_of};
 use super::gates::assert_count;
 use super::node_fixtures::first_node;
-use blob_store::ReadFault;
 use byte_view::Chunk;
 use chunk_group::{Counter, Group, Outcome, Source};
+use chunk_reads::ReadFault;
 use host_names::Digest;
 use peer_link::{NoLink, PeerLink};
 use peer_ring::DigestHash;
-use single_flight::Loads;
 use std::alloc::{AllocError, Global};
 use std::process::Abort;
 use std::sync::Wait;
@@ -136,18 +134,10 @@ struct StockSource<'a> {
     stock: &'a Stock,
 }
 
-impl Loads<Outcome> for StockSource<'_> {
-    ghost fits = { is_outcome (λ share. share.value) (λ _ _. true) };
-
-    ghost clones_fit = { clones_of_outcomes (λ share. share.value) (λ _ _. true) _ (λ _ _ same. same) (λ _ _ wrong. wrong) (λ _ _ wrong. wrong) (λ _ _ same. same) };
-}
-
 impl Source for StockSource<'_> {
     ghost allows = { λ _ _. true };
 
     ghost loaded = { λ _ _ _ _. Unit {0} };
-
-    ghost agrees = { λ _ _. refl };
 
     fn load(&mut self, key: &Digest) -> Result<Chunk, ReadFault> {
         let number = number_of(self.stock.names.as_slice(), key).ok_or(ReadFault::Missing)?;

@@ -3,8 +3,9 @@
 use super::fixtures::{bytes_of, is_chunk_of, names};
 use super::gates::assert_count;
 use super::node_fixtures::first_node;
-use blob_store::{Files, Known, MemShelf, ReadFault};
+use blob_store::{Files, Known, MemShelf};
 use chunk_group::{Counter, Group, SharedSource};
+use chunk_reads::ReadFault;
 use host_names::Digest;
 use peer_link::NoLink;
 use peer_ring::DigestHash;

@@ -1,7 +1,7 @@
 use Rattle.std.proofs.Common.{ap, subst, ◌∙◌, List, ℕ}
 use Rattle.file_reads.specs.Sending.{IsRead}
-use Rattle.node_files.specs.Cached.{GaveOfNode}
-use Rattle.node_files.proofs.Stored.{fault_goes_on, read_goes_on}
+use Rattle.chunk_group.specs.Cached.{GaveOfNode}
+use Rattle.host_server.proofs.StoredReads.{fault_goes_on, read_goes_on}
 use Rattle.host_server.specs.Files.{sent_answer}
 use Rattle.host_server.proofs.reads.send.Goals as goal
 

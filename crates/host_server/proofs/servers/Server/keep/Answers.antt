@@ -15,7 +15,8 @@ returns-in_err-keep-clause-refused g c =
     let P : Result (Unit {0}) Refusal → Type 0 = λ r. IfErr r (λ why. (x : UploadFault)
     × IsNotStored g.S.Shelf.did g.S.Shelf.failures uploads c.args.self.now.files.shelf c.args.bytes.now x c.put.new.self.shelf × (why ≡ refusal_of_upload x)) in
     let is : c.from_residual.result ≡ Err reason.OutOfMemory = search rules in
-    let put = subst (λ (known : Contents). PutsFile g.S.Shelf.did known c.args.self.now.files.shelf c.args.bytes.now None c.put.new.self.shelf) c.uploads-known.ensures c.in-Ok.ensures.put in
+    let put = subst (λ s. PutsFile g.S.Shelf.did uploads s c.args.bytes.now None c.put.new.self.shelf) c.files_mut.ensures.value
+    (subst (λ (known : Contents). PutsFile g.S.Shelf.did known c.files_mut.result.now.shelf c.args.bytes.now None c.put.new.self.shelf) c.uploads-known.ensures c.in-Ok.ensures.put) in
     subst P (sym is) (
       fault.OutOfMemory,
       record {
@@ -31,5 +32,6 @@ pub returns-clause-stored : goal.returns-clause-stored
 returns-clause-stored g c =
     let old = c.args.self.now.files.shelf in
     let put : PutsFile g.S.Shelf.did c.args.self.now.house.uploads old c.args.bytes.now None c.put.new.self.shelf =
-    subst (λ (known : Contents). PutsFile g.S.Shelf.did known old c.args.bytes.now None c.put.new.self.shelf) c.uploads-known.ensures c.in-Ok.ensures.put in
+    subst (λ s. PutsFile g.S.Shelf.did c.args.self.now.house.uploads s c.args.bytes.now None c.put.new.self.shelf) c.files_mut.ensures.value
+    (subst (λ (known : Contents). PutsFile g.S.Shelf.did known c.files_mut.result.now.shelf c.args.bytes.now None c.put.new.self.shelf) c.uploads-known.ensures c.in-Ok.ensures.put) in
     search (rules, put)

@@ -1,0 +1,4 @@
+mod ReadInTurn
+pub mod Alike
+pub mod Turns
+pub mod Backwards

@@ -1,0 +1,57 @@
+use Rattle.std.proofs.Common.{◌≡◌, ◌⊎◌, inl, inr, ℕ, List, [], ◌∷◌, Option, Some, None, true, false, refl, sym, ◌∙◌}
+use Rattle.change_journal.specs.entries.Held.{Keeps}
+use Rattle.change_undo.specs.declared.entries.Entry.{Entry}
+use Rattle.host_server.specs.Journals.{Puts}
+use Rattle.host_server.proofs.laws.refuted.wrong_changes_are_refused.Goals as goal
+
+pub returns-clause-grows : goal.returns-clause-grows
+returns-clause-grows g c entry grows = absurd (cc grows.longer)
+
+-- nothing is put into no journal
+none_put : {D : Type 0} (faults : D → ℕ) (more : List Entry) (new : Option (Keeps D)) → Puts faults None more new → new ≡ None
+none_put faults [] new put = put
+none_put faults (entry ∷ more) new put = put
+
+pub returns-clause-journaled : goal.returns-clause-journaled
+returns-clause-journaled g c old new journal is = let none = none_put g.D.Disk.faults is.more (Some journal) is.put in absurd (cc none)
+
+pub returns-clause-broken : goal.returns-clause-broken
+returns-clause-broken g c old new is = absurd (cc is.put.is)
+
+pub returns-clause-put : goal.returns-clause-put
+returns-clause-put g c old new entry broken is = let wrong : true ≡ false = sym broken ∙ is.was_whole in absurd (cc wrong)
+
+pub returns-clause-put_in_vain : goal.returns-clause-put_in_vain
+returns-clause-put_in_vain g c old new whole is = let wrong : false ≡ true = sym whole ∙ is.broken in absurd (cc wrong)
+
+pub returns-clause-stopped : goal.returns-clause-stopped
+returns-clause-stopped g c (inl is) = absurd (cc is)
+returns-clause-stopped g c (inr is) = absurd (cc is)
+
+pub returns-clause-command : goal.returns-clause-command
+returns-clause-command g c command next is = absurd (cc is.0)
+
+pub returns-clause-deploy : goal.returns-clause-deploy
+returns-clause-deploy g c command next is = absurd (cc is.1)
+
+pub returns-clause-undo : goal.returns-clause-undo
+returns-clause-undo g c site k next is = absurd (cc is.1)
+
+pub returns-clause-text : goal.returns-clause-text
+returns-clause-text g c host is = absurd (cc is.1)
+
+pub returns-clause-does : goal.returns-clause-does
+returns-clause-does g c host (inl (inl is)) = absurd (cc is)
+returns-clause-does g c host (inl (inr is)) = absurd (cc is)
+returns-clause-does g c host (inr (is, same)) = absurd (cc is)
+
+pub returns-clause-commits : goal.returns-clause-commits
+returns-clause-commits g c told next command (inl (inl is)) = absurd (cc is)
+returns-clause-commits g c told next command (inl (inr is)) = absurd (cc is)
+returns-clause-commits g c told next command (inr (required, are, is, same)) = is
+
+pub returns-clause-shown : goal.returns-clause-shown
+returns-clause-shown g c told is = is
+
+pub returns-clause-stands : goal.returns-clause-stands
+returns-clause-stands g c uploads is = absurd (cc is)

@@ -1,0 +1,58 @@
+use Rattle.std.proofs.Common.{◌≡◌, ◌⊎◌, inl, inr, ℕ, ◌<◌, List, [], ◌∷◌, ◌++◌, length, Option, Some, None, Result, Ok, Err, refl, sym, ap, ◌∙◌, arith}
+use Rattle.host_server.specs.OpeningLines.{opening_status}
+use Rattle.host_server.specs.Solo.{status_of}
+use Rattle.host_server.specs.declared.connections.ConnectionFault.{ConnectionFault}
+use Rattle.host_server.specs.declared.openings.OpenFault.{OpenFault}
+use Rattle.host_server.specs.declared.openings.OpenFault.TheVariants as fault
+use Rattle.host_server.proofs.NoHead.{not_caught_up}
+use Rattle.host_server.proofs.laws.refuted.wrong_runs_are_refused.Goals as goal
+
+pub returns-clause-input : goal.returns-clause-input
+returns-clause-input g c host next stream held new_held is = is.ends.0
+
+pub returns-clause-output : goal.returns-clause-output
+returns-clause-output g c host next stream held new_held is = is.ends.0
+
+pub returns-clause-idle : goal.returns-clause-idle
+returns-clause-idle g c host next is = absurd (cc is.idle)
+
+pub returns-clause-caught_up : goal.returns-clause-caught_up
+returns-clause-caught_up g c host is = not_caught_up _ host is
+
+pub returns-clause-interim : goal.returns-clause-interim
+returns-clause-interim g c parts (inl (expects, is)) = absurd (cc is)
+returns-clause-interim g c parts (inr (expects, is)) = absurd (cc is)
+
+pub returns-clause-opened : goal.returns-clause-opened
+returns-clause-opened g c old shelf limit server none is = absurd (cc (sym none ∙ is.is))
+
+pub returns-clause-open_fault : goal.returns-clause-open_fault
+returns-clause-open_fault g c old new shelf new_shelf limit (inl (is, same)) = is.0
+returns-clause-open_fault g c old new shelf new_shelf limit (inr (journal, has, new_is, is)) = absurd is
+
+ended_so : (ended : Result (Unit {0}) ConnectionFault) → (1 ≡ status_of ended → ⊥) × (5 ≡ status_of ended → ⊥)
+ended_so (Ok done) = ((λ e. absurd (cc e)), (λ e. absurd (cc e)))
+ended_so (Err why) = ((λ e. absurd (cc e)), (λ e. absurd (cc e)))
+
+not_opened_so : (why : OpenFault) → (1 ≡ opening_status why → ⊥) × (5 ≡ opening_status why → ⊥)
+not_opened_so fault.BadHeader = ((λ e. absurd (cc e)), (λ e. absurd (cc e)))
+not_opened_so (fault.BadRecord n) = ((λ e. absurd (cc e)), (λ e. absurd (cc e)))
+not_opened_so (fault.NotLegal n) = ((λ e. absurd (cc e)), (λ e. absurd (cc e)))
+not_opened_so fault.JournalDevice = ((λ e. absurd (cc e)), (λ e. absurd (cc e)))
+not_opened_so (fault.MissingBlob digest) = ((λ e. absurd (cc e)), (λ e. absurd (cc e)))
+not_opened_so (fault.DamagedBlob digest) = ((λ e. absurd (cc e)), (λ e. absurd (cc e)))
+not_opened_so fault.BlobsDevice = ((λ e. absurd (cc e)), (λ e. absurd (cc e)))
+not_opened_so fault.OutOfMemory = ((λ e. absurd (cc e)), (λ e. absurd (cc e)))
+
+pub returns-clause-store : goal.returns-clause-store
+returns-clause-store g c old shelf stream held new_held said new_said (inl (start, opened, served)) = (ended_so served.ended).0 served.says
+returns-clause-store g c old shelf stream held new_held said new_said (inr (why, new, new_shelf, is, says, same)) = (not_opened_so why).0 says.0
+
+pub returns-clause-run : goal.returns-clause-run
+returns-clause-run g c words stream held new_held said new_said (inl (inl (none, status, text), same)) = absurd (cc status)
+returns-clause-run g c words stream held new_held said new_said (inl (inr (status, text), same)) = absurd (cc status)
+returns-clause-run g c words stream held new_held said new_said (inr (None, asks, inl (start, empty, served))) = (ended_so served.ended).1 served.says
+returns-clause-run g c words stream held new_held said new_said (inr (None, asks, inr ((status, text), same))) = absurd (cc status)
+returns-clause-run g c words stream held new_held said new_said (inr (Some folder, asks, inl (name, (old, there, inl (start, opened, served))))) = (ended_so served.ended).1 served.says
+returns-clause-run g c words stream held new_held said new_said (inr (Some folder, asks, inl (name, (old, there, inr (why, new, new_shelf, is, says, same))))) = (not_opened_so why).1 says.0
+returns-clause-run g c words stream held new_held said new_said (inr (Some folder, asks, inr (why, is, says, same))) = (not_opened_so why).1 says.0

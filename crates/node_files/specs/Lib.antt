@@ -1,3 +1,0 @@
--- what public clauses say
-pub mod Cached
-pub mod Shelves
