@@ -2,6 +2,7 @@
 
 mod bodies;
 mod faults;
+mod frames;
 mod mending;
 mod openings;
 mod positions;
@@ -13,6 +14,7 @@ mod walks;
 
 pub(crate) use bodies::{Bodies, BodyFault};
 pub use faults::OpenFault;
+pub(crate) use frames::framed_body;
 pub(crate) use openings::open_ahead;
 pub use records::PutFault;
 pub(crate) use records::Records;

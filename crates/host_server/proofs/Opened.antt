@@ -4,9 +4,9 @@ use Rattle.host_names.specs.Blobs.{Contents}
 use Rattle.blob_store.specs.Calls.{Call}
 use Rattle.change_undo.specs.declared.entries.Entry.{Entry}
 use Rattle.change_journal.specs.entries.Held.{Keeps}
-use Rattle.change_journal.specs.file.Openings.{IsFound, IsNoJournal}
+use Rattle.change_journal.specs.entries.Files.{IsBadRecord, IsFound, IsNoJournal}
 use Rattle.change_journal.specs.entries.Texts.{AllStored, IsText, texts}
-use Rattle.change_journal.specs.file.Walks.{IsBadRecord, IsOnlyRead, TellsStop}
+use Rattle.change_journal.specs.file.Walks.{IsOnlyRead, TellsStop}
 use Rattle.change_journal.specs.declared.file.faults.OpenFault as of_disk
 use Rattle.change_journal.specs.declared.file.faults.OpenFault.TheVariants as journal_fault
 use Rattle.host_disk.specs.declared.disks.Disk.{Ghosts}

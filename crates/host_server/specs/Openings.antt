@@ -9,9 +9,9 @@ use Rattle.blob_store.specs.declared.openings.Wanted.{Wanted}
 use Rattle.chunk_lru.specs.Caches.{empty}
 use Rattle.change_undo.specs.Logs.{Log}
 use Rattle.change_journal.specs.entries.Held.{Keeps}
-use Rattle.change_journal.specs.file.Openings.{IsFound, IsNoJournal, IsRefused}
+use Rattle.change_journal.specs.entries.Files.{IsBadRecord, IsFound, IsNoJournal, IsRefused}
 use Rattle.change_journal.specs.entries.Texts.{AllStored, IsText, texts}
-use Rattle.change_journal.specs.file.Walks.{IsBadRecord, IsOnlyRead}
+use Rattle.change_journal.specs.file.Walks.{IsOnlyRead}
 use Rattle.change_journal.specs.declared.file.faults.OpenFault as of_disk
 use Rattle.change_journal.specs.declared.file.faults.OpenFault.TheVariants as journal_fault
 use Rattle.host_disk.specs.declared.disks.Disk.{Ghosts}

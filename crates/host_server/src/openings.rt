@@ -2,9 +2,8 @@
 ghost use Rattle.std.specs.Prelude.{◌≡◌, ◌⊎◌, ◌<◌, ◌≤◌, ℕ, IfErr, IfOk, IsTrue, List, MatchResult, Some, length};
 ghost use Rattle.change_journal.specs.file.Failures.{MayFailReading};
 ghost use Rattle.change_journal.specs.entries.Held.{Keeps};
-ghost use Rattle.change_journal.specs.file.Openings.{IsNoJournal, IsRefused};
+ghost use Rattle.change_journal.specs.entries.Files.{HasRecord, IsNoJournal, IsRefused};
 ghost use Rattle.change_journal.specs.entries.Texts.{HoldsEntries, IsText, MayHoldNext};
-ghost use Rattle.change_journal.specs.file.Walks.{HasRecord};
 ghost use Rattle.change_undo.specs.Logs as logs;
 ghost use Rattle.change_undo.specs.declared.entries.Entry.{Entry as Line};
 ghost use Rattle.chunk_lru.specs.Caches.{empty};

@@ -4,13 +4,13 @@ use Rattle.std.proofs.lemmas.Bool.{false≢true}
 use Rattle.std.proofs.lemmas.List.Elements.{All-push}
 use Rattle.host_disk.specs.Crashes.{LeavesOnly}
 use Rattle.change_undo.specs.declared.entries.Entry.{Entry}
-use Rattle.std.specs.Int.{w32, to_be_bytes}
 use Rattle.change_journal.specs.declared.file.records.Records.{Records}
-use Rattle.change_journal.specs.file.Frames.{AllShut, MayHold, framed}
+use Rattle.change_journal.specs.file.Frames.{AllShut, MayHold}
 use Rattle.change_journal.specs.entries.Held.{IsSound}
 use Rattle.change_journal.specs.file.Settled.{IsSettled}
 use Rattle.change_journal.specs.texts.Spells.{IsWritable, entry_text}
 use Rattle.change_journal.specs.entries.Texts.{AllStored, HoldsEntries, IsRecordOf, MayHoldMore, MayHoldNext, texts}
+use Rattle.change_journal.specs.entries.Files.{header}
 use Rattle.change_journal.proofs.file.Steps.{weaker}
 use Rattle.change_journal.proofs.texts.Entries.{entry_length}
 use Rattle.change_journal.proofs.file.NotWhole.{framed_size}
@@ -23,13 +23,13 @@ record_length entry bytes spelled =
       omega (arith, size, length-append (entry_text entry) (0 ∷ []), entry_length entry spelled.writable),
     )
 
-pub all_stored : (images : List ℕ → Type 0) (entries : List Entry) → All IsWritable entries → AllShut images (texts entries) → AllStored images entries
+pub all_stored : (images : List ℕ → Type 0) (entries : List Entry) → All IsWritable entries → AllShut header images (texts entries) → AllStored images entries
 all_stored images entries writable shut = λ c left. record { writable = writable; shut = shut c left }
 
 module _ {D : Type 0} (moment : D → ℕ) (left_since : D → ℕ → List ℕ → Type 0) (old new : D) (entries : List Entry) (entry : Entry) where
-  pub next_moments : All IsWritable entries → IsWritable entry → LeavesOnly moment left_since old new (MayHold (texts entries) (entry_text entry)) → LeavesOnly moment left_since old new (MayHoldNext entries entry)
+  pub next_moments : All IsWritable entries → IsWritable entry → LeavesOnly moment left_since old new (MayHold header (texts entries) (entry_text entry)) → LeavesOnly moment left_since old new (MayHoldNext entries entry)
   next_moments writable lawful run =
-      weaker moment left_since old new (MayHold (texts entries) (entry_text entry)) (MayHoldNext entries entry) (λ c left. record { writable = All-push IsWritable entries entry writable lawful; left = inl left }) run
+      weaker moment left_since old new (MayHold header (texts entries) (entry_text entry)) (MayHoldNext entries entry) (λ c left. record { writable = All-push IsWritable entries entry writable lawful; left = inl left }) run
 
   pub held_moments : LeavesOnly moment left_since old new (MayHoldNext entries entry) → LeavesOnly moment left_since old new (λ c. HoldsEntries entries c ⊎ HoldsEntries (entries ++ entry ∷ []) c)
   held_moments run = weaker moment left_since old new (MayHoldNext entries entry) (λ c. HoldsEntries entries c ⊎ HoldsEntries (entries ++ entry ∷ []) c) (next_holds entries entry) run
@@ -51,21 +51,15 @@ torn_put {D} moment left_since may_leave old new entries entry counts was same r
 -- a journal with the entry that was put
 pub sound_with : {D : Type 0} (modelled : Bool) (may_leave : D → List ℕ → Type 0) (old new : Records D) (entries more : List Entry) (entry : Entry)
     → more ≡ entries ++ entry ∷ [] → All IsWritable entries → IsWritable entry → old.position.count ≡ length entries → new.position.count ≡ old.position.count + 1 → new.broken ≡ false → (old.broken ≡ true → new ≡ old)
-    → (IsTrue modelled → old.broken ≡ false → IsSettled may_leave old (texts entries)) → (IsTrue modelled → IsSettled may_leave old (texts entries) → IsSettled may_leave new (texts entries ++ entry_text entry ∷ [])) → IsSound modelled may_leave new more
+    → (IsTrue modelled → old.broken ≡ false → IsSettled header may_leave old (texts entries)) → (IsTrue modelled → IsSettled header may_leave old (texts entries) → IsSettled header may_leave new (texts entries ++ entry_text entry ∷ [])) → IsSound modelled may_leave new more
 sound_with {D} modelled may_leave old new entries more entry more_is writable lawful count next whole same settled settles = record {
   writable = subst (All IsWritable) (sym more_is) (All-push IsWritable entries entry writable lawful);
   count = omega (arith, next, count, ap length more_is, length-append entries (entry ∷ []));
   settled = λ is_modelled still.
-      subst (λ (bodies : List (List ℕ)). IsSettled may_leave new bodies) (sym (ap texts more_is ∙ texts-push entries entry)) (settles is_modelled (settled is_modelled (was_whole old.broken refl)));
+      subst (λ (bodies : List (List ℕ)). IsSettled header may_leave new bodies) (sym (ap texts more_is ∙ texts-push entries entry)) (settles is_modelled (settled is_modelled (was_whole old.broken refl)));
   torn = λ is_modelled broken. absurd (false≢true (sym whole ∙ broken));
 }
   where
     was_whole : (broken : Bool) → old.broken ≡ broken → old.broken ≡ false
     was_whole true is = absurd (false≢true (sym whole ∙ ap (λ (r : Records D). r.broken) (same is) ∙ is))
     was_whole false is = is
-
--- a body behind its length, as it is put together
-pub framed_parts : (none length_bytes front all body : List ℕ) → none ≡ [] → length_bytes ≡ to_be_bytes w32 (length body) → front ≡ none ++ length_bytes → all ≡ front ++ body → all ≡ framed body
-unfolding framed
-framed_parts none length_bytes front all body is_none is_length front_is all_is =
-    all_is ∙ ap (λ (l : List ℕ). l ++ body) (front_is ∙ ap (λ (l : List ℕ). l ++ length_bytes) is_none ∙ is_length)

@@ -1,6 +1,7 @@
 -- A file has one list of bodies.
-use Rattle.std.proofs.Common.{◌≡◌, ◌≢◌, ℕ, suc, List, [], ◌∷◌, ◌++◌, length, get_or, drop, refl, sym, ◌∙◌, ap, arith, append_assoc, All}
-use Rattle.change_journal.specs.file.Frames.{framed, header, records, opened, IsNew, short, unopened, half_opened}
+use Rattle.std.proofs.Common.{◌≡◌, ◌≢◌, ℕ, suc, List, [], ◌∷◌, ◌++◌, length, get_or, drop, refl, sym, ◌∙◌, ap, arith, append_assoc, length-append, All}
+use Rattle.std.proofs.lemmas.List.{append_cancel_left}
+use Rattle.change_journal.specs.file.Frames.{framed, records, opened, IsNew, short, unopened, half_opened}
 use Rattle.change_journal.specs.file.Walks.{IsShort}
 use Rattle.change_journal.proofs.file.NotWhole.{same_frame}
 
@@ -12,10 +13,6 @@ first_record body bodies rest = ap (λ (l : List ℕ). 1 ∷ l) (append_assoc (f
 pub no_record : (rest : List ℕ) → records [] ++ rest ≡ rest
 unfolding records
 no_record rest = refl
-
-pub opened_with : (bodies : List (List ℕ)) (rest : List ℕ) → opened bodies ++ rest ≡ 1 ∷ (header ++ (records bodies ++ rest))
-unfolding opened
-opened_with bodies rest = refl
 
 pub same_head : (x y : ℕ) (xs ys : List ℕ) → x ∷ xs ≡ y ∷ ys → x ≡ y
 same_head x y xs ys e = ap (λ (l : List ℕ). get_or l 0 0) e
@@ -41,16 +38,23 @@ one_list (a ∷ xs) (b ∷ bs) g h r s few less shut closed same =
       there.1,
     )
 
-pub one_journal : (xs bs : List (List ℕ)) (g h : ℕ) (r s : List ℕ) → All IsShort xs → All IsShort bs → g ≢ 1 → h ≢ 1 → opened xs ++ g ∷ r ≡ opened bs ++ h ∷ s → (xs ≡ bs) × (g ∷ r ≡ h ∷ s)
-one_journal xs bs g h r s few less shut closed same =
-    one_list xs bs g h r s few less shut closed (ap (drop 8) (sym (opened_with xs (g ∷ r)) ∙ same ∙ opened_with bs (h ∷ s)))
+module _ (header : List ℕ) where
+  pub opened_with : (bodies : List (List ℕ)) (rest : List ℕ) → opened header bodies ++ rest ≡ 1 ∷ (header ++ (records bodies ++ rest))
+  unfolding opened
+  opened_with bodies rest = ap (λ (l : List ℕ). 1 ∷ l) (append_assoc header (records bodies) rest)
 
--- a journal is no file without an opened header
-pub new_or_opened : (file : List ℕ) (bodies : List (List ℕ)) (gate : ℕ) (rest : List ℕ) → IsNew file → file ≡ opened bodies ++ gate ∷ rest → ⊥
-new_or_opened file bodies gate rest (short small) is = omega (arith, ap length (is ∙ opened_with bodies (gate ∷ rest)), small)
-new_or_opened file bodies gate rest (unopened behind starts) is =
-    let e : 0 ≡ 1 = same_head 0 1 behind _ (sym starts ∙ is ∙ opened_with bodies (gate ∷ rest)) in
-    omega (arith, e)
-new_or_opened file bodies gate rest (half_opened own neither starts) is =
-    let e : own ≡ 1 = same_head own 1 (header ++ 0 ∷ []) _ (sym starts ∙ is ∙ opened_with bodies (gate ∷ rest)) in
-    omega (arith, neither, e)
+  pub one_opened : (xs bs : List (List ℕ)) (g h : ℕ) (r s : List ℕ) → All IsShort xs → All IsShort bs → g ≢ 1 → h ≢ 1 → opened header xs ++ g ∷ r ≡ opened header bs ++ h ∷ s → (xs ≡ bs) × (g ∷ r ≡ h ∷ s)
+  one_opened xs bs g h r s few less shut closed same =
+      one_list xs bs g h r s few less shut closed
+      (append_cancel_left header (records xs ++ g ∷ r) (records bs ++ h ∷ s) (ap (drop 1) (sym (opened_with xs (g ∷ r)) ∙ same ∙ opened_with bs (h ∷ s))))
+
+  -- a new file is none with an opened header
+  pub new_or_opened : (file : List ℕ) (bodies : List (List ℕ)) (gate : ℕ) (rest : List ℕ) → IsNew header file → file ≡ opened header bodies ++ gate ∷ rest → ⊥
+  new_or_opened file bodies gate rest (short small) is =
+      omega (arith, ap length (is ∙ opened_with bodies (gate ∷ rest)), small, length-append header (records bodies ++ gate ∷ rest), length-append (records bodies) (gate ∷ rest))
+  new_or_opened file bodies gate rest (unopened behind starts) is =
+      let e : 0 ≡ 1 = same_head 0 1 behind _ (sym starts ∙ is ∙ opened_with bodies (gate ∷ rest)) in
+      omega (arith, e)
+  new_or_opened file bodies gate rest (half_opened own neither starts) is =
+      let e : own ≡ 1 = same_head own 1 (header ++ 0 ∷ []) _ (sym starts ∙ is ∙ opened_with bodies (gate ∷ rest)) in
+      omega (arith, neither, e)

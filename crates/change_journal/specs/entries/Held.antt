@@ -5,6 +5,7 @@ use Rattle.change_journal.specs.declared.entries.held.Held.{Held, Found, Put'}
 use Rattle.change_journal.specs.declared.file.records.Records.{Records}
 use Rattle.change_journal.specs.file.Settled.{IsSettled}
 use Rattle.change_journal.specs.texts.Spells.{IsWritable}
+use Rattle.change_journal.specs.entries.Files.{header}
 use Rattle.change_journal.specs.entries.Texts.{MayHoldMore, record_count, texts}
 
 -- A journal: the entries that it holds, whether the device failed while one was put, and its disk.
@@ -23,5 +24,5 @@ entries_of (Put' shape before entry) = with_entry (entries_of before) entry.valu
 pub record IsSound {D : Type 0} (is_modelled : Bool) (may_leave : D → List ℕ → Type 0) (file : Records D) (log : Log) : Type 0 where
   pub writable : All IsWritable (own_entries log)
   pub count : file.position.count ≡ record_count log
-  pub settled : IsTrue is_modelled → file.broken ≡ false → IsSettled may_leave file (texts log)
+  pub settled : IsTrue is_modelled → file.broken ≡ false → IsSettled header may_leave file (texts log)
   pub torn : IsTrue is_modelled → file.broken ≡ true → MayHoldMore (may_leave file.disk) log

@@ -2,6 +2,7 @@
 use Rattle.std.specs.Prelude.{◌≡◌, ℕ, List, [], ◌∷◌, ◌++◌, length, map, All}
 use Rattle.change_undo.specs.Logs.{Log, own_entries, with_entry}
 use Rattle.change_undo.specs.declared.entries.Entry.{Entry}
+use Rattle.change_journal.specs.entries.Files.{header}
 use Rattle.change_journal.specs.file.Frames.{framed, Holds, IsShut}
 use Rattle.change_journal.specs.file.Openings.{MayFind}
 use Rattle.change_journal.specs.texts.Spells.{IsWritable, Spells, entry_text}
@@ -28,12 +29,12 @@ IsText body = (entry : Entry) × Spells body entry
 -- body and a 0 behind it; or none, where it is no journal yet.
 pub record HoldsEntries (log : Log) (file : List ℕ) : Type 0 where
   pub writable : All IsWritable (own_entries log)
-  pub holds : Holds (texts log) file
+  pub holds : Holds header (texts log) file
 
 -- a file holds these entries, with a gate of 0 after them
 pub record IsStored (log : Log) (file : List ℕ) : Type 0 where
   pub writable : All IsWritable (own_entries log)
-  pub shut : IsShut (texts log) file
+  pub shut : IsShut header (texts log) file
 
 -- whatever a crash leaves, these entries are stored
 abbrev pub AllStored : (List ℕ → Type 0) → Log → Type 0
@@ -44,7 +45,7 @@ AllStored images log = (c : List ℕ) → images c → IsStored log c
 -- these are none.
 pub record MayHoldNext (log : Log) (entry : Entry) (file : List ℕ) : Type 0 where
   pub writable : All IsWritable (own_entries (with_entry log entry))
-  pub left : MayFind (texts log) (entry_text entry) file
+  pub left : MayFind header (texts log) (entry_text entry) file
 
 -- what a put that the device failed may have left: there is one entry more, and whatever a crash leaves is what a stop may leave while it is put
 pub record MayHoldMore (images : List ℕ → Type 0) (log : Log) : Type 0 where

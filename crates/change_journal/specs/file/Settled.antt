@@ -1,4 +1,4 @@
--- A journal's file that is open.
+-- A file of records that is open.
 use Rattle.std.specs.Prelude.{◌≡◌, ℕ, ◌+◌, ◌-◌, ◌^◌, min, false, List, length}
 use Rattle.change_journal.specs.file.Frames.{AllShut, opened}
 use Rattle.change_journal.specs.declared.file.records.PutFault.{PutFault}
@@ -6,11 +6,11 @@ use Rattle.change_journal.specs.declared.file.records.PutFault.TheVariants.{Brok
 use Rattle.change_journal.specs.declared.file.records.Records.{Records}
 
 -- The disk holds these bodies, with a gate of 0 behind them, whatever a crash leaves, and the next record goes behind that gate.
-pub record IsSettled {D : Type 0} (may_leave : D → List ℕ → Type 0) (file : Records D) (bodies : List (List ℕ)) : Type 0 where
+pub record IsSettled {D : Type 0} (header : List ℕ) (may_leave : D → List ℕ → Type 0) (file : Records D) (bodies : List (List ℕ)) : Type 0 where
   pub whole : file.broken ≡ false
-  pub gate : file.position.gate ≡ length (opened bodies)
+  pub gate : file.position.gate ≡ length (opened header bodies)
   pub count : file.position.count ≡ length bodies
-  pub shut : AllShut (may_leave file.disk) bodies
+  pub shut : AllShut header (may_leave file.disk) bodies
 
 -- The count of failed calls rises by one where a failure of the device is told, unless it is at the top of a u64; else it stays.
 abbrev pub TellsBreak : PutFault → ℕ → ℕ → Type 0

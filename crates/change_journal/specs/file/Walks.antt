@@ -1,5 +1,5 @@
--- What a walk over a journal's file finds, and which files are none.
-use Rattle.std.specs.Prelude.{◌≡◌, ◌≢◌, ◌⊎◌, ◌+◌, ◌-◌, ◌^◌, ◌≤◌, min, ℕ, List, [], ◌∷◌, ◌++◌, length, drop, All, Result, MatchResult}
+-- What a walk over a file of records finds, and which files are none.
+use Rattle.std.specs.Prelude.{◌≡◌, ◌≢◌, ◌⊎◌, ◌+◌, ◌-◌, ◌^◌, ◌<◌, ◌≤◌, min, ℕ, List, [], ◌∷◌, ◌++◌, length, get_or, take, drop, Result, MatchResult}
 use Rattle.host_disk.specs.Crashes.{LeavesOnly}
 use Rattle.change_journal.specs.declared.file.faults.OpenFault.{OpenFault}
 use Rattle.change_journal.specs.declared.file.faults.OpenFault.TheVariants.{Device}
@@ -24,14 +24,14 @@ abbrev pub IsShort : List ℕ → Type 0
 IsShort body = length body ≤ 10470070
 
 -- a file whose header is there, with an open gate
-pub record IsOpened (file : List ℕ) : Type 0 where
+pub record IsOpened (header file : List ℕ) : Type 0 where
   pub rest : List ℕ
-  pub is : file ≡ opened [] ++ rest
+  pub is : file ≡ opened header [] ++ rest
 
 -- such a file, with an open gate behind its header: it has a record there, or is bad
-pub record HasRecord (file : List ℕ) : Type 0 where
+pub record HasRecord (header file : List ℕ) : Type 0 where
   pub rest : List ℕ
-  pub is : file ≡ opened [] ++ 1 ∷ rest
+  pub is : file ≡ opened header [] ++ 1 ∷ rest
 
 -- These bytes begin with no whole record: its length, its body or the gate of the next one isn't there, or it is too long.
 abbrev pub IsNotWhole : List ℕ → Type 0
@@ -42,29 +42,30 @@ abbrev pub IsNoRecord : (List ℕ → Type 0) → List ℕ → Type 0
 IsNoRecord IsLawful bytes = (body : List ℕ) (gate : ℕ) (rest : List ℕ) → bytes ≡ framed body ++ gate ∷ rest → IsShort body → IsLawful body → ⊥
 
 -- a file has these bodies behind open gates, then a gate that isn't open, and any bytes
-pub record EndsAt (bodies : List (List ℕ)) (gate : ℕ) (file : List ℕ) : Type 0 where
+pub record EndsAt (header : List ℕ) (bodies : List (List ℕ)) (gate : ℕ) (file : List ℕ) : Type 0 where
   pub rest : List ℕ
   pub closed : gate ≢ 1
-  pub is : file ≡ opened bodies ++ gate ∷ rest
+  pub is : file ≡ opened header bodies ++ gate ∷ rest
 
--- a file has these bodies behind open gates, then an open gate and no record, or 1,000,000 bodies or more are before that gate
-pub record BreaksAfter (IsLawful : List ℕ → Type 0) (bodies : List (List ℕ)) (file : List ℕ) : Type 0 where
+-- A file has these bodies behind open gates, then an open gate and no record whose body is lawful after them, or 1,000,000 bodies or more are
+-- before that gate.
+pub record BreaksAfter (header : List ℕ) (IsLawful : List (List ℕ) → List ℕ → Type 0) (bodies : List (List ℕ)) (file : List ℕ) : Type 0 where
   pub rest : List ℕ
-  pub is : file ≡ opened bodies ++ 1 ∷ rest
-  pub broken : IsNoRecord IsLawful rest ⊎ (1000000 ≤ length bodies)
+  pub is : file ≡ opened header bodies ++ 1 ∷ rest
+  pub broken : IsNoRecord (IsLawful bodies) rest ⊎ (1000000 ≤ length bodies)
 
--- bodies that a file may have
-abbrev pub AreLawful : (List ℕ → Type 0) → List (List ℕ) → Type 0
-AreLawful IsLawful bodies = All (λ body. IsShort body × IsLawful body) bodies
+-- bodies that a file may have: each is short, and lawful after those before it
+abbrev pub AreLawful : (List (List ℕ) → List ℕ → Type 0) → List (List ℕ) → Type 0
+AreLawful IsLawful bodies = (k : ℕ) (d : List ℕ) → k < length bodies → IsShort (get_or bodies k d) × IsLawful (take k bodies) (get_or bodies k d)
 
 -- A walk has come to a gate: what is before it are the records of the bodies that were handed on.
-pub record HasWalked (Has : List (List ℕ) → Type 0) (IsLawful : List ℕ → Type 0) (gate count : ℕ) (file : List ℕ) : Type 0 where
+pub record HasWalked (header : List ℕ) (Has : List (List ℕ) → Type 0) (IsLawful : List (List ℕ) → List ℕ → Type 0) (gate count : ℕ) (file : List ℕ) : Type 0 where
   pub taken : List (List ℕ)
   pub has : Has taken
   pub lawful : AreLawful IsLawful taken
-  pub gate_is : gate ≡ length (opened taken)
+  pub gate_is : gate ≡ length (opened header taken)
   pub count_is : count ≡ length taken
-  pub is : file ≡ opened taken ++ drop gate file
+  pub is : file ≡ opened header taken ++ drop gate file
 
 -- so many bodies were handed on
 pub record HasCounted (Has : List (List ℕ) → Type 0) (count : ℕ) : Type 0 where
@@ -73,15 +74,15 @@ pub record HasCounted (Has : List (List ℕ) → Type 0) (count : ℕ) : Type 0 
   pub count_is : count ≡ length taken
 
 -- where a walk ended: the gate there isn't open
-pub record HasEnded (Has : List (List ℕ) → Type 0) (IsLawful : List ℕ → Type 0) (at count gate : ℕ) (file : List ℕ) : Type 0 where
-  pub walked : HasWalked Has IsLawful at count file
+pub record HasEnded (header : List ℕ) (Has : List (List ℕ) → Type 0) (IsLawful : List (List ℕ) → List ℕ → Type 0) (at count gate : ℕ) (file : List ℕ) : Type 0 where
+  pub walked : HasWalked header Has IsLawful at count file
   pub closed : gate ≢ 1
   pub is : drop at file ≡ gate ∷ drop (at + 1) file
 
 -- the record with this number, behind an open gate, is the first that is none, or is the 1,000,001st
-pub record IsBadRecord (IsLawful : List ℕ → Type 0) (number : ℕ) (file : List ℕ) : Type 0 where
+pub record IsBadRecord (header : List ℕ) (IsLawful : List (List ℕ) → List ℕ → Type 0) (number : ℕ) (file : List ℕ) : Type 0 where
   pub bodies : List (List ℕ)
   pub number_is : number ≡ length bodies + 1
   pub few : length bodies ≤ 1000000
   pub lawful : AreLawful IsLawful bodies
-  pub breaks : BreaksAfter IsLawful bodies file
+  pub breaks : BreaksAfter header IsLawful bodies file

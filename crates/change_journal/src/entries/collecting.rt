@@ -28,7 +28,7 @@ impl Collected {
 }
 
 impl Bodies for Collected {
-    ghost is_lawful = { IsText };
+    ghost is_lawful = { λ before. IsText };
 
     ghost has = { λ collected bodies. (bodies ≡ texts collected.log) × All IsWritable collected.log };
 

@@ -7,12 +7,12 @@ ghost use Rattle.change_undo.specs.declared.entries.Entry as entries;
 ghost use Rattle.change_journal.specs.declared.file.faults.OpenFault.TheVariants.{BadHeader, BadRecord, Device, OutOfMemory};
 ghost use Rattle.change_journal.specs.declared.file.records.PutFault.TheVariants as put_fault;
 ghost use Rattle.change_journal.specs.file.Failures.{MayFailReading};
-ghost use Rattle.change_journal.specs.file.Frames.{opened};
-ghost use Rattle.change_journal.specs.file.Openings.{IsExactly, IsFound, IsNoJournal, IsRefused};
+ghost use Rattle.change_journal.specs.file.Openings.{IsExactly};
 ghost use Rattle.change_journal.specs.texts.Spells.{IsWritable};
 ghost use Rattle.change_journal.specs.entries.Texts.{AllStored, HoldsEntries, IsText, MayHoldMore, MayHoldNext, texts};
 ghost use Rattle.change_journal.specs.file.Settled.{TellsBreak};
-ghost use Rattle.change_journal.specs.file.Walks.{HasRecord, IsBadRecord, IsOnlyRead, TellsStop};
+ghost use Rattle.change_journal.specs.file.Walks.{IsOnlyRead, TellsStop};
+ghost use Rattle.change_journal.specs.entries.Files.{HasRecord, IsBadRecord, IsFound, IsNoJournal, IsRefused, opened};
 
 use super::collecting::Collected;
 use super::held::Held;
@@ -23,6 +23,9 @@ use host_disk::Disk;
 use std::alloc::Global;
 use std::marker::Model;
 use std::snapshot::Snapshot;
+
+/// What stands behind the gate of a file: `FHJRNL` and the version.
+const HEADER: [u8; 7] = *b"FHJRNL\x01";
 
 /// The journal of a history: its entries, on a disk. Contracts see the entries, whether the device failed while one was put, and the
 /// disk. Unless it did, whatever a crash leaves of a modelled disk holds these entries.
@@ -73,7 +76,7 @@ impl<D: Disk> Journal<D> {
         ensures cause { MatchResult result (λ answer. D.faults answer.0.disk ≡ D.faults disk) (λ stop. TellsStop stop.fault (D.faults disk) (D.faults stop.disk)) }
     {
         let mut collected = Collected::new(alloc);
-        let (disk, opened) = open_ahead(alloc, disk, &mut collected);
+        let (disk, opened) = open_ahead(alloc, disk, &HEADER, &mut collected);
         match opened {
             Ok(position) => Ok((
                 Journal {

@@ -7,12 +7,13 @@ ghost use Rattle.change_undo.specs.declared.entries.Entry.TheVariants.{Undo};
 ghost use Rattle.host_disk.specs.Calls.{ReadAt};
 ghost use Rattle.host_disk.specs.Crashes.{Torn};
 ghost use Rattle.change_journal.specs.file.Failures.{MayFailReading, ReadsWithin};
-ghost use Rattle.change_journal.specs.file.Frames.{framed, opened};
-ghost use Rattle.change_journal.specs.file.Openings.{IsExactly, IsFound, IsNoJournal};
+ghost use Rattle.change_journal.specs.file.Frames.{framed};
+ghost use Rattle.change_journal.specs.file.Openings.{IsExactly};
 ghost use Rattle.change_journal.specs.file.Settled.{TellsBreak};
 ghost use Rattle.change_journal.specs.texts.Spells.{BeginsWithListing, BeginsWithPath, IsInRange, IsWritable, Spells, TakesMemory, entry_text};
 ghost use Rattle.change_journal.specs.entries.Texts.{AllStored, HoldsEntries, IsText, MayHoldMore, MayHoldNext, texts};
-ghost use Rattle.change_journal.specs.file.Walks.{HasRecord, IsBadRecord, IsNoRecord, IsOnlyRead, TellsStop};
+ghost use Rattle.change_journal.specs.file.Walks.{IsNoRecord, IsOnlyRead, TellsStop};
+ghost use Rattle.change_journal.specs.entries.Files.{HasRecord, IsBadRecord, IsFound, IsNoJournal, opened};
 ghost use Rattle.change_journal.specs.declared.file.faults.OpenFault.TheVariants as open_fault;
 ghost use Rattle.change_journal.specs.declared.file.records.PutFault.TheVariants as put_fault;
 

@@ -1,9 +1,9 @@
 //! Entries that are ready to be put.
-ghost use Rattle.std.specs.Prelude.{◌≡◌, ◌≤◌, ◌++◌, [], ◌∷◌, IfOk, length};
-ghost use Rattle.change_journal.specs.file.Frames.{framed};
+ghost use Rattle.std.specs.Prelude.{◌≡◌, IfOk};
 ghost use Rattle.change_journal.specs.texts.Spells.{IsInRange};
 ghost use Rattle.change_journal.specs.entries.Texts.{IsRecordOf};
 
+use crate::file::framed_body;
 use crate::texts::encode;
 use change_undo::Entry;
 use std::alloc::{AllocError, Global};
@@ -27,18 +27,6 @@ impl Model for Prepared {
     ghost view = { λ p. p.entry.value };
 
     ghost invariant = { λ p. IsRecordOf p.entry.value p.bytes.items };
-}
-
-/// A body behind its length, and the gate of the next record, which is shut.
-fn framed_body(alloc: Global, body: &[u8]) -> Result<Vec<u8>, AllocError>
-    requires { length body.now ≤ 10470070 }
-    ensures { IfOk result (λ bytes. bytes.items ≡ framed body.now ++ 0 ∷ []) }
-{
-    let mut bytes = Vec::with_capacity(alloc, body.len() + 5)?;
-    bytes.extend_from_slice(&(body.len() as u32).to_be_bytes())?;
-    bytes.extend_from_slice(body)?;
-    bytes.push(0)?;
-    Ok(bytes)
 }
 
 /// Makes an entry ready to be put. Its numbers are from 1 to 1,000,000, and it lists at most 10,000 paths.

@@ -1,4 +1,4 @@
-//! The end of a journal's file, when it is opened.
+//! The end of a file of records, when it is opened.
 ghost use Rattle.std.specs.Prelude.{◌≡◌, ◌+◌, ◌<◌, ◌≤◌, ◌^◌, IsTrue, List, OnOk, [], ◌∷◌, ◌++◌, length, ℕ};
 ghost use Rattle.host_disk.specs.Crashes.{CountsFailure, LeavesOnly, Only};
 ghost use Rattle.change_journal.specs.file.Openings.{HasShut, HasSomeGate, IsExactly, IsMending};
@@ -8,8 +8,12 @@ use host_disk::{DeviceFault, Disk};
 
 /// Shuts the gate at an offset, where it isn't shut by a 0.
 fn shut_gate<D: Disk>(disk: &mut D, at: usize, gate: u8) -> Result<(), DeviceFault>
-    ensures shut { IsTrue D.is_modelled → (front rest : List ℕ) → at ≡ length front → D.seen disk.old ≡ front ++ gate ∷ rest → Only (D.seen disk.old) (D.may_leave disk.old) → OnOk result (IsExactly (front ++ 0 ∷ rest) (D.seen disk.new) (D.may_leave disk.new)) }
-    ensures any_moment { IsTrue D.is_modelled → (front rest : List ℕ) → at ≡ length front → D.seen disk.old ≡ front ++ gate ∷ rest → Only (D.seen disk.old) (D.may_leave disk.old) → LeavesOnly D.moment D.left_since disk.old disk.new (HasSomeGate front gate rest) }
+    ensures shut { IsTrue D.is_modelled → (front rest : List ℕ) → at ≡ length front → D.seen disk.old
+        ≡ front ++ gate ∷ rest → Only (D.seen disk.old) (D.may_leave disk.old)
+        → OnOk result (IsExactly (front ++ 0 ∷ rest) (D.seen disk.new) (D.may_leave disk.new)) }
+    ensures any_moment { IsTrue D.is_modelled → (front rest : List ℕ) → at ≡ length front → D.seen disk.old
+        ≡ front ++ gate ∷ rest → Only (D.seen disk.old) (D.may_leave disk.old)
+        → LeavesOnly D.moment D.left_since disk.old disk.new (HasSomeGate front gate rest) }
     ensures cause { CountsFailure result (D.faults disk.old) (D.faults disk.new) }
 {
     if gate != 0 {
@@ -21,8 +25,12 @@ fn shut_gate<D: Disk>(disk: &mut D, at: usize, gate: u8) -> Result<(), DeviceFau
 /// Cuts what follows a gate of 0.
 pub(crate) fn cut_behind<D: Disk>(disk: &mut D, at: usize, size: usize) -> Result<(), DeviceFault>
     requires { at + 1 < 2 ^ 64 }
-    ensures cut { IsTrue D.is_modelled → (front rest : List ℕ) → at ≡ length front → size ≡ length (D.seen disk.old) → D.seen disk.old ≡ front ++ 0 ∷ rest → Only (D.seen disk.old) (D.may_leave disk.old) → OnOk result (IsExactly (front ++ 0 ∷ []) (D.seen disk.new) (D.may_leave disk.new)) }
-    ensures any_moment { IsTrue D.is_modelled → (front rest : List ℕ) → at ≡ length front → D.seen disk.old ≡ front ++ 0 ∷ rest → Only (D.seen disk.old) (D.may_leave disk.old) → LeavesOnly D.moment D.left_since disk.old disk.new (HasShut front) }
+    ensures cut { IsTrue D.is_modelled → (front rest : List ℕ) → at ≡ length front → size ≡ length (D.seen disk.old)
+        → D.seen disk.old ≡ front ++ 0 ∷ rest → Only (D.seen disk.old) (D.may_leave disk.old)
+        → OnOk result (IsExactly (front ++ 0 ∷ []) (D.seen disk.new) (D.may_leave disk.new)) }
+    ensures any_moment { IsTrue D.is_modelled → (front rest : List ℕ) → at ≡ length front → D.seen disk.old
+        ≡ front ++ 0 ∷ rest → Only (D.seen disk.old) (D.may_leave disk.old)
+        → LeavesOnly D.moment D.left_since disk.old disk.new (HasShut front) }
     ensures cause { CountsFailure result (D.faults disk.old) (D.faults disk.new) }
 {
     if at + 1 < size {
@@ -39,8 +47,13 @@ pub(crate) fn mend<D: Disk>(
     size: usize,
 ) -> Result<(), DeviceFault>
     requires { at + 1 < 2 ^ 64 }
-    ensures mended { IsTrue D.is_modelled → (front rest : List ℕ) → at ≡ length front → size ≡ length (D.seen disk.old) → D.seen disk.old ≡ front ++ gate ∷ rest → Only (D.seen disk.old) (D.may_leave disk.old) → OnOk result (IsExactly (front ++ 0 ∷ []) (D.seen disk.new) (D.may_leave disk.new)) }
-    ensures any_moment { IsTrue D.is_modelled → (front rest : List ℕ) → at ≡ length front → D.seen disk.old ≡ front ++ gate ∷ rest → Only (D.seen disk.old) (D.may_leave disk.old) → LeavesOnly D.moment D.left_since disk.old disk.new (IsMending front gate rest) }
+    ensures mended { IsTrue D.is_modelled → (front rest : List ℕ) → at ≡ length front
+        → size ≡ length (D.seen disk.old) → D.seen disk.old ≡ front ++ gate ∷ rest
+        → Only (D.seen disk.old) (D.may_leave disk.old)
+        → OnOk result (IsExactly (front ++ 0 ∷ []) (D.seen disk.new) (D.may_leave disk.new)) }
+    ensures any_moment { IsTrue D.is_modelled → (front rest : List ℕ) → at ≡ length front → D.seen disk.old
+        ≡ front ++ gate ∷ rest → Only (D.seen disk.old) (D.may_leave disk.old)
+        → LeavesOnly D.moment D.left_since disk.old disk.new (IsMending front gate rest) }
     ensures cause { CountsFailure result (D.faults disk.old) (D.faults disk.new) }
 {
     shut_gate(disk, at, gate)?;

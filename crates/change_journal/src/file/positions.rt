@@ -1,5 +1,5 @@
-//! A position between the records of a journal's file.
-ghost use Rattle.std.specs.Prelude.{◌≡◌, ◌+◌, ◌*◌, ◌<◌, ◌≤◌};
+//! A position between the records of a file.
+ghost use Rattle.std.specs.Prelude.{◌≡◌, ◌+◌, ◌*◌, ◌<◌, ◌≤◌, length};
 ghost use Rattle.change_journal.specs.declared.file.faults.OpenFault.TheVariants.{BadRecord};
 
 use super::faults::OpenFault;
@@ -16,15 +16,19 @@ pub(crate) struct Position {
     pub gate: usize,
     pub count: usize,
     ghost few: { count ≤ 1000000 },
-    ghost near: { gate ≤ 8 + 10470075 * count },
+    ghost near: { gate ≤ 65 + 10470075 * count },
 }
 
 impl Position {
     /// Where the first gate behind the header is.
-    pub(crate) fn first() -> Position
-        ensures { (result.gate ≡ 8) × (result.count ≡ 0) }
+    pub(crate) fn first(header: &[u8]) -> Position
+        requires { length header.now ≤ 64 }
+        ensures { (result.gate ≡ length header.now + 1) × (result.count ≡ 0) }
     {
-        Position { gate: 8, count: 0 }
+        Position {
+            gate: header.len() + 1,
+            count: 0,
+        }
     }
 
     /// The fault that the record behind this position is none.

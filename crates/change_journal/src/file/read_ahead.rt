@@ -76,8 +76,10 @@ impl<D: Disk> ReadAhead<D> {
 
     /// Reads the bytes from an offset on, as many as are there and have room.
     fn fill(&mut self, at: usize) -> Result<(), DeviceFault>
-        ensures same { IsTrue D.is_modelled → IsUnchanged D.seen D.may_leave D.moment D.left_since self.old.disk self.new.disk }
-        ensures reason { IsTrue D.is_modelled → at ≤ length (D.seen self.old.disk) → OnErr result (MayFailReading D.seen D.may_fail (D.seen self.old.disk)) }
+        ensures same { IsTrue D.is_modelled
+            → IsUnchanged D.seen D.may_leave D.moment D.left_since self.old.disk self.new.disk }
+        ensures reason { IsTrue D.is_modelled → at ≤ length (D.seen self.old.disk)
+            → OnErr result (MayFailReading D.seen D.may_fail (D.seen self.old.disk)) }
         ensures cause { CountsFailure result (D.faults self.old.disk) (D.faults self.new.disk) }
         ensures ahead { IsTrue D.is_modelled → OnOk result ((self.new.start ≡ at)
             × (take self.new.len self.new.buffer.items
@@ -94,8 +96,10 @@ impl<D: Disk> ReadAhead<D> {
 
     /// Reads ahead from an offset on, where so many bytes have room and were not read.
     fn read_on(&mut self, at: usize, len: usize) -> Result<(), DeviceFault>
-        ensures same { IsTrue D.is_modelled → IsUnchanged D.seen D.may_leave D.moment D.left_since self.old.disk self.new.disk }
-        ensures reason { IsTrue D.is_modelled → at ≤ length (D.seen self.old.disk) → OnErr result (MayFailReading D.seen D.may_fail (D.seen self.old.disk)) }
+        ensures same { IsTrue D.is_modelled
+            → IsUnchanged D.seen D.may_leave D.moment D.left_since self.old.disk self.new.disk }
+        ensures reason { IsTrue D.is_modelled → at ≤ length (D.seen self.old.disk)
+            → OnErr result (MayFailReading D.seen D.may_fail (D.seen self.old.disk)) }
         ensures cause { CountsFailure result (D.faults self.old.disk) (D.faults self.new.disk) }
     {
         if len < self.buffer.len() && self.held(at, len).is_none() {
@@ -114,7 +118,7 @@ fn part_of(bytes: &[u8], from: usize, len: usize) -> Option<&[u8]>
 }
 
 /// Reads so many bytes from an offset on into the front of others.
-fn read_front<D: Disk>(
+pub(crate) fn read_front<D: Disk>(
     disk: &mut D,
     at: usize,
     len: usize,
@@ -125,7 +129,9 @@ fn read_front<D: Disk>(
     ensures read { IsTrue D.is_modelled → OnOk result (IsRead (D.seen disk.old) at (take len buffer.new)) }
     ensures seen { IsTrue D.is_modelled → D.seen disk.new ≡ D.seen disk.old }
     ensures crash { IsTrue D.is_modelled → (c : List ℕ) → D.may_leave disk.new c ↔ D.may_leave disk.old c }
-    ensures time { IsTrue D.is_modelled → Elapses (D.moment disk.old) (D.moment disk.new) (D.left_since disk.old) (D.left_since disk.new) (D.may_leave disk.new) }
+    ensures time { IsTrue D.is_modelled
+        → Elapses (D.moment disk.old) (D.moment disk.new)
+        (D.left_since disk.old) (D.left_since disk.new) (D.may_leave disk.new) }
     ensures reason { OnErr result (D.may_fail disk.old (ReadAt at len)) }
     ensures cause { CountsFailure result (D.faults disk.old) (D.faults disk.new) }
 {
@@ -144,7 +150,9 @@ fn read_into<D: Disk>(
     ensures read { IsTrue D.is_modelled → OnOk result (IsRead (D.seen disk.old) at (take len buffer.new.items)) }
     ensures seen { IsTrue D.is_modelled → D.seen disk.new ≡ D.seen disk.old }
     ensures crash { IsTrue D.is_modelled → (c : List ℕ) → D.may_leave disk.new c ↔ D.may_leave disk.old c }
-    ensures time { IsTrue D.is_modelled → Elapses (D.moment disk.old) (D.moment disk.new) (D.left_since disk.old) (D.left_since disk.new) (D.may_leave disk.new) }
+    ensures time { IsTrue D.is_modelled
+        → Elapses (D.moment disk.old) (D.moment disk.new)
+        (D.left_since disk.old) (D.left_since disk.new) (D.may_leave disk.new) }
     ensures reason { OnErr result (D.may_fail disk.old (ReadAt at len)) }
     ensures cause { CountsFailure result (D.faults disk.old) (D.faults disk.new) }
 {

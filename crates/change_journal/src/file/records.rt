@@ -1,4 +1,4 @@
-//! The file of a journal: records with the bodies of entries, each behind a gate.
+//! A file of records that is open.
 ghost use Rattle.std.specs.Prelude.{◌≡◌, ◌+◌, ◌<◌, ◌≤◌, ◌^◌, Err, IsErrOf, IsTrue, List, MatchResult, OnOk, [], ◌∷◌, ◌++◌, length, false, true, ℕ};
 ghost use Rattle.host_disk.specs.Crashes.{CountsFailure, LeavesOnly};
 ghost use Rattle.change_journal.specs.file.Frames.{AllShut, MayHold, framed, opened};
@@ -20,7 +20,7 @@ pub enum PutFault {
     Device,
 }
 
-/// A journal's file that is open.
+/// A file of records that is open.
 #[derive(Drop)]
 pub(crate) struct Records<D> {
     disk: D,
@@ -32,8 +32,14 @@ pub(crate) struct Records<D> {
 /// Puts a record behind the gate that ends the file, and opens that gate. The bytes end in the gate of the next record.
 fn put_record<D: Disk>(disk: &mut D, gate: usize, bytes: &[u8]) -> Result<(), DeviceFault>
     requires { gate + 1 < 2 ^ 64 }
-    ensures stored { IsTrue D.is_modelled → (bodies : List (List ℕ)) (body : List ℕ) → gate ≡ length (opened bodies) → bytes.now ≡ framed body ++ 0 ∷ [] → AllShut (D.may_leave disk.old) bodies → OnOk result (AllShut (D.may_leave disk.new) (bodies ++ body ∷ [])) }
-    ensures any_moment { IsTrue D.is_modelled → (bodies : List (List ℕ)) (body : List ℕ) → gate ≡ length (opened bodies) → bytes.now ≡ framed body ++ 0 ∷ [] → AllShut (D.may_leave disk.old) bodies → LeavesOnly D.moment D.left_since disk.old disk.new (MayHold bodies body) }
+    ensures stored { IsTrue D.is_modelled → (header : List ℕ) (bodies : List (List ℕ)) (body : List ℕ)
+        → gate ≡ length (opened header bodies) → bytes.now ≡ framed body ++ 0 ∷ []
+        → AllShut header (D.may_leave disk.old) bodies
+        → OnOk result (AllShut header (D.may_leave disk.new) (bodies ++ body ∷ [])) }
+    ensures any_moment { IsTrue D.is_modelled → (header : List ℕ) (bodies : List (List ℕ)) (body : List ℕ)
+        → gate ≡ length (opened header bodies) → bytes.now ≡ framed body ++ 0 ∷ []
+        → AllShut header (D.may_leave disk.old) bodies
+        → LeavesOnly D.moment D.left_since disk.old disk.new (MayHold header bodies body) }
     ensures cause { CountsFailure result (D.faults disk.old) (D.faults disk.new) }
 {
     write_synced(disk, gate + 1, bytes)?;
@@ -72,13 +78,19 @@ impl<D: Disk> Records<D> {
         requires few { self.old.broken ≡ false → self.old.position.count < 1000000 }
         requires long { 5 ≤ length bytes.now }
         requires short { length bytes.now ≤ 10470075 }
-        ensures stored { IsTrue D.is_modelled → (bodies : List (List ℕ)) (body : List ℕ) → bytes.now ≡ framed body ++ 0 ∷ [] → IsSettled D.may_leave self.old bodies → OnOk result (IsSettled D.may_leave self.new (bodies ++ body ∷ [])) }
-        ensures any_moment { IsTrue D.is_modelled → (bodies : List (List ℕ)) (body : List ℕ) → bytes.now ≡ framed body ++ 0 ∷ [] → IsSettled D.may_leave self.old bodies → LeavesOnly D.moment D.left_since self.old.disk self.new.disk (MayHold bodies body) }
+        ensures stored { IsTrue D.is_modelled → (header : List ℕ) (bodies : List (List ℕ)) (body : List ℕ) → bytes.now
+            ≡ framed body ++ 0 ∷ [] → IsSettled header D.may_leave self.old bodies
+            → OnOk result (IsSettled header D.may_leave self.new (bodies ++ body ∷ [])) }
+        ensures any_moment { IsTrue D.is_modelled → (header : List ℕ) (bodies : List (List ℕ)) (body : List ℕ)
+            → bytes.now ≡ framed body ++ 0 ∷ [] → IsSettled header D.may_leave self.old bodies
+            → LeavesOnly D.moment D.left_since self.old.disk self.new.disk (MayHold header bodies body) }
         ensures refused { IsTrue self.old.broken → (result ≡ Err Broken) × (self.new ≡ self.old) }
         ensures broken { IsErrOf result Broken → IsTrue self.old.broken }
         ensures breaks { MatchResult result (λ _. self.new.broken ≡ false) (λ _. self.new.broken ≡ true) }
-        ensures position { MatchResult result (λ _. self.new.position.count ≡ self.old.position.count + 1) (λ _. self.new.position ≡ self.old.position) }
-        ensures cause { MatchResult result (λ _. D.faults self.new.disk ≡ D.faults self.old.disk) (λ fault. TellsBreak fault (D.faults self.old.disk) (D.faults self.new.disk)) }
+        ensures position { MatchResult result (λ _. self.new.position.count ≡ self.old.position.count + 1)
+            (λ _. self.new.position ≡ self.old.position) }
+        ensures cause { MatchResult result (λ _. D.faults self.new.disk ≡ D.faults self.old.disk)
+            (λ fault. TellsBreak fault (D.faults self.old.disk) (D.faults self.new.disk)) }
     {
         if self.broken {
             return Err(PutFault::Broken);

@@ -13,7 +13,8 @@ pub(crate) fn write_synced<D: Disk>(
 ) -> Result<(), DeviceFault>
     ensures written { IsTrue D.is_modelled → OnOk result (IsWritten (D.seen disk.old) at bytes.now (D.seen disk.new)) }
     ensures durable { IsTrue D.is_modelled → OnOk result (Only (D.seen disk.new) (D.may_leave disk.new)) }
-    ensures any_moment { IsTrue D.is_modelled → LeavesOnly D.moment D.left_since disk.old disk.new (MayLeave (Torn at (length bytes.now)) (D.may_leave disk.old)) }
+    ensures any_moment { IsTrue D.is_modelled
+        → LeavesOnly D.moment D.left_since disk.old disk.new (MayLeave (Torn at (length bytes.now)) (D.may_leave disk.old)) }
     ensures cause { CountsFailure result (D.faults disk.old) (D.faults disk.new) }
 {
     disk.write_at(at, bytes)?;
@@ -24,7 +25,8 @@ pub(crate) fn write_synced<D: Disk>(
 pub(crate) fn cut_synced<D: Disk>(disk: &mut D, size: usize) -> Result<(), DeviceFault>
     ensures cut { IsTrue D.is_modelled → OnOk result (D.seen disk.new ≡ take size (D.seen disk.old)) }
     ensures durable { IsTrue D.is_modelled → OnOk result (Only (D.seen disk.new) (D.may_leave disk.new)) }
-    ensures any_moment { IsTrue D.is_modelled → LeavesOnly D.moment D.left_since disk.old disk.new (MayLeave (Cut size) (D.may_leave disk.old)) }
+    ensures any_moment { IsTrue D.is_modelled
+        → LeavesOnly D.moment D.left_since disk.old disk.new (MayLeave (Cut size) (D.may_leave disk.old)) }
     ensures cause { CountsFailure result (D.faults disk.old) (D.faults disk.new) }
 {
     disk.cut(size)?;

@@ -15,9 +15,11 @@ use std::alloc::Global;
 
 /// The gate at an offset.
 pub(crate) fn read_gate<D: Disk>(disk: &mut D, at: usize) -> Result<u8, DeviceFault>
-    ensures gate { IsTrue D.is_modelled → IfOk result (λ gate. drop at (D.seen disk.old) ≡ gate ∷ drop (at + 1) (D.seen disk.old)) }
+    ensures gate { IsTrue D.is_modelled → IfOk result (λ gate. drop at (D.seen disk.old)
+        ≡ gate ∷ drop (at + 1) (D.seen disk.old)) }
     ensures same { IsTrue D.is_modelled → IsOnlyRead D.seen D.may_leave D.moment D.left_since disk.old disk.new }
-    ensures reason { IsTrue D.is_modelled → at < length (D.seen disk.old) → OnErr result (MayFailReading D.seen D.may_fail (D.seen disk.old)) }
+    ensures reason { IsTrue D.is_modelled → at < length (D.seen disk.old)
+        → OnErr result (MayFailReading D.seen D.may_fail (D.seen disk.old)) }
     ensures cause { CountsFailure result (D.faults disk.old) (D.faults disk.new) }
 {
     let mut gate = [0];
@@ -36,10 +38,12 @@ fn told_length(bytes: [u8; 4]) -> usize
 
 /// The length at an offset.
 fn read_length<D: Disk>(disk: &mut D, at: usize) -> Result<usize, DeviceFault>
-    ensures length { IsTrue D.is_modelled → IfOk result (λ size. drop at (D.seen disk.old) ≡ to_be_bytes w32 size ++ drop (at + 4) (D.seen disk.old)) }
+    ensures length { IsTrue D.is_modelled → IfOk result (λ size. drop at (D.seen disk.old)
+        ≡ to_be_bytes w32 size ++ drop (at + 4) (D.seen disk.old)) }
     ensures fits { IfOk result (λ size. size < 2 ^ 32) }
     ensures same { IsTrue D.is_modelled → IsOnlyRead D.seen D.may_leave D.moment D.left_since disk.old disk.new }
-    ensures reason { IsTrue D.is_modelled → at + 4 ≤ length (D.seen disk.old) → OnErr result (MayFailReading D.seen D.may_fail (D.seen disk.old)) }
+    ensures reason { IsTrue D.is_modelled → at + 4 ≤ length (D.seen disk.old)
+        → OnErr result (MayFailReading D.seen D.may_fail (D.seen disk.old)) }
     ensures cause { CountsFailure result (D.faults disk.old) (D.faults disk.new) }
 {
     let mut size = [0; 4];
@@ -54,12 +58,14 @@ fn read_body<D: Disk>(
     size: usize,
     body: &mut Vec<u8>,
 ) -> Result<(), OpenFault>
-    ensures body { IsTrue D.is_modelled → OnOk result (drop at (D.seen disk.old) ≡ body.new.items ++ drop (at + size) (D.seen disk.old)) }
+    ensures body { IsTrue D.is_modelled
+        → OnOk result (drop at (D.seen disk.old) ≡ body.new.items ++ drop (at + size) (D.seen disk.old)) }
     ensures size { OnOk result (length body.new.items ≡ size) }
     ensures fault { IfErr result (λ fault. (i : ℕ) → fault ≡ BadRecord i → ⊥) }
     ensures same { IsTrue D.is_modelled → IsOnlyRead D.seen D.may_leave D.moment D.left_since disk.old disk.new }
     ensures header { IsErrOf result BadHeader → ⊥ }
-    ensures reason { IsTrue D.is_modelled → at + size ≤ length (D.seen disk.old) → IsErrOf result Device → MayFailReading D.seen D.may_fail (D.seen disk.old) }
+    ensures reason { IsTrue D.is_modelled → at + size ≤ length (D.seen disk.old) → IsErrOf result Device
+        → MayFailReading D.seen D.may_fail (D.seen disk.old) }
     ensures cause { TellsDevice result (D.faults disk.old) (D.faults disk.new) }
 {
     body.resize(size, 0)?;
@@ -70,15 +76,19 @@ fn read_body<D: Disk>(
 /// The length of the body behind the open gate at a position.
 fn record_length<D: Disk>(disk: &mut D, size: usize, position: Position) -> Result<usize, OpenFault>
     requires { position.gate < size }
-    ensures length { IsTrue D.is_modelled → IfOk result (λ n. drop (position.gate + 1) (D.seen disk.old) ≡ to_be_bytes w32 n ++ drop (position.gate + 5) (D.seen disk.old)) }
+    ensures length { IsTrue D.is_modelled → IfOk result (λ n. drop (position.gate + 1) (D.seen disk.old)
+        ≡ to_be_bytes w32 n ++ drop (position.gate + 5) (D.seen disk.old)) }
     ensures short { IfOk result (λ n. n ≤ 10470070) }
     ensures within { IfOk result (λ n. position.gate + 5 + n < size) }
     ensures few { IfOk result (λ _. position.count < 1000000) }
-    ensures bad { IsTrue D.is_modelled → size ≡ length (D.seen disk.old) → IfErr result (λ fault. (i : ℕ) → fault ≡ BadRecord i → (i ≡ position.count + 1) × (IsNotWhole (drop (position.gate + 1) (D.seen disk.old)) ⊎ (1000000 ≤ position.count))) }
+    ensures bad { IsTrue D.is_modelled → size ≡ length (D.seen disk.old) → IfErr result (λ fault. (i : ℕ)
+        → fault ≡ BadRecord i → (i ≡ position.count + 1) × (IsNotWhole (drop (position.gate + 1) (D.seen disk.old))
+        ⊎ (1000000 ≤ position.count))) }
     ensures same { IsTrue D.is_modelled → IsOnlyRead D.seen D.may_leave D.moment D.left_since disk.old disk.new }
     ensures header { IsErrOf result BadHeader → ⊥ }
     ensures memory { IsErrOf result OutOfMemory → ⊥ }
-    ensures reason { IsTrue D.is_modelled → size ≡ length (D.seen disk.old) → IsErrOf result Device → MayFailReading D.seen D.may_fail (D.seen disk.old) }
+    ensures reason { IsTrue D.is_modelled → size ≡ length (D.seen disk.old) → IsErrOf result Device
+        → MayFailReading D.seen D.may_fail (D.seen disk.old) }
     ensures cause { TellsDevice result (D.faults disk.old) (D.faults disk.new) }
 {
     let behind = size - position.gate - 1;
@@ -100,14 +110,18 @@ fn read_record<D: Disk>(
     body: &mut Vec<u8>,
 ) -> Result<(), OpenFault>
     requires { position.gate < size }
-    ensures body { IsTrue D.is_modelled → OnOk result (drop (position.gate + 1) (D.seen disk.old) ≡ framed body.new.items ++ drop (position.gate + 5 + length body.new.items) (D.seen disk.old)) }
+    ensures body { IsTrue D.is_modelled → OnOk result (drop (position.gate + 1) (D.seen disk.old)
+        ≡ framed body.new.items ++ drop (position.gate + 5 + length body.new.items) (D.seen disk.old)) }
     ensures short { OnOk result (length body.new.items ≤ 10470070) }
     ensures within { OnOk result (position.gate + 5 + length body.new.items < size) }
     ensures few { OnOk result (position.count < 1000000) }
-    ensures bad { IsTrue D.is_modelled → size ≡ length (D.seen disk.old) → IfErr result (λ fault. (i : ℕ) → fault ≡ BadRecord i → (i ≡ position.count + 1) × (IsNotWhole (drop (position.gate + 1) (D.seen disk.old)) ⊎ (1000000 ≤ position.count))) }
+    ensures bad { IsTrue D.is_modelled → size ≡ length (D.seen disk.old) → IfErr result (λ fault. (i : ℕ)
+        → fault ≡ BadRecord i → (i ≡ position.count + 1) × (IsNotWhole (drop (position.gate + 1) (D.seen disk.old))
+        ⊎ (1000000 ≤ position.count))) }
     ensures same { IsTrue D.is_modelled → IsOnlyRead D.seen D.may_leave D.moment D.left_since disk.old disk.new }
     ensures header { IsErrOf result BadHeader → ⊥ }
-    ensures reason { IsTrue D.is_modelled → size ≡ length (D.seen disk.old) → IsErrOf result Device → MayFailReading D.seen D.may_fail (D.seen disk.old) }
+    ensures reason { IsTrue D.is_modelled → size ≡ length (D.seen disk.old) → IsErrOf result Device
+        → MayFailReading D.seen D.may_fail (D.seen disk.old) }
     ensures cause { TellsDevice result (D.faults disk.old) (D.faults disk.new) }
 {
     let length = record_length(disk, size, position)?;
@@ -116,9 +130,12 @@ fn read_record<D: Disk>(
 
 /// Hands on a body that was read behind the gate at a position.
 fn take_body<B: Bodies>(bodies: &mut B, body: &[u8], position: Position) -> Result<(), OpenFault>
-    ensures taken { (had : List (List ℕ)) → B.has bodies.old had → OnOk result (B.has bodies.new (had ++ body.now ∷ [])) }
-    ensures lawful { OnOk result (B.is_lawful body.now) }
-    ensures bad { IfErr result (λ fault. (i : ℕ) → fault ≡ BadRecord i → (i ≡ position.count + 1) × (B.is_lawful body.now → ⊥)) }
+    ensures taken { (had : List (List ℕ)) → B.has bodies.old had
+        → OnOk result (B.has bodies.new (had ++ body.now ∷ [])) }
+    ensures lawful { (had : List (List ℕ)) → B.has bodies.old had → OnOk result (B.is_lawful had body.now) }
+    ensures number { IfErr result (λ fault. (i : ℕ) → fault ≡ BadRecord i → i ≡ position.count + 1) }
+    ensures bad { (had : List (List ℕ)) → B.has bodies.old had → IfErr result (λ fault. (i : ℕ) → fault ≡ BadRecord i
+        → B.is_lawful had body.now → ⊥) }
     ensures header { IsErrOf result BadHeader → ⊥ }
     ensures device { IfErr result (λ fault. fault ≡ Device → ⊥) }
 {
@@ -144,18 +161,28 @@ fn hand_on<D: Disk, B: Bodies>(
     bodies: &mut B,
 ) -> Result<Option<u8>, OpenFault>
     requires { position.gate < size }
-    ensures end { IsTrue D.is_modelled → IfOk result (λ gate. IfSome gate (λ gate. (gate ≢ 1) × (drop position.gate (D.seen disk.old) ≡ gate ∷ drop (position.gate + 1) (D.seen disk.old)))) }
+    ensures end { IsTrue D.is_modelled → IfOk result (λ gate. IfSome gate (λ gate. (gate ≢ 1)
+        × (drop position.gate (D.seen disk.old) ≡ gate ∷ drop (position.gate + 1) (D.seen disk.old)))) }
     ensures stays { IfOk result (λ gate. IfSome gate (λ _. bodies.new ≡ bodies.old)) }
-    ensures open { IsTrue D.is_modelled → IfOk result (λ gate. IsNone gate → drop position.gate (D.seen disk.old) ≡ 1 ∷ (framed body.new.items ++ drop (position.gate + 5 + length body.new.items) (D.seen disk.old))) }
-    ensures taken { (had : List (List ℕ)) → B.has bodies.old had → IfOk result (λ gate. IsNone gate → B.has bodies.new (had ++ body.new.items ∷ [])) }
-    ensures lawful { IfOk result (λ gate. IsNone gate → IsShort body.new.items × B.is_lawful body.new.items) }
+    ensures open { IsTrue D.is_modelled → IfOk result (λ gate. IsNone gate → drop position.gate (D.seen disk.old)
+        ≡ 1 ∷ (framed body.new.items ++ drop (position.gate + 5 + length body.new.items) (D.seen disk.old))) }
+    ensures taken { (had : List (List ℕ)) → B.has bodies.old had → IfOk result (λ gate. IsNone gate
+        → B.has bodies.new (had ++ body.new.items ∷ [])) }
+    ensures short { IfOk result (λ gate. IsNone gate → IsShort body.new.items) }
+    ensures lawful { (had : List (List ℕ)) → B.has bodies.old had
+        → IfOk result (λ gate. IsNone gate → B.is_lawful had body.new.items) }
     ensures within { IfOk result (λ gate. IsNone gate → position.gate + 5 + length body.new.items < size) }
     ensures few { IfOk result (λ gate. IsNone gate → position.count < 1000000) }
-    ensures bad { IsTrue D.is_modelled → size ≡ length (D.seen disk.old) → IfErr result (λ fault. (i : ℕ) → fault ≡ BadRecord i → (i ≡ position.count + 1) × (drop position.gate (D.seen disk.old) ≡ 1 ∷ drop (position.gate + 1) (D.seen disk.old)) × (IsNoRecord B.is_lawful (drop (position.gate + 1) (D.seen disk.old)) ⊎ (1000000 ≤ position.count))) }
+    ensures bad { IsTrue D.is_modelled → size ≡ length (D.seen disk.old) → (had : List (List ℕ)) → B.has bodies.old had
+        → IfErr result (λ fault. (i : ℕ) → fault ≡ BadRecord i → (i ≡ position.count + 1)
+        × (drop position.gate (D.seen disk.old) ≡ 1 ∷ drop (position.gate + 1) (D.seen disk.old))
+        × (IsNoRecord (B.is_lawful had) (drop (position.gate + 1) (D.seen disk.old)) ⊎ (1000000 ≤ position.count))) }
     ensures same { IsTrue D.is_modelled → IsOnlyRead D.seen D.may_leave D.moment D.left_since disk.old disk.new }
     ensures header { IsErrOf result BadHeader → ⊥ }
-    ensures memory { IsTrue D.is_modelled → IsErrOf result OutOfMemory → drop position.gate (D.seen disk.old) ≡ 1 ∷ drop (position.gate + 1) (D.seen disk.old) }
-    ensures reason { IsTrue D.is_modelled → size ≡ length (D.seen disk.old) → IsErrOf result Device → MayFailReading D.seen D.may_fail (D.seen disk.old) }
+    ensures memory { IsTrue D.is_modelled → IsErrOf result OutOfMemory → drop position.gate (D.seen disk.old)
+        ≡ 1 ∷ drop (position.gate + 1) (D.seen disk.old) }
+    ensures reason { IsTrue D.is_modelled → size ≡ length (D.seen disk.old) → IsErrOf result Device
+        → MayFailReading D.seen D.may_fail (D.seen disk.old) }
     ensures cause { TellsDevice result (D.faults disk.old) (D.faults disk.new) }
 {
     let gate = read_gate(disk, position.gate)?;
@@ -171,22 +198,31 @@ fn hand_on<D: Disk, B: Bodies>(
 pub(crate) fn walk_records<D: Disk, B: Bodies>(
     alloc: Global,
     disk: &mut D,
+    header: &[u8],
     size: usize,
     bodies: &mut B,
 ) -> Result<End, OpenFault>
-    requires { 8 < size }
-    ensures end { IsTrue D.is_modelled → size ≡ length (D.seen disk.old) → IsOpened (D.seen disk.old) → B.has bodies.old [] → IfOk result (λ end. HasEnded (B.has bodies.new) B.is_lawful end.position.gate end.position.count end.gate (D.seen disk.old)) }
+    requires short { length header.now ≤ 64 }
+    requires long { length header.now + 1 < size }
+    ensures end { IsTrue D.is_modelled → size ≡ length (D.seen disk.old) → IsOpened header.now (D.seen disk.old)
+        → B.has bodies.old []
+        → IfOk result
+        (λ end. HasEnded header.now (B.has bodies.new) B.is_lawful end.position.gate end.position.count end.gate (D.seen disk.old)) }
     ensures count { B.has bodies.old [] → IfOk result (λ end. HasCounted (B.has bodies.new) end.position.count) }
     ensures within { IfOk result (λ end. end.position.gate < size) }
-    ensures bad { IsTrue D.is_modelled → size ≡ length (D.seen disk.old) → IsOpened (D.seen disk.old) → B.has bodies.old [] → IfErr result (λ fault. (i : ℕ) → fault ≡ BadRecord i → IsBadRecord B.is_lawful i (D.seen disk.old)) }
+    ensures bad { IsTrue D.is_modelled → size ≡ length (D.seen disk.old) → IsOpened header.now (D.seen disk.old)
+        → B.has bodies.old [] → IfErr result (λ fault. (i : ℕ) → fault ≡ BadRecord i
+        → IsBadRecord header.now B.is_lawful i (D.seen disk.old)) }
     ensures same { IsTrue D.is_modelled → IsOnlyRead D.seen D.may_leave D.moment D.left_since disk.old disk.new }
     ensures header { IsErrOf result BadHeader → ⊥ }
-    ensures memory { IsTrue D.is_modelled → IsOpened (D.seen disk.old) → B.has bodies.old [] → IsErrOf result OutOfMemory → HasRecord (D.seen disk.old) }
-    ensures reason { IsTrue D.is_modelled → size ≡ length (D.seen disk.old) → IsErrOf result Device → MayFailReading D.seen D.may_fail (D.seen disk.old) }
+    ensures memory { IsTrue D.is_modelled → IsOpened header.now (D.seen disk.old) → B.has bodies.old []
+        → IsErrOf result OutOfMemory → HasRecord header.now (D.seen disk.old) }
+    ensures reason { IsTrue D.is_modelled → size ≡ length (D.seen disk.old) → IsErrOf result Device
+        → MayFailReading D.seen D.may_fail (D.seen disk.old) }
     ensures cause { TellsDevice result (D.faults disk.old) (D.faults disk.new) }
 {
     let mut body = Vec::new(alloc);
-    let mut position = Position::first();
+    let mut position = Position::first(header);
     loop {
         if let Some(gate) = hand_on(disk, size, position, &mut body, bodies)? {
             return Ok(End { position, gate });

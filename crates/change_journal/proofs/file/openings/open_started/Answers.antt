@@ -13,13 +13,13 @@ returns-in-Opened-clause-any_moment g c modelled size start only has had body pu
 
 pub returns-in_default-clause-opened : goal.returns-in_default-clause-opened
 returns-in_default-clause-opened g c modelled size start only has =
-    let new = new_start c.args.start (g.D.Disk.seen c.args.disk.now) start c.in_default.not-Opened in
+    let new = new_start c.args.header.now c.args.start (g.D.Disk.seen c.args.disk.now) start c.in_default.not-Opened in
     both_if_ok c.open_new.result _ _ _ (λ position at made. record {
       bodies = [];
       has = has;
       lawful = λ k d low. absurd (omega arith);
       found = inr (refl, new);
-      gate_is = at.0 ∙ sym length-opened;
+      gate_is = at.0 ∙ sym (length-opened c.args.header.now);
       count_is = at.1;
       exactly = made;
     }) c.open_new.ensures.position (c.open_new.ensures.made modelled size start new only)
@@ -31,8 +31,8 @@ returns-in_default-clause-count g c has =
 pub returns-in_default-clause-any_moment : goal.returns-in_default-clause-any_moment
 returns-in_default-clause-any_moment g c modelled size start only has had body put find =
     let file = g.D.Disk.seen c.args.disk.now in
-    let new = new_start c.args.start file start c.in_default.not-Opened in
-    weaker g.D.Disk.moment g.D.Disk.left_since c.args.disk.now c.open_new.new.disk IsStarting (MayFind had body) (starting_holds had body file new find) (c.open_new.ensures.any_moment modelled size start new only)
+    let new = new_start c.args.header.now c.args.start file start c.in_default.not-Opened in
+    weaker g.D.Disk.moment g.D.Disk.left_since c.args.disk.now c.open_new.new.disk (IsStarting c.args.header.now) (MayFind c.args.header.now had body) (starting_holds c.args.header.now had body file new find) (c.open_new.ensures.any_moment modelled size start new only)
 
 pub returns-in-Opened-clause-refused : goal.returns-in-Opened-clause-refused
 returns-in-Opened-clause-refused g c modelled size start has refused =
@@ -42,9 +42,9 @@ returns-in-Opened-clause-refused g c modelled size start has refused =
 pub returns-in_default-clause-refused : goal.returns-in_default-clause-refused
 returns-in_default-clause-refused g c modelled size start has refused =
     let file = g.D.Disk.seen c.args.disk.now in
-    absurd (found_no_refusal g.B.Bodies.is_lawful [] file (λ k d low. absurd (omega arith)) (omega arith) (inr (refl, new_start c.args.start file start c.in_default.not-Opened)) refused)
+    absurd (found_no_refusal c.args.header.now g.B.Bodies.is_lawful [] file (λ k d low. absurd (omega arith)) (omega arith) (inr (refl, new_start c.args.header.now c.args.start file start c.in_default.not-Opened)) refused)
 
 pub returns-in_default-clause-reason : goal.returns-in_default-clause-reason
 returns-in_default-clause-reason g c modelled size start has refused told =
     let file = g.D.Disk.seen c.args.disk.now in
-    absurd (found_no_refusal g.B.Bodies.is_lawful [] file (λ k d low. absurd (omega arith)) (omega arith) (inr (refl, new_start c.args.start file start c.in_default.not-Opened)) refused)
+    absurd (found_no_refusal c.args.header.now g.B.Bodies.is_lawful [] file (λ k d low. absurd (omega arith)) (omega arith) (inr (refl, new_start c.args.header.now c.args.start file start c.in_default.not-Opened)) refused)

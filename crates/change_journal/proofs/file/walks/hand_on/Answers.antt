@@ -5,7 +5,7 @@ use Rattle.change_journal.proofs.file.Steps.{same_fault}
 use Rattle.change_journal.proofs.file.walks.hand_on.Goals as goal
 
 pub returns-in_err-take_body-clause-bad : goal.returns-in_err-take_body-clause-bad
-returns-in_err-take_body-clause-bad g c modelled size =
+returns-in_err-take_body-clause-bad g c modelled size had has =
     let file = g.D.Disk.seen c.args.disk.now in
     let at = c.args.position.gate in
     let gate : drop at file ≡ c.in_ok-gate.gate ∷ drop (at + 1) file = c.in_ok-gate.ensures.gate modelled in
@@ -15,9 +15,8 @@ returns-in_err-take_body-clause-bad g c modelled size =
     let there : drop (at + 1) file ≡ framed body ++ drop (at + 5 + length body) file =
     subst (λ f. drop (at + 1) f ≡ framed body ++ drop (at + 5 + length body) f) same (c.in_ok-read_record.ensures.body modelled) in
     let read : c.deref.result.now ≡ body = search rules in
-    same_fault c.from_residual-in_err-take_body.result c.in_err-take_body.field-0.0 _ c.from_residual-in_err-take_body.ensures.1 (λ i fault.
-    let bad = c.in_err-take_body.ensures.bad i fault in (
-      bad.0,
+    same_fault c.from_residual-in_err-take_body.result c.in_err-take_body.field-0.0 _ c.from_residual-in_err-take_body.ensures.1 (λ i fault. (
+      c.in_err-take_body.ensures.number i fault,
       gate ∙ ap (λ (n : ℕ). n ∷ drop (at + 1) file) opens,
-      inl (unlawful g.B.Bodies.is_lawful (drop (at + 1) file) body _ there c.in_ok-read_record.ensures.short (λ lawful. bad.1 (subst g.B.Bodies.is_lawful (sym read) lawful))),
+      inl (unlawful (g.B.Bodies.is_lawful had) (drop (at + 1) file) body _ there c.in_ok-read_record.ensures.short (λ lawful. c.in_err-take_body.ensures.bad had has i fault (subst (g.B.Bodies.is_lawful had) (sym read) lawful))),
     ))

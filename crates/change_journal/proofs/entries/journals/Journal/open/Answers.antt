@@ -58,3 +58,7 @@ pub returns-in-Err-clause-no_journal : goal.returns-in-Err-clause-no_journal
 returns-in-Err-clause-no_journal g c modelled none =
     let begun = none_taken c.new-collected.result.log c.new-collected.ensures in
     judged c.in-Err.fault (g.D.Disk.seen c.args.disk) none (λ e. c.open_ahead-disk.ensures.memory modelled begun (c.in-Err.is ∙ ap Err e)) (rw c.in-Err.is at c.open_ahead-disk.ensures.bad_record modelled begun)
+
+pub returns-in-Err-clause-bad_record : goal.returns-in-Err-clause-bad_record
+returns-in-Err-clause-bad_record g c modelled =
+    rw c.in-Err.is at c.open_ahead-disk.ensures.bad_record modelled (none_taken c.new-collected.result.log c.new-collected.ensures)

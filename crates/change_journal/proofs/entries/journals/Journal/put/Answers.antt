@@ -4,7 +4,7 @@ use Rattle.change_undo.specs.declared.entries.Entry.{Entry}
 use Rattle.change_journal.specs.entries.Held.{entries_of}
 use Rattle.change_journal.specs.declared.entries.held.Held.{Held}
 use Rattle.change_journal.specs.declared.file.positions.Position.{Position}
-use Rattle.change_journal.proofs.entries.JournalSteps.{record_length, next_moments, held_moments, sound_with, torn_put}
+use Rattle.change_journal.proofs.entries.JournalSteps.{all_stored, record_length, next_moments, held_moments, sound_with, torn_put}
 use Rattle.change_journal.proofs.entries.journals.Journal.put.Goals as goal
 
 pub put-requires-clause-long : goal.put-requires-clause-long
@@ -17,27 +17,27 @@ pub returns-in_err-put-clause-any_moment : goal.returns-in_err-put-clause-any_mo
 returns-in_err-put-clause-any_moment g c =
     rw (← c.self.view_is) (λ modelled whole.
     next_moments g.D.Disk.moment g.D.Disk.left_since c.self.inside.records.disk c.put.new.self.disk _ c.args.prepared c.self.invariant.writable c.bytes.ensures.writable
-    (c.put.ensures.any_moment modelled _ _ c.bytes.ensures.is (c.self.invariant.settled modelled whole)))
+    (c.put.ensures.any_moment modelled _ _ _ c.bytes.ensures.is (c.self.invariant.settled modelled whole)))
 
 pub returns-in_err-put-clause-held : goal.returns-in_err-put-clause-held
 returns-in_err-put-clause-held g c =
     rw (← c.self.view_is) (λ modelled whole.
     held_moments g.D.Disk.moment g.D.Disk.left_since c.self.inside.records.disk c.put.new.self.disk _ c.args.prepared
     (next_moments g.D.Disk.moment g.D.Disk.left_since c.self.inside.records.disk c.put.new.self.disk _ c.args.prepared c.self.invariant.writable c.bytes.ensures.writable
-    (c.put.ensures.any_moment modelled _ _ c.bytes.ensures.is (c.self.invariant.settled modelled whole))))
+    (c.put.ensures.any_moment modelled _ _ _ c.bytes.ensures.is (c.self.invariant.settled modelled whole))))
 
 pub returns-clause-any_moment : goal.returns-clause-any_moment
 returns-clause-any_moment g c =
     rw (← c.self.view_is) (λ modelled whole.
     next_moments g.D.Disk.moment g.D.Disk.left_since c.self.inside.records.disk c.put.new.self.disk _ c.args.prepared c.self.invariant.writable c.bytes.ensures.writable
-    (c.put.ensures.any_moment modelled _ _ c.bytes.ensures.is (c.self.invariant.settled modelled whole)))
+    (c.put.ensures.any_moment modelled _ _ _ c.bytes.ensures.is (c.self.invariant.settled modelled whole)))
 
 pub returns-clause-held : goal.returns-clause-held
 returns-clause-held g c =
     rw (← c.self.view_is) (λ modelled whole.
     held_moments g.D.Disk.moment g.D.Disk.left_since c.self.inside.records.disk c.put.new.self.disk _ c.args.prepared
     (next_moments g.D.Disk.moment g.D.Disk.left_since c.self.inside.records.disk c.put.new.self.disk _ c.args.prepared c.self.invariant.writable c.bytes.ensures.writable
-    (c.put.ensures.any_moment modelled _ _ c.bytes.ensures.is (c.self.invariant.settled modelled whole))))
+    (c.put.ensures.any_moment modelled _ _ _ c.bytes.ensures.is (c.self.invariant.settled modelled whole))))
 
 pub invariant_of-self : goal.invariant_of-self
 invariant_of-self g c =
@@ -52,7 +52,7 @@ invariant_of-self g c =
           torn_put g.D.Disk.moment g.D.Disk.left_since g.D.Disk.may_leave was now _ c.args.prepared (λ t f later left. g.met.D.Disk.counts_now now.disk t f modelled later left)
           (λ failed. c.self.invariant.torn modelled failed) (λ failed. (c.put.ensures.refused failed).1) (λ whole.
           next_moments g.D.Disk.moment g.D.Disk.left_since was.disk now.disk _ c.args.prepared c.self.invariant.writable c.bytes.ensures.writable
-          (c.put.ensures.any_moment modelled _ _ c.bytes.ensures.is (c.self.invariant.settled modelled whole)));
+          (c.put.ensures.any_moment modelled _ _ _ c.bytes.ensures.is (c.self.invariant.settled modelled whole)));
     }
 
 pub invariant_of-self-2 : goal.invariant_of-self-2
@@ -62,4 +62,9 @@ invariant_of-self-2 g c =
     let put = c.in_ok-put.ensures in
     let more = ap (λ (h : Held). entries_of h ++ c.of-2.result.value ∷ []) c.of.ensures ∙ ap (λ (e : Entry). entries_of held ++ e ∷ []) c.of-2.ensures in
     sound_with g.D.Disk.is_modelled g.D.Disk.may_leave c.self.inside.records c.put.new.self (entries_of held) _ c.args.prepared more was.writable c.bytes.ensures.writable was.count put.position put.breaks (λ failed. (c.put.ensures.refused failed).1)
-    was.settled (λ modelled settled. put.stored modelled _ _ c.bytes.ensures.is settled)
+    was.settled (λ modelled settled. put.stored modelled _ _ _ c.bytes.ensures.is settled)
+
+pub returns-clause-stored : goal.returns-clause-stored
+returns-clause-stored g c modelled =
+    let sound = invariant_of-self-2 g c in
+    all_stored (g.D.Disk.may_leave c.put.new.self.disk) _ sound.writable (sound.settled modelled c.in_ok-put.ensures.breaks).shut

@@ -1,6 +1,6 @@
 use Rattle.std.proofs.Common.{◌++◌, [], ◌∷◌, ◌∙◌, ap, List, ℕ}
-use Rattle.change_journal.proofs.entries.JournalSteps.{framed_parts}
-use Rattle.change_journal.proofs.entries.prepared.framed_body.Goals as goal
+use Rattle.change_journal.proofs.file.PutSteps.{framed_parts}
+use Rattle.change_journal.proofs.file.frames.framed_body.Goals as goal
 
 pub returns : goal.returns
 returns c =
