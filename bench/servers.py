@@ -20,7 +20,7 @@ import time
 TOP = pathlib.Path(__file__).resolve().parent.parent
 sys.path[:0] = [str(TOP / "tests"), str(TOP / "scripts")]
 
-from client import digest_of  # noqa: E402
+from lib.client import digest_of  # noqa: E402
 
 HOST = "127.0.0.1"
 PATIENCE = 20

@@ -5,8 +5,8 @@ What is expected follows from docs/HTTP.md, "The body of a deploy".
 
 import unittest
 
-from client import ABC, HELLO, STATUS_OF, digest_of, opened
-from test_interface import DEPLOYS, Interface, get, post, publishing, put, read, row, uploading
+from lib.client import ABC, HELLO, digest_of, opened
+from lib.rows import DEPLOYS, Tables, get, post, publishing, put, read, uploading
 
 # What an opening asks for, and its body.
 OPENINGS = r"""
@@ -159,29 +159,9 @@ BadPath: "":null
 """
 
 
-def table(text):
-    """The rows of a table, each in its two parts."""
-    return [line.split(": ", 1) for line in text.splitlines() if line]
-
-
 def filled(members):
     """The members of `files`, with digests in the place of their letters."""
     return members.replace(":H", f':"{HELLO}"').replace("[H]", f'["{HELLO}"]').replace(":A", f':"{ABC}"')
-
-
-class Tables(Interface):
-    """Tables are gone through whole. Each body that is accepted has a connection of its own."""
-
-    def assert_table(self, text, target, rows_of, before=(), body_of=str, method="POST"):
-        """A body that asks for something is answered as these rows say, and each other by its refusal."""
-        wrong = []
-        for wanted, given in table(text):
-            if wanted in STATUS_OF:
-                wrong.append(row(method, target, body_of(given), wanted))
-                continue
-            with self.subTest(given):
-                self.assert_rows(rows_of(wanted, body_of(given)), before)
-        self.assert_rows([*wrong, row(method, target, b"", "BadBody")], before)
 
 
 class Openings(Tables):

@@ -6,11 +6,8 @@ What is expected follows from docs/WIRE.md, "Limits of bodies"; docs/HTTP.md, "T
 import json
 import unittest
 
-from client import HELLO, LARGEST_FILE, opened, refused, request, sent
-from test_bodies import Tables
-from test_interface import (
-    CHANGES, DEPLOYS, UNDO, Interface, change, delete, get, post, publishing, put, read, row, served, uploading,
-)
+from lib.client import HELLO, LARGEST_FILE, opened, refused, request, sent
+from lib.rows import CHANGES, DEPLOYS, UNDO, Interface, Tables, change, delete, get, post, publishing, put, read, row, served, uploading
 
 LARGEST_TEXT = 4_194_304
 RENAME = "/api/v1/sites/one/rename"

@@ -5,9 +5,9 @@ What is expected follows from docs/HTTP.md, by which a client sees no chunks.
 
 import unittest
 
-from client import LARGEST_FILE, digest_of, done, opened
-from test_interface import DEPLOYS, Interface, get, post, publishing, row, served, uploading
-from test_ranges import none_of, part, parts
+from lib.client import LARGEST_FILE, digest_of, done, opened
+from lib.parts import none_of, part, parts
+from lib.rows import DEPLOYS, Interface, get, post, publishing, row, served, uploading
 
 CHUNK = 65_536
 

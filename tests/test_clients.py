@@ -11,14 +11,15 @@ import subprocess
 import tempfile
 import unittest
 
-from client import (
-    HELLO, LARGEST_FILE, PATIENCE, PUBLISHED, SECONDS, closing, digest_of, opened, opening, refused, request, sent,
-    to_head, upload, uploaded,
+from lib.client import (
+    HELLO, LARGEST_FILE, PATIENCE, PUBLISHED, SECONDS, closing, digest_of, opened, opening, refused, request, sent, to_head, upload,
+    uploaded,
 )
-from over_tcp import Connection, OverTcp, Server, needs_curl, needs_wget
-from test_reading import TWO_PARTS, WORLD
-from test_streams import TALK
-from wire import BODY_TOO_LARGE, CODING_REFUSED, END, FILE, INTERIM, NEXT, NO_FILE, expecting, in_old_version
+from lib.over_tcp import Connection, OverTcp, Server, needs_curl, needs_wget
+from lib.parts import TWO_PARTS
+from lib.talk import TALK
+from lib.texts import WORLD
+from lib.wire import BODY_TOO_LARGE, CODING_REFUSED, END, FILE, INTERIM, NEXT, NO_FILE, expecting, in_old_version
 
 DEPLOYS = "/api/v1/sites/one/deploys"
 UPLOAD = "/api/v1/deploys/1/files/a.txt"

@@ -6,14 +6,14 @@ What is expected follows from docs/WIRE.md, docs/HTTP.md and docs/DECISIONS.md.
 import socket
 import unittest
 
-from client import (
-    ABC, HELLO, LARGEST_FILE, PUBLISHED, REQUESTS, Client, Program, asking, closing, done, opened, opening, refused,
-    request, run, sent, to_head, upload, uploaded,
+from lib.client import (
+    ABC, HELLO, LARGEST_FILE, PUBLISHED, REQUESTS, Client, Program, asking, closing, done, opened, opening, refused, request, run,
+    sent, to_head, upload, uploaded,
 )
-from test_streams import ASKED, TALK
-from wire import (
-    BAD_HEAD, BODY_TOO_LARGE, CODING_REFUSED, END, FILE, HEAD_LIMIT, HEAD_TOO_LARGE, LENGTH_BAD, LINE, NEXT, NO_FILE,
-    long_head, with_fields,
+from lib.talk import ASKED, TALK
+from lib.wire import (
+    BAD_HEAD, BODY_TOO_LARGE, CODING_REFUSED, END, FILE, HEAD_LIMIT, HEAD_TOO_LARGE, LENGTH_BAD, LINE, NEXT, NO_FILE, long_head,
+    with_fields,
 )
 
 JSON_LIMIT = 4_194_304

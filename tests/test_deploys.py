@@ -6,13 +6,13 @@ What is expected follows from docs/HTTP.md and docs/CHANGES.md.
 import itertools
 import unittest
 
-from client import (
-    ABC, HELLO, PUBLISHED, REQUESTS, Program, asking, closing, digest_of, done, opened, opening, refused, reply,
-    request, sent, to_head, upload, uploaded,
+from lib.client import (
+    ABC, HELLO, PUBLISHED, REQUESTS, Program, asking, closing, digest_of, done, opened, opening, refused, reply, request, sent,
+    to_head, upload, uploaded,
 )
-from worked import (
-    EMPTY, NO_ALIAS, NO_CHANGE, NO_DEPLOY, NO_FILE, aliasing, cancelling, clash, deleting, entry, renaming, restoring,
-    showing, stands, undoing,
+from lib.worked import (
+    EMPTY, NO_ALIAS, NO_CHANGE, NO_DEPLOY, NO_FILE, aliasing, cancelling, clash, deleting, entry, renaming, restoring, showing, stands,
+    undoing,
 )
 
 NOT_LISTED = refused("NotListed")

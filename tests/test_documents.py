@@ -1,26 +1,9 @@
-"""The documents against what they speak of: names of functions, files and crates, the first run, and the limits of pages, files and
-functions."""
+"""The documents against what they speak of: names of functions, files and crates, the first run, and the limits of pages."""
 
-import pathlib
 import re
 import unittest
 
-TOP = pathlib.Path(__file__).resolve().parent.parent
-PAGES = sorted(page for pattern in ("*.md", "*/*.md", "crates/*/PROMISES.md") for page in TOP.glob(pattern))
-
-
-def read(*path):
-    return TOP.joinpath(*path).read_text()
-
-
-def crates():
-    """The crates of crates.txt, each with what it stands on."""
-    lines = (line.partition("#")[0].partition(":") for line in read("crates.txt").splitlines())
-    return {name.strip(): set(rest.split()) for name, _, rest in lines if name.strip()}
-
-
-def code_of(crate):
-    return "\n".join(file.read_text() for file in sorted((TOP / "crates" / crate / "src").rglob("*.rt")))
+from lib.repository import PAGES, TOP, code_of, crates, read
 
 
 def titles(page):
@@ -220,26 +203,9 @@ class ListOfTests(unittest.TestCase):
 
     def test_has_a_row_for_each_file_and_no_other(self):
         rows = re.findall(r"(?m)^\| `([^`]+)` \| .* \|$", read("tests", "README.md"))
-        files = [file.name for file in (TOP / "tests").iterdir() if file.is_file() and file.name != "README.md"]
+        folders = (TOP / "tests", TOP / "tests" / "lib")
+        files = [file.name for folder in folders for file in folder.iterdir() if file.is_file() and file.name not in ("README.md", "run")]
         self.assertEqual(sorted(rows), sorted(files))
-
-
-class Code(unittest.TestCase):
-    """The limits in CONTRIBUTING.md, "Code"."""
-
-    files = sorted((TOP / "crates").glob("*/src/**/*.rt"))
-
-    def test_has_no_file_over_300_lines(self):
-        longer = {str(file.relative_to(TOP)) for file in self.files if file.read_text().count("\n") > 300}
-        self.assertEqual(longer, set())
-
-    def test_has_no_function_over_40_lines(self):
-        longer = set()
-        for file in self.files:
-            for found in re.finditer(r"(?ms)^( *)(?:pub(?:\(crate\))? )?fn (\w+).*?^\1\{?\}$", file.read_text()):
-                if found[0].count("\n") >= 40:
-                    longer.add(f"{file.relative_to(TOP)}: {found[2]}")
-        self.assertEqual(longer, set())
 
 
 if __name__ == "__main__":

@@ -7,10 +7,10 @@ import subprocess
 import tempfile
 import unittest
 
-from client import SECONDS, TOP, Program
-from long_model import LongModel
-from plain_model import Model
-from test_histories import Generator
+from lib.client import SECONDS, TOP, Program
+from lib.generated import Generator
+from lib.long_model import LongModel
+from lib.plain_model import Model
 
 HISTORIES = 60
 REQUESTS_OF_A_HISTORY = 120
@@ -39,7 +39,7 @@ class Endure(Program):
         self.assertEqual([int(cell.replace(",", "")) for cell in rows[-1][1:7]], [counts[name] for name in COUNTS[:-2]])
 
     def assert_finds(self, wrong, kind, counted):
-        status, counts, _, errors = self.endure(0.5, 1, "--program", TOP / "tests/wrong_program", WRONG=wrong)
+        status, counts, _, errors = self.endure(0.5, 1, "--program", TOP / "tests/lib/wrong_program", WRONG=wrong)
         self.assertEqual(status, 1)
         self.assertEqual([name for name in COUNTS[-2:] if counts[name]], [counted])
         self.assertRegex(errors, rf"\Abench/endure: {kind}: .*; seed 1, connection \d+, request \d+ of it; the folder is \S+\n\Z")

@@ -8,7 +8,7 @@ import sys
 import time
 import unittest
 
-from sandbox import Sandbox
+from lib.sandbox import Sandbox
 
 PARTS = """\
 import os, sys

@@ -11,9 +11,9 @@ import random
 import re
 import unittest
 
-from client import Program, closing, content_length, request, run
-from test_histories import Generator, Run
-from wire import END, INTERIM, expecting, in_old_version
+from lib.client import Program, closing, content_length, request, run
+from lib.generated import Generator, Run
+from lib.wire import END, INTERIM, expecting, in_old_version
 
 BASES = 100
 STREAMS_OF_A_BASE = 100

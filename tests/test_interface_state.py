@@ -5,8 +5,8 @@ What is expected follows from docs/HTTP.md and docs/CHANGES.md.
 
 import unittest
 
-from client import ABC, HELLO, digest_of, opened, refused
-from test_interface import DEPLOYS, Interface, delete, get, post, publishing, put, read, served, undo, uploading
+from lib.client import ABC, HELLO, digest_of, opened, refused
+from lib.rows import DEPLOYS, Interface, delete, get, post, publishing, put, read, served, undo, uploading
 
 
 class Files(Interface):

@@ -5,9 +5,9 @@ the program opens of each, and what the file then is. The reader in journal.py h
 import random
 import unittest
 
-import journal
-from client import ABC, HELLO, digest_of
-from test_journal import Journals, told
+from lib import journal
+from lib.client import ABC, HELLO, digest_of
+from lib.journals import Journals, told
 
 NOTHING = digest_of(b"")
 

@@ -9,8 +9,8 @@ import pathlib
 import tempfile
 import time
 
-from client import Program
-from killed import Reach, Round
+from lib.client import Program
+from lib.killed import Reach, Round
 
 KILLS = 200
 KILLS_A_FOLDER = 10

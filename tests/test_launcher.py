@@ -6,8 +6,8 @@ import subprocess
 import time
 import unittest
 
-from sandbox import TOP, Sandbox
-from test_interface import HELP
+from lib.client import HELP
+from lib.sandbox import TOP, Sandbox
 
 CRATES = """\
 # name: what it stands on

@@ -5,13 +5,13 @@ What is expected follows from docs/HTTP.md, docs/CHANGES.md and docs/STORAGE.md,
 
 import unittest
 
-import journal
-from client import ABC, HELLO, asking, done, opening, refused, request, sent, upload, uploaded
-from stores import Stored, files_in, files_of, opening_of, write_store
-from test_interface import change
-from worked import (
-    LISTING, NO_DEPLOY, NO_FILE, aliasing, cancelling, deleting, entry, patching, reading, removing, renaming, restoring, showing, stands,
-    unaliasing, undoing,
+from lib import journal
+from lib.client import ABC, HELLO, asking, done, opening, refused, request, sent, upload, uploaded
+from lib.rows import change
+from lib.stores import Stored, files_in, files_of, opening_of, write_store
+from lib.worked import (
+    LISTING, NO_DEPLOY, NO_FILE, aliasing, cancelling, deleting, entry, patching, reading, removing, renaming, restoring, showing,
+    stands, unaliasing, undoing,
 )
 
 MOST_LINES = 1_000

@@ -4,33 +4,19 @@ The program is the real one. A small library in C stands before its allocator (r
 little room for all their memory, and bodies that are announced as larger.
 """
 
-import os
-import pathlib
 import resource
-import subprocess
-import tempfile
 import unittest
 
-from client import (
-    EXAMPLES, HERE, LARGEST_FILE, PROGRAM, SECONDS, Program, content_length, cut_after, refused, request, run, upload,
-)
-from test_reading import TEXTS, TWO_PARTS
-from wire import (
+from lib.client import EXAMPLES, LARGEST_FILE, Program, refused, request, run, upload
+from lib.parts import TWO_PARTS
+from lib.refusing import NO_MEMORY, Refusing, pieces
+from lib.texts import TEXTS
+from lib.wire import (
     BAD_HEAD, BODY_TOO_LARGE, CODING_REFUSED, FILE, HEAD_LIMIT, HEAD_TOO_LARGE, INTERIM, LENGTH_BAD, NO_FILE, expecting, long_head,
 )
 
 MEBIBYTE = 1 << 20
-SOURCE = HERE / "refuse_allocation.c"
-NO_MEMORY = b"filehost: out of memory\n"
 
-
-def pieces(stream):
-    """Its messages, one by one."""
-    ends = [0, *cut_after(stream, content_length)]
-    return [stream[start:end] for start, end in zip(ends, ends[1:])]
-
-
-GIVEN = (EXAMPLES / "first-run.http").read_bytes()
 OPENED, UPLOADED, PART, UNDONE, GONE = pieces((EXAMPLES / "first-run.replies").read_bytes())
 NO_DEPLOY = refused("NoSuchDeploy")
 NO_CHANGE = refused("NoSuchChange")
@@ -63,25 +49,6 @@ def is_right(replies):
     if replies[place] != refused("OutOfMemory"):
         return False
     return replies[place + 1:] in TAILS[place]
-
-
-class Refusing(Program):
-    """Runs of the program with one of its allocations refused."""
-
-    def setUp(self):
-        super().setUp()
-        folder = tempfile.TemporaryDirectory()
-        self.addCleanup(folder.cleanup)
-        self.library = pathlib.Path(folder.name) / "refuse_allocation.so"
-        subprocess.run(["gcc", "-O1", "-shared", "-fPIC", "-o", self.library, SOURCE, "-ldl"], check=True, timeout=SECONDS)
-
-    def run_refusing(self, place, given=GIVEN):
-        """The status, output and words on standard error where this allocation is refused; how many there were."""
-        told_in = self.library.with_name("allocations")
-        told_in.unlink(missing_ok=True)
-        names = {"LD_PRELOAD": str(self.library), "REFUSED_PLACE": str(place), "ALLOCATIONS_FILE": str(told_in)}
-        ran = subprocess.run([PROGRAM, *self.words], input=given, capture_output=True, timeout=SECONDS, env=os.environ | names)
-        return (ran.returncode, ran.stdout, ran.stderr), int(told_in.read_text())
 
 
 class RefusedAllocations(Refusing):

@@ -6,13 +6,13 @@ The program is the real one, with and without a store; a library in C refuses th
 
 import unittest
 
-import journal
-from client import ABC, HELLO, refused
-from plain_model import Model, Request
-from stores import Stored, as_bytes, entry_of, opening_of, told
-from test_histories import in_json
-from test_memory import NO_MEMORY, Refusing, pieces
-from worked import entry
+from lib import journal
+from lib.client import ABC, HELLO, refused
+from lib.generated import in_json
+from lib.plain_model import Model, Request
+from lib.refusing import NO_MEMORY, Refusing, pieces
+from lib.stores import Stored, as_bytes, entry_of, opening_of, told
+from lib.worked import entry
 
 LACKING = refused("OutOfMemory")
 LACKING_AND_CLOSED = refused("OutOfMemory", "Connection: close")

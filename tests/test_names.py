@@ -8,8 +8,8 @@ import resource
 import unittest
 import urllib.parse
 
-from client import ABC, HELLO, REQUESTS, digest_of, opened, refused, reply, run
-from test_interface import DEPLOYS, OTHER, Interface, delete, get, post, publishing, put, read, served, uploading
+from lib.client import ABC, HELLO, REQUESTS, digest_of, opened, refused, reply, run
+from lib.rows import DEPLOYS, OTHER, Interface, delete, get, post, publishing, put, read, served, uploading
 
 EMPTY = "da39a3ee5e6b4b0d3255bfef95601890afd80709"
 LONGEST = "abcdefghijklmnopqrstuvwxyz0123456789-abcdefghijklmnopqrstuvwxyz"

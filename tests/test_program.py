@@ -12,11 +12,11 @@ import sys
 import tempfile
 import unittest
 
-from client import (
-    CRATE, EXAMPLES, HELLO, LARGEST_FILE, PROGRAM, REQUESTS, SECONDS, Program, content_length, cut_after, messages,
-    opening, reply, request, run, told,
+from lib.client import (
+    CRATE, EXAMPLES, HELLO, LARGEST_FILE, PROGRAM, REQUESTS, SECONDS, Program, content_length, cut_after, messages, opening, reply,
+    request, run, told,
 )
-from over_tcp import OverTcp, needs_curl
+from lib.over_tcp import OverTcp, needs_curl
 
 OUTPUT_FAULT = b"filehost: output fault\n"
 

@@ -5,7 +5,7 @@ import re
 import subprocess
 import unittest
 
-from test_documents import TOP, code_of, crates, read
+from lib.repository import TOP, code_of, crates, read
 
 PAGES = {page.parent.name: page for page in sorted((TOP / "crates").glob("*/PROMISES.md"))}
 EDIT = re.compile(r"(?<![\w-])`([a-z][a-z0-9]*(?:-[a-z0-9]+)+)`")

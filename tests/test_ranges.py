@@ -8,33 +8,17 @@ import concurrent.futures
 import random
 import unittest
 
-from client import REQUESTS, Program, digest_of, refused, reply, sent
-from plain_model import Request, chosen, multipart, specs_of
-from test_histories import Run, in_json
-from test_interface import CHANGES, OTHER, Interface, change, get, publishing, put, row, served
+from lib.client import REQUESTS, Program, digest_of
+from lib.generated import Run, in_json
+from lib.parts import none_of, part, parts
+from lib.plain_model import Request, chosen, specs_of
+from lib.rows import CHANGES, Interface, change, get, publishing, put, row, served
 
 CONTENT = b"hello world"
 GREATEST = 18_446_744_073_709_551_615
 VALUES = 20_000
 BATCHES = 20
 PROGRAMS_AT_ONCE = 2
-
-
-def part(content, first, last, kind=OTHER):
-    """The reply that sends the bytes from the first position to the last, both included."""
-    positions = f"Content-Range: bytes {first}-{last}/{len(content)}"
-    return sent(content[first:last + 1], positions, kind=kind, whole=content)
-
-
-def parts(content, *intervals, kind=OTHER):
-    """The reply that sends several such parts, in this order."""
-    tag = f'ETag: "{digest_of(content)}"'
-    return reply("206 Partial Content", *multipart(kind, content, intervals), tag, "Accept-Ranges: bytes")
-
-
-def none_of(content):
-    """The reply where no byte of the range is there."""
-    return refused("NotSatisfiable", f"Content-Range: bytes */{len(content)}")
 
 
 class Ranges(Interface):

@@ -5,13 +5,13 @@ What is expected follows from docs/HTTP.md and docs/DECISIONS.md.
 
 import unittest
 
-from client import (
-    ABC, HELLO, LARGEST_FILE, PUBLISHED, REQUESTS, Program, asking, closing, digest_of, done, opened, opening, refused,
-    request, sent, to_head, upload, uploaded,
+from lib.client import (
+    ABC, HELLO, LARGEST_FILE, PUBLISHED, REQUESTS, Program, asking, closing, digest_of, done, opened, opening, refused, request, sent,
+    to_head, upload, uploaded,
 )
+from lib.parts import TWO_PARTS
+from lib.texts import TEXTS, WORLD
 
-EMPTY = digest_of(b"")
-WORLD = digest_of(b"hello world")
 BAD_BODY = refused("BadBody")
 BAD_NAME = refused("BadName")
 BAD_PATH = refused("BadPath")
@@ -19,35 +19,6 @@ NO_FILE = refused("NoSuchFile")
 NO_ROUTE = refused("NoRoute")
 NO_ALIAS = refused("NoSuchAlias")
 OCTETS = "application/octet-stream"
-
-# The site `one` serves three texts after these.
-TEXTS = [
-    (opening({"a.txt": HELLO, "w.txt": WORLD, "e.txt": EMPTY}), opened(1, WORLD, HELLO, EMPTY)),
-    (upload(1, "a.txt", b"hello"), uploaded(b"hello")), (upload(1, "w.txt", b"hello world"), uploaded(b"hello world")),
-    (request("PUT", "/api/v1/deploys/1/files/e.txt"), uploaded(b"", 2)),
-]
-
-
-# The reply with the positions 0 to 4 and 6 to 10 of `hello world`, in parts.
-TWO_PARTS = (
-    b"HTTP/1.1 206 Partial Content\r\n"
-    b"Content-Type: multipart/byteranges; boundary=fh0-2aae6c35c94fcfb415dbe95f408b9ce91ee846ed\r\n"
-    b"Content-Length: 305\r\n"
-    b'ETag: "2aae6c35c94fcfb415dbe95f408b9ce91ee846ed"\r\n'
-    b"Accept-Ranges: bytes\r\n"
-    b"\r\n"
-    b"--fh0-2aae6c35c94fcfb415dbe95f408b9ce91ee846ed\r\n"
-    b"Content-Type: text/plain; charset=utf-8\r\n"
-    b"Content-Range: bytes 0-4/11\r\n"
-    b"\r\n"
-    b"hello\r\n"
-    b"--fh0-2aae6c35c94fcfb415dbe95f408b9ce91ee846ed\r\n"
-    b"Content-Type: text/plain; charset=utf-8\r\n"
-    b"Content-Range: bytes 6-10/11\r\n"
-    b"\r\n"
-    b"world\r\n"
-    b"--fh0-2aae6c35c94fcfb415dbe95f408b9ce91ee846ed--\r\n"
-)
 
 
 def part(whole, first, last, kind="text/plain; charset=utf-8"):

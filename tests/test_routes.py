@@ -6,8 +6,8 @@ What is expected follows from docs/HTTP.md, "Routes" and "Targets".
 
 import unittest
 
-from client import STATUS_OF, refused, request
-from test_interface import Interface, post, publishing, put, row, served
+from lib.client import STATUS_OF, refused, request
+from lib.rows import NO_NUMBERS, Interface, post, publishing, put, row, served, written
 
 # Each resource by a target, and the replies to its methods where the host is empty and the request has no body.
 RESOURCES = {
@@ -26,15 +26,6 @@ RESOURCES = {
     "/api/v1/deploys/7/files/x": {"PUT": "NoSuchDeploy"},
 }
 METHODS = ["GET", "HEAD", "POST", "PUT", "DELETE", "PATCH", "OPTIONS", "TRACE", "get", "GETS", "Post", "put", "DELET"]
-
-# Texts that are no number of an entry, though some would be the number 1 if they were read more freely.
-NO_NUMBERS = ["", "0", "00", "01", "001", "+1", "-1", "1.0", "1e0", "%31", "0x1", "One", "1000001", "4294967297",
-              "18446744073709551617", "340282366920938463463374607431768211457"]
-
-
-def written(version, paths):
-    """Files whose contents are the version and the path."""
-    return {path: f"{version} {path}".encode() for path in paths}
 
 
 class Methods(Interface):

@@ -5,11 +5,10 @@ What is expected follows from docs/HTTP.md, "Routes" and "Targets".
 
 import unittest
 
-from client import STATUS_OF, digest_of, opened, sent
-from test_interface import (
-    DEPLOYS, UNDO, Interface, change, delete, get, post, publishing, put, read, row, served, undo, uploading,
+from lib.client import STATUS_OF, digest_of, opened, sent
+from lib.rows import (
+    DEPLOYS, NO_NUMBERS, UNDO, Interface, change, delete, get, post, publishing, put, read, row, served, undo, uploading, written,
 )
-from test_routes import NO_NUMBERS, written
 
 UPLOADS = "/api/v1/deploys/1/files"
 SITE_FILES = "/api/v1/sites/one/files"

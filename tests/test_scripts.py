@@ -14,8 +14,8 @@ import time
 import unittest
 from urllib.parse import unquote
 
-from client import LARGEST_FILE, REQUESTS, content_length, cut_after
-from sandbox import TOP, Sandbox
+from lib.client import LARGEST_FILE, REQUESTS, content_length, cut_after
+from lib.sandbox import TOP, Sandbox
 
 # Scripts outside of scripts/ and bench/.
 OTHERS = ("test", "tests/run", "examples/listen", "examples/make-deploy")

@@ -7,8 +7,8 @@ import re
 import socket
 import unittest
 
-from client import ABC, Program, opened, opening, refused, request, run, to_head
-from wire import BAD_HEAD, BODY_TOO_LARGE, CODING_REFUSED, FILE, HEAD_TOO_LARGE, LENGTH_BAD, NEXT, NO_FILE, with_fields
+from lib.client import ABC, Program, opened, opening, refused, request, run, to_head
+from lib.wire import BAD_HEAD, BODY_TOO_LARGE, CODING_REFUSED, FILE, HEAD_TOO_LARGE, LENGTH_BAD, NEXT, NO_FILE, with_fields
 
 BAD_METHOD = refused("BadMethod", "Allow: GET, HEAD")
 

@@ -6,16 +6,17 @@ import subprocess
 import sys
 import unittest
 
-import journal
-from client import (
-    ABC, EXAMPLES, HELLO, LARGEST_FILE, PROGRAM, SECONDS, TOP, digest_of, messages, opened, opening, refused, request, run, sent, upload, uploaded,
+from lib import journal
+from lib.client import (
+    ABC, EXAMPLES, HELLO, LARGEST_FILE, PROGRAM, SECONDS, TOP, digest_of, messages, opened, opening, refused, request, run, sent,
+    upload, uploaded,
 )
-from plain_model import Model
-from stores import PIECE, Conversation, Stored, as_bytes, entry_of, files_in, files_of, is_stored, looks, refused_undos
-from test_histories import Generator
-from worked import (
-    LISTING, aliasing, clash, deleting, deployed, done, entry, first_deployed, reading, removing, renaming, restoring, serves,
-    showing, stands, undoing,
+from lib.generated import Generator
+from lib.plain_model import Model
+from lib.stores import PIECE, Conversation, Stored, as_bytes, entry_of, files_in, files_of, is_stored, looks, refused_undos
+from lib.worked import (
+    LISTING, aliasing, clash, deleting, deployed, done, entry, first_deployed, reading, removing, renaming, restoring, serves, showing,
+    stands, undoing,
 )
 
 HISTORIES = 24

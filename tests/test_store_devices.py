@@ -4,17 +4,15 @@ A limit on the size of files stands for a full disk, beside a small file system 
 """
 
 import contextlib
-import resource
-import signal
 import subprocess
 import unittest
 
-import journal
-from client import HELLO, asking, done, opened, opening, refused, request, sent, upload, uploaded
-from stores import Conversation, Stored, opening_of, write_store
-from worked import (
-    LISTING, NO_DEPLOY, NO_FILE, aliasing, cancelling, deleting, entry, patching, reading, removing, renaming, restoring, serves, showing,
-    stands, unaliasing, undoing,
+from lib import journal
+from lib.client import HELLO, asking, done, opened, opening, refused, request, sent, upload, uploaded
+from lib.stores import Conversation, Stored, limited, opening_of, write_store
+from lib.worked import (
+    LISTING, NO_DEPLOY, NO_FILE, aliasing, cancelling, deleting, entry, patching, reading, removing, renaming, restoring, serves,
+    showing, stands, unaliasing, undoing,
 )
 
 DEVICE, BROKEN = refused("Device"), refused("Broken")
@@ -41,16 +39,6 @@ READS = [
     (showing(1), stands(1, "kept")), (showing(2), NO_DEPLOY), (LISTING, done(changes=[
         {"entry": 1, "kind": "open", "live": True}, {"entry": 2, "kind": "publish", "live": True}])),
 ]
-
-
-def limited(size):
-    """Lets no file of a program grow over this size; it is told so by a failure, and not ended by a signal."""
-
-    def limit():
-        signal.signal(signal.SIGXFSZ, signal.SIG_IGN)
-        resource.setrlimit(resource.RLIMIT_FSIZE, (size, size))
-
-    return {"preexec_fn": limit}
 
 
 @contextlib.contextmanager

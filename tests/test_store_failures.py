@@ -7,11 +7,11 @@ import os
 import subprocess
 import unittest
 
-from client import HERE, SECONDS, digest_of, refused
-from plain_model import Model, Request
-from stores import Conversation, Stored, as_bytes, found_in, looks, told
-from test_histories import in_json
-from worked import NO_DEPLOY
+from lib.client import HERE, SECONDS, digest_of, refused
+from lib.generated import in_json
+from lib.plain_model import Model, Request
+from lib.stores import Conversation, Stored, as_bytes, found_in, looks, told
+from lib.worked import NO_DEPLOY
 
 SOURCE = HERE / "refuse_device.c"
 DEVICE, BROKEN = refused("Device"), refused("Broken")

@@ -8,10 +8,10 @@ import shutil
 import subprocess
 import unittest
 
-import journal
-from client import ABC, HELLO, PROGRAM, Client, opened, opening, request, run, sent, upload, uploaded
-from stores import Stored, files_of, opening_of
-from worked import first_deployed, reading, serves, showing, stands
+from lib import journal
+from lib.client import ABC, HELLO, PROGRAM, Client, opened, opening, request, run, sent, upload, uploaded
+from lib.stores import Stored, files_of, opening_of
+from lib.worked import first_deployed, reading, serves, showing, stands
 
 NOBODY = 65_534
 CANCEL = ("cancel", "one", 1)

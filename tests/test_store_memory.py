@@ -2,9 +2,9 @@
 
 import unittest
 
-from client import request, sent
-from stores import PIECE, Stored, opening_of
-from test_memory import NO_MEMORY, Refusing
+from lib.client import request, sent
+from lib.refusing import NO_MEMORY, Refusing
+from lib.stores import PIECE, Stored, opening_of
 
 CONTENT = bytes(range(256)) * 300
 

@@ -3,9 +3,9 @@ says. No clause of a contract says it of a folder."""
 
 import os
 
-from client import digest_of, run, upload, uploaded
-from stores import PIECE, Stored, files_of, opening_of
-from traces import Traces
+from lib.client import digest_of, run, upload, uploaded
+from lib.stores import PIECE, Stored, files_of, opening_of
+from lib.traces import Traces
 
 ZEROS = bytes(PIECE)
 

@@ -11,26 +11,9 @@ import subprocess
 import tempfile
 import unittest
 
-from client import (
-    HERE, PUBLISHED, SECONDS, Client, Program, closing, digest_of, opened, opening, refused, run, sent, to_head, upload, uploaded,
-)
-
-LINE = b"GET /s/one/a.txt HTTP/1.1"
-END = b"\r\n\r\n"
-NEXT = LINE + END
-NO_FILE = refused("NoSuchFile")
-BAD_METHOD = refused("BadMethod", "Allow: GET, HEAD")
-
-# Several requests, with bodies, both ends of lines, and empty lines before heads.
-TALK = [
-    (b"\r\n\nPUT /s/one/a HTTP/1.1\nHost: x\ncontent-LENGTH: 3\n\nabc", BAD_METHOD),
-    (b"GET /s/one/b?q HTTP/1.1\r\nAccept: */*\n\r\n", NO_FILE),
-    *PUBLISHED,
-    (b"\nHEAD /s/one/a.txt HTTP/1.1\n\r\n", to_head(sent(b"hello"))),
-    (closing(NEXT), closing(sent(b"hello"))),
-]
-ASKED = b"".join(asked for asked, _ in TALK)
-WANTED = b"".join(wanted for _, wanted in TALK)
+from lib.client import HERE, SECONDS, Client, Program, closing, digest_of, opened, opening, run, sent, upload, uploaded
+from lib.talk import ASKED, TALK, WANTED
+from lib.wire import NEXT
 
 
 def replies_within(length):

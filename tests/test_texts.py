@@ -7,10 +7,8 @@ import json
 import unittest
 import urllib.parse
 
-from client import ABC, HELLO, STATUS_OF, messages, opened, refused, reply, request, run, told
-from test_interface import (
-    CHANGES, DEPLOYS, UNDO, Interface, change, delete, get, post, publishing, put, read, undo, uploading,
-)
+from lib.client import ABC, HELLO, STATUS_OF, messages, opened, refused, reply, request, run, told
+from lib.rows import CHANGES, DEPLOYS, UNDO, Interface, change, delete, get, post, publishing, put, read, undo, uploading
 
 RENAME = "/api/v1/sites/one/rename"
 ALIASES = "/api/v1/sites/one/aliases"

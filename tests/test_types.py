@@ -6,8 +6,8 @@ What is expected follows from docs/HTTP.md, "Types of files".
 import unittest
 import urllib.parse
 
-from client import HELLO, opened, sent
-from test_interface import DEPLOYS, OTHER, Interface, get, post, publishing, uploading
+from lib.client import HELLO, opened, sent
+from lib.rows import DEPLOYS, OTHER, Interface, get, post, publishing, uploading
 
 
 class TypesOfFiles(Interface):

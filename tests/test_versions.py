@@ -2,10 +2,10 @@
 
 import unittest
 
-from client import ABC, HELLO, opened, opening, refused, upload, uploaded
-from worked import (
-    NO_DEPLOY, NO_DRAFT, Worked, aliasing, cancelling, clash, deleting, deployed, entry, first_deployed, patching,
-    reading, removing, renaming, restoring, served, serves, showing, stands, undoing,
+from lib.client import ABC, HELLO, opened, opening, refused, upload, uploaded
+from lib.worked import (
+    NO_DEPLOY, NO_DRAFT, Worked, aliasing, cancelling, clash, deleting, deployed, entry, first_deployed, patching, reading, removing,
+    renaming, restoring, served, serves, showing, stands, undoing,
 )
 
 

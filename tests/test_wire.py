@@ -5,12 +5,12 @@ What is expected follows from docs/WIRE.md; the interim reply from RFC 9110, sec
 
 import unittest
 
-from client import (
-    HELLO, LARGEST_FILE, PUBLISHED, REQUESTS, Client, Program, asking, closing, done, opened, opening, refused, request,
-    run, sent, to_head, upload, uploaded,
+from lib.client import (
+    HELLO, LARGEST_FILE, PUBLISHED, REQUESTS, Client, Program, asking, closing, done, opened, opening, refused, request, run, sent,
+    to_head, upload, uploaded,
 )
-from wire import (
-    BAD_HEAD, BODY_TOO_LARGE, CODING_REFUSED, END, FILE, HEAD_LIMIT, HEAD_TOO_LARGE, INTERIM, LENGTH_BAD, LINE, NEXT, NO_FILE,
+from lib.wire import (
+    BAD_HEAD, BODY_TOO_LARGE, CODING_REFUSED, END, FAULTS, FILE, HEAD_LIMIT, HEAD_TOO_LARGE, INTERIM, LENGTH_BAD, LINE, NEXT, NO_FILE,
     expecting, in_old_version, long_head, with_fields,
 )
 
@@ -27,32 +27,14 @@ UNDO = asking("POST", "/api/v1/sites/one/undo", change=2)
 class Faults(Program):
     """Faults of heads and lengths, and what is no fault."""
 
-    rows = [
-        (request("PUT", UPLOAD, "Content-Length: 16777217"),
-         b'HTTP/1.1 413 Payload Too Large\r\nContent-Type: application/json\r\nContent-Length: 24\r\n'
-         b'Connection: close\r\n\r\n{"error":"BodyTooLarge"}'),
-        (request("PUT", UPLOAD, "Transfer-Encoding: chunked"),
-         b'HTTP/1.1 501 Not Implemented\r\nContent-Type: application/json\r\nContent-Length: 25\r\n'
-         b'Connection: close\r\n\r\n{"error":"CodingRefused"}'),
-        (with_fields(65),
-         b'HTTP/1.1 431 Request Header Fields Too Large\r\nContent-Type: application/json\r\nContent-Length: 24\r\n'
-         b'Connection: close\r\n\r\n{"error":"HeadTooLarge"}'),
-        (request("PUT", UPLOAD, "Content-Length: 5", "Content-Length: 5"),
-         b'HTTP/1.1 400 Bad Request\r\nContent-Type: application/json\r\nContent-Length: 21\r\n'
-         b'Connection: close\r\n\r\n{"error":"LengthBad"}'),
-        (b"hello\r\n\r\n",
-         b'HTTP/1.1 400 Bad Request\r\nContent-Type: application/json\r\nContent-Length: 19\r\n'
-         b'Connection: close\r\n\r\n{"error":"BadHead"}'),
-    ]
-
     def test_are_answered_byte_for_byte_while_the_input_is_open(self):
-        for asked, wanted in self.rows:
+        for asked, wanted in FAULTS:
             client = Client(self)
             client.send(asked)
             self.assertEqual(client.end(), (0, wanted, b""), asked)
 
     def test_end_the_connection(self):
-        for asked, wanted in self.rows:
+        for asked, wanted in FAULTS:
             self.assert_converses([*PUBLISHED, (asked, wanted)], unread=b"hello" + NEXT)
 
     def test_are_none_where_a_request_is_cut_short(self):

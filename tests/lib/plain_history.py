@@ -6,7 +6,7 @@ nothing. What no test asks of it is left out: running out of memory, and a full 
 
 from typing import NamedTuple
 
-from client import STATUS_OF
+from lib.client import STATUS_OF
 
 
 class Refused(Exception):

@@ -1,7 +1,7 @@
 #!/usr/bin/env python3
 """Lets a program that serves one connection on its standard input and output be reached over TCP:
 
-    tests/relay.py COMMAND..
+    tests/lib/relay.py COMMAND..
 
 Prints the port that it listens on, on 127.0.0.1, and takes one connection. That is the command's input and output;
 the command's exit status is its own. After the command's end it takes, and drops, what the client still sends: were

@@ -9,8 +9,8 @@ import re
 import urllib.parse
 from typing import NamedTuple
 
-from client import REQUESTS, digest_of, reply
-from plain_history import ALIAS, DRAFT, KEPT, LIVE, Deploy, History, Refused, refuse_where
+from lib.client import REQUESTS, digest_of, reply
+from lib.plain_history import ALIAS, DRAFT, KEPT, LIVE, Deploy, History, Refused, refuse_where
 
 TYPES = {
     "html": "text/html; charset=utf-8", "css": "text/css; charset=utf-8", "js": "text/javascript; charset=utf-8",

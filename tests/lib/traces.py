@@ -2,7 +2,7 @@
 
 import subprocess
 
-from client import HERE, SECONDS
+from lib.client import HERE, SECONDS
 
 SOURCE = HERE / "trace_files.c"
 

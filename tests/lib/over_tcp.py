@@ -11,8 +11,8 @@ import threading
 import time
 import unittest
 
-from client import HERE, PATIENCE, PROGRAM, SECONDS, Program
-from wire import END
+from lib.client import HERE, PATIENCE, PROGRAM, SECONDS, Program
+from lib.wire import END
 
 needs_curl = unittest.skipUnless(shutil.which("curl"), "curl is missing: ./test installs it")
 needs_wget = unittest.skipUnless(shutil.which("wget"), "wget is missing: ./test installs it")

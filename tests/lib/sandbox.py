@@ -10,7 +10,7 @@ import subprocess
 import sys
 import tempfile
 
-TOP = pathlib.Path(__file__).resolve().parent.parent
+TOP = pathlib.Path(__file__).resolve().parents[2]
 FAKE_RT = pathlib.Path(__file__).resolve().parent / "fake_rt"
 
 # What the scripts may call beside rt. A PATH of these alone has no toolchain on it, wherever that is installed.

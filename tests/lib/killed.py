@@ -6,11 +6,11 @@ import subprocess
 import threading
 import time
 
-import journal
-from client import PATIENCE, PROGRAM, REQUESTS, content_length
-from plain_model import Model
-from stores import as_bytes, found_in, looks, told
-from test_histories import Generator
+from lib import journal
+from lib.client import PATIENCE, PROGRAM, REQUESTS, content_length
+from lib.generated import Generator
+from lib.plain_model import Model
+from lib.stores import as_bytes, found_in, looks, told
 
 
 class Killed:

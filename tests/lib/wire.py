@@ -3,7 +3,7 @@
 They follow from docs/WIRE.md; the interim reply from RFC 9110, section 10.1.1.
 """
 
-from client import closing, refused, request, told
+from lib.client import closing, refused, request, told
 
 FILE = "/s/one/a.txt"
 LINE = f"GET {FILE} HTTP/1.1".encode()
@@ -44,3 +44,23 @@ def with_fields(count, last="a: b", method="GET"):
 def long_head(length, method="GET"):
     """The first bytes of a head that has no end yet."""
     return f"{method} {FILE} HTTP/1.1\r\nLong: ".encode().ljust(length, b"a")
+
+
+# A request with each fault, and the reply to it, letter by letter.
+FAULTS = [
+    (request("PUT", "/api/v1/deploys/1/files/a.txt", "Content-Length: 16777217"),
+     b'HTTP/1.1 413 Payload Too Large\r\nContent-Type: application/json\r\nContent-Length: 24\r\n'
+     b'Connection: close\r\n\r\n{"error":"BodyTooLarge"}'),
+    (request("PUT", "/api/v1/deploys/1/files/a.txt", "Transfer-Encoding: chunked"),
+     b'HTTP/1.1 501 Not Implemented\r\nContent-Type: application/json\r\nContent-Length: 25\r\n'
+     b'Connection: close\r\n\r\n{"error":"CodingRefused"}'),
+    (with_fields(65),
+     b'HTTP/1.1 431 Request Header Fields Too Large\r\nContent-Type: application/json\r\nContent-Length: 24\r\n'
+     b'Connection: close\r\n\r\n{"error":"HeadTooLarge"}'),
+    (request("PUT", "/api/v1/deploys/1/files/a.txt", "Content-Length: 5", "Content-Length: 5"),
+     b'HTTP/1.1 400 Bad Request\r\nContent-Type: application/json\r\nContent-Length: 21\r\n'
+     b'Connection: close\r\n\r\n{"error":"LengthBad"}'),
+    (b"hello\r\n\r\n",
+     b'HTTP/1.1 400 Bad Request\r\nContent-Type: application/json\r\nContent-Length: 19\r\n'
+     b'Connection: close\r\n\r\n{"error":"BadHead"}'),
+]

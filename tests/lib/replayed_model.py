@@ -4,8 +4,8 @@ After each undo it runs all live changes again from nothing, and of each it keep
 each later live change in turn.
 """
 
-from plain_history import is_in
-from plain_model import Model
+from lib.plain_history import is_in
+from lib.plain_model import Model
 
 
 class ReplayedModel(Model):

@@ -6,8 +6,8 @@ That this is what the live changes give from nothing is checked by the plain mod
 
 import bisect
 
-from plain_history import EVERY
-from plain_model import Model
+from lib.plain_history import EVERY
+from lib.plain_model import Model
 
 
 class LongModel(Model):

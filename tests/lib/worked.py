@@ -5,9 +5,7 @@ The replies follow from docs/CHANGES.md and docs/HTTP.md.
 
 import urllib.parse
 
-from client import (
-    ABC, HELLO, Program, asking, digest_of, done, opened, opening, refused, request, sent, upload, uploaded,
-)
+from lib.client import ABC, HELLO, Program, asking, digest_of, done, opened, opening, refused, request, sent, upload, uploaded
 
 SITE = "/api/v1/sites/one"
 JSON = "application/json"

@@ -13,7 +13,7 @@ import time
 import unittest
 
 HERE = pathlib.Path(__file__).resolve().parent
-TOP = HERE.parent
+TOP = HERE.parent.parent
 CRATE = TOP / "crates/filehost"
 PROGRAM = CRATE / "out/filehost"
 EXAMPLES = TOP / "examples"
@@ -63,6 +63,14 @@ def documented_statuses():
 
 
 STATUS_OF = documented_statuses()
+
+
+# The texts in docs/help, and the words that ask for each.
+HELP = {
+    "filehost.txt": ("--help", "-h", "help"),
+    "solo.txt": ("solo --help", "solo -h", "help solo"),
+    "version.txt": ("--version", "-V"),
+}
 
 
 def run(*words, given=b"", **how):

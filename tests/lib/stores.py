@@ -2,14 +2,16 @@
 
 import contextlib
 import pathlib
+import resource
 import shutil
+import signal
 import tempfile
 
-import journal
-from client import Client, Program, content_length, digest_of, request, run
-from plain_history import Deploy, Entry
-from plain_model import Request
-from test_histories import SITES, Generator, in_json, views
+from lib import journal
+from lib.client import Client, Program, content_length, digest_of, request, run
+from lib.generated import SITES, Generator, in_json, views
+from lib.plain_history import Deploy, Entry
+from lib.plain_model import Request
 
 PIECE = 65_536
 
@@ -188,3 +190,13 @@ class Conversation:
     def end(self):
         self.client.program.stdin.close()
         self.test.assertEqual(self.client.end(), (0, b"", b""))
+
+
+def limited(size):
+    """Lets no file of a program grow over this size; it is told so by a failure, and not ended by a signal."""
+
+    def limit():
+        signal.signal(signal.SIGXFSZ, signal.SIG_IGN)
+        resource.setrlimit(resource.RLIMIT_FSIZE, (size, size))
+
+    return {"preexec_fn": limit}

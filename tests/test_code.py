@@ -1,0 +1,74 @@
+"""The limits of files and functions, in Rattle, in Python and in shell scripts; and that no test uses another one."""
+
+import ast
+import re
+import unittest
+
+from lib.repository import TOP
+
+FOLDERS = ("tests", "tests/lib", "scripts", "bench", "examples")
+
+
+class Rattle(unittest.TestCase):
+    """The code of the crates."""
+
+    files = sorted((TOP / "crates").glob("*/src/**/*.rt"))
+
+    def test_has_no_file_over_300_lines(self):
+        longer = {str(file.relative_to(TOP)) for file in self.files if file.read_text().count("\n") > 300}
+        self.assertEqual(longer, set())
+
+    def test_has_no_function_over_40_lines(self):
+        longer = set()
+        for file in self.files:
+            for found in re.finditer(r"(?ms)^( *)(?:pub(?:\(crate\))? )?fn (\w+).*?^\1\{?\}$", file.read_text()):
+                if found[0].count("\n") >= 40:
+                    longer.add(f"{file.relative_to(TOP)}: {found[2]}")
+        self.assertEqual(longer, set())
+
+
+def scripts(first_line, ending):
+    """The files with this ending, or with none and this first line, in the folders of tests and scripts and at the top."""
+    files = [file for folder in (".", *FOLDERS) for file in sorted((TOP / folder).iterdir()) if file.is_file()]
+    return [file for file in files if file.suffix == ending or not file.suffix and file.read_bytes().startswith(first_line)]
+
+
+class Scripts(unittest.TestCase):
+    """Python and shell scripts: tests, scripts, measurements, examples and the two commands."""
+
+    python = scripts(b"#!/usr/bin/env python3\n", ".py")
+    shell = scripts(b"#!/usr/bin/env bash\n", ".sh")
+
+    def test_are_all_looked_at(self):
+        names = {str(file.relative_to(TOP)) for file in self.python + self.shell}
+        self.assertLessEqual({"filehost", "test", "tests/run", "tests/lib/client.py", "bench/compare", "scripts/lines", "examples/listen"}, names)
+
+    def test_are_named_in_words_that_say_what_they_do(self):
+        """A command's name is words with hyphens between them, that of a module words with underscores."""
+        for file in self.python + self.shell:
+            with self.subTest(file.name):
+                self.assertRegex(file.name, r"[a-z]+(_[a-z]+)*\.py" if file.suffix == ".py" else r"[a-z]+([-_][a-z]+)*")
+
+    def test_each_module_says_what_it_is_for(self):
+        for file in self.python:
+            with self.subTest(str(file.relative_to(TOP))):
+                self.assertTrue(ast.get_docstring(ast.parse(file.read_text())))
+
+    def test_no_test_uses_another_one(self):
+        """What several tests use is in tests/lib, which uses no test either. Nor does a measurement."""
+        for file in self.python:
+            for part in ast.walk(ast.parse(file.read_text())):
+                names = [part.module or ""] if isinstance(part, ast.ImportFrom) else [name.name for name in part.names] if isinstance(part, ast.Import) else []
+                with self.subTest(str(file.relative_to(TOP))):
+                    self.assertEqual([name for name in names if name.startswith("test_")], [])
+
+    def test_what_tests_share_is_used_by_one_at_least(self):
+        text = "\n".join(file.read_text() for file in self.python)
+        for file in sorted((TOP / "tests" / "lib").iterdir()):
+            if file.is_file():
+                with self.subTest(file.name):
+                    self.assertTrue(re.search(rf"\bfrom lib import {file.stem}\b|\bfrom lib\.{file.stem} import\b|[\"/]{re.escape(file.name)}\"", text))
+
+
+if __name__ == "__main__":
+    unittest.main()
