@@ -9,38 +9,13 @@ import dataclasses
 import pathlib
 import re
 
-WORD = re.compile(
-    r"""(?P<space>\s+)|(?P<comment>//[^\n]*|/\*.*?\*/)
-    |(?P<string>b?r(?P<hashes>\#*)".*?"(?P=hashes)|b?"(?:\\.|[^"\\])*")
-    |(?P<letter>b?'(?:\\[^\n']+|[^'\\\n])')|(?P<lifetime>'[A-Za-z_]\w*)
-    |(?P<number>\d\w*)|(?P<name>[^\W\d]\w*)
-    |(?P<sign>\.\.=|<<=|>>=|->|=>|::|==|!=|<=|>=|&&|\|\||\.\.|[-+*/%^&|]=|.)""",
-    re.VERBOSE | re.DOTALL,
-)
-CLAUSES = {"requires", "ensures", "measure", "decreases", "invariant", "unfolding"}
+from bug_edits import Change
+from source_words import CLAUSES, CLOSING, OPENING, Source, in_one_line
+
 HEADS = {"if", "while", "for", "match"}
 NO_CALL = HEADS | {"in", "return", "let", "else", "as", "mut", "ref", "move", "loop", "fn"}
 TURNED = {"<": "<=", "<=": "<", ">": ">=", ">=": ">", "==": "!=", "!=": "=="}
 JOINED = {"&&": "||", "||": "&&"}
-OPENING, CLOSING = set("([{"), set(")]}")
-
-
-@dataclasses.dataclass(frozen=True)
-class Change:
-    """Texts that are put in the place of stretches of a file, which don't meet."""
-
-    parts: tuple
-
-    def of(self, text):
-        for start, end, new in sorted(self.parts, reverse=True):
-            text = text[:start] + new + text[end:]
-        return text
-
-    def shown(self, text):
-        """The two texts, of the whole stretch that is changed, in one line each."""
-        start, end = min(part[0] for part in self.parts), max(part[1] for part in self.parts)
-        moved = Change(tuple((one - start, other - start, new) for one, other, new in self.parts))
-        return in_one_line(text[start:end]), in_one_line(moved.of(text[start:end]))
 
 
 @dataclasses.dataclass(frozen=True)
@@ -62,79 +37,12 @@ class Place:
     function: Function
 
 
-def words_of(text):
-    """The words of a text, as (kind, word, start, end), without spaces and comments."""
-    found = []
-    for match in WORD.finditer(text):
-        if match.lastgroup not in ("space", "comment"):
-            kind = "string" if match.lastgroup == "hashes" else match.lastgroup
-            found.append((kind, match[0], match.start(), match.end()))
-    return found
-
-
-def in_one_line(text):
-    """The text without comments, in one line."""
-    parts = [" " if match.lastgroup in ("space", "comment") else match[0] for match in WORD.finditer(text)]
-    return re.sub(r" +", " ", "".join(parts)).strip()
-
-
-def pairs_of(words):
-    """Where each bracket that opens is closed, and the other way round."""
-    pairs, opened = {}, []
-    for at, (kind, word, *_) in enumerate(words):
-        if kind == "sign" and word in OPENING:
-            opened.append(at)
-        elif kind == "sign" and word in CLOSING and opened:
-            pairs[at] = opened.pop()
-            pairs[pairs[at]] = at
-    return pairs
-
-
-class Enums:
-    """The variants of the enums of all crates."""
-
-    def __init__(self, top):
-        self.found = {("std", "Ordering"): {"Less": "", "Equal": "", "Greater": ""}}
-        for file in sorted(pathlib.Path(top, "crates").glob("*/src/**/*.rt")):
-            crate = file.relative_to(top).parts[1]
-            words = words_of(file.read_text())
-            pairs = pairs_of(words)
-            for at, (_, word, *_) in enumerate(words):
-                if word == "enum" and words[at + 1][0] == "name":
-                    opening = next(here for here in range(at, len(words)) if words[here][1] == "{")
-                    self.found[crate, words[at + 1][1]] = self.variants(words, pairs, opening)
-
-    def variants(self, words, pairs, opening):
-        """The name of each variant, and the form of what it holds."""
-        found, at = {}, opening + 1
-        while at < pairs[opening]:
-            kind, word, *_ = words[at]
-            if word == "#":
-                at = pairs[at + 1] + 1
-            elif kind == "name" and words[at + 1][1] in OPENING:
-                inside = [one[1] for one in words[at + 2:pairs[at + 1]]]
-                count = sum(one == "," for one in inside[:-1]) if words[at + 1][1] == "(" else " ".join(inside)
-                found[word], at = words[at + 1][1] + str(count), pairs[at + 1] + 1
-            else:
-                found.update({word: ""} if kind == "name" else {})
-                at += 1
-        return found
-
-    def others(self, crate, path, name, variant):
-        """The variants of the same form, of the enum of that name: the crate's own, or that of the path before it, or of any crate."""
-        owners = [owner for owner, one in self.found if one == name and variant in self.found[owner, one]]
-        chosen = next((one for one in (path, crate) if one in owners), None) or (owners[0] if owners else None)
-        forms = self.found.get((chosen, name), {})
-        return [other for other in forms if other != variant and forms[other] == forms[variant]]
-
-
-class Source:
-    """One file of a crate, and the places in it."""
+class Places(Source):
+    """The places in one file of a crate."""
 
     def __init__(self, crate, file, text, enums):
-        self.crate, self.file, self.text, self.enums = crate, file, text, enums
-        self.words = words_of(text)
-        self.pairs = pairs_of(self.words)
+        super().__init__(file, text)
+        self.crate, self.enums = crate, enums
         self.places = []
         self.blocks, self.matches = [], []
         bodies = list(self.bodies())
@@ -143,82 +51,11 @@ class Source:
             self.owner = Function(name, self.line(parameters), self.line(end), names.count(name) > 1)
             self.look(start, end, parameters)
 
-    def word(self, at):
-        return self.words[at][1] if 0 <= at < len(self.words) else ""
-
-    def kind(self, at):
-        return self.words[at][0] if 0 <= at < len(self.words) else ""
-
-    def start(self, at):
-        return self.words[at][2]
-
-    def end(self, at):
-        return self.words[at][3]
-
-    def line(self, at):
-        return self.text.count("\n", 0, self.start(at)) + 1
-
-    def part(self, first, last):
-        """The text from a word to another, both with it."""
-        return self.text[self.start(first):self.end(last)]
-
     def add(self, kind, at, changes):
         """A place that begins at a word; of changes as lists of (first word, last word, new text)."""
         made = [Change(tuple((self.start(first), self.end(last), new) for first, last, new in change)) for change in changes]
         if made:
             self.places.append(Place(self.file, self.line(at), kind, made, self.owner))
-
-    # Where the bodies are.
-
-    def bodies(self):
-        """The brackets of each body of a function that is no test, and where its parameters begin."""
-        at, tested = 0, False
-        while at < len(self.words):
-            word = self.word(at)
-            if word == "#" and self.word(at + 1) == "[":
-                names = [self.word(one) for one in range(at + 2, self.pairs[at + 1])]
-                tested = tested or names[:1] == ["test"] or names[:1] == ["cfg"] and "test" in names
-                at = self.pairs[at + 1] + 1
-            elif word == "ghost":
-                at = self.after_ghost(at)
-            elif word == "mod" and tested:
-                at, tested = self.after_block(at), False
-            elif word == "fn" and self.kind(at + 1) == "name":
-                first, last = self.body_from(at + 2)
-                if first and not tested:
-                    yield first, last, at
-                at, tested = (last or first or at) + 1, False
-            else:
-                at += 1
-
-    def after_block(self, at):
-        while self.word(at) not in ("{", ";"):
-            at += 1
-        return self.pairs.get(at, at) + 1
-
-    def after_ghost(self, at):
-        while self.word(at) not in (";", ",") and at < len(self.words):
-            if self.word(at) in OPENING:
-                at = self.pairs[at]
-            at += 1
-        return at + 1
-
-    def body_from(self, at):
-        """The brackets of the body of the function whose parameters begin there, behind its clauses."""
-        while at < len(self.words):
-            word = self.word(at)
-            if word in CLAUSES:
-                at += 1 + (self.kind(at + 1) == "name")
-                at = self.pairs[at] + 1
-            elif word == "{":
-                return at, self.pairs[at]
-            elif word == ";":
-                return None, None
-            else:
-                at = self.pairs[at] + 1 if word in OPENING else at + 1
-        return None, None
-
-    # What is in a body.
 
     def look(self, start, end, parameters):
         self.function = (parameters, end, self.answers(parameters, start))
@@ -258,7 +95,7 @@ class Source:
             if self.word(at) == "ghost":
                 last = self.after_ghost(at) - 1
             elif self.word(at) in CLAUSES and self.kind(at) == "name":
-                opening = at + 1 + (self.kind(at + 1) == "name")
+                opening = self.clause_from(at)
                 last = self.pairs[opening] if self.word(opening) == "{" else at
             elif self.word(at) == "#" and self.word(at + 1) == "[":
                 last = self.pairs[at + 1]
@@ -503,7 +340,7 @@ def places_of(crate, folder, enums):
     places = []
     for file in sorted(pathlib.Path(folder, "src").glob("**/*.rt")):
         text, seen = file.read_text(), set()
-        for place in Source(crate, str(file.relative_to(folder)), text, enums).places:
+        for place in Places(crate, str(file.relative_to(folder)), text, enums).places:
             fresh = []
             for change in place.changes:
                 made = in_one_line(change.of(text))
@@ -513,80 +350,3 @@ def places_of(crate, folder, enums):
             if fresh:
                 places.append(dataclasses.replace(place, changes=fresh))
     return sorted(places, key=lambda place: (place.file, place.line))
-
-
-# A change as an edit: each text is one line, and the old one stands once in the file.
-
-def pairs_for(text, change):
-    """Old and new lines that make this change, or nothing where it can't be written so."""
-    wanted = in_one_line(change.of(text))
-    for written in (in_lines, in_a_comment):
-        pairs = written(text, change)
-        if pairs and in_one_line(applied(text, pairs) or "") == wanted:
-            return pairs
-    return None
-
-
-def as_edit(file, pairs):
-    return "".join([f"file: {file}\n", *(f"old: {old}\nnew: {new}\n" for old, new in pairs)])
-
-
-def applied(text, pairs):
-    for old, new in pairs:
-        if text.count(old) != 1:
-            return None
-        text = text.replace(old, new)
-    return text
-
-
-def line_at(text, place):
-    start = text.rfind("\n", 0, place) + 1
-    end = text.find("\n", place)
-    return start, len(text) if end < 0 else end
-
-
-def in_lines(text, change):
-    """Pairs of a line each. Two statements that are swapped are first one line and none."""
-    parts = sorted(change.parts)
-    if len(parts) == 2 and "\n" in text[parts[0][0]:parts[1][1]]:
-        (one, one_end, _), (other, other_end, new) = parts
-        parts = [(one, one_end, ""), (other, other_end, f"{text[other:other_end]} {text[one:one_end]}")]
-    elif len(parts) == 2:
-        (one, one_end, first), (other, other_end, second) = parts
-        parts = [(one, other_end, first + text[one_end:other] + second)]
-    pairs = []
-    for start, end, new in parts:
-        if "\n" in text[start:end] or "//" in new:
-            return None
-        from_, to = line_at(text, start)
-        line, made = text[from_:to], text[from_:start] + in_one_line(new) + text[end:to]
-        if text.count(line.strip()) == 1:
-            line, made = line.strip(), made.strip()
-        pairs.append((line, made.rstrip()))
-    return pairs
-
-
-def in_a_comment(text, change):
-    """What is changed is written again behind a line that stands once in the file, and what was there is made a comment."""
-    start, end = min(part[0] for part in change.parts), max(part[1] for part in change.parts)
-    above, below = line_at(text, start), line_at(text, end)
-    while not is_anchor(text, above):
-        if above[0] == 0:
-            return None
-        above = line_at(text, above[0] - 1)
-    while not is_anchor(text, below) or below == above:
-        if below[1] >= len(text) - 1:
-            return None
-        below = line_at(text, below[1] + 1)
-    from_, to = above[0], max(end, below[0])
-    moved = Change(tuple((one - from_, other - from_, new) for one, other, new in change.parts))
-    made = in_one_line(moved.of(text[from_:to]))
-    if "*/" in text[from_:to]:
-        return None
-    first, last = text[above[0]:above[1]], text[below[0]:below[1]]
-    return [(last, "*/ " + text[to:below[1]].strip()), (first, made + " /*")]
-
-
-def is_anchor(text, line):
-    words = text[line[0]:line[1]]
-    return bool(words.strip()) and not words.strip().startswith("//") and text.count(words) == 1

@@ -43,6 +43,22 @@ class Scripts(unittest.TestCase):
         names = {str(file.relative_to(TOP)) for file in self.python + self.shell}
         self.assertLessEqual({"filehost", "test", "tests/run", "tests/lib/client.py", "bench/compare", "scripts/lines", "examples/listen"}, names)
 
+    def test_have_no_file_over_400_lines(self):
+        longer = {str(file.relative_to(TOP)) for file in self.python + self.shell if file.read_text().count("\n") > 400}
+        self.assertEqual(longer, set())
+
+    def test_have_no_function_over_60_lines(self):
+        longer = set()
+        for file in self.python:
+            for part in ast.walk(ast.parse(file.read_text())):
+                if isinstance(part, (ast.FunctionDef, ast.AsyncFunctionDef)) and part.end_lineno - part.lineno >= 60:
+                    longer.add(f"{file.relative_to(TOP)}: {part.name}")
+        for file in self.shell:
+            for found in re.finditer(r"(?ms)^(\w+)\(\) [{(]$.*?^[})]$", file.read_text()):
+                if found[0].count("\n") >= 60:
+                    longer.add(f"{file.relative_to(TOP)}: {found[1]}")
+        self.assertEqual(longer, set())
+
     def test_are_named_in_words_that_say_what_they_do(self):
         """A command's name is words with hyphens between them, that of a module words with underscores."""
         for file in self.python + self.shell:
