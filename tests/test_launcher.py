@@ -1,6 +1,9 @@
 """The launcher ./filehost: it builds what has to be built, once, and then is the program."""
 
+import contextlib
 import os
+import pty
+import re
 import signal
 import subprocess
 import time
@@ -107,19 +110,61 @@ class Launcher(unittest.TestCase):
         beside = set((self.sandbox.folder / "calls.beside").read_text().splitlines())
         self.assertTrue(beside and beside <= {"left beside right", "right beside left"}, beside)
 
-    def test_shows_on_standard_error_how_far_a_build_is(self):
+    def test_prints_a_line_a_crate_where_nobody_looks_at_a_terminal(self):
         self.sandbox.add_crates(CRATES)
+        self.sandbox.write("docs/build-seconds.txt", "# crate, ..\nlow 10 5\nmiddle 20 9\nupper 30 7\nfilehost 40 8\nother 99 99\n")
         _, out, err = self.call()
-        self.assertNotIn("proving", out)
-        progress = [line for line in err.splitlines() if line.startswith("[")]
-        crates = ["low", "middle", "upper", "filehost"]
-        self.assertEqual(progress, [f"[{place}/4] proving {crate}" for place, crate in enumerate(crates)])
+        self.assertNotIn("proved", out)
+        share = {"low": 10, "middle": 30, "upper": 60, "filehost": 100}
+        told = [f"[{place}/4, 0 min, {part} % done] {crate} is proved, in 0 s of a processor" for place, (crate, part) in enumerate(share.items(), 1)]
+        self.assertEqual(err.splitlines()[1:], [*told, "filehost: built in 0 minutes"])
+        self.assertNotIn("\r", err)
 
-    def test_shows_how_many_functions_of_a_crate_are_done(self):
+    def test_says_at_its_start_how_long_a_build_takes(self):
+        """That is 1.15 times what its longest chain of crates lasts, or all its work on this number of processors."""
+        (self.sandbox.tools / "nproc").unlink()
+        self.sandbox.add_crates(SIDE_BY_SIDE)
+        seconds = {"low": (600, 600), "left": (1200, 1200), "right": (1200, 1200), "upper": (600, 600), "filehost": (600, 600)}
+        self.sandbox.write("docs/build-seconds.txt", "".join(f"{name} {work} {time}\n" for name, (work, time) in seconds.items()))
+        for processors, minutes in ((1, 81), (2, 58), (4, 58)):
+            (self.sandbox.tools / "nproc").write_text(f"#!/usr/bin/env bash\necho {processors}\n")
+            (self.sandbox.tools / "nproc").chmod(0o755)
+            self.sandbox.write("crates/low/src/lib.rt", str(processors))
+            with self.subTest(processors):
+                first = self.call()[2].splitlines()[0]
+                self.assertIn(f"each of its 5 crates is proved first, which from nothing takes about {minutes} min on {processors} processors", first)
+            self.sandbox.let_time_pass()
+
+    def test_tells_how_much_of_a_processor_each_crate_took(self):
+        self.sandbox.add_crates(SIDE_BY_SIDE)
+        _, _, err = self.call(TURNS_OF_left="1000000", SECONDS_OF_right="0.5")
+        took = dict(re.findall(r"(?m)\] (\w+) is proved, in (\d+) s of a processor$", err))
+        self.assertGreater(int(took.pop("left")), 0)
+        self.assertEqual(took, dict.fromkeys(("low", "right", "upper", "filehost"), "0"))
+        rows = (self.sandbox.top / "crates/filehost/out/build-seconds.txt").read_text().splitlines()
+        self.assertEqual(rows[0], (TOP / "docs" / "build-seconds.txt").read_text().splitlines()[0])
+        self.assertEqual(sorted(row.split()[0] for row in rows[1:]), ["filehost", "left", "low", "right", "upper"])
+        for row in rows[1:]:
+            self.assertRegex(row, r"^\w+ \d+ \d+$")
+
+    def test_shows_on_a_terminal_how_far_a_build_is(self):
         self.sandbox.add_crates("filehost: low\nlow:\n")
-        _, _, err = self.call(SECONDS_A_CRATE="1.5", SECONDS_TO_PROGRESS="0.2")
-        self.assertIn("[0/2, 0 min] low 3 of 8 functions", err.splitlines())
-        self.assertEqual(err.splitlines()[-1], "filehost: built in 0 minutes")
+        self.sandbox.write("docs/build-seconds.txt", "low 80 5\nfilehost 20 5\n")
+        near, far = pty.openpty()
+        building = self.start(stdout=subprocess.DEVNULL, stderr=far, SECONDS_A_CRATE="1.5", SECONDS_TO_PROGRESS="0.2")
+        os.close(far)
+        shown = b""
+        # The terminal ends with an error once nobody has it open.
+        with contextlib.suppress(OSError):
+            while piece := os.read(near, 4096):
+                shown += piece
+        os.close(near)
+        self.assertEqual(building.wait(), OWN_STATUS)
+        lines = shown.decode().split("\r\x1b[K")
+        self.assertIn("[0/2, 0 min, 30 % done] proving low 3 of 8 functions", lines)
+        self.assertIn("[1/2, 0 min, 80 % done] low is proved, in 0 s of a processor\r\n", lines)
+        self.assertIn("[1/2, 0 min, 80 % done] proving filehost", lines)
+        self.assertEqual(lines[-1], "filehost: built in 0 minutes\r\n")
 
     def test_stops_the_other_proofs_where_one_fails(self):
         self.sandbox.add_crates(SIDE_BY_SIDE)
