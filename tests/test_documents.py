@@ -3,7 +3,7 @@
 import re
 import unittest
 
-from lib.repository import PAGES, TOP, code_of, crates, read
+from lib.repository import PAGES, TOP, code_of, crates, groups, read
 
 
 def titles(page):
@@ -37,6 +37,56 @@ class Architecture(unittest.TestCase):
 
     def test_names_files_of_crates_that_are_there(self):
         assert_files_are_there(self, self.text, 5)
+
+
+class OrderOfCrates(unittest.TestCase):
+    """crates.txt has the one order of crates and its headings; each list of crates follows it."""
+
+    def test_goes_from_lower_to_upper_crates(self):
+        before = set()
+        for name, uses in crates().items():
+            with self.subTest(name):
+                self.assertLessEqual(uses & crates().keys(), before)
+            before.add(name)
+
+    def test_has_each_crate_below_a_heading_with_tests_and_measurements_last(self):
+        self.assertEqual([name for names in groups().values() for name in names], list(crates()))
+        *_, host, tests, measurements = groups().values()
+        self.assertEqual(host[-1], "filehost")
+        for ending, names in (("_tests", tests), ("_bench", measurements)):
+            self.assertEqual([name for name in crates() if name.endswith(ending)], names)
+
+    def test_is_that_of_the_folders(self):
+        self.assertEqual(sorted(crates()), sorted(file.parent.name for file in (TOP / "crates").glob("*/src") if file.is_dir()))
+
+    def assert_in_order(self, names):
+        self.assertEqual(names, [name for name in crates() if name in names])
+
+    def test_is_that_of_tables_and_lists(self):
+        count = 0
+        for page in PAGES:
+            for table in re.findall(r"(?m)(?:^\|.*\n)+", page.read_text()):
+                names = [name for name in re.findall(r"(?m)^\| (?:crates/)?`?(\w+)`? \|", table) if name in crates()]
+                if len(names) > 2:
+                    count += 1
+                    with self.subTest(page=str(page.relative_to(TOP)), first=names[0]):
+                        self.assert_in_order(list(dict.fromkeys(names)))
+        self.assertGreater(count, 3)
+        untried = read("docs", "GATE.md").partition("Still to be tried")[2].partition(".\n")[0]
+        self.assert_in_order(re.findall(r"`(\w+)`", untried))
+        self.assert_in_order(re.findall(r"(?m)^(\w+) \d+ \d+$", read("docs", "build-seconds.txt")))
+
+    def test_has_its_headings_in_the_tables_of_architecture(self):
+        tables = re.findall(r"(?m)(?:^\|.*\n)+", read("docs", "ARCHITECTURE.md"))
+        headed = [table for table in tables if "| **" in table]
+        self.assertEqual(len(headed), 2)
+        for table in headed:
+            parts = re.split(r"(?m)^\| \*\*(.*?)\*\* \|.*$", table)[1:]
+            found = {title: re.findall(r"(?m)^\| `(\w+)`", rows) for title, rows in zip(parts[::2], parts[1::2])}
+            self.assertLessEqual(len(found), len(groups()))
+            for title, names in found.items():
+                with self.subTest(title):
+                    self.assertEqual(names, [name for name in groups()[title] if name in names])
 
 
 class Map(unittest.TestCase):
