@@ -257,6 +257,10 @@ class ListOfTests(unittest.TestCase):
         files = [file.name for folder in folders for file in folder.iterdir() if file.is_file() and file.name not in ("README.md", "run")]
         self.assertEqual(sorted(rows), sorted(files))
 
+    def test_says_of_each_test_how_many_seconds_it_takes(self):
+        rows = re.findall(r"(?m)^\| `(test_\w+\.py)` \| (\d+) \| .* \|$", read("tests", "README.md"))
+        self.assertEqual(sorted(name for name, _ in rows), sorted(file.name for file in (TOP / "tests").glob("test_*.py")))
+
 
 if __name__ == "__main__":
     unittest.main()
