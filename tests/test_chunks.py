@@ -6,7 +6,7 @@ What is expected follows from docs/HTTP.md, by which a client sees no chunks.
 import unittest
 
 from lib.client import LARGEST_FILE, digest_of, done, opened
-from lib.parts import none_of, part, parts
+from lib.range_replies import none_of, part, parts
 from lib.rows import DEPLOYS, Interface, get, post, publishing, row, served, uploading
 
 CHUNK = 65_536

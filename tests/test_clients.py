@@ -16,9 +16,9 @@ from lib.client import (
     uploaded,
 )
 from lib.over_tcp import Connection, OverTcp, Server, needs_curl, needs_wget
-from lib.parts import TWO_PARTS
-from lib.talk import TALK
-from lib.texts import WORLD
+from lib.range_replies import TWO_PARTS
+from lib.sample_connection import TALK
+from lib.sample_site import WORLD
 from lib.wire import BODY_TOO_LARGE, CODING_REFUSED, END, FILE, INTERIM, NEXT, NO_FILE, expecting, in_old_version
 
 DEPLOYS = "/api/v1/sites/one/deploys"

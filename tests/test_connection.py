@@ -10,7 +10,7 @@ from lib.client import (
     ABC, HELLO, LARGEST_FILE, PUBLISHED, REQUESTS, Client, Program, asking, closing, done, opened, opening, refused, request, run,
     sent, to_head, upload, uploaded,
 )
-from lib.talk import ASKED, TALK
+from lib.sample_connection import ASKED, TALK
 from lib.wire import (
     BAD_HEAD, BODY_TOO_LARGE, CODING_REFUSED, END, FILE, HEAD_LIMIT, HEAD_TOO_LARGE, LENGTH_BAD, LINE, NEXT, NO_FILE, long_head,
     with_fields,

@@ -10,7 +10,7 @@ from lib.client import (
     ABC, HELLO, PUBLISHED, REQUESTS, Program, asking, closing, digest_of, done, opened, opening, refused, reply, request, sent,
     to_head, upload, uploaded,
 )
-from lib.worked import (
+from lib.worked_runs import (
     EMPTY, NO_ALIAS, NO_CHANGE, NO_DEPLOY, NO_FILE, aliasing, cancelling, clash, deleting, entry, renaming, restoring, showing, stands,
     undoing,
 )

@@ -8,7 +8,7 @@ import tempfile
 import unittest
 
 from lib.client import SECONDS, TOP, Program
-from lib.generated import Generator
+from lib.generated_histories import Generator
 from lib.long_model import LongModel
 from lib.plain_model import Model
 

@@ -6,7 +6,7 @@ import itertools
 import unittest
 
 from lib.client import REQUESTS, Program
-from lib.generated import PROGRAMS_AT_ONCE, Generator, Run, in_json, views
+from lib.generated_histories import PROGRAMS_AT_ONCE, Generator, Run, in_json, views
 from lib.plain_model import Request
 
 HISTORIES = 3_000

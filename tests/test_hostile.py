@@ -12,7 +12,7 @@ import re
 import unittest
 
 from lib.client import Program, closing, content_length, request, run
-from lib.generated import Generator, Run
+from lib.generated_histories import Generator, Run
 from lib.wire import END, INTERIM, expecting, in_old_version
 
 BASES = 100

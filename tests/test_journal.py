@@ -11,8 +11,8 @@ import random
 import unittest
 
 from lib import journal
+from lib.file_traces import Traces
 from lib.journals import Journals, told
-from lib.traces import Traces
 
 CANCEL = ("cancel", "one", 2)
 

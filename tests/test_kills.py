@@ -10,7 +10,7 @@ import tempfile
 import time
 
 from lib.client import Program
-from lib.killed import Reach, Round
+from lib.killed_program import Reach, Round
 
 KILLS = 200
 KILLS_A_FOLDER = 10

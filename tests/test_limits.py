@@ -9,7 +9,7 @@ from lib import journal
 from lib.client import ABC, HELLO, asking, done, opening, refused, request, sent, upload, uploaded
 from lib.rows import change
 from lib.stores import Stored, files_in, files_of, opening_of, write_store
-from lib.worked import (
+from lib.worked_runs import (
     LISTING, NO_DEPLOY, NO_FILE, aliasing, cancelling, deleting, entry, patching, reading, removing, renaming, restoring, showing,
     stands, unaliasing, undoing,
 )

@@ -8,9 +8,9 @@ import resource
 import unittest
 
 from lib.client import EXAMPLES, LARGEST_FILE, Program, refused, request, run, upload
-from lib.parts import TWO_PARTS
-from lib.refusing import NO_MEMORY, Refusing, pieces
-from lib.texts import TEXTS
+from lib.range_replies import TWO_PARTS
+from lib.refused_allocations import NO_MEMORY, Refusing, pieces
+from lib.sample_site import TEXTS
 from lib.wire import (
     BAD_HEAD, BODY_TOO_LARGE, CODING_REFUSED, FILE, HEAD_LIMIT, HEAD_TOO_LARGE, INTERIM, LENGTH_BAD, NO_FILE, expecting, long_head,
 )

@@ -8,11 +8,11 @@ import unittest
 
 from lib import journal
 from lib.client import ABC, HELLO, refused
-from lib.generated import in_json
+from lib.generated_histories import in_json
 from lib.plain_model import Model, Request
-from lib.refusing import NO_MEMORY, Refusing, pieces
+from lib.refused_allocations import NO_MEMORY, Refusing, pieces
 from lib.stores import Stored, as_bytes, entry_of, opening_of, told
-from lib.worked import entry
+from lib.worked_runs import entry
 
 LACKING = refused("OutOfMemory")
 LACKING_AND_CLOSED = refused("OutOfMemory", "Connection: close")

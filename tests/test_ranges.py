@@ -9,9 +9,9 @@ import random
 import unittest
 
 from lib.client import REQUESTS, Program, digest_of
-from lib.generated import Run, in_json
-from lib.parts import none_of, part, parts
+from lib.generated_histories import Run, in_json
 from lib.plain_model import Request, chosen, specs_of
+from lib.range_replies import none_of, part, parts
 from lib.rows import CHANGES, Interface, change, get, publishing, put, row, served
 
 CONTENT = b"hello world"

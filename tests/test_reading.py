@@ -9,8 +9,8 @@ from lib.client import (
     ABC, HELLO, LARGEST_FILE, PUBLISHED, REQUESTS, Program, asking, closing, digest_of, done, opened, opening, refused, request, sent,
     to_head, upload, uploaded,
 )
-from lib.parts import TWO_PARTS
-from lib.texts import TEXTS, WORLD
+from lib.range_replies import TWO_PARTS
+from lib.sample_site import TEXTS, WORLD
 
 BAD_BODY = refused("BadBody")
 BAD_NAME = refused("BadName")

@@ -11,10 +11,10 @@ from lib.client import (
     ABC, EXAMPLES, HELLO, LARGEST_FILE, PROGRAM, SECONDS, TOP, digest_of, messages, opened, opening, refused, request, run, sent,
     upload, uploaded,
 )
-from lib.generated import Generator
+from lib.generated_histories import Generator
 from lib.plain_model import Model
 from lib.stores import PIECE, Conversation, Stored, as_bytes, entry_of, files_in, files_of, is_stored, looks, refused_undos
-from lib.worked import (
+from lib.worked_runs import (
     LISTING, aliasing, clash, deleting, deployed, done, entry, first_deployed, reading, removing, renaming, restoring, serves, showing,
     stands, undoing,
 )

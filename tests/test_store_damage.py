@@ -6,7 +6,7 @@ import unittest
 
 from lib.client import HELLO, digest_of, opened, opening, refused, request, sent, to_head, upload, uploaded
 from lib.stores import PIECE, Conversation, Stored, files_of, opening_of, pieces_of
-from lib.worked import NO_FILE, entry, reading, removing, renaming, showing, stands, undoing
+from lib.worked_runs import NO_FILE, entry, reading, removing, renaming, showing, stands, undoing
 
 MISSING, DAMAGED, DEVICE = refused("Missing"), refused("Damaged"), refused("Device")
 BINARY = "application/octet-stream"

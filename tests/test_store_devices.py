@@ -10,7 +10,7 @@ import unittest
 from lib import journal
 from lib.client import HELLO, asking, done, opened, opening, refused, request, sent, upload, uploaded
 from lib.stores import Conversation, Stored, limited, opening_of, write_store
-from lib.worked import (
+from lib.worked_runs import (
     LISTING, NO_DEPLOY, NO_FILE, aliasing, cancelling, deleting, entry, patching, reading, removing, renaming, restoring, serves,
     showing, stands, unaliasing, undoing,
 )

@@ -8,10 +8,10 @@ import subprocess
 import unittest
 
 from lib.client import HERE, SECONDS, digest_of, refused
-from lib.generated import in_json
+from lib.generated_histories import in_json
 from lib.plain_model import Model, Request
 from lib.stores import Conversation, Stored, as_bytes, found_in, looks, told
-from lib.worked import NO_DEPLOY
+from lib.worked_runs import NO_DEPLOY
 
 SOURCE = HERE / "refuse_device.c"
 DEVICE, BROKEN = refused("Device"), refused("Broken")

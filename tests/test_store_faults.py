@@ -11,7 +11,7 @@ import unittest
 from lib import journal
 from lib.client import ABC, HELLO, PROGRAM, Client, opened, opening, request, run, sent, upload, uploaded
 from lib.stores import Stored, files_of, opening_of
-from lib.worked import first_deployed, reading, serves, showing, stands
+from lib.worked_runs import first_deployed, reading, serves, showing, stands
 
 NOBODY = 65_534
 CANCEL = ("cancel", "one", 1)

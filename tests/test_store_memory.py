@@ -3,7 +3,7 @@
 import unittest
 
 from lib.client import request, sent
-from lib.refusing import NO_MEMORY, Refusing
+from lib.refused_allocations import NO_MEMORY, Refusing
 from lib.stores import PIECE, Stored, opening_of
 
 CONTENT = bytes(range(256)) * 300

@@ -10,7 +10,7 @@ import unittest
 from lib import journal
 from lib.client import PUBLISHED, run
 from lib.stores import Stored, files_in, files_of, limited, opening_of
-from lib.worked import NO_FILE, entry, reading, renaming, serves, undoing
+from lib.worked_runs import NO_FILE, entry, reading, renaming, serves, undoing
 
 TALK = [
     *PUBLISHED, (renaming("/a.txt", "/c.txt"), entry(3)), (reading("/s/one/a.txt"), NO_FILE), (undoing(3), entry(4)),

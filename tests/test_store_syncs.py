@@ -4,8 +4,8 @@ says. No clause of a contract says it of a folder."""
 import os
 
 from lib.client import digest_of, run, upload, uploaded
+from lib.file_traces import Traces
 from lib.stores import PIECE, Stored, files_of, opening_of
-from lib.traces import Traces
 
 ZEROS = bytes(PIECE)
 

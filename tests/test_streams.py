@@ -12,7 +12,7 @@ import tempfile
 import unittest
 
 from lib.client import HERE, SECONDS, Client, Program, closing, digest_of, opened, opening, run, sent, upload, uploaded
-from lib.talk import ASKED, TALK, WANTED
+from lib.sample_connection import ASKED, TALK, WANTED
 from lib.wire import NEXT
 
 

@@ -3,7 +3,7 @@
 import unittest
 
 from lib.client import ABC, HELLO, done, opened, opening, refused, reply, sent, upload, uploaded
-from lib.worked import (
+from lib.worked_runs import (
     JSON, LISTING, NO_ALIAS, NO_CHANGE, NO_DEPLOY, NO_DRAFT, NO_FILE, Worked, aliasing, cancelling, clash, deleting, deployed, entry,
     first_deployed, patching, reading, removing, renaming, restoring, serves, showing, stands, unaliasing, undoing,
 )

@@ -3,7 +3,7 @@
 import unittest
 
 from lib.client import ABC, HELLO, opened, opening, refused, upload, uploaded
-from lib.worked import (
+from lib.worked_runs import (
     NO_DEPLOY, NO_DRAFT, Worked, aliasing, cancelling, clash, deleting, deployed, entry, first_deployed, patching, reading, removing,
     renaming, restoring, served, serves, showing, stands, undoing,
 )

@@ -9,7 +9,7 @@ import tempfile
 
 from lib import journal
 from lib.client import Client, Program, content_length, digest_of, request, run
-from lib.generated import SITES, Generator, in_json, views
+from lib.generated_histories import SITES, Generator, in_json, views
 from lib.plain_history import Deploy, Entry
 from lib.plain_model import Request
 

@@ -8,7 +8,7 @@ import time
 
 from lib import journal
 from lib.client import PATIENCE, PROGRAM, REQUESTS, content_length
-from lib.generated import Generator
+from lib.generated_histories import Generator
 from lib.plain_model import Model
 from lib.stores import as_bytes, found_in, looks, told
 
