@@ -143,7 +143,7 @@ class Launcher(unittest.TestCase):
         self.assertEqual(took, dict.fromkeys(("low", "right", "upper", "filehost"), "0"))
         rows = (self.sandbox.top / "crates/filehost/out/build-seconds.txt").read_text().splitlines()
         self.assertEqual(rows[0], (TOP / "docs" / "build-seconds.txt").read_text().splitlines()[0])
-        self.assertEqual(sorted(row.split()[0] for row in rows[1:]), ["filehost", "left", "low", "right", "upper"])
+        self.assertEqual([row.split()[0] for row in rows[1:]], ["filehost", "upper", "left", "right", "low"])
         for row in rows[1:]:
             self.assertRegex(row, r"^\w+ \d+ \d+$")
 
