@@ -3,7 +3,7 @@
 import hashlib
 import json
 
-from lib import journal
+import journal
 
 MEBIBYTE = 1 << 20
 LARGEST_DOCUMENT = 4 * MEBIBYTE

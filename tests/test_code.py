@@ -63,7 +63,7 @@ class Scripts(unittest.TestCase):
         """A command's name is words with hyphens between them, that of a module words with underscores."""
         for file in self.python + self.shell:
             with self.subTest(file.name):
-                self.assertRegex(file.name, r"^[a-z]+(_[a-z]+)*\.py$" if file.suffix == ".py" else r"^[a-z]+([-_][a-z]+)*$")
+                self.assertRegex(file.name, r"^(__init__|[a-z]+(_[a-z]+)*)\.py$" if file.suffix == ".py" else r"^[a-z]+([-_][a-z]+)*$")
 
     def test_each_module_says_what_it_is_for(self):
         for file in self.python:
@@ -79,7 +79,7 @@ class Scripts(unittest.TestCase):
     def test_what_tests_share_is_used_by_one_at_least(self):
         text = "\n".join(file.read_text() for file in self.python)
         for file in sorted((TOP / "tests" / "lib").iterdir()):
-            if file.is_file():
+            if file.is_file() and file.name != "__init__.py":
                 with self.subTest(file.name):
                     self.assertTrue(re.search(rf"\bfrom lib import {file.stem}\b|\bfrom lib\.{file.stem} import\b|[\"/]{re.escape(file.name)}\"", text))
 

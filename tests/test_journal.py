@@ -10,9 +10,9 @@ import hashlib
 import random
 import unittest
 
-from lib import journal
 from lib.file_traces import Traces
 from lib.journals import Journals, told
+import journal
 
 CANCEL = ("cancel", "one", 2)
 

@@ -5,9 +5,9 @@ the program opens of each, and what the file then is. The reader in journal.py h
 import random
 import unittest
 
-from lib import journal
 from lib.client import ABC, HELLO, digest_of
 from lib.journals import Journals, told
+import journal
 
 NOTHING = digest_of(b"")
 

@@ -5,7 +5,6 @@ What is expected follows from docs/HTTP.md, docs/CHANGES.md and docs/STORAGE.md,
 
 import unittest
 
-from lib import journal
 from lib.client import ABC, HELLO, asking, done, opening, refused, request, sent, upload, uploaded
 from lib.rows import change
 from lib.stores import Stored, files_in, files_of, opening_of, write_store
@@ -13,6 +12,7 @@ from lib.worked_runs import (
     LISTING, NO_DEPLOY, NO_FILE, aliasing, cancelling, deleting, entry, patching, reading, removing, renaming, restoring, showing,
     stands, unaliasing, undoing,
 )
+import journal
 
 MOST_LINES = 1_000
 MOST_ENTRIES = 1_000_000

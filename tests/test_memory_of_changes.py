@@ -6,13 +6,13 @@ The program is the real one, with and without a store; a library in C refuses th
 
 import unittest
 
-from lib import journal
 from lib.client import ABC, HELLO, refused
 from lib.generated_histories import in_json
 from lib.plain_model import Model, Request
 from lib.refused_allocations import NO_MEMORY, Refusing, pieces
 from lib.stores import Stored, as_bytes, entry_of, opening_of, told
 from lib.worked_runs import entry
+import journal
 
 LACKING = refused("OutOfMemory")
 LACKING_AND_CLOSED = refused("OutOfMemory", "Connection: close")

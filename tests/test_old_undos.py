@@ -13,7 +13,6 @@ import pathlib
 import tempfile
 import unittest
 
-from lib import journal
 from lib.client import REQUESTS, Program, digest_of, refused, run, sent
 from lib.generated_histories import CONTENTS, PROGRAMS_AT_ONCE, Generator, in_json
 from lib.plain_history import Refused, is_in
@@ -21,6 +20,7 @@ from lib.plain_model import Model, Request
 from lib.replayed_model import ReplayedModel
 from lib.stores import Stored, as_bytes, looks, opening_of, told
 from lib.worked_runs import NO_ALIAS, NO_DEPLOY, clash, entry, reading, serves, showing, stands, undoing
+import journal
 
 # How many entries each history has at least.
 SIZES = (2_000, 1_500, 1_000, 800, 600, 500, 400, 300)

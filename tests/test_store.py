@@ -6,7 +6,6 @@ import subprocess
 import sys
 import unittest
 
-from lib import journal
 from lib.client import (
     ABC, EXAMPLES, HELLO, LARGEST_FILE, PROGRAM, SECONDS, TOP, digest_of, messages, opened, opening, refused, request, run, sent,
     upload, uploaded,
@@ -18,6 +17,7 @@ from lib.worked_runs import (
     LISTING, aliasing, clash, deleting, deployed, done, entry, first_deployed, reading, removing, renaming, restoring, serves, showing,
     stands, undoing,
 )
+import journal
 
 HISTORIES = 24
 OPENINGS = 4

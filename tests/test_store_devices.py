@@ -7,13 +7,13 @@ import contextlib
 import subprocess
 import unittest
 
-from lib import journal
 from lib.client import HELLO, asking, done, opened, opening, refused, request, sent, upload, uploaded
 from lib.stores import Conversation, Stored, limited, opening_of, write_store
 from lib.worked_runs import (
     LISTING, NO_DEPLOY, NO_FILE, aliasing, cancelling, deleting, entry, patching, reading, removing, renaming, restoring, serves,
     showing, stands, unaliasing, undoing,
 )
+import journal
 
 DEVICE, BROKEN = refused("Device"), refused("Broken")
 DEPLOYED = [opening_of({"/a.txt": b"hello"}), ("publish", "one", 1)]

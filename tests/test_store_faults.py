@@ -8,10 +8,10 @@ import shutil
 import subprocess
 import unittest
 
-from lib import journal
 from lib.client import ABC, HELLO, PROGRAM, Client, opened, opening, request, run, sent, upload, uploaded
 from lib.stores import Stored, files_of, opening_of
 from lib.worked_runs import first_deployed, reading, serves, showing, stands
+import journal
 
 NOBODY = 65_534
 CANCEL = ("cancel", "one", 1)

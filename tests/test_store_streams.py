@@ -7,10 +7,10 @@ import socket
 import tempfile
 import unittest
 
-from lib import journal
 from lib.client import PUBLISHED, run
 from lib.stores import Stored, files_in, files_of, limited, opening_of
 from lib.worked_runs import NO_FILE, entry, reading, renaming, serves, undoing
+import journal
 
 TALK = [
     *PUBLISHED, (renaming("/a.txt", "/c.txt"), entry(3)), (reading("/s/one/a.txt"), NO_FILE), (undoing(3), entry(4)),

@@ -7,8 +7,8 @@ import subprocess
 import tempfile
 import unittest
 
-from lib import journal
 from lib.client import SECONDS, TOP
+import journal
 
 CRATE = TOP / "crates/journal_bench"
 PROGRAM = CRATE / "out/journal_bench"

@@ -6,11 +6,11 @@ import subprocess
 import threading
 import time
 
-from lib import journal
 from lib.client import PATIENCE, PROGRAM, REQUESTS, content_length
 from lib.generated_histories import Generator
 from lib.plain_model import Model
 from lib.stores import as_bytes, found_in, looks, told
+import journal
 
 
 class Killed:

@@ -7,11 +7,11 @@ import shutil
 import signal
 import tempfile
 
-from lib import journal
 from lib.client import Client, Program, content_length, digest_of, request, run
 from lib.generated_histories import SITES, Generator, in_json, views
 from lib.plain_history import Deploy, Entry
 from lib.plain_model import Request
+import journal
 
 PIECE = 65_536
 
