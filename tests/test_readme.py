@@ -24,8 +24,12 @@ TELLING = ("./filehost", "./filehost --help", "./filehost solo --help", "./fileh
 PORT = "8080"
 # What a reader puts in the place of these words. DIR is a folder of this name.
 OWN_WORDS = {"FOLDER": "examples/small-site", "SITE": "small"}
-LEFT_OUT = shutil.ignore_patterns(".git", "out", "__pycache__", "store")
 TESTS = "print('the tests')\nprint('2 passed, 0 failed')\n"
+
+
+def left_out(folder, names):
+    """What of a folder is no source: what git, rt and Python keep, and the store that README.md makes at the top."""
+    return {".git", "out", "__pycache__"} | ({"store", "DIR"} if pathlib.Path(folder) == TOP else set())
 
 
 def is_command(words, others=()):
@@ -72,7 +76,7 @@ class Readme(Program):
         self.addCleanup(room.cleanup)
         self.room = pathlib.Path(room.name).resolve()
         self.top = self.room / "copy"
-        shutil.copytree(TOP, self.top, ignore=LEFT_OUT, symlinks=True)
+        shutil.copytree(TOP, self.top, ignore=left_out, symlinks=True)
         (self.top / "crates/filehost/out").mkdir()
         shutil.copy(PROGRAM, self.top / "crates/filehost/out/filehost")
         # So what ./test runs after the gate takes no time, and doesn't run this test again.
