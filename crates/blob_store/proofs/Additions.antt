@@ -2,8 +2,8 @@
 use Rattle.std.proofs.Common.{◌≡◌, ℕ, List, cond, Some, None, ap, ◌∙◌}
 use Rattle.std.specs.FinMap.{get, insert, get-insert}
 use Rattle.std.proofs.lemmas.Cmp.{eq_by_cmp_equiv}
-use Rattle.host_names.specs.Digests.{digest_cmp_total}
-use Rattle.host_names.specs.Blobs.{Contents, digest_of, with_file}
+use Rattle.host_names.specs.Digests.{digest_cmp_total, digest_of}
+use Rattle.byte_view.specs.Contents.{Contents, with_file}
 
 pub get_added : (files new : Contents) (text kept : List ℕ) → new ≡ with_file files text → kept ≡ text → get files (digest_of text) ≡ None → get new (digest_of text) ≡ Some kept
 get_added files new text kept is same none =

@@ -4,7 +4,7 @@ use Rattle.std.specs.List.{AllByRecursion, concat}
 use Rattle.std.proofs.lemmas.List.{append-nil, append_assoc, length-append, length-map, map-append}
 use Rattle.std.proofs.lemmas.List.Elements.{All-from_recursion}
 use Rattle.host_names.specs.declared.digests.Digest.{Digest}
-use Rattle.host_names.specs.Blobs.{digest_of}
+use Rattle.host_names.specs.Digests.{digest_of}
 use Rattle.byte_view.specs.Cuts.{Follows, cut, names_of}
 use Rattle.byte_view.proofs.CutPieces.{concat-cut, length-cut}
 use Rattle.byte_view.proofs.NextPieces.{follows_in, length-digest, names-next}

@@ -10,8 +10,8 @@ use Rattle.std.specs.Ordering.{eq_by_cmp, is_eq}
 use Rattle.std.specs.declared.cmp.Ordering.{Ordering}
 use Rattle.std.specs.declared.cmp.Ordering.TheVariants.{Less, Equal, Greater}
 use Rattle.host_names.specs.declared.digests.Digest.{Digest}
-use Rattle.host_names.specs.Digests.{digest_cmp, digest_cmp_total, digest_cmp-IsAntisymmetric}
-use Rattle.host_names.specs.Blobs.{Contents, digest_of, with_file}
+use Rattle.host_names.specs.Digests.{digest_cmp, digest_cmp_total, digest_cmp-IsAntisymmetric, digest_of}
+use Rattle.byte_view.specs.Contents.{Contents, with_file}
 use Rattle.blob_store.specs.declared.openings.OpenFault.TheVariants as open_fault
 use Rattle.blob_store.specs.declared.openings.Wanted.{Wanted}
 use Rattle.chunk_reads.specs.declared.faults.ReadFault.TheVariants as read_fault

@@ -9,8 +9,8 @@ use Rattle.std.specs.declared.cmp.Ordering.TheVariants.{Less, Equal, Greater}
 use Rattle.std.proofs.lemmas.Cmp.{eq_by_cmp_equiv}
 use Rattle.sha1.specs.Sha1 as sha
 use Rattle.host_names.specs.declared.digests.Digest.{Digest}
-use Rattle.host_names.specs.Digests.{digest_cmp, digest_cmp_total, digest_cmp-IsAntisymmetric}
-use Rattle.host_names.specs.Blobs.{Contents, AreDigested, digest_of, with_file}
+use Rattle.host_names.specs.Digests.{digest_cmp, digest_cmp_total, digest_cmp-IsAntisymmetric, digest_of}
+use Rattle.byte_view.specs.Contents.{Contents, AreDigested, with_file}
 use Rattle.byte_view.specs.Cuts.{names_of}
 use Rattle.blob_store.specs.Calls.{AreKnownNames}
 use Rattle.blob_store.specs.Files.{stored}

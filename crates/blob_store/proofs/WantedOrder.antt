@@ -12,7 +12,7 @@ use Rattle.std.specs.declared.cmp.Ordering.{Ordering}
 use Rattle.std.specs.declared.cmp.Ordering.TheVariants.{Less, Equal, Greater}
 use Rattle.host_names.specs.declared.digests.Digest.{Digest}
 use Rattle.host_names.specs.Digests.{digest_cmp, digest_cmp-IsAntisymmetric}
-use Rattle.host_names.specs.Blobs.{Contents}
+use Rattle.byte_view.specs.Contents.{Contents}
 use Rattle.blob_store.specs.declared.openings.OpenFault.{OpenFault}
 use Rattle.blob_store.specs.declared.openings.Wanted.{Wanted}
 use Rattle.blob_store.specs.Calls.{Call}

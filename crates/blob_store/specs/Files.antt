@@ -2,7 +2,7 @@
 use Rattle.std.specs.Prelude.{ℕ, List, map}
 use Rattle.std.specs.FinMap.{from_entries}
 use Rattle.host_names.specs.declared.digests.Digest.{Digest}
-use Rattle.host_names.specs.Blobs.{Contents}
+use Rattle.byte_view.specs.Contents.{Contents}
 
 -- the bytes of files that are kept in a list
 abbrev pub stored : {File : Type 0} → (File → List ℕ) → List (Digest × File) → Contents

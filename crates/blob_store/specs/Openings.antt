@@ -7,7 +7,7 @@ use Rattle.std.specs.List.Sorted.{IsStrictlySortedBy}
 use Rattle.std.specs.Map.{keys_of, lookup}
 use Rattle.host_names.specs.declared.digests.Digest.{Digest}
 use Rattle.host_names.specs.Digests.{digest_cmp}
-use Rattle.host_names.specs.Blobs.{Contents, with_file}
+use Rattle.byte_view.specs.Contents.{Contents, with_file}
 use Rattle.blob_store.specs.declared.openings.OpenFault.{OpenFault}
 use Rattle.blob_store.specs.declared.openings.OpenFault.TheVariants as open_fault
 use Rattle.blob_store.specs.declared.openings.Wanted.{Wanted}

@@ -1,7 +1,8 @@
 //! The store: files whose pieces and tables are on a shelf.
 ghost use Rattle.std.specs.Prelude.{◌≡◌, ◌≢◌, ◌↔◌, ◌<◌, ◌≤◌, Contains, Err, IfErr, IfOk, IsTrue, MatchResult, None, OnErr, OnOk, Some, IsSome, length, option_map};
 ghost use Rattle.std.specs.FinMap as map;
-ghost use Rattle.host_names.specs.Blobs.{AreDigested, digest_of, with_file};
+ghost use Rattle.host_names.specs.Digests.{digest_of};
+ghost use Rattle.byte_view.specs.Contents.{AreDigested, with_file};
 ghost use Rattle.byte_view.specs.Cuts.{names_of};
 ghost use Rattle.blob_store.specs.declared.shelves.ShelfName.TheVariants.{Part};
 ghost use Rattle.chunk_reads.specs.declared.faults.ReadFault.TheVariants as read_fault;
@@ -13,7 +14,7 @@ ghost use Rattle.blob_store.specs.declared.openings.OpenFault.TheVariants as ope
 ghost use Rattle.blob_store.specs.declared.shelves.ShelfFault.TheVariants as shelf_fault;
 ghost use Rattle.blob_store.specs.declared.blobs.UploadFault.TheVariants as upload_fault;
 
-use crate::known::Known;
+use crate::blob_indexes::BlobIndex;
 use crate::openings::{OpenFault, Wanted, open_files};
 use crate::reading::read_chunk;
 use crate::shelf_files::Files;
@@ -43,7 +44,7 @@ pub enum UploadFault {
 pub struct Blobs<S> {
     alloc: Global,
     shelf: S,
-    known: Known,
+    known: BlobIndex,
 }
 
 /// A store that couldn't be opened: why, and its shelf as it is then.
@@ -120,7 +121,7 @@ fn put_file<S: Shelf>(
 pub(crate) fn put_whole<S: Shelf>(
     alloc: Global,
     shelf: &mut S,
-    known: &Known,
+    known: &BlobIndex,
     digest: Digest,
     bytes: &[u8],
 ) -> Result<Arc<BlobInfo>, UploadFault>
@@ -151,7 +152,7 @@ impl<S: Shelf> Blobs<S> {
         Blobs {
             alloc,
             shelf,
-            known: Known::new(alloc),
+            known: BlobIndex::new(alloc),
         }
     }
 
@@ -177,7 +178,7 @@ impl<S: Shelf> Blobs<S> {
     }
 
     /// Its halves: what is known of the files, and the files on the shelf.
-    pub fn into_parts(self) -> (Known, Files<S>)
+    pub fn into_parts(self) -> (BlobIndex, Files<S>)
         ensures known { result.0 ≡ self.known }
         ensures shelf { result.1.shelf ≡ self.shelf }
     {

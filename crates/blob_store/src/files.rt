@@ -10,7 +10,7 @@ ghost use Rattle.blob_store.specs.Tables.{Spells};
 use crate::reading::{of_shelf, read_chunk};
 use crate::shelves::{Shelf, ShelfName};
 use crate::tables::{Table, TableFault};
-use byte_view::{BlobInfo, JoinFault, Joined};
+use byte_view::{BlobInfo, JoinFault, BlobBuilder};
 use chunk_reads::ReadFault;
 use host_names::Digest;
 use std::alloc::Global;
@@ -34,7 +34,7 @@ fn read_table<S: Shelf>(alloc: Global, shelf: &mut S, digest: Digest) -> Result<
 }
 
 /// Reads the piece of a name, and adds it to those before it.
-fn read_next<S: Shelf>(shelf: &mut S, name: Digest, joined: &mut Joined) -> Result<(), ReadFault>
+fn read_next<S: Shelf>(shelf: &mut S, name: Digest, joined: &mut BlobBuilder) -> Result<(), ReadFault>
     ensures read { IfOk result (λ _. IsNextRead S.did shelf.old name joined.old joined.new shelf.new) }
     ensures fault { IfErr result (λ fault. IsNextFault S.did shelf.old name joined.old fault shelf.new) }
     ensures device { IfErr result (λ fault. fault ≡ read_fault.Device → S.failures shelf.old < S.failures shelf.new) }
@@ -56,13 +56,13 @@ fn read_pieces<S: Shelf>(
     alloc: Global,
     shelf: &mut S,
     names: &[Digest],
-) -> Result<Joined, ReadFault>
+) -> Result<BlobBuilder, ReadFault>
     ensures read { IfOk result (λ file. (names_of file ≡ names.now) × GivesInTurn S.did shelf.old (pieces_given file) shelf.new) }
     ensures fault { IfErr result (λ fault. ArePiecesFault S.did shelf.old names.now fault shelf.new) }
     ensures device { IfErr result (λ fault. fault ≡ read_fault.Device → S.failures shelf.old < S.failures shelf.new) }
     ensures count { S.failures shelf.old ≤ S.failures shelf.new }
 {
-    let mut joined = Joined::new(alloc);
+    let mut joined = BlobBuilder::new(alloc);
     for name in names {
         read_next(shelf, *name, &mut joined)?;
     }

@@ -3,7 +3,8 @@
 ghost use Rattle.std.specs.FinMap as map;
 ghost use Rattle.std.specs.Prelude.{◌≡◌, Bool, true, IsTrue, ℕ, ◌≤◌, List, [], ◌∷◌, All, None, Option, Some, ⊤, length};
 ghost use Rattle.std.specs.List.{Contains};
-ghost use Rattle.host_names.specs.Blobs.{Contents, digest_of};
+ghost use Rattle.host_names.specs.Digests.{digest_of};
+ghost use Rattle.byte_view.specs.Contents.{Contents};
 ghost use Rattle.host_names.specs.declared.digests.Digest.{Digest};
 ghost use Rattle.byte_view.specs.Cuts.{cut};
 ghost use Rattle.chunk_reads.specs.declared.faults.ReadFault.TheVariants as read_fault;

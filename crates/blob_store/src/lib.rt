@@ -1,11 +1,11 @@
 //! Files kept in pieces of 64 KiB on a shelf that is not trusted.
 #![tactic(auto)]
 
+mod blob_indexes;
 mod blobs;
 mod call_logs;
 mod dir_shelf;
 mod files;
-mod known;
 pub mod laws;
 mod lent_shelf;
 mod mem_shelf;
@@ -16,10 +16,10 @@ mod shelves;
 mod stored_pieces;
 mod tables;
 
+pub use blob_indexes::BlobIndex;
 pub use blobs::{Blobs, NotOpened, UploadFault};
 pub use dir_shelf::DirShelf;
 pub use files::read_file;
-pub use known::Known;
 pub use lent_shelf::LentShelf;
 pub use mem_shelf::MemShelf;
 pub use openings::{OpenFault, Wanted};

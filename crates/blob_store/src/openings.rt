@@ -4,7 +4,7 @@ ghost use Rattle.blob_store.specs.declared.openings.OpenFault.TheVariants as ope
 ghost use Rattle.blob_store.specs.Openings.{AreTaken, IsOpenFault, IsOpened, IsOrderOf, IsTaken, IsTakeFault, StopsAmong, Taken, known_of, known_with, must_of};
 
 use crate::files::read_file;
-use crate::known::Known;
+use crate::blob_indexes::BlobIndex;
 use crate::shelves::Shelf;
 use chunk_reads::ReadFault;
 use host_names::Digest;
@@ -63,7 +63,7 @@ fn in_order(alloc: Global, wanted: &[Wanted]) -> Result<BTreeMap<Digest, bool>, 
 fn take_file<S: Shelf>(
     alloc: Global,
     shelf: &mut S,
-    known: &mut Known,
+    known: &mut BlobIndex,
     digest: &Digest,
     must: bool,
 ) -> Result<(), OpenFault>
@@ -91,13 +91,13 @@ fn take_files<S: Shelf>(
     alloc: Global,
     shelf: &mut S,
     needs: &BTreeMap<Digest, bool>,
-) -> Result<Known, OpenFault>
+) -> Result<BlobIndex, OpenFault>
     ensures taken { IfOk result (λ known. (taken : List Taken) × (needs.now.entries ≡ map (λ one. one.need) taken) × AreTaken S.did shelf.old taken shelf.new × (known ≡ known_of taken)) }
     ensures fault { IfErr result (λ fault. StopsAmong S.did shelf.old needs.now.entries fault shelf.new) }
     ensures device { IfErr result (λ fault. fault ≡ open_fault.Device → S.failures shelf.old < S.failures shelf.new) }
     ensures count { S.failures shelf.old ≤ S.failures shelf.new }
 {
-    let mut known = Known::new(alloc);
+    let mut known = BlobIndex::new(alloc);
     for (digest, must) in needs {
         take_file(alloc, shelf, &mut known, digest, *must)?;
     }
@@ -109,7 +109,7 @@ pub(crate) fn open_files<S: Shelf>(
     alloc: Global,
     shelf: &mut S,
     wanted: &[Wanted],
-) -> Result<Known, OpenFault>
+) -> Result<BlobIndex, OpenFault>
     ensures opened { IfOk result (λ known. IsOpened S.did shelf.old wanted.now known shelf.new) }
     ensures fault { IfErr result (λ fault. IsOpenFault S.did shelf.old wanted.now fault shelf.new) }
     ensures device { IfErr result (λ fault. fault ≡ open_fault.Device → S.failures shelf.old < S.failures shelf.new) }

@@ -1,6 +1,6 @@
 //! Files on a shelf, without what is known of them.
 ghost use Rattle.std.specs.Prelude.{◌≡◌, ◌↔◌, ◌<◌, ◌≤◌, Err, IfErr, IfOk, None, OnOk, Some, length, option_map};
-ghost use Rattle.host_names.specs.Blobs.{digest_of};
+ghost use Rattle.host_names.specs.Digests.{digest_of};
 ghost use Rattle.blob_store.specs.declared.blobs.UploadFault.TheVariants as upload_fault;
 ghost use Rattle.chunk_reads.specs.declared.faults.ReadFault.TheVariants as read_fault;
 ghost use Rattle.blob_store.specs.declared.shelves.ShelfName.TheVariants.{Part};
@@ -8,7 +8,7 @@ ghost use Rattle.blob_store.specs.Calls.{Got, PutsFile};
 ghost use Rattle.blob_store.specs.Faults.{HasPutPart, IsChunkFault};
 
 use crate::blobs::{UploadFault, put_whole};
-use crate::known::Known;
+use crate::blob_indexes::BlobIndex;
 use crate::reading::{of_shelf, read_chunk};
 use crate::shelves::{Shelf, ShelfName};
 use byte_view::{BlobInfo, Chunk};
@@ -43,7 +43,7 @@ impl<S: Shelf> Files<S> {
     /// have the known files: a piece that one of these has isn't put, unless there was no memory to keep its name.
     pub fn put(
         &mut self,
-        known: &Known,
+        known: &BlobIndex,
         digest: Digest,
         bytes: &[u8],
     ) -> Result<Arc<BlobInfo>, UploadFault>

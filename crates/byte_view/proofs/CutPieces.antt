@@ -3,7 +3,7 @@ use Rattle.std.proofs.Common.{◌≡◌, ℕ, ◌+◌, ◌-◌, ◌*◌, ◌/◌
 use Rattle.std.proofs.Math.Seq.{take-add}
 use Rattle.std.proofs.lemmas.List.{length-drop, length-take, length-append, drop-drop, take_at, drop_at, take_min, drop_min, take_all, get_or-take, get_or-drop}
 use Rattle.std.specs.List.{concat}
-use Rattle.host_names.specs.Blobs.{digest_of}
+use Rattle.host_names.specs.Digests.{digest_of}
 use Rattle.byte_view.specs.Cuts.{cut, cut_into, names_of, pieces_met}
 
 pub length-cut_into : (n : ℕ) (file : List ℕ) → length (cut_into n file) ≡ n

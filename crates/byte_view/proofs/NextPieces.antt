@@ -4,7 +4,7 @@ use Rattle.std.proofs.lemmas.List.{length-append, length-drop, length-take-le, m
 use Rattle.std.proofs.Math.Seq.{get_or-append_seam, take-append_seam}
 use Rattle.std.specs.List.{concat}
 use Rattle.sha1.specs.Sha1.{sha1, digest_bytes}
-use Rattle.host_names.specs.Blobs.{digest_of}
+use Rattle.host_names.specs.Digests.{digest_of}
 use Rattle.byte_view.specs.Cuts.{Follows, cut, cut_into, names_of}
 use Rattle.byte_view.proofs.CutPieces.{concat-cut, concat-cut_into, length-cut, size_at, take-cut_into}
 

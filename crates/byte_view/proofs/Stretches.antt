@@ -4,7 +4,7 @@ use Rattle.std.proofs.lemmas.List.{length-drop, length-map, get_or-map, ext_get_
 use Rattle.std.proofs.lemmas.List.Elements.{All-head, All-tail, All-take, All-drop, All-contains_itself}
 use Rattle.std.specs.Prelude.{Contains, slice_range}
 use Rattle.std.specs.List.{concat}
-use Rattle.host_names.specs.Blobs.{digest_of}
+use Rattle.host_names.specs.Digests.{digest_of}
 use Rattle.byte_view.specs.Cuts.{IsPure, cut, cut_into, pieces_met, place_of, slice}
 use Rattle.byte_view.specs.Parts.{HaveSizes, parts}
 use Rattle.byte_view.specs.Holds.{Held, IsHeld, LiesIn, chunks_met, held_part, lent}

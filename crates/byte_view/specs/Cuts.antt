@@ -1,7 +1,7 @@
 -- Files cut into pieces of 65,536 bytes and a rest.
 use Rattle.std.specs.Prelude.{◌≡◌, ℕ, zero, suc, ◌+◌, ◌/◌, List, [], ◌∷◌, ◌++◌, ◌≤◌, length, take, drop, map, slice_range, Contains}
 use Rattle.host_names.specs.declared.digests.Digest.{Digest}
-use Rattle.host_names.specs.Blobs.{digest_of}
+use Rattle.host_names.specs.Digests.{digest_of}
 
 -- so many pieces of a file, from its start
 abbrev pub cut_into : ℕ → List ℕ → List (List ℕ)

@@ -1,7 +1,7 @@
 -- Chunks of a file that are held together.
 use Rattle.std.specs.Prelude.{◌≡◌, ℕ, ◌+◌, ◌-◌, ◌*◌, ◌^◌, ◌<◌, ◌≤◌, List, length, map, slice_range}
 use Rattle.std.specs.List.{concat}
-use Rattle.host_names.specs.Blobs.{digest_of}
+use Rattle.host_names.specs.Digests.{digest_of}
 use Rattle.byte_view.specs.Cuts.{pieces_met, place_of, slice}
 use Rattle.byte_view.specs.Parts.{parts}
 

@@ -1,6 +1,6 @@
 //! What is kept of a file without its bytes.
 ghost use Rattle.std.specs.Prelude.{◌≡◌, ◌≢◌, ◌+◌, ◌<◌, ◌≤◌, [], IfOk, OnErr, length, map, slice_range};
-ghost use Rattle.host_names.specs.Blobs.{digest_of};
+ghost use Rattle.host_names.specs.Digests.{digest_of};
 ghost use Rattle.byte_view.specs.Cuts.{names_of, pieces_met, place_of};
 
 use boxcar::tag::{Names, Tag};
@@ -31,7 +31,7 @@ pub struct BlobInfo {
 
 impl Model for BlobInfo {
     ghost use Rattle.std.specs.Prelude.{◌≡◌, List, ℕ, length};
-    ghost use Rattle.host_names.specs.Blobs.{digest_of};
+    ghost use Rattle.host_names.specs.Digests.{digest_of};
     ghost use Rattle.byte_view.specs.Cuts.{names_of};
 
     ghost Value = { List ℕ };
@@ -100,7 +100,7 @@ impl BlobInfo {
     }
 
     /// The places of the pieces that have a byte of a stretch, from its first to its last byte.
-    pub fn places(&self, first: usize, last: usize) -> Range<usize>
+    pub fn piece_range(&self, first: usize, last: usize) -> Range<usize>
         requires ordered { first ≤ last }
         requires within { last < length self.now }
         ensures start { result.start ≡ place_of first }

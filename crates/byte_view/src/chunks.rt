@@ -1,6 +1,6 @@
 //! Chunks: bytes under their own names.
 ghost use Rattle.std.specs.Prelude.{◌≡◌, ◌↔◌, IfErr, IfOk, IsOk};
-ghost use Rattle.host_names.specs.Blobs.{digest_of};
+ghost use Rattle.host_names.specs.Digests.{digest_of};
 ghost use Rattle.byte_view.specs.Views.{bytes_of};
 
 use crate::views::View;
@@ -24,7 +24,7 @@ pub struct Chunk {
 
 impl Model for Chunk {
     ghost use Rattle.std.specs.Prelude.{◌≡◌, List, ℕ};
-    ghost use Rattle.host_names.specs.Blobs.{digest_of};
+    ghost use Rattle.host_names.specs.Digests.{digest_of};
 
     ghost Value = { List ℕ };
 

@@ -1,7 +1,7 @@
 //! Chunks of a file that are held together.
 ghost use Rattle.std.specs.Prelude.{◌≡◌, ◌↔◌, ◌<◌, ◌≤◌, ◌-◌, All, IfErr, IfOk, IsOk, IsTrue, length, map};
 ghost use Rattle.std.specs.List.{concat};
-ghost use Rattle.host_names.specs.Blobs.{digest_of};
+ghost use Rattle.host_names.specs.Digests.{digest_of};
 ghost use Rattle.byte_view.specs.Cuts.{IsPure, pieces_met, slice};
 ghost use Rattle.byte_view.specs.Parts.{HaveSizes};
 

@@ -1,20 +1,19 @@
 //! Files in pieces of 64 KiB: chunks, which are checked by their names, and slices that are lent of them without a copy.
 #![tactic(auto)]
 
+mod blob_builders;
 mod blob_infos;
 mod chunks;
 mod holds;
-mod joins;
-mod laws;
+pub mod laws;
 mod pieces;
 mod uploads;
 mod views;
 
+pub use blob_builders::{BlobBuilder, JoinFault, MAX_SIZE};
 pub use blob_infos::{BlobInfo, PIECE_SIZE};
 pub use chunks::{Chunk, WrongName};
 pub use holds::{Hold, WrongLength};
-pub use joins::{JoinFault, Joined, MAX_SIZE};
-pub use laws::{files_are_cut_into_pieces, holds_show_their_stretches};
 pub use pieces::Pieces;
 pub use uploads::Uploads;
 pub use views::View;

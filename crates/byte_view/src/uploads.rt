@@ -1,7 +1,7 @@
 //! Files that were uploaded.
 ghost use Rattle.std.specs.Prelude.{◌≡◌, option_map};
 ghost use Rattle.std.specs.FinMap as map;
-ghost use Rattle.host_names.specs.Blobs.{AreDigested, Contents};
+ghost use Rattle.byte_view.specs.Contents.{AreDigested, Contents};
 
 use crate::blob_infos::BlobInfo;
 use host_names::Digest;

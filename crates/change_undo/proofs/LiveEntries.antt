@@ -2,10 +2,10 @@
 use Rattle.std.proofs.Common.{◌≡◌, inl, inr, ℕ, zero, suc, ◌+◌, ◌-◌, ◌<◌, ◌==◌, nat_le, true, false, not, cond, List, [], ◌∷◌, ◌++◌, length, slice_get, Option, Some, None, option_map, refl, sym, ap, subst, ◌∙◌, arith}
 use Rattle.std.specs.List.{Contains}
 use Rattle.std.proofs.lemmas.Bool.{lt-leb}
-use Rattle.host_names.specs.Blobs.{Contents}
+use Rattle.byte_view.specs.Contents.{Contents}
 use Rattle.host_names.specs.declared.cells.Cell.{Cell}
 use Rattle.host_names.specs.declared.names.SiteName.{SiteName}
-use Rattle.host_names.specs.declared.refusals.ChangeRefusal.TheVariants.{HistoryFull, NoSuchChange, AlreadyUndone, Clash}
+use Rattle.site_change.specs.declared.refusals.ChangeRefusal.TheVariants.{HistoryFull, NoSuchChange, AlreadyUndone, Clash}
 use Rattle.site_change.specs.declared.commands.Command.{Command}
 use Rattle.site_change.specs.Changes.{site_of_command}
 use Rattle.site_change.proofs.Effects.{bytes_eq-itself}

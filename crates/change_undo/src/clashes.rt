@@ -3,7 +3,7 @@ ghost use Rattle.std.specs.Prelude.{◌≡◌, ◌+◌, Some, drop, find, option
 ghost use Rattle.site_change.specs.TouchedCells.{is_touched};
 ghost use Rattle.site_state.specs.Changes.{cells_of};
 ghost use Rattle.std.specs.FinMap as map;
-ghost use Rattle.host_names.specs.Blobs.{Contents};
+ghost use Rattle.byte_view.specs.Contents.{Contents};
 ghost use Rattle.change_undo.specs.Clashes.{clash_in};
 ghost use Rattle.change_undo.specs.Kept as spec;
 ghost use Rattle.change_undo.specs.Kept.{ArePlanned, plan_of};

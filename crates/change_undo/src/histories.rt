@@ -1,8 +1,8 @@
 //! Histories: changes are committed at their end, and undone by an entry of their own.
 ghost use Rattle.std.specs.Prelude.{◌≡◌, ◌≤◌, [], nat_le, Some, IfOk, OnOk, OnErr, option_copied, option_map};
 ghost use Rattle.std.specs.FinMap as map;
-ghost use Rattle.host_names.specs.Blobs.{Contents};
-ghost use Rattle.host_names.specs.Refusals.{IsRefusedBy};
+ghost use Rattle.byte_view.specs.Contents.{Contents};
+ghost use Rattle.site_change.specs.Refusals.{IsRefusedBy};
 ghost use Rattle.site_change.specs.Changes.{applied};
 ghost use Rattle.site_change.specs.Uploaded.{AreUploaded};
 ghost use Rattle.change_undo.specs.declared.entries.Entry.TheVariants as entry;
@@ -17,8 +17,8 @@ use crate::entries::Entry;
 use crate::logs::Log;
 use crate::records::Records;
 use byte_view::Uploads;
-use host_names::{Cell, ChangeError, ChangeRefusal, SiteName};
-use site_change::{Command, Plan, decide, uploads_are_digested};
+use host_names::{Cell, SiteName};
+use site_change::{ChangeError, ChangeRefusal, Command, Plan, decide, uploads_are_digested};
 use site_state::State;
 use std::alloc::{AllocError, Global};
 use std::marker::Model;

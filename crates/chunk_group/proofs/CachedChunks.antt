@@ -6,7 +6,7 @@ use Rattle.std.proofs.lemmas.List.Elements.{All-contains_itself, recursion_from_
 use Rattle.std.specs.Option.{option_or}
 use Rattle.std.specs.Set.{remove_key}
 use Rattle.host_names.specs.declared.digests.Digest.{Digest}
-use Rattle.host_names.specs.Blobs.{digest_of}
+use Rattle.host_names.specs.Digests.{digest_of}
 use Rattle.chunk_lru.specs.declared.caches.Which.{Which}
 use Rattle.chunk_lru.specs.declared.caches.Which.TheVariants.{Main, Hot}
 use Rattle.chunk_lru.specs.Caches.{Cache}

@@ -1,7 +1,7 @@
 -- What an outcome of a key is.
 use Rattle.std.proofs.Common.{◌≡◌, true, Bool, List, ℕ, Result, Ok, Err, IfOk, IfErr}
 use Rattle.host_names.specs.declared.digests.Digest.{Digest}
-use Rattle.host_names.specs.Blobs.{digest_of}
+use Rattle.host_names.specs.Digests.{digest_of}
 use Rattle.chunk_reads.specs.declared.faults.ReadFault.{ReadFault}
 use Rattle.chunk_lru.proofs.Sizes.{same_name}
 use Rattle.chunk_group.specs.Faults.{may_answer}

@@ -2,7 +2,7 @@
 use Rattle.std.proofs.Common.{◌≡◌, inl, inr, true, Bool, List, ◌∷◌, ◌++◌, ℕ, MatchResult, IfErr, Result, Ok, Err, map, Contains, refl, subst, arith}
 use Rattle.std.proofs.lemmas.List.Elements.{Contains-append_right}
 use Rattle.host_names.specs.declared.digests.Digest.{Digest}
-use Rattle.host_names.specs.Blobs.{digest_of}
+use Rattle.host_names.specs.Digests.{digest_of}
 use Rattle.byte_view.specs.Cuts.{pieces_met}
 use Rattle.chunk_reads.specs.declared.faults.ReadFault.{ReadFault}
 use Rattle.chunk_group.specs.Faults.{may_answer}

@@ -1,7 +1,7 @@
 -- What a load from a shelf does.
 use Rattle.std.specs.Prelude.{◌≡◌, ℕ, ◌<◌, ◌≤◌, List, Some, Result, Ok, Err}
 use Rattle.host_names.specs.declared.digests.Digest.{Digest}
-use Rattle.host_names.specs.Blobs.{digest_of}
+use Rattle.host_names.specs.Digests.{digest_of}
 use Rattle.chunk_reads.specs.declared.faults.ReadFault.{ReadFault}
 use Rattle.chunk_reads.specs.declared.faults.ReadFault.TheVariants.{Device}
 use Rattle.blob_store.specs.declared.shelves.ShelfName.TheVariants.{Part}

@@ -1,6 +1,6 @@
 //! The caches of a node, and what is kept in them.
 ghost use Rattle.std.specs.Prelude.{◌≡◌, IfOk, IfSome, IsOk, None, OnErr, OnOk, option_map};
-ghost use Rattle.host_names.specs.Blobs.{digest_of};
+ghost use Rattle.host_names.specs.Digests.{digest_of};
 ghost use Rattle.chunk_lru.specs.Rules.{held, looked_up};
 ghost use Rattle.chunk_group.specs.Kept.{IsKept, KeptIn};
 

@@ -1,6 +1,6 @@
 //! The group of a node that threads share.
 ghost use Rattle.std.specs.Prelude.{◌≡◌, ◌<◌, ◌≤◌, true, IfErr, IfOk, IfSome, MatchResult, length};
-ghost use Rattle.host_names.specs.Blobs.{digest_of};
+ghost use Rattle.host_names.specs.Digests.{digest_of};
 ghost use Rattle.chunk_reads.specs.declared.faults.ReadFault.TheVariants.{OutOfMemory};
 ghost use Rattle.chunk_group.specs.Faults.{may_answer};
 ghost use Rattle.chunk_group.specs.Holding.{MayNotHold};

@@ -1,6 +1,6 @@
 //! Laws of nodes. Each function does nothing: its contract is the law.
 ghost use Rattle.std.specs.Prelude.{◌≡◌, ◌≢◌, ◌<◌, ℕ, List, [], ◌∷◌, Option, None, Result, Some, Ok, Err, false};
-ghost use Rattle.host_names.specs.Blobs.{digest_of};
+ghost use Rattle.host_names.specs.Digests.{digest_of};
 ghost use Rattle.host_names.specs.declared.digests.Digest.{Digest};
 ghost use Rattle.chunk_reads.specs.declared.faults.ReadFault.{ReadFault};
 ghost use Rattle.chunk_reads.specs.declared.faults.ReadFault.TheVariants.{Device, Missing};

@@ -1,6 +1,6 @@
 //! How a node loads what its caches haven't.
 ghost use Rattle.std.specs.Prelude.{◌≡◌, true, Err, IfErr, IfOk, MatchOption, Ok, Some};
-ghost use Rattle.host_names.specs.Blobs.{digest_of};
+ghost use Rattle.host_names.specs.Digests.{digest_of};
 ghost use Rattle.chunk_group.specs.declared.loads.Giver.TheVariants as giver;
 ghost use Rattle.chunk_group.specs.Faults.{may_answer};
 ghost use Rattle.chunk_group.specs.Loads.{IsAsked, IsGivenFault, IsNoChunk};

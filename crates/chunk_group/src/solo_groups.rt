@@ -1,6 +1,6 @@
 //! The group of a node on one thread.
 ghost use Rattle.std.specs.Prelude.{◌≡◌, ◌↔◌, ◌<◌, ◌≤◌, ◌≢◌, Err, IfErr, IfOk, None, Ok, OnOk, length};
-ghost use Rattle.host_names.specs.Blobs.{digest_of};
+ghost use Rattle.host_names.specs.Digests.{digest_of};
 ghost use Rattle.chunk_reads.specs.declared.faults.ReadFault.TheVariants.{OutOfMemory};
 ghost use Rattle.chunk_lru.specs.Caches.{empty};
 ghost use Rattle.chunk_lru.specs.Rules.{held};

@@ -1,6 +1,6 @@
 //! Sources of chunks.
 ghost use Rattle.std.specs.Prelude.{◌≡◌, ◌≢◌, true, Err, IfErr, IfOk, MatchResult, Ok};
-ghost use Rattle.host_names.specs.Blobs.{digest_of};
+ghost use Rattle.host_names.specs.Digests.{digest_of};
 ghost use Rattle.chunk_reads.specs.declared.faults.ReadFault.TheVariants.{Damaged};
 ghost use Rattle.chunk_group.specs.Faults.{may_answer};
 

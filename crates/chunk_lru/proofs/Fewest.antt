@@ -3,7 +3,7 @@ use Rattle.std.proofs.Common.{◌≡◌, ℕ, zero, suc, ◌+◌, ◌<◌, ◌�
 use Rattle.std.specs.Prelude.{if◌then◌else◌}
 use Rattle.std.proofs.lemmas.Bool.{ltb-false, ltb-true}
 use Rattle.host_names.specs.declared.digests.Digest.{Digest}
-use Rattle.host_names.specs.Blobs.{digest_of}
+use Rattle.host_names.specs.Digests.{digest_of}
 use Rattle.chunk_lru.specs.declared.caches.Which.{Which}
 use Rattle.chunk_lru.specs.declared.caches.Which.TheVariants.{Main, Hot}
 use Rattle.chunk_lru.specs.Caches.{Cache, together}

@@ -2,7 +2,7 @@
 use Rattle.std.proofs.Common.{◌≡◌, ℕ, List, Option, Some, None, is_some, Result, Ok, Err, IfOk, IfSome, OnErr, OnOk, option_map, sym, ap, subst, ◌∙◌}
 use Rattle.std.specs.Prelude.{if◌then◌else◌}
 use Rattle.host_names.specs.declared.digests.Digest.{Digest}
-use Rattle.host_names.specs.Blobs.{digest_of}
+use Rattle.host_names.specs.Digests.{digest_of}
 use Rattle.chunk_lru.specs.declared.caches.Which.TheVariants.{Main, Hot}
 use Rattle.chunk_lru.specs.Caches.{Cache, together}
 use Rattle.chunk_lru.specs.Recent.{HaveOwnNames, Recent, found, recent, size_of, to_front}

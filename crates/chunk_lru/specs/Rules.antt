@@ -2,7 +2,7 @@
 use Rattle.std.specs.Prelude.{ℕ, zero, suc, ◌+◌, ◌/◌, List, ◌∷◌, Option, is_some, length, if◌then◌else◌, nat_lt}
 use Rattle.std.specs.Option.{option_or}
 use Rattle.host_names.specs.declared.digests.Digest.{Digest}
-use Rattle.host_names.specs.Blobs.{digest_of}
+use Rattle.host_names.specs.Digests.{digest_of}
 use Rattle.chunk_lru.specs.declared.caches.Which.{Which}
 use Rattle.chunk_lru.specs.declared.caches.Which.TheVariants.{Main, Hot}
 use Rattle.chunk_lru.specs.Caches.{Cache}

@@ -1,6 +1,6 @@
 //! The two caches.
 ghost use Rattle.std.specs.Prelude.{◌≡◌, ◌+◌, ◌<◌, ◌≤◌, ◌^◌, IfOk, IfSome, IsOk, IsSome, None, OnErr, OnOk, option_map};
-ghost use Rattle.host_names.specs.Blobs.{digest_of};
+ghost use Rattle.host_names.specs.Digests.{digest_of};
 ghost use Rattle.chunk_lru.specs.Caches.{empty, together};
 ghost use Rattle.chunk_lru.specs.Recent.{HaveOwnNames, found, recent, size_of};
 ghost use Rattle.chunk_lru.specs.Rules.{added, chunks_in, evicted, held, looked_up, total};

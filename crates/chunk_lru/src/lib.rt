@@ -2,10 +2,7 @@
 #![tactic(auto)]
 
 mod caches;
-mod laws;
+pub mod laws;
 mod lists;
 
 pub use caches::{ChunkCache, Which};
-pub use laws::{
-    caches_stay_within_their_limit, the_fewest_chunks_are_evicted, wrong_answers_are_refused,
-};

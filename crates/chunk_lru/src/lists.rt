@@ -1,7 +1,7 @@
 //! One list of chunks, in the order of their last use.
 ghost use Rattle.std.specs.Prelude.{◌≡◌, ◌∷◌, ◌+◌, ◌<◌, ◌^◌, [], IfOk, IsOk, IsSome, None, OnErr, OnOk, is_some, length, option_map};
 ghost use Rattle.std.specs.NonZero.{non_zero_usize_get};
-ghost use Rattle.host_names.specs.Blobs.{digest_of};
+ghost use Rattle.host_names.specs.Digests.{digest_of};
 ghost use Rattle.chunk_lru.specs.Recent.{found, inserted, recent, size_of, to_front, without_last};
 
 use byte_view::Chunk;

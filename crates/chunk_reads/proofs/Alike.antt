@@ -1,7 +1,7 @@
 -- Reads that are those of something else.
 use Rattle.std.proofs.Common.{◌≡◌, inl, inr, ℕ, List, [], ◌∷◌, Result, Ok, Err, map, sym, ap, subst}
 use Rattle.host_names.specs.declared.digests.Digest.{Digest}
-use Rattle.host_names.specs.Blobs.{digest_of}
+use Rattle.host_names.specs.Digests.{digest_of}
 use Rattle.byte_view.specs.Cuts.{pieces_met}
 use Rattle.chunk_reads.specs.Reading.{AreNotRead, IsNotHeld, Reads, ReadsInTurn}
 use Rattle.chunk_reads.specs.declared.faults.ReadFault.{ReadFault}

@@ -1,7 +1,7 @@
 -- What holds at the end, and held before each read where it holds after it, held at each read.
 use Rattle.std.specs.Prelude.{IsTrue}
 use Rattle.std.proofs.Common.{◌≡◌, inl, inr, Bool, ℕ, List, [], ◌∷◌, Result, Ok, Err, subst}
-use Rattle.host_names.specs.Blobs.{digest_of}
+use Rattle.host_names.specs.Digests.{digest_of}
 use Rattle.host_names.specs.declared.digests.Digest.{Digest}
 use Rattle.chunk_reads.specs.Reading.{IsNotHeld, Reads, ReadsInTurn}
 use Rattle.chunk_reads.specs.declared.faults.ReadFault.{ReadFault}

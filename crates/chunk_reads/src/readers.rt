@@ -1,6 +1,6 @@
 //! Stretches of files whose chunks are read one after another.
 ghost use Rattle.std.specs.Prelude.{◌≡◌, ◌<◌, ◌≤◌, Err, IfErr, IfOk, MatchResult, Ok, length, map};
-ghost use Rattle.host_names.specs.Blobs.{digest_of};
+ghost use Rattle.host_names.specs.Digests.{digest_of};
 ghost use Rattle.chunk_reads.specs.Reading.{AreNotRead, IsNextChunk, IsNoNextChunk, IsNotHeld, ReadsInTurn};
 
 use crate::faults::ReadFault;
@@ -69,8 +69,8 @@ pub fn hold_stretch<N: ChunkReader>(
     ensures read { IfOk result (λ hold. ReadsInTurn N.reads reader.old hold.chunks reader.new) }
     ensures fault { IfErr result (λ fault. IsNotHeld N.reads reader.old info.value first last fault reader.new) }
 {
-    let places = info.places(first, last);
-    let names = &info.names()[places];
+    let range = info.piece_range(first, last);
+    let names = &info.names()[range];
     let chunks = read_chunks(alloc, reader, names)?;
     Hold::new(info, first, last, chunks).map_err(|_| ReadFault::Damaged)
 }

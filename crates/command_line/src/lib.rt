@@ -1,7 +1,7 @@
 //! The words of the program's command line.
 #![tactic(auto)]
 
-mod laws;
+pub mod laws;
 
 ghost use Rattle.std.specs.Prelude.{◌≡◌, ◌≢◌, [], IfOk, codes, map, option_map};
 ghost use Rattle.std.specs.String.{string_bytes};
@@ -11,7 +11,6 @@ ghost use Rattle.command_line.specs.declared.Refusal.TheVariants.{OutOfMemory};
 
 use clap::error::ErrorKind;
 use clap::{Arg, ArgAction, ArgMatches, Command, Error};
-pub use laws::solo_takes_one_folder;
 use std::alloc::{AllocError, Global};
 use std::convert::AsStr;
 

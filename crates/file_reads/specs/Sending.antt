@@ -2,7 +2,7 @@
 use Rattle.std.specs.Prelude.{◌≡◌, ◌⊎◌, ℕ, nat_lt, Bool, true, false, List, [], ◌++◌, All, length, map, Option, Some, None}
 use Rattle.std.specs.List.{concat}
 use Rattle.host_names.specs.declared.digests.Digest.{Digest}
-use Rattle.host_names.specs.Blobs.{digest_of}
+use Rattle.host_names.specs.Digests.{digest_of}
 use Rattle.byte_view.specs.Cuts.{IsPure, slice}
 use Rattle.byte_view.specs.Holds.{Held}
 use Rattle.range_spec.specs.declared.selection.Choice.{Choice}

@@ -2,10 +2,10 @@
 use Rattle.std.specs.Prelude.{ℕ, List, codes}
 use Rattle.host_names.specs.declared.paths.PathError.{PathError}
 use Rattle.host_names.specs.declared.paths.PathError.TheVariants as path
-use Rattle.host_names.specs.declared.refusals.ChangeError.{ChangeError}
-use Rattle.host_names.specs.declared.refusals.ChangeError.TheVariants as change
-use Rattle.host_names.specs.declared.refusals.ChangeRefusal.{ChangeRefusal}
-use Rattle.host_names.specs.declared.refusals.ChangeRefusal.TheVariants.{HistoryFull, TooManyFiles, NoSuchDraft, NotComplete, NoSuchDeploy, NoSuchFile, PathTaken, SamePath, NoSuchAlias, DeployInUse, NoSuchChange, NotAChange, AlreadyUndone, Clash}
+use Rattle.site_change.specs.declared.refusals.ChangeError.{ChangeError}
+use Rattle.site_change.specs.declared.refusals.ChangeError.TheVariants as change
+use Rattle.site_change.specs.declared.refusals.ChangeRefusal.{ChangeRefusal}
+use Rattle.site_change.specs.declared.refusals.ChangeRefusal.TheVariants.{HistoryFull, TooManyFiles, NoSuchDraft, NotComplete, NoSuchDeploy, NoSuchFile, PathTaken, SamePath, NoSuchAlias, DeployInUse, NoSuchChange, NotAChange, AlreadyUndone, Clash}
 use Rattle.host_api.specs.declared.refusals.HeadRefusal.{HeadRefusal}
 use Rattle.host_api.specs.declared.refusals.HeadRefusal.TheVariants.{HeadTooLarge, BadHead, CodingRefused, LengthBad, BodyTooLarge}
 use Rattle.host_api.specs.declared.refusals.Refusal.{Refusal}

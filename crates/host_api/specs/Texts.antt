@@ -6,7 +6,7 @@ use Rattle.hex.specs.Hex.{encode_lower}
 use Rattle.host_names.specs.Cells.{cell_text}
 use Rattle.host_names.specs.declared.digests.Digest.{Digest}
 use Rattle.host_names.specs.declared.names.SiteName.{SiteName}
-use Rattle.host_names.specs.declared.refusals.ChangeRefusal.TheVariants.{NotComplete, DeployInUse, Clash}
+use Rattle.site_change.specs.declared.refusals.ChangeRefusal.TheVariants.{NotComplete, DeployInUse, Clash}
 use Rattle.serde_json.specs.Data.{string}
 use Rattle.serde_json.specs.Written.{compact_text}
 use Rattle.host_api.specs.ChangeLines.{list_text}

@@ -10,7 +10,8 @@ ghost use Rattle.host_api.specs.Texts.{quoted, detail_of, has_cell, refused_text
 
 use crate::refusals::Refusal;
 use arrayvec::ArrayString;
-use host_names::{Cell, ChangeRefusal};
+use host_names::Cell;
+use site_change::ChangeRefusal;
 use serde_json::Value;
 use std::alloc::{AllocError, Global};
 

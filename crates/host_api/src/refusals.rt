@@ -3,7 +3,8 @@ ghost use Rattle.std.specs.Prelude.{◌≡◌, ◌≤◌, length};
 ghost use Rattle.host_api.specs.Refusals.{name_of, shown_of_change, shown_of_head, status_of};
 
 use crate::resources::Resource;
-use host_names::{ChangeError, ChangeRefusal, PathError};
+use host_names::PathError;
+use site_change::{ChangeError, ChangeRefusal};
 use http::StatusCode;
 use std::alloc::AllocError;
 

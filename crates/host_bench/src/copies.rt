@@ -9,8 +9,8 @@ use crate::stores::empty_store;
 use anyhow::{Result, anyhow};
 use blob_store::{Blobs, MemShelf};
 use change_undo::{GREATEST_LIMIT, History};
-use host_names::{ChangeError, SiteName};
-use site_change::Command;
+use host_names::SiteName;
+use site_change::{ChangeError, Command};
 use std::alloc::Global;
 use std::time::{Duration, Instant};
 

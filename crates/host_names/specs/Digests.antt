@@ -1,4 +1,4 @@
--- The order of digests.
+-- Digests of bytes, and their order.
 use Rattle.std.specs.Prelude.{ℕ, List}
 use Rattle.std.specs.declared.cmp.Ordering.{Ordering}
 use Rattle.std.specs.Cmp.{IsTotalOrder}
@@ -8,7 +8,12 @@ use Rattle.std.specs.FinMap.{IsAntisymmetric, nat_cmp-IsAntisymmetric, slice_cmp
 use Rattle.std.specs.Ordering.{nat_cmp, on}
 use Rattle.std.proofs.Common.{refl, ap}
 use Rattle.std.proofs.lemmas.Cmp.{on_total, nat_list_cmp_total}
+use Rattle.sha1.specs.Sha1 as sha
 use Rattle.host_names.specs.declared.digests.Digest.{Digest}
+
+-- the digest of some bytes (FIPS 180-4)
+abbrev pub digest_of : List ℕ → Digest
+digest_of bytes = record { 0 = sha.sha1 bytes }
 
 -- by their bytes
 abbrev pub digest_cmp : Digest → Digest → Ordering

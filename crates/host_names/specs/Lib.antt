@@ -4,7 +4,5 @@ pub mod Path
 pub mod Hex
 pub mod Digests
 pub mod Cells
-pub mod Blobs
-pub mod Refusals
 -- what the comparisons of cells show of their order
 pub mod CellOrder

@@ -1,8 +1,8 @@
 -- Entries that are accepted in turn.
 use Rattle.std.proofs.Common.{◌≡◌, ◌∙◌, ℕ, ◌+◌, ◌≤◌, ◌<◌, List, [], ◌∷◌, ◌++◌, Bool, true, false, IsTrue, Option, Some, None, is_none, nat_le, cond, ap, append_assoc, arith, length, length-append, refl, subst, sym}
-use Rattle.host_names.specs.Blobs.{Contents}
-use Rattle.host_names.specs.declared.refusals.ChangeRefusal.{ChangeRefusal}
-use Rattle.host_names.specs.declared.refusals.ChangeRefusal.TheVariants.{HistoryFull}
+use Rattle.byte_view.specs.Contents.{Contents}
+use Rattle.site_change.specs.declared.refusals.ChangeRefusal.{ChangeRefusal}
+use Rattle.site_change.specs.declared.refusals.ChangeRefusal.TheVariants.{HistoryFull}
 use Rattle.site_state.specs.States.{State}
 use Rattle.site_change.specs.Changes.{refusal}
 use Rattle.change_undo.specs.declared.entries.Entry.{Entry}

@@ -1,11 +1,11 @@
 -- A history that is made of entries in turn.
 use Rattle.std.proofs.Common.{◌≡◌, ◌∙◌, ℕ, suc, ◌+◌, ◌≤◌, List, [], ◌∷◌, ◌++◌, Err, Some, ap, drop, length, refl, subst, sym, take}
 use Rattle.std.specs.FinMap as map
-use Rattle.host_names.specs.Blobs.{Contents}
-use Rattle.host_names.specs.declared.refusals.ChangeError.{ChangeError}
-use Rattle.host_names.specs.declared.refusals.ChangeError.TheVariants as error
-use Rattle.host_names.specs.declared.refusals.ChangeRefusal.{ChangeRefusal}
-use Rattle.host_names.specs.Refusals.{IsRefusedBy}
+use Rattle.byte_view.specs.Contents.{Contents}
+use Rattle.site_change.specs.declared.refusals.ChangeError.{ChangeError}
+use Rattle.site_change.specs.declared.refusals.ChangeError.TheVariants as error
+use Rattle.site_change.specs.declared.refusals.ChangeRefusal.{ChangeRefusal}
+use Rattle.site_change.specs.Refusals.{IsRefusedBy}
 use Rattle.site_change.specs.declared.commands.Command.{Command}
 use Rattle.change_undo.specs.declared.entries.Entry.{Entry}
 use Rattle.change_undo.specs.declared.entries.Entry.TheVariants.{Change}

@@ -1,9 +1,9 @@
 -- Entries taken in turn.
 use Rattle.std.specs.Prelude.{◌≡◌, ℕ, ◌≤◌, List, ◌∷◌, Some}
-use Rattle.host_names.specs.Blobs.{Contents}
-use Rattle.host_names.specs.declared.refusals.ChangeRefusal.{ChangeRefusal}
-use Rattle.host_names.specs.declared.refusals.ChangeError.{ChangeError}
-use Rattle.host_names.specs.declared.refusals.ChangeError.TheVariants as error
+use Rattle.byte_view.specs.Contents.{Contents}
+use Rattle.site_change.specs.declared.refusals.ChangeRefusal.{ChangeRefusal}
+use Rattle.site_change.specs.declared.refusals.ChangeError.{ChangeError}
+use Rattle.site_change.specs.declared.refusals.ChangeError.TheVariants as error
 use Rattle.site_state.specs.States.{State}
 use Rattle.change_undo.specs.declared.entries.Entry.{Entry}
 use Rattle.change_undo.specs.declared.entries.Entry.TheVariants.{Change, Undo}

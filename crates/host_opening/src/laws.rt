@@ -1,6 +1,6 @@
 //! Laws of openings, each the contract of a function that does nothing.
 ghost use Rattle.std.specs.Prelude.{◌≡◌, ◌≤◌, ℕ, List, ◌∷◌};
-ghost use Rattle.host_names.specs.Blobs.{Contents};
+ghost use Rattle.byte_view.specs.Contents.{Contents};
 ghost use Rattle.host_names.specs.declared.digests.Digest.{Digest};
 ghost use Rattle.host_names.specs.declared.names.SiteName.{SiteName};
 ghost use Rattle.blob_store.specs.declared.openings.Wanted.{Wanted};

@@ -8,7 +8,7 @@ ghost use Rattle.host_opening.specs.declared.replays.ReplayFault.TheVariants as 
 use crate::places::entry_of;
 use byte_view::Uploads;
 use change_undo::{Entry, History, Log};
-use host_names::ChangeError;
+use site_change::ChangeError;
 use std::alloc::Global;
 use thiserror::Error;
 

@@ -1,12 +1,12 @@
 -- Commands that make one entry: all but an opening.
 use Rattle.std.proofs.Common.{◌≡◌, inl, inr, Bool, [], Option, Some, None, Result, refl, sym, ap, ◌∙◌}
-use Rattle.host_names.specs.Blobs.{Contents}
+use Rattle.byte_view.specs.Contents.{Contents}
 use Rattle.host_names.specs.declared.names.SiteName.{SiteName}
 use Rattle.site_state.specs.Listings.{Listed}
 use Rattle.site_change.specs.declared.commands.Command.{Command}
 use Rattle.site_change.specs.declared.commands.Command.TheVariants as command_of
 use Rattle.host_api.specs.declared.refusals.Refusal.{Refusal}
-use Rattle.host_names.specs.declared.refusals.ChangeRefusal.{ChangeRefusal}
+use Rattle.site_change.specs.declared.refusals.ChangeRefusal.{ChangeRefusal}
 use Rattle.host_api.specs.declared.texts.Told.{Told}
 use Rattle.host_server.specs.Hosts.{Host}
 use Rattle.host_server.specs.Outcomes.{Outcome, AreRequired, Does, DoesCommit, commit_outcome, enter_outcome}

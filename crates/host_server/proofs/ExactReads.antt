@@ -1,6 +1,6 @@
 -- What is read of a server whose shelf has what it knows is of the file itself.
 use Rattle.std.proofs.Common.{◌≡◌, ◌⊎◌, inl, inr, ℕ, List, Option, Result, Ok, sym, ap, subst, ◌∙◌}
-use Rattle.host_names.specs.Blobs.{digest_of}
+use Rattle.host_names.specs.Digests.{digest_of}
 use Rattle.host_names.specs.declared.names.SiteName.{SiteName}
 use Rattle.blob_store.specs.Calls.{Call}
 use Rattle.blob_store.specs.Keeping.{AlwaysKeeps, HasFile}

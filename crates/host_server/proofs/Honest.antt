@@ -1,7 +1,7 @@
 -- Where the shelf of a server is honest at the end, it was at each call before.
 use Rattle.std.specs.Prelude.{IsTrue}
 use Rattle.std.proofs.Common.{◌≡◌, inl, inr, Bool, ℕ, List, Option, None, Result, Ok, Err, sym, ap, subst}
-use Rattle.host_names.specs.Blobs.{Contents}
+use Rattle.byte_view.specs.Contents.{Contents}
 use Rattle.host_names.specs.declared.digests.Digest.{Digest}
 use Rattle.host_names.specs.declared.names.SiteName.{SiteName}
 use Rattle.blob_store.proofs.Honest.{put_some, puts_file}

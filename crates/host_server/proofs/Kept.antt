@@ -1,6 +1,6 @@
 -- A host stays as it is kept: through undos and uploads.
 use Rattle.std.proofs.Common.{◌≡◌, ℕ, List, Result, Ok, Err, OnOk, OnErr, sym, subst}
-use Rattle.host_names.specs.Blobs.{Contents, with_file}
+use Rattle.byte_view.specs.Contents.{Contents, with_file}
 use Rattle.change_undo.specs.Histories.{Past}
 use Rattle.site_change.proofs.MoreUploads.{kept-with_file}
 use Rattle.change_undo.proofs.Sound.{over-grows}

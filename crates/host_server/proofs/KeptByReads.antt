@@ -2,7 +2,7 @@
 use Rattle.std.proofs.Common.{ℕ, List, Result, Ok, Err, map}
 use Rattle.std.specs.List.{AllByRecursion}
 use Rattle.host_names.specs.declared.digests.Digest.{Digest}
-use Rattle.host_names.specs.Blobs.{digest_of}
+use Rattle.host_names.specs.Digests.{digest_of}
 use Rattle.byte_view.specs.Cuts.{IsPure, pieces_met}
 use Rattle.range_spec.specs.declared.selection.Choice.{Choice}
 use Rattle.chunk_reads.proofs.Turns as turns

@@ -4,8 +4,8 @@ use Rattle.std.specs.FinMap as map
 use Rattle.std.specs.List.{AllByRecursion, Contains}
 use Rattle.std.specs.Ordering.{eq_by_cmp}
 use Rattle.std.proofs.lemmas.List.Elements.{All-contains, All-from_recursion}
-use Rattle.host_names.specs.Blobs.{Contents, digest_of, with_file}
-use Rattle.host_names.specs.Digests.{digest_cmp, digest_cmp_total}
+use Rattle.host_names.specs.Digests.{digest_of, digest_cmp, digest_cmp_total}
+use Rattle.byte_view.specs.Contents.{Contents, with_file}
 use Rattle.host_names.specs.declared.digests.Digest.{Digest}
 use Rattle.host_names.specs.declared.names.SiteName.{SiteName}
 use Rattle.blob_store.specs.Calls.{Call, things_of}

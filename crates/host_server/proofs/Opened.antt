@@ -1,6 +1,6 @@
 -- What the parts of an opening say of it.
 use Rattle.std.proofs.Common.{◌≡◌, ◌⊎◌, inl, inr, List, IsTrue, ℕ, false, refl, subst, sym}
-use Rattle.host_names.specs.Blobs.{Contents}
+use Rattle.byte_view.specs.Contents.{Contents}
 use Rattle.blob_store.specs.Calls.{Call}
 use Rattle.change_undo.specs.declared.entries.Entry.{Entry}
 use Rattle.change_journal.specs.entries.Held.{Keeps}

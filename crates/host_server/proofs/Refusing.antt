@@ -1,9 +1,9 @@
 -- The reasons against a commit, as the host has them.
 use Rattle.std.proofs.Common.{ℕ, Result, unwrap_or, sym, ap, subst}
 use Rattle.std.specs.FinMap as map
-use Rattle.host_names.specs.Blobs.{Contents}
-use Rattle.host_names.specs.Refusals.{IsRefusedBy}
-use Rattle.host_names.specs.declared.refusals.ChangeError.{ChangeError}
+use Rattle.byte_view.specs.Contents.{Contents}
+use Rattle.site_change.specs.Refusals.{IsRefusedBy}
+use Rattle.site_change.specs.declared.refusals.ChangeError.{ChangeError}
 use Rattle.site_state.specs.States.{State}
 use Rattle.site_change.specs.declared.commands.Command.{Command}
 use Rattle.change_undo.specs.Histories as histories

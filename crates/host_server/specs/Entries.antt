@@ -1,8 +1,8 @@
 -- How a host gets an entry.
 use Rattle.std.specs.Prelude.{◌≡◌, ℕ, [], ◌∷◌, true, Option, Some, None, Result, Ok, Err}
-use Rattle.host_names.specs.declared.refusals.ChangeError.{ChangeError}
-use Rattle.host_names.specs.declared.refusals.ChangeError.TheVariants as change
-use Rattle.host_names.specs.declared.refusals.ChangeRefusal.{ChangeRefusal}
+use Rattle.site_change.specs.declared.refusals.ChangeError.{ChangeError}
+use Rattle.site_change.specs.declared.refusals.ChangeError.TheVariants as change
+use Rattle.site_change.specs.declared.refusals.ChangeRefusal.{ChangeRefusal}
 use Rattle.change_journal.specs.entries.Held.{Keeps}
 use Rattle.change_undo.specs.declared.entries.Entry.{Entry}
 use Rattle.change_undo.specs.Histories.{may_take_memory}

@@ -1,8 +1,8 @@
 -- Where memory may run out, and what a host has by then.
 use Rattle.std.specs.Prelude.{◌≡◌, ◌⊎◌, ℕ, List, Bool, true, false, ◌&&◌, ◌||◌, Option, Some, None, Result, Ok, Err, is_none, IsTrue}
 use Rattle.host_names.specs.declared.names.SiteName.{SiteName}
-use Rattle.host_names.specs.declared.refusals.ChangeRefusal.{ChangeRefusal}
-use Rattle.host_names.specs.declared.refusals.ChangeRefusal.TheVariants.{NoSuchDeploy}
+use Rattle.site_change.specs.declared.refusals.ChangeRefusal.{ChangeRefusal}
+use Rattle.site_change.specs.declared.refusals.ChangeRefusal.TheVariants.{NoSuchDeploy}
 use Rattle.site_change.specs.declared.commands.Command.{Command}
 use Rattle.site_change.specs.declared.commands.Command.TheVariants.{Open, Publish}
 use Rattle.change_undo.specs.declared.entries.Entry.TheVariants.{Change}

@@ -1,6 +1,6 @@
 -- What an opening of a server gives, and why there is none.
 use Rattle.std.specs.Prelude.{◌≡◌, ◌⊎◌, ℕ, ◌+◌, ◌-◌, ◌^◌, min, List, Some, IsTrue, false}
-use Rattle.host_names.specs.Blobs.{Contents}
+use Rattle.byte_view.specs.Contents.{Contents}
 use Rattle.blob_store.specs.Calls.{Call}
 use Rattle.blob_store.specs.Openings as blobs
 use Rattle.blob_store.specs.declared.openings.OpenFault as of_files

@@ -1,7 +1,7 @@
 -- The reasons against a command or an undo, on a host.
 use Rattle.std.specs.Prelude.{ℕ, Option}
 use Rattle.host_names.specs.declared.names.SiteName.{SiteName}
-use Rattle.host_names.specs.declared.refusals.ChangeRefusal.{ChangeRefusal}
+use Rattle.site_change.specs.declared.refusals.ChangeRefusal.{ChangeRefusal}
 use Rattle.site_change.specs.declared.commands.Command.{Command}
 use Rattle.change_undo.specs.Histories as histories
 use Rattle.host_server.specs.Hosts.{Host, state_of}

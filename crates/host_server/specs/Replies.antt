@@ -2,7 +2,7 @@
 use Rattle.std.specs.Prelude.{ℕ, List, [], Bool, ◌||◌, ◌==◌, Option, Some, None, is_some, length, if◌then◌else◌, codes}
 use Rattle.std.specs.Str.{bytes_eq}
 use Rattle.hex.specs.Hex.{encode_lower}
-use Rattle.host_names.specs.Blobs.{digest_of}
+use Rattle.host_names.specs.Digests.{digest_of}
 use Rattle.http_wire.specs.Connections.{asks_close}
 use Rattle.http_wire.specs.Replies.{HeadFields, reply_text}
 use Rattle.http_wire.specs.Requests.{RequestParts}

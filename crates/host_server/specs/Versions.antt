@@ -1,7 +1,7 @@
 -- The files of a version of a site.
 use Rattle.std.specs.Prelude.{ℕ, List, Option, Some, None, Result, Err, ok_or}
 use Rattle.host_names.specs.declared.names.SiteName.{SiteName}
-use Rattle.host_names.specs.declared.refusals.ChangeRefusal.TheVariants.{NoSuchAlias, NoSuchDeploy, NoSuchFile}
+use Rattle.site_change.specs.declared.refusals.ChangeRefusal.TheVariants.{NoSuchAlias, NoSuchDeploy, NoSuchFile}
 use Rattle.site_state.specs.Files.{Paths, at_path}
 use Rattle.site_state.specs.States.{State, alias_at, kept_at, live_at}
 use Rattle.host_api.specs.declared.refusals.Refusal.{Refusal}

@@ -10,7 +10,7 @@ ghost use Rattle.host_server.specs.Bodies.{answer_of, bytes_of};
 ghost use Rattle.host_server.specs.Replies as spec;
 ghost use Rattle.host_server.specs.Answers.{Tells};
 ghost use Rattle.host_server.specs.Memory.{takes_text};
-ghost use Rattle.host_names.specs.Blobs.{digest_of};
+ghost use Rattle.host_names.specs.Digests.{digest_of};
 ghost use Rattle.range_reply.specs.Multipart.{text_of};
 ghost use Rattle.host_api.specs.Types.{type_of};
 ghost use Rattle.host_server.specs.Files.{SendsParts, sent_answer};

@@ -1,6 +1,6 @@
 //! Uploads: their files are stored, and the deploys that they complete are published.
 ghost use Rattle.std.specs.Prelude.{◌≡◌, ◌≤◌, false, IfErr, IfOk, OnErr, OnOk};
-ghost use Rattle.host_names.specs.Blobs.{digest_of};
+ghost use Rattle.host_names.specs.Digests.{digest_of};
 ghost use Rattle.blob_store.specs.declared.blobs.UploadFault.{UploadFault as Fault};
 ghost use Rattle.host_server.specs.HeldUp.{IsWholeFor};
 ghost use Rattle.host_server.specs.Hosts.{Grows, with_upload};

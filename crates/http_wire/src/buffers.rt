@@ -8,7 +8,7 @@ use std::alloc::{AllocError, Global};
 use std::marker::Model;
 
 /// How many bytes a head has at most, the empty lines before it included, and a buffer holds.
-pub const HEAD_LIMIT: usize = 16384;
+pub(crate) const HEAD_LIMIT: usize = 16384;
 
 /// Bytes that were read from a stream and not yet taken, at most `HEAD_LIMIT` of them. A contract sees their list.
 #[derive(Drop)]

@@ -13,10 +13,10 @@ pub enum HeadFault {
     /// A read failed.
     #[error("the head of a request could not be read")]
     ReadFault,
-    /// The head does not end within `HEAD_LIMIT` bytes, or has more than `FIELD_LIMIT` fields.
+    /// The head does not end within 16,384 bytes, or has more than 64 fields.
     #[error("the head of a request is too large")]
     HeadTooLarge,
-    /// The head is not one of the grammar, or it has no more than `FIELD_LIMIT` fields and its target begins with no slash.
+    /// The head is not one of the grammar, or it has no more than 64 fields and its target begins with no slash.
     #[error("this is not the head of a request that is answered")]
     BadHead,
     /// No memory for the head.

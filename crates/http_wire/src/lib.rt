@@ -11,7 +11,7 @@ mod faults;
 mod field_texts;
 mod fields;
 mod heads;
-mod laws;
+pub mod laws;
 mod lengths;
 mod replies;
 mod scans;
@@ -20,16 +20,12 @@ mod sinks;
 mod sources;
 mod wires;
 
-pub use buffers::HEAD_LIMIT;
 pub use duplexes::{Duplex, Pair};
 pub use entity_tags::EntityTag;
 pub use faults::{BodyFault, HeadFault, LengthFault, WriteFault};
 pub use field_texts::FieldText;
 pub use fields::{Fields, Values};
-pub use heads::{FIELD_LIMIT, Head};
-pub use laws::{
-    a_head_has_its_lines, few_reads, one_head, two_phrases_are_older, wrong_answers_are_refused,
-};
+pub use heads::Head;
 pub use lengths::check_body;
 pub use replies::{
     ContentRange, ReplyBody, ReplyHead, decimal_text, range_value, write_interim, write_reply,

@@ -13,7 +13,7 @@ use std::marker::Model;
 use thiserror::Error;
 
 /// The most peers of a ring.
-pub const MAX_PEERS: usize = 8;
+const MAX_PEERS: usize = 8;
 
 /// Why there is no ring of some peers.
 #[derive(Clone, Copy, Debug, PartialEq, Eq, Error)]

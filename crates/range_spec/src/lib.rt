@@ -4,10 +4,9 @@
 
 mod blocks;
 mod grammar;
-mod laws;
+pub mod laws;
 mod reading;
 mod selection;
 
 pub use grammar::{Asked, Spec, Specs, parse};
-pub use laws::{interval_is_what_is_asked_for, one_reading, wrong_answers_are_refused};
 pub use selection::{Choice, Intervals, select};

@@ -1,6 +1,6 @@
 //! Files in pieces, each of which is held whole.
 ghost use Rattle.std.specs.Prelude.{◌≡◌, map, true};
-ghost use Rattle.host_names.specs.Blobs.{digest_of};
+ghost use Rattle.host_names.specs.Digests.{digest_of};
 
 use anyhow::{Result, anyhow};
 use byte_view::{BlobInfo, Chunk, Hold, PIECE_SIZE};
@@ -66,8 +66,8 @@ pub(crate) fn held(alloc: Global, file: &[u8]) -> Result<Hold> {
         .checked_sub(1)
         .ok_or(anyhow!("an empty file is never held"))?;
     let chunks = chunks_of(alloc, file)?;
-    let places = info.places(0, last);
-    if !have_names(chunks.as_slice(), &info.names()[places.start..places.end]) {
+    let range = info.piece_range(0, last);
+    if !have_names(chunks.as_slice(), &info.names()[range.start..range.end]) {
         return Err(anyhow!("the chunks have other names"));
     }
     let held = Hold::new(Arc::new(alloc, info)?, 0, last, chunks);

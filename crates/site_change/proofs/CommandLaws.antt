@@ -2,7 +2,7 @@
 use Rattle.std.proofs.Common.{◌≡◌, inl, inr, ℕ, length, true, false, Some, None, option_map, refl, ap, ◌∙◌, ◌||◌, sym, cond}
 use Rattle.std.specs.FinMap as map
 use Rattle.std.specs.Str.{bytes_eq}
-use Rattle.host_names.specs.Blobs.{Contents, AreDigested}
+use Rattle.byte_view.specs.Contents.{Contents, AreDigested}
 use Rattle.host_names.specs.Cells.{site_of}
 use Rattle.host_names.specs.declared.cells.Cell.{Cell}
 use Rattle.host_names.specs.declared.cells.Cell.TheVariants as cell
@@ -13,7 +13,7 @@ use Rattle.site_state.specs.declared.values.Value.TheVariants as value
 use Rattle.site_state.proofs.Named.{named_live, named_draft, named_without_alias, named_with_alias, named_without_kept}
 use Rattle.site_change.specs.declared.commands.Command.{Command}
 use Rattle.site_change.specs.declared.commands.Command.TheVariants.{Open, Publish, Cancel, Remove, Rename, MoveAlias, RemoveAlias, Restore, RemoveDeploy}
-use Rattle.host_names.specs.declared.refusals.ChangeRefusal.TheVariants.{NoSuchDraft, NoSuchDeploy, NoSuchFile, NoSuchAlias}
+use Rattle.site_change.specs.declared.refusals.ChangeRefusal.TheVariants.{NoSuchDraft, NoSuchDeploy, NoSuchFile, NoSuchAlias}
 use Rattle.site_change.specs.Changes.{IsCommandInRange, same_cell, needed, rename_refusal, publish_refusal, restore_refusal, removal_refusal, published, restored, refusal, applied, site_of_command, publish_touches, restore_touches, touches, IsWithin}
 use Rattle.site_change.specs.Laws.{AgreeOn, SameEffect}
 use Rattle.site_change.specs.Uploaded.{AreUploaded}

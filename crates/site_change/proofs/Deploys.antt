@@ -1,7 +1,7 @@
 -- Which deploys are open or kept after a command, and where they come from.
 use Rattle.std.proofs.Common.{◌≡◌, ◌⊎◌, inl, inr, ℕ, Bool, true, false, cond, List, [], ◌∷◌, Option, Some, None, is_some, refl, sym, ap, ◌∙◌, option_map}
 use Rattle.std.specs.FinMap as map
-use Rattle.host_names.specs.Blobs.{Contents}
+use Rattle.byte_view.specs.Contents.{Contents}
 use Rattle.host_names.specs.declared.cells.Cell.{Cell}
 use Rattle.host_names.specs.declared.cells.Cell.TheVariants as cell
 use Rattle.host_names.specs.declared.digests.Digest.{Digest}

@@ -1,7 +1,7 @@
 -- What a command writes is of its cell's kind.
 use Rattle.std.proofs.Common.{◌≡◌, ℕ, true, false, cond, ◌⊎◌, inl, inr, List, Option, Some, None, option_map, refl, ap, ◌∙◌}
 use Rattle.std.specs.FinMap as map
-use Rattle.host_names.specs.Blobs.{Contents}
+use Rattle.byte_view.specs.Contents.{Contents}
 use Rattle.host_names.specs.Cells.{text_of}
 use Rattle.host_names.specs.declared.names.SiteName.{SiteName}
 use Rattle.host_names.specs.declared.cells.Cell.{Cell}

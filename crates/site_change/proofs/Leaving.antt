@@ -3,7 +3,7 @@ use Rattle.std.proofs.Common.{◌≡◌, ◌≢◌, ℕ, Bool, true, false, cond
 use Rattle.std.specs.FinMap as finmap
 use Rattle.std.specs.Cmp.Lexicographic.{slice_cmp}
 use Rattle.std.specs.Ordering.{is_eq, nat_cmp}
-use Rattle.host_names.specs.Blobs.{Contents}
+use Rattle.byte_view.specs.Contents.{Contents}
 use Rattle.host_names.specs.Cells.{text_of}
 use Rattle.host_names.specs.declared.cells.Cell.{Cell}
 use Rattle.host_names.specs.declared.cells.Cell.TheVariants as cell
@@ -16,7 +16,7 @@ use Rattle.site_state.specs.declared.values.Draft.{Draft}
 use Rattle.site_state.specs.declared.values.Value.{Value}
 use Rattle.site_state.specs.declared.values.Value.TheVariants as value
 use Rattle.site_change.specs.declared.commands.Command.TheVariants.{Publish}
-use Rattle.host_names.specs.declared.refusals.ChangeRefusal.TheVariants.{NotComplete}
+use Rattle.site_change.specs.declared.refusals.ChangeRefusal.TheVariants.{NotComplete}
 use Rattle.site_change.specs.Changes.{same_cell, file_at, tree_of, with_patch, with_published, published, publish_refusal, refusal, applied}
 use Rattle.site_change.specs.Laws.{LeavesPatch, LeavesDeploy}
 use Rattle.site_change.proofs.Effects.{one_cell, same_cell-itself, same_paths, bytes_eq-itself, get-published}

@@ -1,11 +1,11 @@
 -- A change can be left out where no later one touches what it changed.
 use Rattle.std.proofs.Common.{◌≡◌, ℕ, Bool, true, false, not, cond, List, [], ◌∷◌, Option, Some, None, refl, sym, ap, ◌∙◌}
 use Rattle.std.specs.FinMap as map
-use Rattle.host_names.specs.Blobs.{Contents}
+use Rattle.byte_view.specs.Contents.{Contents}
 use Rattle.host_names.specs.declared.cells.Cell.{Cell}
 use Rattle.site_state.specs.States.{State}
 use Rattle.site_change.specs.declared.commands.Command.{Command}
-use Rattle.host_names.specs.declared.refusals.ChangeRefusal.{ChangeRefusal}
+use Rattle.site_change.specs.declared.refusals.ChangeRefusal.{ChangeRefusal}
 use Rattle.site_change.specs.Changes.{refusal, applied, touches, changes, if_accepted, run_from, AvoidAll}
 use Rattle.site_change.specs.Laws.{AgreeOn, LeavesOut}
 use Rattle.site_change.proofs.Locality.{is_local, same_value-same}

@@ -1,7 +1,7 @@
 -- All that a command reads or writes is what it touches.
 use Rattle.std.proofs.Common.{◌≡◌, ℕ, true, false, not, Option, refl, sym, ap, ◌∙◌}
 use Rattle.std.specs.FinMap as map
-use Rattle.host_names.specs.Blobs.{Contents}
+use Rattle.byte_view.specs.Contents.{Contents}
 use Rattle.host_names.specs.declared.cells.Cell.{Cell}
 use Rattle.site_state.specs.States.{State}
 use Rattle.site_state.specs.Values.{same_value}

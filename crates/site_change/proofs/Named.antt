@@ -1,6 +1,6 @@
 -- A command that is accepted leaves each alias with a kept deploy.
 use Rattle.std.proofs.Common.{◌≡◌, ℕ, None}
-use Rattle.host_names.specs.Blobs.{Contents}
+use Rattle.byte_view.specs.Contents.{Contents}
 use Rattle.site_state.specs.Named.{AliasesNamed}
 use Rattle.site_state.specs.States.{State}
 use Rattle.site_change.specs.declared.commands.Command.{Command}

@@ -1,7 +1,7 @@
 -- What a command leaves lets each alias name a kept deploy.
 use Rattle.std.proofs.Common.{◌≡◌, ℕ, true, false, cond, List, [], ◌∷◌, Option, Some, None, option_map, refl, sym, ap, ◌∙◌}
 use Rattle.std.specs.Option.{is_some}
-use Rattle.host_names.specs.Blobs.{Contents}
+use Rattle.byte_view.specs.Contents.{Contents}
 use Rattle.host_names.specs.declared.cells.Cell.TheVariants as cell
 use Rattle.host_names.specs.declared.digests.Digest.{Digest}
 use Rattle.host_names.specs.declared.names.AliasName.{AliasName}
@@ -12,7 +12,7 @@ use Rattle.site_state.specs.States.{State, with_cell, as_number, as_tree}
 use Rattle.site_state.specs.declared.values.Draft.{Draft}
 use Rattle.site_state.specs.declared.values.Value.TheVariants as value
 use Rattle.site_state.proofs.Named.{named_live, named_draft, named_with_kept}
-use Rattle.host_names.specs.declared.refusals.ChangeRefusal.{ChangeRefusal}
+use Rattle.site_change.specs.declared.refusals.ChangeRefusal.{ChangeRefusal}
 use Rattle.site_change.specs.Changes.{file_at, tree_of, needed, removal_refusal, with_served, with_published, with_listed, with_patch, published, restored}
 use Rattle.site_change.proofs.Effects.{get-served}
 

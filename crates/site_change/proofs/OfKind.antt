@@ -2,13 +2,13 @@
 use Rattle.std.proofs.Common.{ℕ, inl, inr, IsTrue, List, [], ◌∷◌, Result, Ok, Err, IfOk, OnOk, sym, ap, ◌∙◌}
 use Rattle.std.specs.List.{AllByRecursion}
 use Rattle.std.proofs.lemmas.List.Elements.{All-from_recursion}
-use Rattle.host_names.specs.Blobs.{Contents}
+use Rattle.byte_view.specs.Contents.{Contents}
 use Rattle.host_names.specs.declared.cells.Cell.{Cell}
 use Rattle.site_state.specs.Changes.{AreOfKindOn}
 use Rattle.site_state.specs.declared.changes.Side.TheVariants.{Before, After}
 use Rattle.site_state.specs.States.{State, AreOfKind, may_stand}
 use Rattle.site_change.specs.declared.commands.Command.{Command}
-use Rattle.host_names.specs.declared.refusals.ChangeError.{ChangeError}
+use Rattle.site_change.specs.declared.refusals.ChangeError.{ChangeError}
 use Rattle.site_state.specs.declared.changes.Change.{Change}
 use Rattle.site_change.specs.declared.plans.Plan.{Plan}
 use Rattle.site_change.specs.Decisions.{IsDecision}

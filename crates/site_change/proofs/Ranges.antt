@@ -1,10 +1,10 @@
 -- Which numbers accepted commands name.
 use Rattle.std.proofs.Common.{◌≡◌, ◌⊎◌, inl, inr, ℕ, ◌≤◌, nat_lt, true, false, cond, List, Option, Some, None, is_some, refl}
 use Rattle.std.proofs.lemmas.Bool.{ltb-false}
-use Rattle.host_names.specs.Blobs.{Contents}
+use Rattle.byte_view.specs.Contents.{Contents}
 use Rattle.host_names.specs.declared.names.AliasName.{AliasName}
 use Rattle.host_names.specs.declared.names.SiteName.{SiteName}
-use Rattle.host_names.specs.declared.refusals.ChangeRefusal.TheVariants.{TooManyFiles}
+use Rattle.site_change.specs.declared.refusals.ChangeRefusal.TheVariants.{TooManyFiles}
 use Rattle.site_state.specs.Files.{Paths}
 use Rattle.site_state.specs.States.{State, draft_at, kept_at}
 use Rattle.site_state.specs.declared.values.Draft.{Draft}

@@ -2,7 +2,7 @@
 use Rattle.std.proofs.Common.{◌≡◌, ℕ, true, false, cond, List, [], ◌∷◌, Option, Some, None, option_map, is_some, unwrap_or, refl, sym, ap, ◌∙◌}
 use Rattle.std.specs.FinMap as map
 use Rattle.std.specs.List.{AllByRecursion, cons_option}
-use Rattle.host_names.specs.Blobs.{Contents}
+use Rattle.byte_view.specs.Contents.{Contents}
 use Rattle.host_names.specs.declared.names.SiteName.{SiteName}
 use Rattle.host_names.specs.declared.cells.Cell.TheVariants as cell
 use Rattle.host_names.specs.declared.digests.Digest.{Digest}
@@ -11,7 +11,7 @@ use Rattle.site_state.specs.Missing.{if_lacking, lesser, least_missing_of}
 use Rattle.site_state.specs.States.{State, with_cell}
 use Rattle.site_state.specs.declared.values.Value.TheVariants as value
 use Rattle.site_state.specs.declared.values.Draft.{Draft}
-use Rattle.host_names.specs.declared.refusals.ChangeRefusal.TheVariants.{NotComplete}
+use Rattle.site_change.specs.declared.refusals.ChangeRefusal.TheVariants.{NotComplete}
 use Rattle.site_change.specs.Changes.{publish_refusal, restore_refusal, file_at, tree_of, with_published, with_listed, with_patch, published, restored, IsWithin}
 use Rattle.site_change.proofs.Listings.{none_missing, there}
 

@@ -1,7 +1,7 @@
 -- Commands that are accepted in a row leave only files that were uploaded.
 use Rattle.std.proofs.Common.{◌≡◌, ℕ, List, [], ◌∷◌, Option, Some, None, unwrap_or, sym, ap, subst}
 use Rattle.std.specs.FinMap as map
-use Rattle.host_names.specs.Blobs.{Contents, AreDigested}
+use Rattle.byte_view.specs.Contents.{Contents, AreDigested}
 use Rattle.host_names.specs.Cells.{cell_cmp}
 use Rattle.site_state.specs.States.{State}
 use Rattle.site_change.specs.declared.commands.Command.{Command}

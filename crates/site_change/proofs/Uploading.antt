@@ -2,7 +2,8 @@
 use Rattle.std.proofs.Common.{◌≡◌, ℕ, Bool, true, false, not, cond, List, [], ◌∷◌, Option, Some, None, option_map, is_some, unwrap_or, refl, sym, ap, subst, ◌∙◌}
 use Rattle.std.specs.FinMap as map
 use Rattle.std.specs.List.{cons_option}
-use Rattle.host_names.specs.Blobs.{Contents, AreDigested, digest_of}
+use Rattle.host_names.specs.Digests.{digest_of}
+use Rattle.byte_view.specs.Contents.{Contents, AreDigested}
 use Rattle.host_names.specs.declared.cells.Cell.{Cell}
 use Rattle.host_names.specs.declared.cells.Cell.TheVariants as cell
 use Rattle.host_names.specs.declared.digests.Digest.{Digest}
@@ -13,7 +14,7 @@ use Rattle.site_state.specs.States.{State, with_cell, as_file, as_tree, is_live_
 use Rattle.site_state.specs.declared.values.Draft.{Draft}
 use Rattle.site_state.specs.declared.values.Value.{Value}
 use Rattle.site_state.specs.declared.values.Value.TheVariants as value
-use Rattle.host_names.specs.declared.refusals.ChangeRefusal.TheVariants.{NotComplete}
+use Rattle.site_change.specs.declared.refusals.ChangeRefusal.TheVariants.{NotComplete}
 use Rattle.site_change.specs.Changes.{same_cell, publish_refusal, restore_refusal, file_at, tree_of, without_live, with_live, with_served, with_published, with_listed, with_patch, published, restored}
 use Rattle.site_change.specs.Uploaded.{IsUploaded, IsUploadedTree, HoldsUploaded, AreUploaded}
 use Rattle.site_change.proofs.Effects.{get-with_cell, get-without_live}

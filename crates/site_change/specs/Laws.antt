@@ -1,7 +1,7 @@
 -- Laws of changes.
 use Rattle.std.specs.Prelude.{◌≡◌, ◌≢◌, ◌⊎◌, ℕ, List, ◌∷◌, map, Contains, Bool, true, false, Option, Some, None, option_map, if◌then◌else◌}
 use Rattle.std.specs.FinMap as map
-use Rattle.host_names.specs.Blobs.{Contents}
+use Rattle.byte_view.specs.Contents.{Contents}
 use Rattle.host_names.specs.declared.digests.Digest.{Digest}
 use Rattle.host_names.specs.declared.names.SiteName.{SiteName}
 use Rattle.host_names.specs.declared.cells.Cell.{Cell}

@@ -3,6 +3,7 @@ pub mod Changes
 pub mod Decisions
 pub mod Laws
 pub mod Plans
+pub mod Refusals
 pub mod Uploaded
 pub mod TouchedCells
 -- what only private functions need: how two readings of cells differ

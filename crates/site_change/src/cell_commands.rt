@@ -8,7 +8,7 @@ ghost use Rattle.host_names.specs.declared.cells.Cell.TheVariants as cell;
 ghost use Rattle.site_state.specs.Aliases.{alias_for};
 ghost use Rattle.site_state.specs.States.{alias_at, draft_at, is_alias_of, kept_at, live_at, with_cell};
 ghost use Rattle.site_state.specs.declared.values.Value.TheVariants as value;
-ghost use Rattle.host_names.specs.declared.refusals.ChangeRefusal.TheVariants as reason;
+ghost use Rattle.site_change.specs.declared.refusals.ChangeRefusal.TheVariants as reason;
 ghost use Rattle.site_change.specs.Changes.{needed, removal_refusal, rename_refusal, renamed, same_cell};
 ghost use Rattle.site_change.specs.Decisions.{IsDecision};
 ghost use Rattle.site_change.specs.Differences.{Comparable};
@@ -17,7 +17,8 @@ ghost use Rattle.site_change.specs.TouchedCells.{AreTouched, is_among};
 
 use crate::plans::{Plan, push_change};
 use crate::touched::{Touched, TouchedCells};
-use host_names::{AliasName, Cell, CellRef, ChangeError, ChangeRefusal, FilePath, SiteName};
+use host_names::{AliasName, Cell, CellRef, FilePath, SiteName};
+use crate::refusals::{ChangeError, ChangeRefusal};
 use site_state::{Change, File, State, Value};
 use std::alloc::{AllocError, Global};
 use std::cmp::Ordering;

@@ -1,7 +1,8 @@
 //! Laws of changes, each the contract of a function that does nothing.
-ghost use Rattle.std.specs.Prelude.{◌≡◌, ◌≢◌, ◌↔◌, ◌⊎◌, ℕ, Bool, true, false, not, List, [], ◌∷◌, Option, None, Some};
+ghost use Rattle.std.specs.Prelude.{◌≡◌, ◌≢◌, ◌↔◌, ◌⊎◌, ℕ, Bool, true, false, not, List, [], ◌∷◌, Option, None, Some, Ok, Err};
 ghost use Rattle.std.specs.FinMap as map;
-ghost use Rattle.host_names.specs.Blobs.{AreDigested, Contents, digest_of, with_file};
+ghost use Rattle.host_names.specs.Digests.{digest_of};
+ghost use Rattle.byte_view.specs.Contents.{AreDigested, Contents, with_file};
 ghost use Rattle.host_names.specs.declared.cells.Cell.{Cell};
 ghost use Rattle.host_names.specs.declared.cells.Cell.TheVariants as cell;
 ghost use Rattle.host_names.specs.declared.names.AliasName.{AliasName};
@@ -16,10 +17,13 @@ ghost use Rattle.site_change.specs.declared.commands.Command.{Command};
 ghost use Rattle.site_change.specs.declared.commands.Command.TheVariants.{Open, Publish, Cancel, Remove, Rename, MoveAlias, RemoveAlias, Restore, RemoveDeploy};
 ghost use Rattle.site_change.specs.Changes.{IsWithin, applied, changes, refusal, run_from, touches};
 ghost use Rattle.site_change.specs.Plans.{IsDifference};
+ghost use Rattle.site_change.specs.Refusals.{IsRefusedBy};
 ghost use Rattle.site_change.specs.Laws.{AgreeOn, IsLocal, IsPartOfDeploy, IsPartOfPatch, LeavesDeploy, LeavesOut, LeavesPatch, KeepsRunning};
 ghost use Rattle.site_change.specs.TouchedCells.{AreTouched, is_touched};
 ghost use Rattle.site_change.specs.Uploaded.{AreUploaded, IsUploaded};
 ghost use Rattle.site_state.specs.declared.changes.Change.{Change};
+ghost use Rattle.site_change.specs.declared.refusals.ChangeError.TheVariants.{OutOfMemory, Refused};
+ghost use Rattle.site_change.specs.declared.refusals.ChangeRefusal.{ChangeRefusal};
 ghost use Rattle.site_change.specs.declared.touched.Touched.{Touched};
 ghost use Rattle.host_names.specs.declared.digests.Digest.{Digest};
 
@@ -162,4 +166,11 @@ pub fn wrong_answers_are_refused()
         → ¬ (LeavesDeploy site m uploads files before (map.insert after (cell.Draft site m) v)) }
     ensures agree { (state : State) (c : Cell) (v : Value) → map.get state c ≡ None → ¬ (AgreeOn (λ c. true) state (map.insert state c v)) }
     ensures within { (contents : Contents) (digest : Digest) (bytes : List ℕ) → ¬ (IsWithin (map.insert contents digest bytes) map.empty) }
+{}
+
+/// A reason to refuse is neither left out, made up, nor told as want of memory.
+pub fn refusals_have_a_reason()
+    ensures accepted { (reason : ChangeRefusal) → ¬ (IsRefusedBy {A = ℕ} (Some reason) (Ok 0)) }
+    ensures refused { (reason : ChangeRefusal) → ¬ (IsRefusedBy {A = ℕ} None (Err (Refused reason))) }
+    ensures memory { (reason : ChangeRefusal) → ¬ (IsRefusedBy {A = ℕ} (Some reason) (Err OutOfMemory)) }
 {}

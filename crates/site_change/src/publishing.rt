@@ -1,6 +1,6 @@
 //! Publishing an open deploy: what it changes and touches.
 ghost use Rattle.std.specs.Prelude.{◌≡◌, ◌||◌, IfOk, Some, None, option_map};
-ghost use Rattle.host_names.specs.Blobs.{AreDigested};
+ghost use Rattle.byte_view.specs.Contents.{AreDigested};
 ghost use Rattle.host_names.specs.declared.cells.Cell.TheVariants as cell;
 ghost use Rattle.site_state.specs.Files.{IsByPath};
 ghost use Rattle.site_state.specs.Missing.{if_lacking, least_missing_of};
@@ -9,7 +9,7 @@ ghost use Rattle.site_state.specs.declared.values.Value.TheVariants as value;
 ghost use Rattle.site_change.specs.declared.commands.Command.TheVariants as command_of;
 ghost use Rattle.site_change.specs.Changes as changes;
 ghost use Rattle.site_change.specs.Changes.{publish_refusal, publish_touches, published, restore_refusal, restored, same_cell, touches, tree_of, with_patch, with_published, with_served};
-ghost use Rattle.host_names.specs.Refusals.{IsRefusedBy};
+ghost use Rattle.site_change.specs.Refusals.{IsRefusedBy};
 ghost use Rattle.site_change.specs.Decisions.{IsDecision};
 ghost use Rattle.site_change.specs.Differences.{AreListedChanges, AreTogether};
 ghost use Rattle.site_change.specs.Plans.{IsDifference};
@@ -22,7 +22,8 @@ use crate::touched::{Touched, TouchedCells};
 use crate::trees::{file_at, tree_of};
 use crate::uploads::uploads_are_digested;
 use byte_view::Uploads;
-use host_names::{Cell, CellRef, ChangeError, ChangeRefusal, Digest, FilePath, SiteName};
+use host_names::{Cell, CellRef, Digest, FilePath, SiteName};
+use crate::refusals::{ChangeError, ChangeRefusal};
 use site_state::{Change, Draft, Listing, State, Tree, Value, least_missing};
 use std::alloc::{AllocError, Global};
 

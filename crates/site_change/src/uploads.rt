@@ -1,5 +1,5 @@
 //! What is known of all uploads.
-ghost use Rattle.host_names.specs.Blobs.{AreDigested};
+ghost use Rattle.byte_view.specs.Contents.{AreDigested};
 
 use byte_view::Uploads;
 use host_names::Digest;

@@ -4,7 +4,7 @@ use Rattle.std.specs.Cmp.{IsEquivalence, decided, booleans_Decides, and_equiv, o
 use Rattle.std.specs.Option.{option_eq}
 use Rattle.std.specs.Cmp.Lexicographic.{pointwise_decides, bytes_decides, lists_equiv, nat_list_eq_equiv, options_equiv}
 use Rattle.std.proofs.lemmas.Bool.Decides.{Decides-and, Decides-like, Decides-eqb}
-use Rattle.host_names.specs.Blobs.{digest_of}
+use Rattle.host_names.specs.Digests.{digest_of}
 use Rattle.host_names.specs.declared.digests.Digest.{Digest}
 use Rattle.site_state.specs.declared.values.Draft.{Draft}
 use Rattle.site_state.specs.declared.values.Value.{Value}

@@ -25,7 +25,7 @@ impl Model for File {
 }
 
 impl File {
-    ghost use Rattle.host_names.specs.Blobs.{digest_of};
+    ghost use Rattle.host_names.specs.Digests.{digest_of};
 
     /// The file that was uploaded.
     pub fn new(info: Arc<BlobInfo>) -> File

@@ -1,7 +1,7 @@
 //! Laws of what is found in a state and a draft, each the contract of a function that does nothing.
 ghost use Rattle.std.specs.FinMap as map;
 ghost use Rattle.std.specs.Prelude.{ℕ, [], ◌∷◌, Option, None, Some};
-ghost use Rattle.host_names.specs.Blobs.{Contents};
+ghost use Rattle.byte_view.specs.Contents.{Contents};
 ghost use Rattle.host_names.specs.declared.cells.Cell.TheVariants as cell;
 ghost use Rattle.host_names.specs.declared.digests.Digest.{Digest};
 ghost use Rattle.host_names.specs.declared.names.AliasName.{AliasName};

@@ -1,6 +1,6 @@
 //! Files in pieces, and holds of their stretches.
 ghost use Rattle.std.specs.Prelude.{◌≡◌, All, IfOk, map, true};
-ghost use Rattle.host_names.specs.Blobs.{digest_of};
+ghost use Rattle.host_names.specs.Digests.{digest_of};
 ghost use Rattle.range_reply.specs.Bodies.{stretch_of};
 
 use byte_view::{BlobInfo, Chunk, Hold, PIECE_SIZE};
@@ -59,9 +59,9 @@ fn hold(alloc: Global, cut: &CutFile, first: usize, last: usize) -> Result<Hold,
     if first > last || last >= cut.info.len() {
         return Err(Fail::from("the file has no such stretch"));
     }
-    let places = cut.info.places(first, last);
-    let names = &cut.info.names()[places.start..places.end];
-    let met = cut.chunks.get(places.start..places.end);
+    let range = cut.info.piece_range(first, last);
+    let names = &cut.info.names()[range.start..range.end];
+    let met = cut.chunks.get(range.start..range.end);
     let chunks = copies(alloc, met.ok_or("a file has all its chunks")?)?;
     if !have_names(chunks.as_slice(), names) {
         return Err(Fail::from("the chunks have other names"));

@@ -5,8 +5,8 @@ ghost use Rattle.site_state.specs.Files.{IsByPath};
 use super::fixtures::assert_text;
 use blob_store::{Blobs, MemShelf};
 use change_undo::{GREATEST_LIMIT, History};
-use host_names::{ChangeError, Digest, FilePath, SiteName};
-use site_change::{Command, Plan};
+use host_names::{Digest, FilePath, SiteName};
+use site_change::{ChangeError, Command, Plan};
 use site_state::{Listing, PathMap, State};
 use std::alloc::Global;
 use std::marker::Model;
@@ -23,7 +23,7 @@ pub(super) struct Host {
 impl Model for Host {
     ghost use Rattle.std.specs.Coded.{coded_ℕ, coded_list, coded×};
     ghost use Rattle.std.specs.FinMap as map;
-    ghost use Rattle.host_names.specs.Blobs.{Contents};
+    ghost use Rattle.byte_view.specs.Contents.{Contents};
     ghost use Rattle.host_names.specs.Digests.{coded_digest};
     ghost use Rattle.change_undo.specs.contracts.histories.History as histories;
     ghost use Rattle.change_undo.specs.Histories.{Past};

@@ -1,6 +1,6 @@
 //! Reads through a node that threads share, over a source of which all that it may answer is known.
 ghost use Rattle.std.specs.Prelude.{◌≡◌, ◌≢◌, ◌∷◌, [], IfErr, IfOk};
-ghost use Rattle.host_names.specs.Blobs.{digest_of};
+ghost use Rattle.host_names.specs.Digests.{digest_of};
 ghost use Rattle.chunk_reads.specs.declared.faults.ReadFault.TheVariants.{Damaged, Device};
 ghost use Rattle.group_tests.specs.Sources.{GivesAlone, may_lack};
 

@@ -3,7 +3,7 @@
 use super::fixtures::{bytes_of, is_chunk_of, names};
 use super::gates::assert_count;
 use super::node_fixtures::first_node;
-use blob_store::{Files, Known, MemShelf};
+use blob_store::{Files, BlobIndex, MemShelf};
 use chunk_group::{Counter, Group, SharedSource};
 use chunk_reads::ReadFault;
 use host_names::Digest;
@@ -25,7 +25,7 @@ type ShelfNode<'a, R> = Group<DigestHash, SharedSource<'a, R, MemShelf>, NoLink,
 /// A shelf with these chunks, each of which is a file.
 fn files(alloc: Global) -> Result<Files<MemShelf>, Fail> {
     let mut files = Files::new(alloc, MemShelf::new(alloc));
-    let known = Known::new(alloc);
+    let known = BlobIndex::new(alloc);
     for number in 0..CHUNKS {
         let bytes = bytes_of(alloc, number)?;
         files.put(&known, Digest::of_bytes(bytes.as_slice()), bytes.as_slice())?;

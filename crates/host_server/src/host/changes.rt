@@ -19,8 +19,8 @@ use super::views::HostView;
 use change_journal::Journal;
 use host_api::{Items, Refusal, Told};
 use host_disk::Disk;
-use host_names::{ChangeRefusal, SiteName};
-use site_change::{Command, opening_refusal};
+use host_names::SiteName;
+use site_change::{ChangeRefusal, Command, opening_refusal};
 use site_state::{Draft, Listing, missing};
 
 /// Whether a deploy of these files may be opened, or the first reason why not. It takes no memory.

@@ -1,7 +1,7 @@
 //! Histories with one entry more, beside the old one, and the journal that gets that entry.
 ghost use Rattle.std.specs.Prelude.{◌≡◌, ◌⊎◌, None, Err, ℕ, IfOk, IfErr, OnOk, false};
-ghost use Rattle.host_names.specs.Blobs.{Contents};
-ghost use Rattle.host_names.specs.Refusals.{IsRefusedBy};
+ghost use Rattle.byte_view.specs.Contents.{Contents};
+ghost use Rattle.site_change.specs.Refusals.{IsRefusedBy};
 ghost use Rattle.host_names.specs.declared.names.SiteName.{SiteName as Site};
 ghost use Rattle.site_change.specs.declared.commands.Command.{Command as Change};
 ghost use Rattle.change_journal.specs.texts.Spells.{IsInRange};
@@ -15,17 +15,18 @@ ghost use Rattle.host_server.specs.declared.host.entry_errors.EntryError.TheVari
 ghost use Rattle.host_server.specs.Journals.{IsPutInVain};
 
 use super::entry_errors::EntryError;
-use blob_store::Known;
+use blob_store::BlobIndex;
 use change_journal::{Journal, prepare};
-use change_undo::{History, deploys_were_opened_by_their_entries};
+use change_undo::History;
+use change_undo::laws::deploys_were_opened_by_their_entries;
 use host_disk::Disk;
-use host_names::{ChangeError, ChangeRefusal, SiteName};
-use site_change::{Command, decide};
+use host_names::SiteName;
+use site_change::{ChangeError, ChangeRefusal, Command, decide};
 use std::alloc::Global;
 
 /// Why there is no copy of the history with this command as its next entry, where there was no memory for a copy: the
 /// first reason against the command, or else that.
-fn without_copy(alloc: Global, history: &History, uploads: &Known, command: &Command) -> ChangeError
+fn without_copy(alloc: Global, history: &History, uploads: &BlobIndex, command: &Command) -> ChangeError
     requires { IsHistoryOver uploads.now history.now }
     ensures { IsRefusedBy {A = ℕ} (Histories.commit_refusal uploads.now history.now.limit history.now.entries history.now.state command.now) (Err result) }
 {
@@ -68,7 +69,7 @@ fn accepted_is_in_range(history: &History)
 pub(super) fn with_change(
     alloc: Global,
     history: &History,
-    uploads: &Known,
+    uploads: &BlobIndex,
     command: Command,
 ) -> Result<History, ChangeError>
     requires { IsHistoryOver uploads.now history.now }

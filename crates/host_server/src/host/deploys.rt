@@ -10,8 +10,8 @@ ghost use Rattle.site_state.specs.States.{draft_at};
 use super::views::HostView;
 use change_undo::Entry;
 use host_api::{DeployState, Items, Refusal, Told};
-use host_names::{ChangeRefusal, SiteName};
-use site_change::Command;
+use host_names::SiteName;
+use site_change::{ChangeRefusal, Command};
 use site_state::missing;
 use std::alloc::Global;
 

@@ -1,7 +1,7 @@
 //! Why a host gets no entry.
 
 use host_api::Refusal;
-use host_names::{ChangeError, ChangeRefusal};
+use site_change::{ChangeError, ChangeRefusal};
 use std::alloc::AllocError;
 
 /// Why a change, or the undo of one, is not made the next entry.

@@ -1,8 +1,8 @@
 //! A host on one thread: its history, and what is known of its uploads.
 ghost use Rattle.std.specs.Prelude.{◌≡◌, ◌≤◌, Option, [], ◌∷◌, Some, None, IfOk, OnOk, OnErr, false, length, nat_le, option_copied, option_map};
 ghost use Rattle.std.specs.FinMap as map;
-ghost use Rattle.host_names.specs.Blobs.{digest_of};
-ghost use Rattle.host_names.specs.Refusals.{IsRefusedBy};
+ghost use Rattle.host_names.specs.Digests.{digest_of};
+ghost use Rattle.site_change.specs.Refusals.{IsRefusedBy};
 ghost use Rattle.change_undo.specs.Histories.{IsUndoRefusedBy, run, entry_at, marked_entry};
 ghost use Rattle.change_undo.specs.Logs.{empty_log, last_number};
 ghost use Rattle.change_undo.specs.declared.entries.Entry.TheVariants as entry;
@@ -17,13 +17,14 @@ ghost use Rattle.host_server.specs.Reasons.{commit_refusal};
 use super::copies::{put_last, with_change, with_undo};
 use super::entry_errors::EntryError;
 use super::readiness::Readiness;
-use blob_store::Known;
+use blob_store::BlobIndex;
 use byte_view::BlobInfo;
 use change_journal::Journal;
-use change_undo::{Entry, History, deploys_were_opened_by_their_entries};
+use change_undo::{Entry, History};
+use change_undo::laws::deploys_were_opened_by_their_entries;
 use host_disk::Disk;
-use host_names::{ChangeError, SiteName};
-use site_change::Command;
+use host_names::SiteName;
+use site_change::{ChangeError, Command};
 use site_state::State;
 use std::alloc::{AllocError, Global};
 use std::marker::Model;
@@ -35,14 +36,14 @@ use std::sync::Arc;
 pub struct SoloHouse {
     pub(super) alloc: Global,
     history: History,
-    uploads: Known,
+    uploads: BlobIndex,
     readiness: Readiness,
 }
 
 impl Model for SoloHouse {
     ghost use Rattle.std.specs.Coded.{coded_list};
     ghost use Rattle.change_undo.specs.contracts.entries.Entry as entry;
-    ghost use Rattle.blob_store.specs.contracts.known.Known as known;
+    ghost use Rattle.blob_store.specs.contracts.blob_indexes.BlobIndex as known;
     ghost use Rattle.host_server.specs.Hosts.{Host, host_of, coded_host};
     ghost use Rattle.host_server.specs.Readiness.{IsKeptWith};
 
@@ -65,13 +66,13 @@ impl SoloHouse {
         SoloHouse {
             alloc,
             history: History::new(alloc, limit),
-            uploads: Known::new(alloc),
+            uploads: BlobIndex::new(alloc),
             readiness: Readiness::new(alloc),
         }
     }
 
     /// The host of a history, which is what it is over these uploads.
-    pub(crate) fn of(alloc: Global, history: History, uploads: Known) -> SoloHouse
+    pub(crate) fn of(alloc: Global, history: History, uploads: BlobIndex) -> SoloHouse
         requires over { IsHistoryOver uploads history }
         ensures { result ≡ host_of history uploads }
     {
@@ -128,7 +129,7 @@ impl SoloHouse {
     }
 
     /// What was uploaded.
-    pub fn uploads(&self) -> &Known
+    pub fn uploads(&self) -> &BlobIndex
         ensures { result.now ≡ self.now.uploads }
     {
         &self.uploads

@@ -1,6 +1,6 @@
 //! What may be uploaded to a deploy.
 ghost use Rattle.std.specs.Prelude.{◌≡◌, Ok, Err, IfOk, IfErr};
-ghost use Rattle.host_names.specs.Blobs.{digest_of};
+ghost use Rattle.host_names.specs.Digests.{digest_of};
 ghost use Rattle.host_server.specs.Hosts.{state_of};
 ghost use Rattle.host_server.specs.Outcomes;
 ghost use Rattle.site_state.specs.States.{draft_at, kept_at};
@@ -8,7 +8,8 @@ ghost use Rattle.site_state.specs.States.{draft_at, kept_at};
 use super::deploys::site_of_deploy;
 use super::views::HostView;
 use host_api::Refusal;
-use host_names::{ChangeRefusal, Digest, FilePath, SiteName};
+use host_names::{Digest, FilePath, SiteName};
+use site_change::ChangeRefusal;
 
 /// The digest that a deploy, which is open or kept, lists at a path; none where it removes the file.
 fn listed_at<H: HostView>(

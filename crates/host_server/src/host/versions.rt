@@ -7,7 +7,8 @@ ghost use Rattle.site_state.specs.States.{kept_at};
 
 use super::views::HostView;
 use host_api::{Refusal, Version};
-use host_names::{ChangeRefusal, FilePath, SiteName};
+use host_names::{FilePath, SiteName};
+use site_change::ChangeRefusal;
 use site_state::File;
 
 /// The file that a deploy of the site, which was published whole, has at a path.

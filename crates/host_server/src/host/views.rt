@@ -4,7 +4,7 @@ ghost use Rattle.change_undo.specs.Histories.{entry_at, marked_entry};
 ghost use Rattle.host_server.specs.Hosts.{Host, state_of};
 
 use super::houses::SoloHouse;
-use blob_store::Known;
+use blob_store::BlobIndex;
 use byte_view::Uploads;
 use change_undo::Entry;
 use site_state::State;
@@ -43,7 +43,7 @@ pub trait HostView {
 }
 
 impl HostView for SoloHouse {
-    type Stored = Known;
+    type Stored = BlobIndex;
 
     ghost host = { λ h. h };
 
@@ -51,7 +51,7 @@ impl HostView for SoloHouse {
         self.state()
     }
 
-    fn uploads(&self) -> &Known {
+    fn uploads(&self) -> &BlobIndex {
         self.uploads()
     }
 

@@ -1,10 +1,10 @@
 //! What the relations of the contracts refuse. Each function does nothing: its contract is the law.
 ghost use Rattle.std.specs.FinMap as map;
 ghost use Rattle.std.specs.Prelude.{◌≡◌, ◌⊎◌, ℕ, ◌<◌, ◌≤◌, ◌+◌, ◌-◌, ◌^◌, min, List, [], ◌∷◌, Option, None, Some, Ok, Err, true, false, length};
-ghost use Rattle.host_names.specs.Blobs.{Contents};
+ghost use Rattle.byte_view.specs.Contents.{Contents};
 ghost use Rattle.host_names.specs.declared.digests.Digest.{Digest};
 ghost use Rattle.host_names.specs.declared.names.SiteName.{SiteName};
-ghost use Rattle.host_names.specs.declared.refusals.ChangeRefusal.TheVariants.{HistoryFull, NoSuchDeploy};
+ghost use Rattle.site_change.specs.declared.refusals.ChangeRefusal.TheVariants.{HistoryFull, NoSuchDeploy};
 ghost use Rattle.blob_store.specs.declared.blobs.UploadFault.TheVariants as upload_fault;
 ghost use Rattle.range_spec.specs.declared.grammar.Asked.{Asked};
 ghost use Rattle.http_wire.specs.Requests.{RequestParts};

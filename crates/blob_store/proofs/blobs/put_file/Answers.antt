@@ -1,7 +1,7 @@
 use Rattle.std.specs.Prelude.{MatchResult}
 use Rattle.std.proofs.Common.{rules, ◌≡◌, ◌∷◌, [], Err, Some, None, sym, ap, subst, ◌∙◌, arith}
 use Rattle.std.proofs.lemmas.List.{drop_all}
-use Rattle.host_names.specs.Blobs.{digest_of}
+use Rattle.host_names.specs.Digests.{digest_of}
 use Rattle.host_names.specs.declared.digests.Digest.{Digest}
 use Rattle.blob_store.specs.Calls.{PutsOthers, table_of}
 use Rattle.blob_store.specs.declared.shelves.ShelfName.TheVariants.{Table}

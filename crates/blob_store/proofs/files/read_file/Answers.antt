@@ -1,5 +1,5 @@
 use Rattle.std.proofs.Common.{rules, ◌≡◌, Err, length, subst, ◌∙◌}
-use Rattle.host_names.specs.Blobs.{digest_of}
+use Rattle.host_names.specs.Digests.{digest_of}
 use Rattle.blob_store.specs.Reads.{ArePiecesFault}
 use Rattle.blob_store.proofs.FileReads.{other_file, pieces_fail, table_fails}
 use Rattle.blob_store.proofs.files.read_file.Goals as goal

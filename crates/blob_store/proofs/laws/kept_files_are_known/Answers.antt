@@ -1,4 +1,4 @@
-use Rattle.host_names.specs.Blobs.{digest_of}
+use Rattle.host_names.specs.Digests.{digest_of}
 use Rattle.blob_store.specs.Keeping.{Where}
 use Rattle.blob_store.specs.declared.openings.OpenFault.TheVariants as open_fault
 use Rattle.blob_store.proofs.Honest as honestly

@@ -1,5 +1,5 @@
 use Rattle.chunk_reads.specs.declared.faults.ReadFault.TheVariants as read_fault
-use Rattle.host_names.specs.Blobs.{digest_of}
+use Rattle.host_names.specs.Digests.{digest_of}
 use Rattle.blob_store.proofs.Honest as honestly
 use Rattle.blob_store.proofs.Kept.{file_given, file_not_damaged, file_not_missing, piece_given, piece_not_damaged, piece_not_missing}
 use Rattle.blob_store.specs.Keeping.{Where}

@@ -2,8 +2,7 @@ use Rattle.std.proofs.Common.{◌≡◌, inl, inr, true, false, ℕ, cond, ◌&&
 use Rattle.std.specs.BTreeMap.{is_at}
 use Rattle.std.specs.FinMap.{get-empty}
 use Rattle.std.proofs.lemmas.Cmp.{eq_by_cmp_equiv}
-use Rattle.host_names.specs.Blobs.{digest_of}
-use Rattle.host_names.specs.Digests.{digest_cmp, digest_cmp_total}
+use Rattle.host_names.specs.Digests.{digest_of, digest_cmp, digest_cmp_total}
 use Rattle.blob_store.specs.Calls.{PutsInTurn}
 use Rattle.blob_store.specs.Folders.{is_answer, is_name}
 use Rattle.blob_store.specs.Keeping.{Thing}

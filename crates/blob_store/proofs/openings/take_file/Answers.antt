@@ -1,5 +1,5 @@
 use Rattle.std.proofs.Common.{rules, ◌≡◌, Some}
-use Rattle.host_names.specs.Blobs.{with_file}
+use Rattle.byte_view.specs.Contents.{with_file}
 use Rattle.blob_store.proofs.openings.take_file.Goals as goal
 
 pub returns-in_ok-map_err-in-Ok-clause-taken : goal.returns-in_ok-map_err-in-Ok-clause-taken

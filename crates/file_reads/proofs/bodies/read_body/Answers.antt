@@ -1,5 +1,5 @@
 use Rattle.std.proofs.Common.{rules, ◌≡◌, [], inl, inr, Err, None, length, sym, subst, ◌∙◌}
-use Rattle.host_names.specs.Blobs.{digest_of}
+use Rattle.host_names.specs.Digests.{digest_of}
 use Rattle.range_reply.specs.Bodies.{HasBoundary, body_text, shown_text, stretches, text_in}
 use Rattle.range_reply.specs.Slices.{ArePure, all_shown}
 use Rattle.range_spec.specs.declared.selection.Choice.TheVariants.{Whole}

@@ -2,7 +2,7 @@ use Rattle.std.proofs.Common.{rules, ◌≡◌, ◌⊎◌, Err, IfErr, IfOk, IsT
 use Rattle.range_spec.specs.declared.selection.Choice.TheVariants.{None416}
 use Rattle.host_api.specs.declared.refusals.Refusal.{Refusal}
 use Rattle.host_api.specs.declared.refusals.Refusal.TheVariants.{NotSatisfiable, OutOfMemory}
-use Rattle.host_names.specs.Blobs.{AreDigested}
+use Rattle.byte_view.specs.Contents.{AreDigested}
 use Rattle.host_server.specs.Answers.{ReadsFile}
 use Rattle.host_server.specs.Files.{is_read}
 use Rattle.host_server.specs.Hosts.{state_of}

@@ -1,5 +1,5 @@
 use Rattle.std.proofs.Common.{◌≡◌, ◌<◌, ◌+◌, ◌^◌, ◌∷◌, None, OnErr, OnOk, length, sym, ap, subst, ◌∙◌, arith}
-use Rattle.host_names.specs.Blobs.{digest_of}
+use Rattle.host_names.specs.Digests.{digest_of}
 use Rattle.chunk_lru.specs.Recent.{found, recent, size_of}
 use Rattle.chunk_lru.proofs.Sizes.{inserted-absent, looked-absent, none_from_is_some, size_of-to_front}
 use Rattle.chunk_lru.proofs.lists.ChunkList.add.Goals as goal

@@ -1,5 +1,5 @@
 use Rattle.std.proofs.Common.{◌+◌, ◌∷◌, length, refl, ap, ◌∙◌, arith}
-use Rattle.host_names.specs.Blobs.{digest_of}
+use Rattle.host_names.specs.Digests.{digest_of}
 use Rattle.chunk_lru.specs.Recent.{chunks_of, recent, size_of}
 use Rattle.chunk_lru.proofs.Entries.{put-absent}
 use Rattle.chunk_lru.proofs.Sizes.{size_of-cons}

@@ -1,7 +1,7 @@
 use Rattle.std.proofs.Common.{◌≡◌, None, Some, ap, sym, subst, ◌∙◌}
 use Rattle.std.specs.FinMap as map
 use Rattle.chunk_lru.specs.Caches.{Cache}
-use Rattle.host_names.specs.Blobs.{Contents}
+use Rattle.byte_view.specs.Contents.{Contents}
 use Rattle.host_names.specs.Digests.{digest_cmp}
 use Rattle.chunk_group.specs.Cached.{AllCached}
 use Rattle.host_server.specs.ReadBack.{IsKnownPiece, IsReadBack}

@@ -1,6 +1,7 @@
 use Rattle.std.proofs.Common.{rules, ◌≡◌, inr, None, Result, Err, IfErr, refl, sym, ap, subst, ◌∙◌}
 use Rattle.std.specs.FinMap as map
-use Rattle.host_names.specs.Blobs.{Contents, digest_of}
+use Rattle.host_names.specs.Digests.{digest_of}
+use Rattle.byte_view.specs.Contents.{Contents}
 use Rattle.blob_store.specs.Calls.{PutsFile}
 use Rattle.blob_store.specs.declared.blobs.UploadFault.{UploadFault}
 use Rattle.blob_store.specs.declared.blobs.UploadFault.TheVariants as fault

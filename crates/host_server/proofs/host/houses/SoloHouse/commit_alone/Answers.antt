@@ -1,7 +1,7 @@
 use Rattle.std.proofs.Common.{subst}
 use Rattle.host_server.specs.Hosts.{Host, Grows, host_of}
 use Rattle.host_server.specs.Reasons.{commit_refusal}
-use Rattle.host_names.specs.Refusals.{IsRefusedBy}
+use Rattle.site_change.specs.Refusals.{IsRefusedBy}
 use Rattle.host_server.proofs.Reached.{reached_by_history}
 use Rattle.host_server.proofs.Refusing.{refused_as_kept}
 use Rattle.change_undo.specs.declared.entries.Entry.TheVariants.{Change}

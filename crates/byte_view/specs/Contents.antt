@@ -3,11 +3,7 @@ use Rattle.std.specs.Prelude.{◌≡◌, ℕ, List, Some, if◌then◌else◌}
 use Rattle.std.specs.FinMap.{FinMap, get, contains_key, insert}
 use Rattle.sha1.specs.Sha1 as sha
 use Rattle.host_names.specs.declared.digests.Digest.{Digest}
-use Rattle.host_names.specs.Digests.{digest_cmp}
-
--- the digest of some bytes (FIPS 180-4)
-abbrev pub digest_of : List ℕ → Digest
-digest_of bytes = record { 0 = sha.sha1 bytes }
+use Rattle.host_names.specs.Digests.{digest_cmp, digest_of}
 
 -- the bytes of each file that was uploaded, under its digest
 abbrev pub Contents : Type 0

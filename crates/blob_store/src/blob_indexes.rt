@@ -1,7 +1,8 @@
 //! The files that a store knows.
 ghost use Rattle.std.specs.Prelude.{◌≡◌, None, OnErr, OnOk, option_map};
 ghost use Rattle.std.specs.FinMap as map;
-ghost use Rattle.host_names.specs.Blobs.{AreDigested, digest_of, with_file};
+ghost use Rattle.host_names.specs.Digests.{digest_of};
+ghost use Rattle.byte_view.specs.Contents.{AreDigested, with_file};
 ghost use Rattle.blob_store.specs.Calls.{AreKnownNames};
 
 use crate::stored_pieces::StoredPieces;
@@ -14,16 +15,16 @@ use std::sync::Arc;
 
 /// What is kept of each file, under its digest, and the names of pieces of these files. Contracts see the bytes of each.
 #[derive(Drop)]
-pub struct Known {
+pub struct BlobIndex {
     files: BTreeMap<Digest, Arc<BlobInfo>>,
     pieces: StoredPieces,
 }
 
-impl Model for Known {
+impl Model for BlobIndex {
     ghost use Rattle.std.specs.Coded.{coded_ℕ, coded_list};
     ghost use Rattle.std.specs.FinMap as map;
     ghost use Rattle.host_names.specs.Digests.{coded_digest};
-    ghost use Rattle.host_names.specs.Blobs.{Contents, AreDigested};
+    ghost use Rattle.byte_view.specs.Contents.{Contents, AreDigested};
     ghost use Rattle.blob_store.specs.Calls.{AreKnownNames};
     ghost use Rattle.blob_store.specs.Files.{stored};
 
@@ -37,12 +38,12 @@ impl Model for Known {
         × AreKnownNames (stored (λ file. file.value) u.files.entries) u.pieces.names.keys };
 }
 
-impl Known {
+impl BlobIndex {
     /// No files yet.
-    pub fn new(alloc: Global) -> Known
+    pub fn new(alloc: Global) -> BlobIndex
         ensures { result ≡ map.empty }
     {
-        Known {
+        BlobIndex {
             files: BTreeMap::new(alloc),
             pieces: StoredPieces::new(alloc),
         }
@@ -89,7 +90,7 @@ impl Known {
     }
 }
 
-impl Uploads for Known {
+impl Uploads for BlobIndex {
     ghost contents = { λ known. known };
 
     fn find(&self, digest: &Digest) -> Option<&Arc<BlobInfo>> {

@@ -1,10 +1,10 @@
 use Rattle.std.proofs.Common.{arith}
 use Rattle.std.proofs.lemmas.List.{length-map}
-use Rattle.host_names.specs.Blobs.{digest_of}
+use Rattle.host_names.specs.Digests.{digest_of}
 use Rattle.byte_view.specs.Cuts.{cut}
 use Rattle.byte_view.proofs.Slices.{slice_range-map}
 use Rattle.byte_view.proofs.CutPieces.{length-cut}
-use Rattle.byte_view.proofs.blob_infos.BlobInfo.places.Goals as goal
+use Rattle.byte_view.proofs.blob_infos.BlobInfo.piece_range.Goals as goal
 
 pub returns-clause-within : goal.returns-clause-within
 returns-clause-within c =

@@ -1,10 +1,11 @@
 use Rattle.std.proofs.Common.{rules, ◌≡◌, refl, sym, ap, subst, ◌∙◌}
-use Rattle.host_names.specs.Blobs.{AreDigested, Contents, digest_of}
+use Rattle.host_names.specs.Digests.{digest_of}
+use Rattle.byte_view.specs.Contents.{AreDigested, Contents}
 use Rattle.blob_store.specs.Calls.{AreKnownNames}
 use Rattle.blob_store.specs.Files.{stored}
 use Rattle.blob_store.proofs.Stored.{names_with_file, new_file}
 use Rattle.host_names.specs.declared.digests.Digest.{Digest}
-use Rattle.blob_store.proofs.known.Known.keep.Goals as goal
+use Rattle.blob_store.proofs.blob_indexes.BlobIndex.keep.Goals as goal
 
 pub invariant_of-self : goal.invariant_of-self
 invariant_of-self c =

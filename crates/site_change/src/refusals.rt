@@ -1,7 +1,5 @@
 //! Why a change, or the undo of one, is refused.
-use crate::cells::Cell;
-use crate::digests::Digest;
-use crate::names::AliasName;
+use host_names::{AliasName, Cell, Digest};
 use std::alloc::AllocError;
 use thiserror::Error;
 
@@ -65,7 +63,7 @@ pub enum ChangeError {
 
 impl From<AllocError> for ChangeError {
     ghost use Rattle.std.specs.Prelude.{◌≡◌};
-    ghost use Rattle.host_names.specs.declared.refusals.ChangeError.TheVariants.{OutOfMemory};
+    ghost use Rattle.site_change.specs.declared.refusals.ChangeError.TheVariants.{OutOfMemory};
 
     ghost from_gives = { λ _ error. error ≡ OutOfMemory };
 

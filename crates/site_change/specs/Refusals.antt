@@ -1,8 +1,8 @@
 -- The answers of calls that may be refused.
 use Rattle.std.specs.Prelude.{◌≡◌, Option, Some, None, Result, Ok, Err}
-use Rattle.host_names.specs.declared.refusals.ChangeRefusal.{ChangeRefusal}
-use Rattle.host_names.specs.declared.refusals.ChangeError.{ChangeError}
-use Rattle.host_names.specs.declared.refusals.ChangeError.TheVariants.{Refused, OutOfMemory}
+use Rattle.site_change.specs.declared.refusals.ChangeRefusal.{ChangeRefusal}
+use Rattle.site_change.specs.declared.refusals.ChangeError.{ChangeError}
+use Rattle.site_change.specs.declared.refusals.ChangeError.TheVariants.{Refused, OutOfMemory}
 
 -- it is refused exactly where there is a reason, and by that; memory runs out only where there is none
 abbrev pub IsRefusedBy : {A : Type 0} → Option ChangeRefusal → Result A ChangeError → Type 0

@@ -1,10 +1,10 @@
 use Rattle.std.proofs.Common.{rules, IfErr, Ok, Err, ◌≡◌, ◌∷◌, [], ◌++◌, length, sym, ap, ◌∙◌, arith}
 use Rattle.std.proofs.lemmas.List.{length-append}
-use Rattle.host_names.specs.Blobs.{digest_of}
+use Rattle.host_names.specs.Digests.{digest_of}
 use Rattle.byte_view.specs.Cuts.{Follows, names_of}
-use Rattle.byte_view.specs.declared.joins.JoinFault.TheVariants.{OutOfMemory}
+use Rattle.byte_view.specs.declared.blob_builders.JoinFault.TheVariants.{OutOfMemory}
 use Rattle.byte_view.proofs.NextPieces.{fits_by, follows_by, names-next}
-use Rattle.byte_view.proofs.joins.Joined.add.Goals as goal
+use Rattle.byte_view.proofs.blob_builders.BlobBuilder.add.Goals as goal
 
 pub returns-then-not-follows-clause-misfit : goal.returns-then-not-follows-clause-misfit
 returns-then-not-follows-clause-misfit c e follows =

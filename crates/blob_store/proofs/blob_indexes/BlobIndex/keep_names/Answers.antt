@@ -3,7 +3,7 @@ use Rattle.std.specs.FinMap as map
 use Rattle.byte_view.specs.Cuts.{names_of}
 use Rattle.blob_store.specs.Files.{stored}
 use Rattle.blob_store.proofs.Stored.{get-stored, names_added}
-use Rattle.blob_store.proofs.known.Known.keep_names.Goals as goal
+use Rattle.blob_store.proofs.blob_indexes.BlobIndex.keep_names.Goals as goal
 
 pub invariant_of-self : goal.invariant_of-self
 invariant_of-self c =

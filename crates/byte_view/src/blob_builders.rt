@@ -1,7 +1,7 @@
 //! Files that are read one chunk after another.
 ghost use Rattle.std.specs.Prelude.{◌≡◌, ◌↔◌, ◌+◌, ◌%◌, ◌<◌, ◌≤◌, [], ◌++◌, IfErr, IsTrue, OnErr, OnOk};
 ghost use Rattle.byte_view.specs.Cuts.{Follows};
-ghost use Rattle.byte_view.specs.declared.joins.JoinFault.TheVariants.{Misfit, OutOfMemory};
+ghost use Rattle.byte_view.specs.declared.blob_builders.JoinFault.TheVariants.{Misfit, OutOfMemory};
 
 use crate::blob_infos::{BlobInfo, PIECE_SIZE};
 use crate::chunks::Chunk;
@@ -36,14 +36,14 @@ impl<'a> Names<(&'a Tag, &'a [u8])> for AndBytes {
 
 /// The pieces of a file that have been read, of which only the names are kept. Contracts see the bytes so far.
 #[derive(Drop)]
-pub struct Joined {
+pub struct BlobBuilder {
     hasher: Sha1,
     size: usize,
     names: Vec<Digest>,
     contents: Tag,
 }
 
-impl Model for Joined {
+impl Model for BlobBuilder {
     ghost use Rattle.std.specs.Prelude.{◌≡◌, ◌≤◌, List, ℕ, length};
     ghost use Rattle.sha1.specs.Sha1.{Holds};
     ghost use Rattle.byte_view.specs.Cuts.{names_of};
@@ -63,12 +63,12 @@ fn follows(size: usize, length: usize) -> bool
     size % PIECE_SIZE == 0 && length > 0 && length <= PIECE_SIZE && size + length <= MAX_SIZE
 }
 
-impl Joined {
+impl BlobBuilder {
     /// No pieces yet.
-    pub fn new(alloc: Global) -> Joined
+    pub fn new(alloc: Global) -> BlobBuilder
         ensures { result ≡ [] }
     {
-        Joined {
+        BlobBuilder {
             hasher: Sha1::new(),
             size: 0,
             names: Vec::new(alloc),

@@ -2,7 +2,7 @@ use Rattle.std.proofs.Common.{◌≡◌, Option, Some, None, option_map, option_
 use Rattle.std.specs.FinMap as map
 use denote.Ref.{Bor}
 use Rattle.blob_store.proofs.Stored.{get-stored}
-use Rattle.blob_store.proofs.known.Known.find.Goals as goal
+use Rattle.blob_store.proofs.blob_indexes.BlobIndex.find.Goals as goal
 
 -- what a reference that was found refers to
 behind : {A B : Type 0} (f : A → B) (r : Option (Bor A)) → option_map (λ x. f x.now) r ≡ option_map f (option_copied r)
