@@ -34,10 +34,11 @@ class Damage(Stored):
         return [changed, piece[:-1], b"", piece + b"x", piece * 2, pieces_of(self.content)[0]]
 
     def assert_is_told(self, talk, wanted):
-        """The file is refused, wherever it is read with that piece, and all else is answered as ever."""
+        """The file is refused, wherever it is read with that piece, and all else is answered as ever, HEAD of it too."""
         talk.ask(reading("/s/one/d"), wanted)
         talk.ask(reading("/d/one/1/d"), wanted)
-        talk.ask(request("HEAD", "/s/one/d"), to_head(wanted))
+        # To HEAD nothing is read, so it tells of the file as ever.
+        talk.ask(request("HEAD", "/s/one/d"), to_head(sent(self.content, kind=BINARY)))
         talk.ask(request("GET", "/s/one/d", f"Range: bytes={PIECE}-{PIECE}"), wanted)
         talk.ask(request("GET", "/s/one/d", f"Range: bytes=0-0,{PIECE + 5}-{PIECE + 6}"), wanted)
         first = sent(b"\x00", f"Content-Range: bytes 0-0/{len(self.content)}", kind=BINARY, whole=self.content)

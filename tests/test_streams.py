@@ -11,7 +11,8 @@ import subprocess
 import tempfile
 import unittest
 
-from lib.client import HERE, SECONDS, Client, Program, closing, digest_of, opened, opening, run, sent, upload, uploaded
+from lib.client import HERE, SECONDS, Client, Program, closing, digest_of, opened, opening, request, run, sent, upload, uploaded
+from lib.range_replies import TWO_PARTS, parts
 from lib.sample_connection import ASKED, TALK, WANTED
 from lib.wire import NEXT
 
@@ -73,13 +74,40 @@ class Faults(Program):
         finally:
             resource.setrlimit(resource.RLIMIT_FSIZE, limits)
 
+    def assert_writes_within(self, room, asked, wanted):
+        """The replies are written up to that byte, and no byte is after it."""
+        with tempfile.TemporaryFile() as out:
+            status, _, errors = self.run_within(room, given=asked, stdout=out)
+            out.seek(0)
+            ended = (2, OUTPUT_FAULT) if room < len(wanted) else (0, b"")
+            self.assertEqual((out.read(), status, errors), (wanted[:room], *ended), f"after {room} bytes")
+
     def test_of_a_write_after_each_byte_leave_a_front_of_the_replies(self):
         for room in range(len(WANTED) + 1):
-            with tempfile.TemporaryFile() as out:
-                status, _, errors = self.run_within(room, given=ASKED, stdout=out)
-                out.seek(0)
-                ended = (2, OUTPUT_FAULT) if room < len(WANTED) else (0, b"")
-                self.assertEqual((out.read(), status, errors), (WANTED[:room], *ended), f"after {room} bytes")
+            self.assert_writes_within(room, ASKED, WANTED)
+
+    def talk_over(self, content, ranges, wanted):
+        """The streams in which a file is uploaded, and these ranges of it are read; and where the reply to that begins."""
+        digest = digest_of(content)
+        asked = opening({"/w.txt": digest}) + upload(1, "w.txt", content) + request("GET", "/s/one/w.txt", f"Range: {ranges}")
+        front = opened(1, digest) + uploaded(content, 2)
+        return asked, front + wanted, len(front)
+
+    def test_of_a_write_after_each_byte_of_a_reply_with_several_parts_leave_a_front_of_it(self):
+        asked, wanted, begin = self.talk_over(b"hello world", "bytes=0-4,-5", TWO_PARTS)
+        for room in range(begin, len(wanted) + 1):
+            self.assert_writes_within(room, asked, wanted)
+
+    def test_of_a_write_near_each_edge_of_large_parts_leave_a_front_of_their_reply(self):
+        content = bytes(range(251)) * 600
+        reply = parts(content, (0, 9_999), (60_000, 80_000), kind="text/plain; charset=utf-8")
+        asked, wanted, begin = self.talk_over(content, "bytes=0-9999,60000-80000", reply)
+        edges = [len(wanted), begin]
+        for piece in (content[:10_000], content[60_000:65_536], content[65_536:80_001]):
+            start = wanted.index(piece, edges[-1])
+            edges += [start, start + len(piece)]
+        for room in sorted({max(0, edge + step) for edge in edges for step in range(-3, 4)} | set(range(begin, len(wanted), 997))):
+            self.assert_writes_within(room, asked, wanted)
 
     def test_of_a_write_come_where_the_reader_goes(self):
         content = bytes(range(256)) * 4_096

@@ -10,7 +10,7 @@ ghost use Rattle.blob_store.specs.Tables.{Spells};
 use crate::reading::{of_shelf, read_chunk};
 use crate::shelves::{Shelf, ShelfName};
 use crate::tables::{Table, TableFault};
-use byte_view::{BlobInfo, JoinFault, BlobBuilder};
+use byte_view::{BlobBuilder, BlobInfo, JoinFault};
 use chunk_reads::ReadFault;
 use host_names::Digest;
 use std::alloc::Global;

@@ -4,7 +4,7 @@ use Rattle.std.proofs.lemmas.List.{length-drop, length-take}
 use Rattle.std.proofs.lemmas.List.Elements.{All-take, All-drop}
 use Rattle.std.specs.List.{concat}
 use Rattle.byte_view.specs.Cuts.{IsPure, cut_into, place_of, slice}
-use Rattle.byte_view.specs.Holds.{Held, IsHeld, LiesIn, held_part}
+use Rattle.byte_view.specs.Holds.{Held, IsHeld, LiesIn, held_part, lent}
 use Rattle.byte_view.proofs.CutPieces.{concat-cut_into, met-cut_into}
 use Rattle.byte_view.proofs.Followed.{length-concat}
 use Rattle.byte_view.proofs.Stretches.{lent-joined, lent-pure}
@@ -34,3 +34,7 @@ whole-long h held =
     let file_after = length-drop h.first h.file in
     let meant = length-take (h.last + 1 - h.first) (drop h.first h.file) in
     omega (arith, enough, after, shown, file_after, meant, held.ordered, held.within)
+
+-- what the hold lends of its chunks, joined
+pub whole-joined : (h : Held) → IsHeld h → concat (lent h h.first h.last) ≡ held_part h h.first h.last
+whole-joined h held = lent-joined h held h.first h.last (record { from = omega arith; ordered = held.ordered; to = omega arith })

@@ -1,4 +1,5 @@
 -- what public clauses say
+pub mod BodyParts
 pub mod Contents
 pub mod Cuts
 pub mod Parts

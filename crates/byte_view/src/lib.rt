@@ -3,6 +3,7 @@
 
 mod blob_builders;
 mod blob_infos;
+mod body_parts;
 mod chunks;
 mod holds;
 pub mod laws;
@@ -12,6 +13,7 @@ mod views;
 
 pub use blob_builders::{BlobBuilder, JoinFault, MAX_SIZE};
 pub use blob_infos::{BlobInfo, PIECE_SIZE};
+pub use body_parts::{BodyParts, Part};
 pub use chunks::{Chunk, WrongName};
 pub use holds::{Hold, WrongLength};
 pub use pieces::Pieces;

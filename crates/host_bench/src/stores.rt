@@ -5,9 +5,9 @@ use anyhow::{Result, anyhow};
 use blob_store::{Blobs, MemShelf};
 use byte_view::{BlobInfo, MAX_SIZE, PIECE_SIZE};
 use chunk_group::NodeFiles;
-use file_reads::read_body;
 use host_names::Digest;
 use http_wire::FieldText;
+use range_reply::{Parts, read_body};
 use range_spec::Choice;
 use std::alloc::{AllocError, Global};
 use std::sync::Arc;
@@ -96,7 +96,18 @@ pub(crate) fn time_distinct(rt: &HostRuntime, files: u64) -> Result<Duration> {
     Ok(sum)
 }
 
-/// The time of a read of a whole file of so many bytes into one body.
+/// Whether parts are these bytes, one after another.
+fn are_bytes(parts: Parts<'_>, mut bytes: &[u8]) -> bool {
+    for part in parts {
+        let Some(rest) = bytes.strip_prefix(part.bytes()) else {
+            return false;
+        };
+        bytes = rest;
+    }
+    bytes.is_empty()
+}
+
+/// The time of a read of a whole file of so many bytes into the body that lends it.
 pub(crate) fn time_read(rt: &HostRuntime, bytes: usize) -> Result<Duration> {
     let file = random(rt.alloc(), bytes, 1)?;
     let mut blobs = empty_store(rt.alloc());
@@ -109,7 +120,7 @@ pub(crate) fn time_read(rt: &HostRuntime, bytes: usize) -> Result<Duration> {
     let begun = Instant::now(rt)?;
     let body = read_body(rt.alloc(), &mut node, &info, Choice::Whole, plain)?;
     let took = begun.elapsed(rt)?;
-    if body.bytes != file {
+    if !are_bytes(body.parts(), file.as_slice()) {
         return Err(anyhow!("other bytes were read"));
     }
     Ok(took)

@@ -1,5 +1,5 @@
 -- What is read of a server whose shelf has what it knows is of the file itself.
-use Rattle.std.proofs.Common.{◌≡◌, ◌⊎◌, inl, inr, ℕ, List, Option, Result, Ok, sym, ap, subst, ◌∙◌}
+use Rattle.std.proofs.Common.{◌≡◌, ◌⊎◌, inl, inr, Bool, true, false, IsTrue, ℕ, List, Option, Result, Ok, sym, ap, subst, ◌∙◌, refl}
 use Rattle.host_names.specs.Digests.{digest_of}
 use Rattle.host_names.specs.declared.names.SiteName.{SiteName}
 use Rattle.blob_store.specs.Calls.{Call}
@@ -20,10 +20,10 @@ use Rattle.host_server.specs.Asks.{IsAnswer, IsReplyToAsk, asked_for, holds_up}
 use Rattle.host_server.specs.Journals.{is_broken}
 use Rattle.host_server.proofs.HoldingUp.{no_and}
 use Rattle.host_server.proofs.KnownFiles.{known_cached}
-use Rattle.host_server.specs.Files.{IsFileSent, IsReadReply, plan_of, refusal_of_read}
+use Rattle.host_server.specs.Files.{IsFileSent, IsFileTold, IsReadReply, plan_of, refusal_of_read}
 use Rattle.host_server.specs.Hosts.{state_of}
 use Rattle.host_server.specs.ReadBack.{HasKnown, IsReadBack, IsSentExactly}
-use Rattle.host_server.specs.Replies.{Answer, refused_answer}
+use Rattle.host_server.specs.Replies.{Answer, is_head, refused_answer, unread_answer}
 use Rattle.host_server.specs.Versions.{file_of}
 use Rattle.host_server.specs.declared.servers.Server.{Server}
 
@@ -40,16 +40,24 @@ module _ {S : Type 0} (did : S → Call → S → Type 0) (failures : S → ℕ)
         | inr is ↦ inl (says ∙ ap (λ w. refused_answer (refusal_of_read w)) is)
       ]
 
+  told_back : (head_only : Bool) (old new : CachedShelf S) (path file : List ℕ) (plan : Choice) (answer : Answer) → HasFile has old.shelf file → HasCached has old
+      → IsFileTold did failures head_only old path file plan answer new
+      → ((answer ≡ refused_answer reason.OutOfMemory) ⊎ (answer ≡ refused_answer reason.Device) ⊎ IsSentExactly path file plan answer)
+      ⊎ (IsTrue head_only × (answer ≡ unread_answer (type_of path) file))
+  told_back true old new path file plan answer there cached (says, same) = inr (refl, says)
+  told_back false old new path file plan answer there cached sent = inl (sent_back old new path file plan answer there cached sent)
+
 module _ {S D : Type 0} {disk : Ghosts D} (did : S → Call → S → Type 0) (failures : S → ℕ) (faults : D → ℕ) (has : S → ShelfName → Option (List ℕ)) (keeps : AlwaysKeeps did has) where
   reply_back : (server next : Server S D disk) (parts : RequestParts) (path : List ℕ) (found : Result (List ℕ) Refusal) (file : List ℕ) (answer : Answer) → found ≡ Ok file
       → HasKnown has server → IsReadReply did failures server parts path found answer next → IsReadBack parts path file answer
   reply_back server next parts path found file answer is known reply =
       let (uploaded, range, asks, sent, same) = subst (λ (f : Result (List ℕ) Refusal). IsReadReply did failures server parts path f answer next) is reply in
-      elim (sent_back did failures has keeps server.files next.files path file (plan_of parts range file) answer (known.on_shelf (digest_of file) file uploaded)
+      elim (told_back did failures has keeps (is_head parts) server.files next.files path file (plan_of parts range file) answer (known.on_shelf (digest_of file) file uploaded)
       (known_cached has server known) sent) [
-        | inl none ↦ inl none
-        | inr (inl failed) ↦ inr (inl failed)
-        | inr (inr exact) ↦ inr (inr (range, asks, exact))
+        | inl (inl none) ↦ inl none
+        | inl (inr (inl failed)) ↦ inr (inl failed)
+        | inl (inr (inr exact)) ↦ inr (inr (inl (range, asks, exact)))
+        | inr unread ↦ inr (inr (inr unread))
       ]
 
   pub answered_back : (server next : Server S D disk) (parts : RequestParts) (body : List ℕ) (answer : Answer) (site : SiteName) (version : Version) (path file : List ℕ)

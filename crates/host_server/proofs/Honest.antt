@@ -1,6 +1,6 @@
 -- Where the shelf of a server is honest at the end, it was at each call before.
 use Rattle.std.specs.Prelude.{IsTrue}
-use Rattle.std.proofs.Common.{◌≡◌, inl, inr, Bool, ℕ, List, Option, None, Result, Ok, Err, sym, ap, subst}
+use Rattle.std.proofs.Common.{◌≡◌, inl, inr, Bool, true, false, ℕ, List, Option, None, Result, Ok, Err, sym, ap, subst}
 use Rattle.byte_view.specs.Contents.{Contents}
 use Rattle.host_names.specs.declared.digests.Digest.{Digest}
 use Rattle.host_names.specs.declared.names.SiteName.{SiteName}
@@ -22,10 +22,10 @@ use Rattle.host_api.specs.declared.refusals.Refusal.{Refusal}
 use Rattle.host_api.specs.declared.texts.Told.{Told}
 use Rattle.host_disk.specs.declared.disks.Disk.{Ghosts}
 use Rattle.host_server.specs.Asks.{AskRunsOut, AskStops, IsAnswer, IsReplyToAsk, asked_for}
-use Rattle.host_server.specs.Files.{IsFileSent, IsReadReply, ReadRunsOut, plan_of}
+use Rattle.host_server.specs.Files.{IsFileSent, IsFileTold, IsReadReply, ReadRunsOut, plan_of}
 use Rattle.host_server.specs.Hosts.{state_of}
 use Rattle.host_server.specs.Outcomes.{judge_upload}
-use Rattle.host_server.specs.Replies.{Answer}
+use Rattle.host_server.specs.Replies.{Answer, is_head}
 use Rattle.host_server.specs.Storing.{IsNotStored, IsRefusedByStore, IsStored, IsStoredIf, IsUnpublished, IsUploaded, IsUploadReply, UploadRunsOut}
 use Rattle.host_server.specs.Versions.{file_of}
 use Rattle.host_server.specs.declared.servers.Server.{Server}
@@ -43,6 +43,12 @@ module _ {S : Type 0} (did : S → Call → S → Type 0) (failures : S → ℕ)
       let all = node_not_read did failures honest has keeps old new file plan why so failed in
       (all.0, inr (inr (why, other, all.1, says)))
 
+  file_told : (head_only : Bool) (old new : CachedShelf S) (path file : List ℕ) (plan : Choice) (answer : Answer) → IsTrue (honest new.shelf)
+      → IsFileTold did failures head_only old path file plan answer new
+      → IsTrue (honest old.shelf) × IsFileTold (Where honest did) failures head_only old path file plan answer new
+  file_told true old new path file plan answer so (says, same) = (subst (λ (n : CachedShelf S). IsTrue (honest n.shelf)) same so, (says, same))
+  file_told false old new path file plan answer so sent = file_sent old new path file plan answer so sent
+
 module _ {S D : Type 0} {disk : Ghosts D} (did : S → Call → S → Type 0) (failures : S → ℕ) (faults : D → ℕ) (honest : S → Bool) (has : S → ShelfName → Option (List ℕ))
     (keeps : Keeps did honest has) where
   module _ (server next : Server S D disk) (so : IsTrue (honest next.files.shelf)) where
@@ -56,7 +62,7 @@ module _ {S D : Type 0} {disk : Ghosts D} (did : S → Call → S → Type 0) (f
         → IsTrue (honest server.files.shelf) × IsReadReply (Where honest did) failures server parts path file answer next
     read_reply parts path (Err why) answer is = (same_server is.1, is)
     read_reply parts path (Ok file) answer (uploaded, range, asks, sent, same) =
-        let all = file_sent did failures honest has keeps server.files next.files path file (plan_of parts range file) answer so sent in
+        let all = file_told did failures honest has keeps (is_head parts) server.files next.files path file (plan_of parts range file) answer so sent in
         (all.0, (uploaded, range, asks, all.1, same))
 
     read_runs_out : (parts : RequestParts) (file : Result (List ℕ) Refusal) → ReadRunsOut did failures server parts file next

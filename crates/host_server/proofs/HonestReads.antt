@@ -11,9 +11,9 @@ use Rattle.chunk_reads.specs.declared.faults.ReadFault.{ReadFault}
 use Rattle.blob_store.specs.declared.shelves.ShelfName.{ShelfName}
 use Rattle.blob_store.specs.declared.shelves.ShelfName.TheVariants.{Part}
 use Rattle.range_spec.specs.declared.selection.Choice.{Choice}
-use Rattle.file_reads.proofs.Honest.{is_read, not_read}
-use Rattle.file_reads.specs.Sending.{IsNotRead, IsRead}
-use Rattle.file_reads.specs.declared.bodies.FileBody.{FileBody}
+use Rattle.range_reply.proofs.Honest.{is_read, not_read}
+use Rattle.range_reply.specs.Sending.{IsNotRead, IsRead}
+use Rattle.range_reply.specs.Sending.{SentFile}
 use Rattle.chunk_reads.proofs.Backwards.{not_held, turns}
 use Rattle.chunk_group.specs.Cached.{CachedShelf, FailedOfNode, GaveOfNode, IsFromShelf, ReadsChunk}
 
@@ -49,7 +49,7 @@ module _ {S : Type 0} (did : S → Call → S → Type 0) (failures : S → ℕ)
       → IsTrue (honest old.shelf) × FailedOfNode Well failures old file first last why new
   node_failed old new file first last why so is = not_held is_honest (ReadsChunk did failures) (ReadsChunk Well failures) one_read old new file first last why so is
 
-  pub node_read : (old new : CachedShelf S) (file : List ℕ) (plan : Choice) (content_type : List ℕ) (body : FileBody) → IsTrue (honest new.shelf)
+  pub node_read : (old new : CachedShelf S) (file : List ℕ) (plan : Choice) (content_type : List ℕ) (body : SentFile) → IsTrue (honest new.shelf)
       → IsRead (GaveOfNode did failures) old file plan content_type body new → IsTrue (honest old.shelf) × IsRead (GaveOfNode Well failures) old file plan content_type body new
   node_read = is_read is_honest (GaveOfNode did failures) (GaveOfNode Well failures) node_gave
 

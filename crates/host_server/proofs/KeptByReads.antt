@@ -9,14 +9,14 @@ use Rattle.chunk_reads.proofs.Turns as turns
 use Rattle.chunk_reads.specs.Reading.{HaveWrongLengths, Reads, ReadsInTurn}
 use Rattle.chunk_reads.specs.declared.faults.ReadFault.{ReadFault}
 use Rattle.chunk_reads.specs.declared.faults.ReadFault.TheVariants.{Damaged, OutOfMemory}
-use Rattle.file_reads.proofs.Passing.{fault_passes, read_exact, read_passes}
-use Rattle.file_reads.specs.Sending.{IsExact, IsNotRead, IsRead}
-use Rattle.file_reads.specs.declared.bodies.FileBody.{FileBody}
+use Rattle.range_reply.proofs.Passing.{fault_passes, read_exact, read_passes}
+use Rattle.range_reply.specs.Sending.{IsExact, IsNotRead, IsRead}
+use Rattle.range_reply.specs.Sending.{SentFile}
 
 -- `Asked` holds of each name that is asked for where the file is read
 module _ {N : Type 0} (reads : Reads N) (file : List ℕ) (Asked : Digest → Type 0) (asked : (first last : ℕ) → AllByRecursion Asked (map digest_of (pieces_met file first last)))
     (Inv : N → Type 0) (of_read : (old new : N) (name : Digest) (answer : Result (List ℕ) ReadFault) → Asked name → Inv old → reads old name answer new → Inv new) where
-  pub read_keeps : (old new : N) (content_type : List ℕ) (plan : Choice) (body : FileBody) → Inv old → IsRead (turns.Gave reads) old file plan content_type body new → Inv new
+  pub read_keeps : (old new : N) (content_type : List ℕ) (plan : Choice) (body : SentFile) → Inv old → IsRead (turns.Gave reads) old file plan content_type body new → Inv new
   read_keeps old new content_type plan body inv is = read_passes (turns.Gave reads) file Inv (turns.of_gave reads file Asked asked Inv of_read) old new content_type plan body inv is
 
   module _ (Stop : ReadFault → N → Type 0) (of_fault : (old new : N) (name : Digest) (why : ReadFault) → Asked name → Inv old → reads old name (Err why) new → Stop why new)
@@ -28,6 +28,6 @@ module _ {N : Type 0} (reads : Reads N) (file : List ℕ) (Asked : Digest → Ty
       fault_keeps old new plan why inv is = fault_passes (turns.Gave reads) file Inv (turns.of_gave reads file Asked asked Inv of_read) (turns.Failed reads) Stop (turns.of_failed reads file Asked asked Inv of_read Stop of_fault of_none of_wrong) of_none old new plan why inv is
 
   module _ (of_chunk : (old new : N) (chunk : List ℕ) → Inv old → reads old (digest_of chunk) (Ok chunk) new → IsPure file chunk) where
-    pub exact_keeps : (old new : N) (content_type : List ℕ) (plan : Choice) (body : FileBody) → Inv old → IsRead (turns.Gave reads) old file plan content_type body new
+    pub exact_keeps : (old new : N) (content_type : List ℕ) (plan : Choice) (body : SentFile) → Inv old → IsRead (turns.Gave reads) old file plan content_type body new
         → IsExact file plan content_type body
     exact_keeps old new content_type plan body inv is = read_exact (turns.Gave reads) file Inv (turns.of_gave reads file Asked asked Inv of_read) (turns.of_pure reads file Asked asked Inv of_read of_chunk) old new content_type plan body inv is

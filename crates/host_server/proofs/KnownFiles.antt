@@ -1,5 +1,5 @@
 -- What a server knows is on its shelf, and stays there; what is in its cache is of that.
-use Rattle.std.proofs.Common.{◌≡◌, ◌⊎◌, inl, inr, ℕ, true, false, cond, List, [], ◌∷◌, Option, Some, None, is_some, Result, Ok, Err, refl, sym, ap, subst, ◌∙◌}
+use Rattle.std.proofs.Common.{◌≡◌, ◌⊎◌, inl, inr, ℕ, true, false, cond, List, [], ◌∷◌, Option, Some, None, is_some, Result, Ok, Err, refl, sym, ap, subst, ◌∙◌, Bool}
 use Rattle.std.specs.FinMap as map
 use Rattle.std.specs.List.{AllByRecursion, Contains}
 use Rattle.std.specs.Ordering.{eq_by_cmp}
@@ -28,11 +28,11 @@ use Rattle.host_api.specs.declared.bodies.Ask.TheVariants as ask
 use Rattle.host_api.specs.declared.refusals.Refusal.{Refusal}
 use Rattle.host_disk.specs.declared.disks.Disk.{Ghosts}
 use Rattle.host_server.specs.Asks.{AskRunsOut, AskStops, IsAnswer, IsReplyToAsk, asked_for}
-use Rattle.host_server.specs.Files.{IsFileSent, IsKnown, IsReadReply, ReadRunsOut, plan_of}
+use Rattle.host_server.specs.Files.{IsFileSent, IsFileTold, IsKnown, IsReadReply, ReadRunsOut, plan_of}
 use Rattle.host_server.specs.Hosts.{Host, state_of, with_upload}
 use Rattle.host_server.specs.Outcomes.{judge_upload, uploaded}
 use Rattle.host_server.specs.ReadBack.{AgreesWith, HasKnown, IsKnownPiece, UploadAgrees}
-use Rattle.host_server.specs.Replies.{Answer}
+use Rattle.host_server.specs.Replies.{Answer, is_head}
 use Rattle.host_server.specs.Storing.{IsRefusedByStore, IsStored, IsStoredIf, IsUploadReply, UploadRunsOut}
 use Rattle.host_server.specs.Versions.{file_of}
 use Rattle.host_server.specs.declared.servers.Server.{Server}
@@ -106,6 +106,16 @@ module _ {S : Type 0} (did : S → Call → S → Type 0) (failures : S → ℕ)
         read_cached did failures has keeps file P pieces old new (type_of path) plan body there cached all read
     sent_cached P pieces answer there cached all (inr (inr (why, other, failed, says))) =
         fault_cached did failures has keeps file P pieces old new plan why there cached all failed
+
+    told_stays : (head_only : Bool) (answer : Answer) → IsFileTold did failures head_only old path file plan answer new
+        → (name : ShelfName) → has new.shelf name ≡ has old.shelf name
+    told_stays true answer (says, same) name = ap (λ (n : CachedShelf S). has n.shelf name) same
+    told_stays false answer sent name = sent_stays answer sent name
+
+    told_cached : (P : List ℕ → Type 0) → ((chunk : List ℕ) → Contains (things_of file) (Part (digest_of chunk), chunk) → P chunk) → (head_only : Bool) (answer : Answer)
+        → HasFile has old.shelf file → HasCached has old → AllCached P old.cache → IsFileTold did failures head_only old path file plan answer new → AllCached P new.cache
+    told_cached P pieces true answer there cached all (says, same) = subst (λ (n : CachedShelf S). AllCached P n.cache) (sym same) all
+    told_cached P pieces false answer there cached all sent = sent_cached P pieces answer there cached all sent
 
 module _ {S D : Type 0} {disk : Ghosts D} (did : S → Call → S → Type 0) (failures : S → ℕ) (faults : D → ℕ) (has : S → ShelfName → Option (List ℕ)) (keeps : AlwaysKeeps did has) where
   -- ---- where no more is known
@@ -206,8 +216,8 @@ module _ {S D : Type 0} {disk : Ghosts D} (did : S → Call → S → Type 0) (f
   read_known server next parts path (Err why) answer known is = as_it_was server next is.1 known
   read_known server next parts path (Ok file) answer known (uploaded, range, asks, sent, same) =
       let plan = plan_of parts range file in
-      after_read server next file known uploaded same (sent_stays did failures has keeps server.files next.files path file plan answer sent)
-      (sent_cached did failures has keeps server.files next.files path file plan (IsKnownPiece server.house.uploads) (its_piece server next file known uploaded same) answer
+      after_read server next file known uploaded same (told_stays did failures has keeps server.files next.files path file plan (is_head parts) answer sent)
+      (told_cached did failures has keeps server.files next.files path file plan (IsKnownPiece server.house.uploads) (its_piece server next file known uploaded same) (is_head parts) answer
       (there server next file known uploaded same) (known_cached has server known) known.cached sent)
 
   read_out_known : (server next : Server S D disk) (parts : RequestParts) (file : Result (List ℕ) Refusal) → HasKnown has server

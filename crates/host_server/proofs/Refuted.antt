@@ -36,10 +36,12 @@ not_read_back : (parts : RequestParts) (path file : List ℕ) (answer : Answer) 
     → IsReadBack parts path file answer → ⊥
 not_read_back parts path file answer status memory device (inl is) = memory (ap (λ (a : Answer). length a.body) is)
 not_read_back parts path file answer status memory device (inr (inl is)) = device (ap (λ (a : Answer). length a.body) is)
-not_read_back parts path file answer status memory device (inr (inr (range, asks, inl (none, is)))) =
+not_read_back parts path file answer status memory device (inr (inr (inl (range, asks, inl (none, is))))) =
     let wrong : 503 ≡ 416 = sym status ∙ ap (λ (a : Answer). a.status) is in omega (arith, wrong)
-not_read_back parts path file answer status memory device (inr (inr (range, asks, inr (body, exact, is)))) =
-    other_status path file body.plan body.boundary body.bytes.items (sym (ap (λ (a : Answer). a.status) is) ∙ status)
+not_read_back parts path file answer status memory device (inr (inr (inl (range, asks, inr (body, exact, is))))) =
+    other_status path file body.plan body.boundary body.bytes (sym (ap (λ (a : Answer). a.status) is) ∙ status)
+not_read_back parts path file answer status memory device (inr (inr (inr (head, is)))) =
+    let wrong : 503 ≡ 200 = sym status ∙ ap (λ (a : Answer). a.status) is in omega (arith, wrong)
 
 pub not_missing : (parts : RequestParts) (path file : List ℕ) → IsReadBack parts path file (refused_answer reason.Missing) → ⊥
 not_missing parts path file is = not_read_back parts path file (refused_answer reason.Missing) refl (λ e. absurd (cc e)) (λ e. absurd (cc e)) is

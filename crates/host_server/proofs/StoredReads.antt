@@ -13,8 +13,8 @@ use Rattle.blob_store.specs.Keeping.{AlwaysKeeps, HasFile}
 use Rattle.chunk_reads.specs.Reading.{HaveWrongLengths}
 use Rattle.blob_store.proofs.Kept.{part_there}
 use Rattle.range_spec.specs.declared.selection.Choice.{Choice}
-use Rattle.file_reads.specs.declared.bodies.FileBody.{FileBody}
-use Rattle.file_reads.specs.Sending.{IsExact, IsNotRead, IsRead}
+use Rattle.range_reply.specs.Sending.{SentFile}
+use Rattle.range_reply.specs.Sending.{IsExact, IsNotRead, IsRead}
 use Rattle.chunk_lru.specs.Caches.{Cache}
 use Rattle.chunk_reads.specs.Reading.{ReadsInTurn}
 use Rattle.chunk_group.specs.Cached.{AllCached, CachedShelf, FailedOfNode, GaveOfNode, HasCached, IsCached, ReadsChunk}
@@ -76,7 +76,7 @@ module _ {S : Type 0} (did : S → Call → S → Type 0) (failures : S → ℕ)
     stops_on new plan why is =
         fault_keeps (ReadsChunk did failures) file Any (any_met file) (GoesOn old) read_on StopsOn fault_on none_on wrong_on old new plan why (omega (arith)) is
 
-  pub read_goes_on : (old new : CachedShelf S) (file content_type : List ℕ) (plan : Choice) (body : FileBody) → IsRead (GaveOfNode did failures) old file plan content_type body new
+  pub read_goes_on : (old new : CachedShelf S) (file content_type : List ℕ) (plan : Choice) (body : SentFile) → IsRead (GaveOfNode did failures) old file plan content_type body new
       → failures old.shelf ≤ failures new.shelf
   read_goes_on old new file content_type plan body is =
       read_keeps (ReadsChunk did failures) file Any (any_met file) (GoesOn old) (read_on old file) old new content_type plan body (omega (arith)) is
@@ -104,7 +104,7 @@ module _ {S : Type 0} (did : S → Call → S → Type 0) (failures : S → ℕ)
       fault_same : (now new : CachedShelf S) (asked : Digest) (why : ReadFault) → Any asked → Same old now → ReadsChunk did failures now asked (Err why) new → Same old new
       fault_same now new asked why any so read = read_same now new asked (Err why) any so read
 
-    pub read_stays : (old new : CachedShelf S) (file content_type : List ℕ) (plan : Choice) (body : FileBody) → IsRead (GaveOfNode did failures) old file plan content_type body new
+    pub read_stays : (old new : CachedShelf S) (file content_type : List ℕ) (plan : Choice) (body : SentFile) → IsRead (GaveOfNode did failures) old file plan content_type body new
         → (name : ShelfName) → has new.shelf name ≡ has old.shelf name
     read_stays old new file content_type plan body is =
         read_keeps (ReadsChunk did failures) file Any (any_met file) (Same old) (read_same old) old new content_type plan body (λ name. refl) is
@@ -143,7 +143,7 @@ module _ {S : Type 0} (did : S → Call → S → Type 0) (failures : S → ℕ)
         wrong_stops old new chunks from to inv after wrong turns =
             absurd (none_wrong did failures has keeps (has first.shelf) file parts P pieces old new chunks from to inv wrong turns)
 
-        kept : (new : CachedShelf S) (content_type : List ℕ) (plan : Choice) (body : FileBody) → Inv first → IsRead (GaveOfNode did failures) first file plan content_type body new
+        kept : (new : CachedShelf S) (content_type : List ℕ) (plan : Choice) (body : SentFile) → Inv first → IsRead (GaveOfNode did failures) first file plan content_type body new
             → Inv new
         kept new content_type plan body inv is =
             read_keeps (ReadsChunk did failures) file (IsOfFile file) (names_met file) Inv keeps_on first new content_type plan body inv is
@@ -154,7 +154,7 @@ module _ {S : Type 0} (did : S → Call → S → Type 0) (failures : S → ℕ)
             fault_keeps (ReadsChunk did failures) file (IsOfFile file) (names_met file) Inv keeps_on Stops fault_stops (λ node so. (so, inr refl)) wrong_stops
             first new plan why inv is
 
-        exact : (new : CachedShelf S) (content_type : List ℕ) (plan : Choice) (body : FileBody) → Inv first → IsRead (GaveOfNode did failures) first file plan content_type body new
+        exact : (new : CachedShelf S) (content_type : List ℕ) (plan : Choice) (body : SentFile) → Inv first → IsRead (GaveOfNode did failures) first file plan content_type body new
             → IsExact file plan content_type body
         exact new content_type plan body inv is =
             exact_keeps (ReadsChunk did failures) file (IsOfFile file) (names_met file) Inv keeps_on
@@ -166,7 +166,7 @@ module _ {S : Type 0} (did : S → Call → S → Type 0) (failures : S → ℕ)
       any_cached : (cache : Cache) → AllCached Any cache
       any_cached cache = (all-any cache.main, all-any cache.hot)
 
-      pub sent_exact : (old new : CachedShelf S) (content_type : List ℕ) (plan : Choice) (body : FileBody) → HasFile has old.shelf file → HasCached has old
+      pub sent_exact : (old new : CachedShelf S) (content_type : List ℕ) (plan : Choice) (body : SentFile) → HasFile has old.shelf file → HasCached has old
           → IsRead (GaveOfNode did failures) old file plan content_type body new → IsExact file plan content_type body
       sent_exact old new content_type plan body there cached is =
           exact Any any_piece old there new content_type plan body (begins Any any_piece old there cached (any_cached old.cache)) is
@@ -193,7 +193,7 @@ module _ {S : Type 0} (did : S → Call → S → Type 0) (failures : S → ℕ)
           → AllCached (λ chunk. (has old.shelf (Part (digest_of chunk)) ≡ Some chunk) × P chunk) new.cache → AllCached P new.cache
       with_there P old new all = each-cached (λ chunk. (has old.shelf (Part (digest_of chunk)) ≡ Some chunk) × P chunk) P (λ chunk is. is.1) new.cache all
 
-      pub read_adds : (old new : CachedShelf S) (content_type : List ℕ) (plan : Choice) (body : FileBody) → HasFile has old.shelf file → HasCached has old
+      pub read_adds : (old new : CachedShelf S) (content_type : List ℕ) (plan : Choice) (body : SentFile) → HasFile has old.shelf file → HasCached has old
           → IsRead (GaveOfNode did failures) old file plan content_type body new → AllCached (λ chunk. IsCached old.cache chunk ⊎ Contains (cut file) chunk) new.cache
       read_adds old new content_type plan body there cached is =
           with_there (IsOld old) old new
@@ -212,7 +212,7 @@ module _ {S : Type 0} (did : S → Call → S → Type 0) (failures : S → ℕ)
           each-cached (λ chunk. (has old.shelf (Part (digest_of chunk)) ≡ Some chunk) × Any chunk) (λ chunk. has new.shelf (Part (digest_of chunk)) ≡ Some chunk)
           (λ chunk is. inv.0 (Part (digest_of chunk)) ∙ is.0) new.cache inv.1
 
-      pub read_has_cached : (old new : CachedShelf S) (content_type : List ℕ) (plan : Choice) (body : FileBody) → HasFile has old.shelf file → HasCached has old
+      pub read_has_cached : (old new : CachedShelf S) (content_type : List ℕ) (plan : Choice) (body : SentFile) → HasFile has old.shelf file → HasCached has old
           → IsRead (GaveOfNode did failures) old file plan content_type body new → HasCached has new
       read_has_cached old new content_type plan body there cached is =
           still_has old new there (kept Any any_piece old there new content_type plan body (begins Any any_piece old there cached (any_cached old.cache)) is)
@@ -226,7 +226,7 @@ module _ {S : Type 0} (did : S → Call → S → Type 0) (failures : S → ℕ)
         each_piece : (piece : List ℕ) → Contains (cut file) piece → P piece
         each_piece piece among = pieces piece (among_things file piece among)
 
-        pub read_cached : (old new : CachedShelf S) (content_type : List ℕ) (plan : Choice) (body : FileBody) → HasFile has old.shelf file → HasCached has old
+        pub read_cached : (old new : CachedShelf S) (content_type : List ℕ) (plan : Choice) (body : SentFile) → HasFile has old.shelf file → HasCached has old
             → AllCached P old.cache → IsRead (GaveOfNode did failures) old file plan content_type body new → AllCached P new.cache
         read_cached old new content_type plan body there cached all is =
             with_there P old new (kept P each_piece old there new content_type plan body (begins P each_piece old there cached all) is).1

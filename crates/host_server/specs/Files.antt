@@ -16,8 +16,8 @@ use Rattle.range_reply.specs.Bodies.{text_in}
 use Rattle.range_reply.specs.Conditions.{condition_of}
 use Rattle.range_reply.specs.Plans.{planned}
 use Rattle.range_reply.specs.declared.boundaries.Boundary.{Boundary}
-use Rattle.file_reads.specs.Sending.{IsNotRead, IsRead}
-use Rattle.file_reads.specs.declared.bodies.FileBody.{FileBody}
+use Rattle.range_reply.specs.Sending.{IsNotRead, IsRead}
+use Rattle.range_reply.specs.Sending.{SentFile}
 use Rattle.chunk_group.specs.Cached.{CachedShelf, FailedOfNode, GaveOfNode}
 use Rattle.http_wire.specs.Fields.{values_of}
 use Rattle.http_wire.specs.Requests.{RequestParts}
@@ -27,7 +27,7 @@ use Rattle.host_api.specs.declared.refusals.Refusal.{Refusal}
 use Rattle.host_api.specs.declared.refusals.Refusal.TheVariants as reason
 use Rattle.host_disk.specs.declared.disks.Disk.{Ghosts}
 use Rattle.host_server.specs.PartsTypes.{IsOfEight, parts_type}
-use Rattle.host_server.specs.Replies.{Answer, part_answer, refused_answer}
+use Rattle.host_server.specs.Replies.{Answer, is_head, part_answer, refused_answer, unread_answer}
 use Rattle.host_server.specs.declared.servers.Server.{Server}
 
 -- ---- what is asked for
@@ -57,8 +57,8 @@ sent_as path file (Many intervals) boundary bytes = part_answer 206 (parts_type 
 sent_as path file None416 boundary bytes = refused_answer (reason.NotSatisfiable (length file))
 
 -- the same of what was read
-abbrev pub sent_answer : List ℕ → List ℕ → FileBody → Answer
-sent_answer path file body = sent_as path file body.plan body.boundary body.bytes.items
+abbrev pub sent_answer : List ℕ → List ℕ → SentFile → Answer
+sent_answer path file body = sent_as path file body.plan body.boundary body.bytes
 
 -- why a file can't be read, as it is told
 abbrev pub refusal_of_read : ReadFault → Refusal
@@ -75,9 +75,15 @@ abbrev pub IsFileSent : {S : Type 0} → (did : S → Call → S → Type 0) →
     → Type 0
 IsFileSent did failures old path file plan answer new =
     ((plan ≡ None416) × (answer ≡ refused_answer (reason.NotSatisfiable (length file))) × (new ≡ old))
-    ⊎ ((body : FileBody) × IsRead (GaveOfNode did failures) old file plan (type_of path) body new × (answer ≡ sent_answer path file body))
+    ⊎ ((body : SentFile) × IsRead (GaveOfNode did failures) old file plan (type_of path) body new × (answer ≡ sent_answer path file body))
     ⊎ ((why : ReadFault) × (why ≢ fault.OutOfMemory) × IsNotRead (GaveOfNode did failures) (FailedOfNode did failures) old file plan why new
     × (answer ≡ refused_answer (refusal_of_read why)))
+
+-- the same for a request of such a method: to HEAD, which is sent no byte of it, nothing is read
+abbrev pub IsFileTold : {S : Type 0} → (did : S → Call → S → Type 0) → (failures : S → ℕ) → (head_only : Bool) → CachedShelf S → List ℕ → List ℕ → Choice → Answer → CachedShelf S
+    → Type 0
+IsFileTold did failures true old path file plan answer new = (answer ≡ unread_answer (type_of path) file) × (new ≡ old)
+IsFileTold did failures false old path file plan answer new = IsFileSent did failures old path file plan answer new
 
 -- the file was uploaded
 abbrev pub IsKnown : {S D : Type 0} {disk : Ghosts D} → Server S D disk → List ℕ → Type 0
@@ -88,8 +94,8 @@ abbrev pub IsReadReply : {S D : Type 0} {disk : Ghosts D} → (did : S → Call 
     → Type 0
 IsReadReply did failures server parts path (Err refusal) answer next = (answer ≡ refused_answer refusal) × (next ≡ server)
 IsReadReply did failures server parts path (Ok file) answer next =
-    IsKnown server file × (range : Asked) × AsksRange parts range × IsFileSent did failures server.files path file (plan_of parts range file) answer next.files
-    × (next.house ≡ server.house)
+    IsKnown server file × (range : Asked) × AsksRange parts range
+    × IsFileTold did failures (is_head parts) server.files path file (plan_of parts range file) answer next.files × (next.house ≡ server.house)
 
 -- ---- where memory runs out
 
@@ -109,5 +115,5 @@ ReadRunsOut did failures server parts (Ok file) next =
 -- ---- what private functions say
 
 -- where several parts are sent of it, one of these is between them
-abbrev pub SendsParts : Digest → FileBody → Type 0
+abbrev pub SendsParts : Digest → SentFile → Type 0
 SendsParts digest body = (intervals : List (ℕ × ℕ)) → body.plan ≡ Many intervals → IsOfEight digest (text_in body.boundary) × ((boundary : Boundary) × (body.boundary ≡ Some boundary))

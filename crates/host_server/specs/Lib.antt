@@ -26,5 +26,6 @@ pub mod Solo
 -- what the values and the calls of the code mean: `answer_of` and `Grows` for callers, the others for private functions
 pub mod Bodies
 pub mod Answers
--- what stays of a host, step by step
+-- what stays of a host, step by step, and to what no body is sent
 pub mod Growth
+pub mod Withheld

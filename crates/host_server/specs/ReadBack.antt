@@ -1,5 +1,5 @@
 -- Files that were uploaded are read back.
-use Rattle.std.specs.Prelude.{◌≡◌, ◌⊎◌, ℕ, List, Option, Some, Ok, length}
+use Rattle.std.specs.Prelude.{◌≡◌, ◌⊎◌, ℕ, List, Option, Some, Ok, IsTrue, length}
 use Rattle.std.specs.List.{Contains}
 use Rattle.std.specs.FinMap as map
 use Rattle.host_names.specs.Digests.{digest_of}
@@ -13,8 +13,8 @@ use Rattle.blob_store.specs.declared.shelves.ShelfName.TheVariants.{Part}
 use Rattle.range_spec.specs.declared.grammar.Asked.{Asked}
 use Rattle.range_spec.specs.declared.selection.Choice.{Choice}
 use Rattle.range_spec.specs.declared.selection.Choice.TheVariants.{None416}
-use Rattle.file_reads.specs.Sending.{IsExact}
-use Rattle.file_reads.specs.declared.bodies.FileBody.{FileBody}
+use Rattle.range_reply.specs.Sending.{IsExact}
+use Rattle.range_reply.specs.Sending.{SentFile}
 use Rattle.chunk_group.specs.Cached.{AllCached}
 use Rattle.http_wire.specs.Requests.{RequestParts}
 use Rattle.host_api.specs.Types.{type_of}
@@ -25,7 +25,7 @@ use Rattle.host_disk.specs.declared.disks.Disk.{Ghosts}
 use Rattle.host_server.specs.Asks.{asked_for}
 use Rattle.host_server.specs.Files.{AsksRange, plan_of, sent_answer}
 use Rattle.host_server.specs.Hosts.{state_of}
-use Rattle.host_server.specs.Replies.{Answer, refused_answer}
+use Rattle.host_server.specs.Replies.{Answer, is_head, refused_answer, unread_answer}
 use Rattle.host_server.specs.Serving.{Answering}
 use Rattle.host_server.specs.Versions.{file_of}
 use Rattle.host_server.specs.declared.servers.Server.{Server}
@@ -53,14 +53,16 @@ UploadAgrees uploads parts body = (deploy : ℕ) (path : List ℕ) → asked_for
 abbrev pub IsSentExactly : List ℕ → List ℕ → Choice → Answer → Type 0
 IsSentExactly path file plan answer =
     ((plan ≡ None416) × (answer ≡ refused_answer (reason.NotSatisfiable (length file))))
-    ⊎ ((body : FileBody) × IsExact file plan (type_of path) body × (answer ≡ sent_answer path file body))
+    ⊎ ((body : SentFile) × IsExact file plan (type_of path) body × (answer ≡ sent_answer path file body))
 
--- the answer to the reading of the file: that there was no memory, or that the device failed; or what the request asks for, of the file itself
+-- the answer to the reading of the file: that there was no memory, or that the device failed; or what the request asks for, of the file itself;
+-- or, to HEAD, its length and its tag
 abbrev pub IsReadBack : RequestParts → List ℕ → List ℕ → Answer → Type 0
 IsReadBack parts path file answer =
     (answer ≡ refused_answer reason.OutOfMemory)
     ⊎ (answer ≡ refused_answer reason.Device)
     ⊎ ((range : Asked) × AsksRange parts range × IsSentExactly path file (plan_of parts range file) answer)
+    ⊎ (IsTrue (is_head parts) × (answer ≡ unread_answer (type_of path) file))
 
 -- ---- a connection
 

@@ -1,5 +1,5 @@
 -- What a reply says, and what is sent of it.
-use Rattle.std.specs.Prelude.{ℕ, List, [], Bool, ◌||◌, ◌==◌, Option, Some, None, is_some, length, if◌then◌else◌, codes}
+use Rattle.std.specs.Prelude.{ℕ, List, [], Bool, true, false, ◌||◌, ◌==◌, Option, Some, None, is_some, length, if◌then◌else◌, codes}
 use Rattle.std.specs.Str.{bytes_eq}
 use Rattle.hex.specs.Hex.{encode_lower}
 use Rattle.host_names.specs.Digests.{digest_of}
@@ -24,6 +24,8 @@ pub record Answer : Type 0 where
   pub content_range : Option ContentRange
   pub allow : Option (List ℕ)
   pub body : List ℕ
+  -- whether it has that body by its length alone, as a reply to HEAD for which nothing is read
+  pub withheld : Bool
 
 -- ---- replies with JSON
 
@@ -65,6 +67,7 @@ told_answer told = record {
   content_range = range_told told;
   allow = allow_told told;
   body = told_text told;
+  withheld = false;
 }
 
 -- the reply that refuses a request
@@ -82,6 +85,19 @@ part_answer status content_type file range bytes = record {
   content_range = range;
   allow = None;
   body = bytes;
+  withheld = false;
+}
+
+-- what is told of a file of this type that isn't read: its length, and the tag of the whole
+abbrev pub unread_answer : List ℕ → List ℕ → Answer
+unread_answer content_type file = record {
+  status = 200;
+  content_type = content_type;
+  etag = Some (encode_lower (digest_of file).0);
+  content_range = None;
+  allow = None;
+  body = file;
+  withheld = true;
 }
 
 -- ---- what is sent
@@ -103,6 +119,10 @@ fields_for close answer = record {
   allow = answer.allow;
   close = close;
 }
+
+-- whether no body is sent to a request of these parts
+abbrev pub is_head : RequestParts → Bool
+is_head parts = bytes_eq parts.method (codes "HEAD")
 
 -- what is sent of the body: to HEAD nothing (RFC 9110, section 9.3.2)
 abbrev pub sent_body : Bool → Answer → List ℕ

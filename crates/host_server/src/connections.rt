@@ -1,6 +1,5 @@
 //! One connection: requests in, and a reply to each.
-ghost use Rattle.std.specs.Prelude.{◌≡◌, [], codes};
-ghost use Rattle.std.specs.Str.{bytes_eq};
+ghost use Rattle.std.specs.Prelude.{◌≡◌, [], true};
 ghost use Rattle.http_wire.specs.Timing.{NoRead, Ran};
 ghost use Rattle.http_wire.specs.Wires.{AwaitsHead, AwaitsBody};
 ghost use Rattle.host_server.specs.Bodies.{answer_of};
@@ -9,7 +8,7 @@ ghost use Rattle.host_server.specs.Serving.{refusal_of, Announced, TakesBody, Ta
 ghost use Rattle.host_server.specs.Timing.{AwaitsAnnounced, AwaitsRequest, InvitesAs, IsCaughtUp, ReadsHeadAs, TakesBodyAs, ReadsAs, SendsAs, RefusesAs, ExchangesAs, TurnsAs, Connects};
 
 use crate::answers::Request;
-use crate::replies::Reply;
+use crate::replies::{Reply, is_head_only};
 use crate::services::Service;
 use host_api::{HeadRefusal, body_limit};
 use http_wire::{BodyFault, Duplex, Head, HeadFault, LengthFault, Wire, check_body, write_interim};
@@ -74,13 +73,6 @@ fn read_head<D: Duplex>(wire: &mut Wire, duplex: &mut D) -> Result<Head, Stop>
         }),
         Err(HeadFault::OutOfMemory) => Err(Stop::OutOfMemory { head_only: false }),
     }
-}
-
-/// Whether a reply to the request has no body.
-fn is_head_only(head: &Head) -> bool
-    ensures { result ≡ bytes_eq head.now.method (codes "HEAD") }
-{
-    head.method().as_str() == "HEAD"
 }
 
 /// What a request is refused by whose head announces no body that is read.
@@ -171,6 +163,7 @@ fn send<D: Duplex>(
     close: bool,
     head_only: bool,
 ) -> Result<(), ConnectionFault>
+    requires { (answer_of reply).withheld ≡ true → head_only ≡ true }
     ensures { Ran D.saw NoRead duplex.old duplex.new (SendsAs result (sent_text close head_only (answer_of reply))) }
 {
     match reply.send(duplex, close, head_only) {

@@ -6,8 +6,8 @@ ghost use Rattle.range_spec.specs.declared.grammar.Asked.{Asked as Range};
 ghost use Rattle.range_spec.specs.declared.selection.Choice.TheVariants.{None416};
 ghost use Rattle.range_reply.specs.Conditions.{condition_of};
 ghost use Rattle.http_wire.specs.Fields.{values_of};
-ghost use Rattle.file_reads.specs.Sending.{IsNotRead, IsRead};
-ghost use Rattle.file_reads.specs.declared.bodies.FileBody.{FileBody as Sent};
+ghost use Rattle.range_reply.specs.Sending.{IsNotRead, IsRead};
+ghost use Rattle.range_reply.specs.Sending.{SentFile as Sent};
 ghost use Rattle.chunk_group.specs.Cached.{FailedOfNode, GaveOfNode};
 ghost use Rattle.host_api.specs.Texts.{has_cell};
 ghost use Rattle.host_api.specs.Types.{type_of};
@@ -19,18 +19,17 @@ ghost use Rattle.host_server.specs.Files.{AsksRange, is_read, plan_of, sent_answ
 
 use crate::host::file;
 use crate::media_types::file_type;
-use crate::replies::Reply;
+use crate::replies::{Reply, is_head_only};
 use crate::servers::Server;
 use blob_store::Shelf;
 use byte_view::BlobInfo;
 use chunk_group::NodeFiles;
 use chunk_reads::ReadFault;
-use file_reads::read_body;
 use host_api::{Refusal, Version};
 use host_disk::Disk;
 use host_names::{Digest, FilePath, SiteName};
 use http_wire::Head;
-use range_reply::{IfRange, ReplyPlan, plan};
+use range_reply::{IfRange, ReplyPlan, plan, read_body};
 use range_spec::{Asked, Choice, parse};
 use site_change::uploads_are_digested;
 use std::alloc::Global;
@@ -137,5 +136,8 @@ pub(crate) fn read_file<S: Shelf, D: Disk>(
     let file = file(&server.house, site, version, path)?;
     let plan = plan_asked(head, file.info());
     let info = wanted(file.info(), &plan)?;
+    if is_head_only(head) {
+        return Ok(Reply::unread(path, info));
+    }
     send(alloc, &mut server.files, &info, plan, path)
 }

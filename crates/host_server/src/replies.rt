@@ -1,12 +1,13 @@
 //! Replies, before they are written.
-ghost use Rattle.std.specs.Prelude.{◌≡◌, ◌≢◌, All, length, false, Some, None, IsTrue, IfOk, IfErr, OnErr, Err, IsErrOf, MatchOption, option_map};
-ghost use Rattle.http_wire.specs.Replies.{fields_of, sent_of, size_of};
+ghost use Rattle.std.specs.Prelude.{◌≡◌, ◌≢◌, All, length, true, false, Some, None, IsTrue, IfOk, IfErr, OnErr, Err, IsErrOf, MatchOption, option_map};
+ghost use Rattle.std.specs.List.{concat};
+ghost use Rattle.http_wire.specs.Replies.{fields_of};
 ghost use Rattle.http_wire.specs.Sending.{WritesText};
 ghost use Rattle.http_wire.specs.Timing.{NoRead, Ran};
-ghost use Rattle.http_wire.specs.declared.replies.ReplyBody.{ReplyBody as AnyBody};
 ghost use Rattle.host_api.specs.Texts.{has_cell, told_text};
-ghost use Rattle.host_api.specs.declared.refusals.Refusal.TheVariants.{Head, OutOfMemory};
-ghost use Rattle.host_server.specs.Bodies.{answer_of, bytes_of};
+ghost use Rattle.host_api.specs.declared.refusals.Refusal.TheVariants as reason;
+ghost use Rattle.host_api.specs.declared.refusals.Refusal.TheVariants.{OutOfMemory};
+ghost use Rattle.host_server.specs.Bodies.{answer_of, text_bytes};
 ghost use Rattle.host_server.specs.Replies as spec;
 ghost use Rattle.host_server.specs.Answers.{Tells};
 ghost use Rattle.host_server.specs.Memory.{takes_text};
@@ -15,22 +16,21 @@ ghost use Rattle.range_reply.specs.Multipart.{text_of};
 ghost use Rattle.host_api.specs.Types.{type_of};
 ghost use Rattle.host_server.specs.Files.{SendsParts, sent_answer};
 ghost use Rattle.host_server.specs.PartsTypes.{IsOfEight, parts_type};
-ghost use Rattle.host_server.specs.Replies.{told_answer, refused_answer, part_answer, fields_for, sent_text};
+ghost use Rattle.host_server.specs.Replies.{told_answer, refused_answer, part_answer, fields_for, is_head, sent_text, unread_answer};
 
-use crate::bodies::Body;
+use crate::bodies::{Body, BodyText};
 use crate::media_types::{MediaType, file_type};
 use crate::parts_types::PartsType;
 use byte_view::BlobInfo;
-use file_reads::FileBody;
 use host_api::{HeadRefusal, Refusal, Told, short_text, text};
 use host_names::{Digest, FilePath};
 use http::StatusCode;
 use http_wire::{
-    ContentRange, Duplex, EntityTag, FieldText, ReplyBody, ReplyHead, WriteFault, write_reply,
+    ContentRange, Duplex, EntityTag, FieldText, Head, ReplyBody, ReplyHead, WriteFault, write_reply,
 };
-use range_reply::Boundary;
-use range_spec::Choice;
+use range_reply::{Boundary, FileBody, FileForm, Parts};
 use std::alloc::{AllocError, Global};
+use std::sync::Arc;
 
 /// A reply, before it is written. Its length, and whether ranges are served, follow from the rest.
 #[derive(Drop)]
@@ -42,6 +42,13 @@ pub struct Reply {
     content_range: Option<ContentRange>,
     allow: Option<FieldText<'static>>,
     body: Body,
+}
+
+/// Whether a reply to the request has no body.
+pub(crate) fn is_head_only(head: &Head) -> bool
+    ensures { result ≡ is_head head.now }
+{
+    head.method().as_str() == "HEAD"
 }
 
 /// The status code of a reply that tells something.
@@ -77,30 +84,30 @@ fn allow_told(told: &Told) -> Option<FieldText<'static>>
 }
 
 /// The text of a refusal, where it takes no memory.
-fn short_body(told: &Told) -> Option<Body>
-    ensures { MatchOption result (IsTrue (takes_text told.now)) (λ body. bytes_of body ≡ told_text told.now) }
+fn short_body(told: &Told) -> Option<BodyText>
+    ensures { MatchOption result (IsTrue (takes_text told.now)) (λ text. text_bytes text ≡ told_text told.now) }
 {
     match told {
-        Told::Refused(refusal) => Some(Body::Short(short_text(refusal)?)),
+        Told::Refused(refusal) => Some(BodyText::Short(short_text(refusal)?)),
         _ => None,
     }
 }
 
 /// The text of what is told.
-fn body_of(alloc: Global, told: &Told) -> Result<Body, AllocError>
-    ensures ok { IfOk result (λ body. bytes_of body ≡ told_text told.now) }
+fn body_of(alloc: Global, told: &Told) -> Result<BodyText, AllocError>
+    ensures ok { IfOk result (λ text. text_bytes text ≡ told_text told.now) }
     ensures memory { OnErr result (IsTrue (takes_text told.now)) }
 {
     if let Some(body) = short_body(told) {
         return Ok(body);
     }
-    Ok(Body::Text(text(alloc, told)?))
+    Ok(BodyText::Made(text(alloc, told)?))
 }
 
 impl Reply {
     /// A reply with JSON.
-    fn with_json(told: &Told, body: Body) -> Reply
-        requires { bytes_of body ≡ told_text told.now }
+    fn with_json(told: &Told, text: BodyText) -> Reply
+        requires { text_bytes text ≡ told_text told.now }
         ensures { answer_of result ≡ told_answer told.now }
     {
         Reply {
@@ -109,7 +116,7 @@ impl Reply {
             etag: None,
             content_range: range_told(told),
             allow: allow_told(told),
-            body,
+            body: Body::Text(text),
         }
     }
 
@@ -127,8 +134,8 @@ impl Reply {
     pub(crate) fn out_of_memory() -> Reply
         ensures { answer_of result ≡ refused_answer OutOfMemory }
     {
-        let body = Body::Fixed("{\"error\":\"OutOfMemory\"}");
-        Reply::with_json(&Told::Refused(Refusal::OutOfMemory), body)
+        let text = BodyText::Fixed("{\"error\":\"OutOfMemory\"}");
+        Reply::with_json(&Told::Refused(Refusal::OutOfMemory), text)
     }
 
     /// The reply to a request that is refused for a reason that names no cell. It takes no memory.
@@ -145,7 +152,7 @@ impl Reply {
 
     /// The reply to a request that is refused by its head. It takes no memory.
     pub(crate) fn refusing(why: HeadRefusal) -> Reply
-        ensures { answer_of result ≡ refused_answer (Head why) }
+        ensures { answer_of result ≡ refused_answer (reason.Head why) }
     {
         Reply::plain(Refusal::Head(why))
     }
@@ -156,9 +163,9 @@ impl Reply {
         path: &FilePath,
         info: &BlobInfo,
         range: Option<ContentRange>,
-        bytes: Vec<u8>,
+        body: FileBody,
     ) -> Reply
-        ensures { answer_of result ≡ part_answer status (type_of path.now) info.now range bytes.items }
+        ensures { answer_of result ≡ part_answer status (type_of path.now) info.now range body.bytes }
     {
         Reply {
             status,
@@ -166,14 +173,14 @@ impl Reply {
             etag: Some(info.digest()),
             content_range: range,
             allow: None,
-            body: Body::File(bytes),
+            body: Body::File(body),
         }
     }
 
     /// The reply with several parts of a file.
-    fn of_parts(info: &BlobInfo, boundary: &Boundary, bytes: Vec<u8>) -> Reply
+    fn of_parts(info: &BlobInfo, boundary: &Boundary, body: FileBody) -> Reply
         requires { IsOfEight (digest_of info.now) (text_of boundary.now) }
-        ensures { answer_of result ≡ part_answer 206 (parts_type (text_of boundary.now)) info.now None bytes.items }
+        ensures { answer_of result ≡ part_answer 206 (parts_type (text_of boundary.now)) info.now None body.bytes }
     {
         let digest = info.digest();
         Reply {
@@ -182,41 +189,49 @@ impl Reply {
             etag: Some(digest),
             content_range: None,
             allow: None,
-            body: Body::File(bytes),
+            body: Body::File(body),
         }
     }
 
-    /// The reply with what was read of the file at a path (RFC 9110, sections 15.3.1, 15.3.7 and 15.5.17).
+    /// The reply with what is sent of the file at a path (RFC 9110, sections 15.3.1, 15.3.7 and 15.5.17).
     pub(crate) fn of_file(path: &FilePath, info: &BlobInfo, body: FileBody) -> Reply
         requires { SendsParts (digest_of info.now) body }
         ensures { answer_of result ≡ sent_answer path.now info.now body }
     {
-        let FileBody {
-            plan,
-            boundary,
-            bytes,
-        } = body;
         let length = info.len() as u64;
-        match plan {
-            Choice::Whole => Reply::of_part(StatusCode::OK, path, info, None, bytes),
-            Choice::One(first, last) => {
+        match body.form() {
+            FileForm::Whole => Reply::of_part(StatusCode::OK, path, info, None, body),
+            FileForm::One(first, last) => {
                 let range = ContentRange::Of {
                     first,
                     last,
                     length,
                 };
-                Reply::of_part(StatusCode::PARTIAL_CONTENT, path, info, Some(range), bytes)
+                Reply::of_part(StatusCode::PARTIAL_CONTENT, path, info, Some(range), body)
             }
-            Choice::Many(_) => Reply::of_parts(info, &boundary.unwrap(), bytes),
-            Choice::None416 => Reply::plain(Refusal::NotSatisfiable(length)),
+            FileForm::Several(boundary) => Reply::of_parts(info, &boundary, body),
+            FileForm::Nothing => Reply::plain(Refusal::NotSatisfiable(length)),
+        }
+    }
+
+    /// The reply that tells of the file at a path without a byte of it (RFC 9110, section 9.3.2).
+    pub(crate) fn unread(path: &FilePath, info: Arc<BlobInfo>) -> Reply
+        ensures { answer_of result ≡ unread_answer (type_of path.now) info.value }
+    {
+        Reply {
+            status: StatusCode::OK,
+            content_type: MediaType::Fixed(file_type(path)),
+            etag: Some(info.digest()),
+            content_range: None,
+            allow: None,
+            body: Body::Unread(info),
         }
     }
 
     /// Its head, with this entity tag.
     fn head<'a>(&'a self, etag: Option<EntityTag<'a>>, close: bool) -> ReplyHead<'a>
         requires { option_map (λ t. t.text.now) etag ≡ (answer_of self.now).etag }
-        ensures { (body : AnyBody) → size_of body ≡ length (answer_of self.now).body
-            → fields_of result body ≡ fields_for close (answer_of self.now) }
+        ensures { fields_of result (length (answer_of self.now).body) ≡ fields_for close (answer_of self.now) }
     {
         ReplyHead {
             status: self.status,
@@ -229,17 +244,12 @@ impl Reply {
         }
     }
 
-    /// Its body, which is withheld where only the head is wanted.
-    fn sent_body(&self, head_only: bool) -> ReplyBody<'_>
-        ensures sent { sent_of result ≡ spec.sent_body head_only (answer_of self.now) }
-        ensures size { size_of result ≡ length (answer_of self.now).body }
+    /// Its parts, in order, each as it lies. It takes no memory.
+    fn parts(&self) -> Parts<'_>
+        requires { (answer_of self.now).withheld ≡ false }
+        ensures { concat result ≡ (answer_of self.now).body }
     {
-        let bytes = self.body.bytes();
-        if head_only {
-            ReplyBody::Withheld(bytes.len() as u64)
-        } else {
-            ReplyBody::Sent(bytes)
-        }
+        self.body.parts()
     }
 
     /// Writes it with this entity tag, without its body where only the head is wanted.
@@ -250,11 +260,15 @@ impl Reply {
         close: bool,
         head_only: bool,
     ) -> Result<(), WriteFault>
-        requires { option_map (λ t. t.text.now) etag ≡ (answer_of self.now).etag }
+        requires tag { option_map (λ t. t.text.now) etag ≡ (answer_of self.now).etag }
+        requires sent { (answer_of self.now).withheld ≡ true → head_only ≡ true }
         ensures { Ran D.saw NoRead duplex.old duplex.new (WritesText result (sent_text close head_only (answer_of self.now))) }
     {
         let head = self.head(etag, close);
-        write_reply(duplex, &head, self.sent_body(head_only))
+        if head_only {
+            return write_reply(duplex, &head, ReplyBody::<Parts<'_>>::Withheld(self.body.length()));
+        }
+        write_reply(duplex, &head, ReplyBody::Sent(self.parts()))
     }
 
     /// Writes it, without its body where only the head is wanted (RFC 9110, section 9.3.2); its head says whether the
@@ -265,6 +279,7 @@ impl Reply {
         close: bool,
         head_only: bool,
     ) -> Result<(), WriteFault>
+        requires { (answer_of self.now).withheld ≡ true → head_only ≡ true }
         ensures { Ran D.saw NoRead duplex.old duplex.new (WritesText result (sent_text close head_only (answer_of self.now))) }
     {
         let Some(digest) = self.etag else {

@@ -1,11 +1,12 @@
 //! What answers the requests of a connection.
-ghost use Rattle.std.specs.Prelude.{ℕ, List};
+ghost use Rattle.std.specs.Prelude.{◌≡◌, ℕ, List, true};
 ghost use Rattle.http_wire.specs.Requests.{RequestParts};
 ghost use Rattle.host_server.specs.Hosts.{Grows};
 ghost use Rattle.host_server.specs.Bodies.{answer_of};
 ghost use Rattle.host_server.specs.Growth.{itself, grows_then};
 ghost use Rattle.host_server.specs.Asks.{IsAnswer};
-ghost use Rattle.host_server.specs.Replies.{Answer};
+ghost use Rattle.host_server.specs.Replies.{Answer, is_head};
+ghost use Rattle.host_server.specs.Withheld.{withheld_to_head};
 
 use crate::answers::{Request, answer};
 use crate::replies::Reply;
@@ -27,6 +28,10 @@ pub trait Service {
         ensures replied { answers self.old request.head request.body.items (answer_of result) self.new }
         ensures grows { grows self.old self.new };
 
+    // Only to HEAD is a body told by its length alone.
+    ghost withheld: { (old : Self) (parts : RequestParts) (body : List ℕ) (answer : Answer) (new : Self)
+        → answers old parts body answer new → answer.withheld ≡ true → is_head parts ≡ true };
+
     // It stays where nothing is answered, and from one answer to the next.
     ghost stays: { (service : Self) → grows service service };
 
@@ -41,6 +46,8 @@ impl<S: Shelf, D: Disk> Service for Server<S, D> {
     fn answer(&mut self, alloc: Global, request: Request) -> Reply {
         answer(alloc, request, self)
     }
+
+    ghost withheld = { λ old parts body answer new is told. withheld_to_head S.did S.failures D.faults old new parts body answer is told };
 
     ghost stays = { λ server. itself server.house };
 

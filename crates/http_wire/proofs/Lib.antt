@@ -15,6 +15,7 @@ pub mod HeadReads
 pub mod BodyReads
 pub mod StreamReads
 pub mod Writes
+pub mod PartsPut
 pub mod OneHead
 pub mod ReadCounts
 pub mod ManyFields

@@ -7,7 +7,7 @@ use Rattle.std.proofs.Math.Seq.{take-append-add}
 use Rattle.std.proofs.KnownBytes.{Appends-trans}
 use Rattle.std.proofs.lemmas.List.{take-append-drop, length-take-le, drop_more}
 use Rattle.std.proofs.lemmas.Slice.{between_to_end}
-use Rattle.http_wire.specs.Sending.{Sent, SentFront}
+use Rattle.http_wire.specs.Sending.{Sent}
 
 -- the front, and what a write took behind it
 pub take_further : (bytes : List ℕ) (at count : ℕ) → at ≤ length bytes
@@ -73,11 +73,3 @@ pieces_split pieces i d h =
     ∙ flat_map-append now (take i pieces) (drop i pieces)
     ∙ ap (λ u. flat_map now (take i pieces) ++ flat_map now u) (drop_more pieces i d h)
     ∙ sym (append_assoc (flat_map now (take i pieces)) (now (get_or pieces i d)) (flat_map now (drop (i + 1) pieces)))
-
--- where a piece is cut short, so is the text of all pieces
-pub piece_front : (start held : Option (List ℕ)) (pieces : List (Bor (List ℕ))) (i : ℕ) (d : Bor (List ℕ)) (count : ℕ) → i < length pieces
-    → SentFront start held (flat_map (λ (p : Bor (List ℕ)). p.now) (take i pieces) ++ (get_or pieces i d).now) count
-    → SentFront start held (flat_map (λ (p : Bor (List ℕ)). p.now) pieces) count
-piece_front start held pieces i d count h front =
-    let behind = flat_map (λ (p : Bor (List ℕ)). p.now) (drop (i + 1) pieces) in
-    (front.0 ++ behind, some_left front.0 behind front.1, rw (pieces_split pieces i d h) (sent_more start held _ count front.0 behind front.2))

@@ -1,13 +1,12 @@
 -- What writes lead to, one after another.
-use Rattle.std.proofs.Common.{◌≡◌, ℕ, ◌+◌, ◌-◌, ◌^◌, ◌<◌, ◌≤◌, min, List, [], ◌∷◌, ◌++◌, length, take, drop, get_or, Option, Some, Result, Ok, Err, OnOk, OnErr, IfErr, Bor, slice_range, refl, sym, ap, subst, ◌∙◌, append_assoc, append-nil, arith}
+use Rattle.std.proofs.Common.{◌≡◌, ℕ, ◌+◌, ◌-◌, ◌^◌, ◌<◌, ◌≤◌, min, List, [], ◌∷◌, ◌++◌, length, take, drop, Option, Some, Result, Ok, Err, OnOk, OnErr, IfErr, slice_range, refl, sym, ap, subst, ◌∙◌, append_assoc, append-nil, arith}
 use Rattle.std.specs.Io.KnownBytes.{Appends}
-use Rattle.std.specs.List.{flat_map}
 use Rattle.std.proofs.lemmas.List.{length-take-le, length-drop, take_all}
 use Rattle.std.proofs.lemmas.Slice.{between_to_end}
 use Rattle.http_wire.specs.declared.faults.WriteFault.{WriteFault}
-use Rattle.http_wire.specs.Sending.{Sent, SentFront, WritesText, WritesAll, Written, WrittenNow, WritesEnd, WritesOn}
+use Rattle.http_wire.specs.Sending.{SentFront, WritesText, WritesAll, Written, WrittenNow, WritesEnd, WritesOn}
 use Rattle.http_wire.specs.Timing.{Event, Put, WriteFails, all_put, IsLatest, GoesOn, Timely, Steps, NoRead, Ran}
-use Rattle.http_wire.proofs.SentParts.{take_further, some_left, sent_more, sent_some, sent_all, sent_whole, piece_front}
+use Rattle.http_wire.proofs.SentParts.{take_further, some_left, sent_more, sent_some, sent_all, sent_whole}
 use Rattle.http_wire.proofs.Trails.{put_joined, goes_on_joined, latest_joined, steps_joined, timely_joined}
 
 -- ---- all the bytes
@@ -158,70 +157,85 @@ flushed_then saw old mid new result piece count between after rest new_rest firs
   };
 }
 
--- ---- all pieces
+-- ---- texts, one after another
 
--- the pieces up to one were put
-pub record PiecesSoFar {S : Type 0} (saw : S → Event → S → Type 0) (old new : S) (text : List ℕ) (count : ℕ) (rest : List ℕ) : Type 0 where
-  pub events : List Event
-  pub steps : Steps saw old events new
-  pub timely : Timely NoRead events
-  pub goes_on : GoesOn events
-  pub text_is : Written (all_put events) text count rest
+-- nothing more is written
+pub none_more : {S : Type 0} (saw : S → Event → S → Type 0) (old : S) (count : ℕ) (rest : List ℕ) → Ran saw NoRead old old (WritesOn (Ok tt) [] count count rest rest)
+none_more saw old count rest = gathered saw old [] count rest rest (sym (append-nil rest))
 
-pub no_piece : {S : Type 0} (saw : S → Event → S → Type 0) (old : S) (count : ℕ) (rest : List ℕ) → Sent (Some []) (Some []) [] count rest → PiecesSoFar saw old old [] count rest
-no_piece saw old count rest s = record { events = []; steps = refl; timely = tt; goes_on = tt; text_is = s }
-
-pub one_piece : {S : Type 0} (saw : S → Event → S → Type 0) (old mid new : S) (text piece longer : List ℕ) (count after : ℕ) (rest new_rest : List ℕ) → PiecesSoFar saw old mid text count rest
-    → longer ≡ text ++ piece → Ran saw NoRead mid new (WritesOn (Ok tt) piece count after rest new_rest) → PiecesSoFar saw old new longer after new_rest
-one_piece saw old mid new text piece longer count after rest new_rest so is ran = record {
-  events = ran.events ++ so.events;
-  steps = steps_joined saw old mid new ran.events so.events so.steps ran.steps;
-  timely = timely_joined NoRead NoRead ran.events so.events (λ got put no. no) ran.timely so.goes_on so.timely;
-  goes_on = goes_on_joined ran.events so.events ran.claimed.ends so.goes_on;
-  text_is = subst (λ w. Written w longer after new_rest) (sym (put_joined ran.events so.events))
-      (subst (λ t. Written (all_put so.events ++ all_put ran.events) t after new_rest) (sym is) (ran.claimed.text (all_put so.events) text so.text_is));
+-- writes of one text after those of another
+pub and_then : {S : Type 0} (saw : S → Event → S → Type 0) (old mid new : S) (result : Result (Unit {0}) WriteFault) (first second : List ℕ) (count between after : ℕ) (rest mid_rest new_rest : List ℕ)
+    → Ran saw NoRead old mid (WritesOn (Ok tt) first count between rest mid_rest) → Ran saw NoRead mid new (WritesOn result second between after mid_rest new_rest)
+    → Ran saw NoRead old new (WritesOn result (first ++ second) count after rest new_rest)
+and_then saw old mid new result first second count between after rest mid_rest new_rest one other = record {
+  events = other.events ++ one.events;
+  steps = steps_joined saw old mid new other.events one.events one.steps other.steps;
+  timely = timely_joined NoRead NoRead other.events one.events (λ got put no. no) other.timely one.claimed.ends one.timely;
+  claimed = record {
+    ends = ends_joined result other.events one.events other.claimed.ends one.claimed.ends;
+    text = λ written text s. (
+        let mid_written = written ++ all_put one.events in
+        let done = other.claimed.text mid_written (text ++ first) (one.claimed.text written text s) in
+        let all : mid_written ++ all_put other.events ≡ written ++ all_put (other.events ++ one.events) =
+        append_assoc written (all_put one.events) (all_put other.events) ∙ ap (λ u. written ++ u) (sym (put_joined other.events one.events)) in
+        subst (λ w. WrittenNow result w (text ++ (first ++ second)) after new_rest) all
+        (subst (λ t. WrittenNow result (mid_written ++ all_put other.events) t after new_rest) (append_assoc text first second) done)
+        );
+  };
 }
 
--- a piece is cut short
-pub piece_cut : {S : Type 0} (saw : S → Event → S → Type 0) (old mid new : S) (pieces : List (Bor (List ℕ))) (i : ℕ) (d : Bor (List ℕ)) (count after : ℕ) (rest new_rest : List ℕ) (fault : WriteFault)
-    → i < length pieces → PiecesSoFar saw old mid (flat_map (λ (p : Bor (List ℕ)). p.now) (take i pieces)) count rest
-    → Ran saw NoRead mid new (WritesOn (Err fault) (get_or pieces i d).now count after rest new_rest)
-    → Ran saw NoRead old new (WritesText (Err fault) (flat_map (λ (p : Bor (List ℕ)). p.now) pieces))
-piece_cut saw old mid new pieces i d count after rest new_rest fault here so ran =
-    let now : Bor (List ℕ) → List ℕ = λ p. p.now in
-    let text = flat_map now (take i pieces) in
-    let front = ran.claimed.text (all_put so.events) text so.text_is in
-    let whole = piece_front (Some []) (Some (all_put so.events ++ all_put ran.events)) pieces i d fault.0 here front in
-    record {
-      events = ran.events ++ so.events;
-      steps = steps_joined saw old mid new ran.events so.events so.steps ran.steps;
-      timely = timely_joined NoRead NoRead ran.events so.events (λ got put no. no) ran.timely so.goes_on so.timely;
-      claimed = (
-        latest_joined WriteFails ran.events so.events ran.claimed.ends,
-        subst (λ w. SentFront (Some []) (Some w) (flat_map now pieces) fault.0) (sym (put_joined ran.events so.events)) whole,
-      );
-    }
+-- a text is cut short, and so is one that has more behind it
+pub cut_before : {S : Type 0} (saw : S → Event → S → Type 0) (old new : S) (fault : WriteFault) (first second : List ℕ) (count after other : ℕ) (rest new_rest other_rest : List ℕ)
+    → Ran saw NoRead old new (WritesOn (Err fault) first count after rest new_rest) → Ran saw NoRead old new (WritesOn (Err fault) (first ++ second) count other rest other_rest)
+cut_before saw old new fault first second count after other rest new_rest other_rest ran = record {
+  events = ran.events;
+  steps = ran.steps;
+  timely = ran.timely;
+  claimed = record {
+    ends = ran.claimed.ends;
+    text = λ written text s. (
+        let front = ran.claimed.text written text s in
+        let more = sent_more (Some []) (Some (written ++ all_put ran.events)) (text ++ first) fault.0 front.0 second front.2 in (
+          front.0 ++ second,
+          some_left front.0 second front.1,
+          subst (λ t. Written (written ++ all_put ran.events) t fault.0 (front.0 ++ second)) (append_assoc text first second) more,
+        )
+        );
+  };
+}
 
-text_done : (result : Result (Unit {0}) WriteFault) (text : List ℕ) (events past : List Event) (after : ℕ) → WritesEnd result events → GoesOn past
-    → WrittenNow result (all_put past ++ all_put events) (text ++ []) after [] → WritesText result text (events ++ past)
-text_done (Ok done) text events past after ends on now = (goes_on_joined events past ends on, put_joined events past ∙ sent_whole (Some []) (Some (all_put past ++ all_put events)) (text ++ []) after now ∙ append-nil text)
-text_done (Err fault) text events past after ends on now = (
-  latest_joined WriteFails events past ends,
-  subst (λ t. SentFront (Some []) (Some (all_put (events ++ past))) t fault.0) (append-nil text)
-      (subst (λ w. SentFront (Some []) (Some w) (text ++ []) fault.0) (sym (put_joined events past)) now),
-)
+whole_of : (result : Result (Unit {0}) WriteFault) (text : List ℕ) (events : List Event) (after : ℕ) → WritesEnd result events
+    → WrittenNow result (all_put events) text after [] → WritesText result text events
+whole_of (Ok done) text events after ends now = (ends, sent_whole (Some []) (Some (all_put events)) text after now)
+whole_of (Err fault) text events after ends now = (ends, now)
+
+-- all that was put is written, from the first on
+all_of : {S : Type 0} (saw : S → Event → S → Type 0) (old new : S) (result : Result (Unit {0}) WriteFault) (text : List ℕ) (count after : ℕ) (rest : List ℕ)
+    → Written [] [] count rest → Ran saw NoRead old new (WritesOn result text count after rest []) → Ran saw NoRead old new (WritesText result text)
+all_of saw old new result text count after rest s ran = record {
+  events = ran.events;
+  steps = ran.steps;
+  timely = ran.timely;
+  claimed = whole_of result text ran.events after ran.claimed.ends (ran.claimed.text [] [] s);
+}
+
+-- no write after one that failed
+pub nothing_after : {S : Type 0} (saw : S → Event → S → Type 0) (old new : S) (fault : WriteFault) (text : List ℕ) (count after : ℕ) (rest new_rest : List ℕ)
+    → Written [] [] count rest → Ran saw NoRead old new (WritesOn (Err fault) text count after rest new_rest) → Ran saw NoRead old new (WritesText (Err fault) text)
+nothing_after saw old new fault text count after rest new_rest s ran = record {
+  events = ran.events;
+  steps = ran.steps;
+  timely = ran.timely;
+  claimed = (ran.claimed.ends, ran.claimed.text [] [] s);
+}
 
 -- the last flush
-pub all_pieces : {S : Type 0} (saw : S → Event → S → Type 0) (old mid new : S) (result : Result (Unit {0}) WriteFault) (text whole : List ℕ) (count after : ℕ) (rest : List ℕ)
-    → text ≡ whole → PiecesSoFar saw old mid text count rest → Ran saw NoRead mid new (WritesOn result [] count after rest [])
-    → Ran saw NoRead old new (WritesText result whole)
-all_pieces saw old mid new result text whole count after rest is so ran = record {
-  events = ran.events ++ so.events;
-  steps = steps_joined saw old mid new ran.events so.events so.steps ran.steps;
-  timely = timely_joined NoRead NoRead ran.events so.events (λ got put no. no) ran.timely so.goes_on so.timely;
-  claimed = subst (λ t. WritesText result t (ran.events ++ so.events)) is
-      (text_done result text ran.events so.events after ran.claimed.ends so.goes_on (ran.claimed.text (all_put so.events) text so.text_is));
-}
+pub flushed_last : {S : Type 0} (saw : S → Event → S → Type 0) (old mid new : S) (result : Result (Unit {0}) WriteFault) (text : List ℕ) (count between after : ℕ) (rest mid_rest : List ℕ)
+    → Written [] [] count rest → Ran saw NoRead old mid (WritesOn (Ok tt) text count between rest mid_rest) → Ran saw NoRead mid new (WritesOn result [] between after mid_rest [])
+    → Ran saw NoRead old new (WritesText result text)
+flushed_last saw old mid new result text count between after rest mid_rest s ran last =
+    subst (λ t. Ran saw NoRead old new (WritesText result t)) (append-nil text)
+    (all_of saw old new result (text ++ []) count after rest s (and_then saw old mid new result text [] count between after rest mid_rest [] ran last))
 
 -- ---- what a sink holds then
 

@@ -1,6 +1,6 @@
 -- The head of a reply, and the whole reply, as they are written (RFC 9112, section 4; RFC 9110, section 8 and 14.4).
 use Rattle.std.specs.Prelude.{◌≡◌, ℕ, ◌<◌, ◌==◌, ◌&&◌, not, Bool, true, List, [], ◌∷◌, ◌++◌, length, All, Option, Some, None, codes, decimal, unwrap_or}
-use Rattle.std.specs.List.{flat_map, list_all}
+use Rattle.std.specs.List.{concat, flat_map, list_all}
 use Rattle.std.specs.Option.{option_map}
 use Rattle.std.specs.Bool.{then_some}
 use Rattle.http.specs.StatusCode.{code_digits, reason_phrase}
@@ -40,23 +40,23 @@ pub record HeadFields : Type 0 where
   pub allow : Option (List ℕ)
   pub close : Bool
 
--- the bytes that are sent after the head
-abbrev pub sent_of : ReplyBody → List ℕ
-sent_of (Sent bytes) = bytes.now
-sent_of (Withheld size) = []
+-- the bytes that are sent after the head, of parts that have these texts
+abbrev pub sent_of : {P : Type 0} → (texts : P → List (List ℕ)) → ReplyBody P → List ℕ
+sent_of texts (Sent parts) = concat (texts parts)
+sent_of texts (Withheld size) = []
 
 -- how many bytes the head says that the body has: those that are sent, or those that a GET would be sent (RFC 9110, sections 8.6
 -- and 9.3.2)
-abbrev pub size_of : ReplyBody → ℕ
-size_of (Sent bytes) = length bytes.now
-size_of (Withheld size) = size
+abbrev pub size_of : {P : Type 0} → (texts : P → List (List ℕ)) → ReplyBody P → ℕ
+size_of texts (Sent parts) = length (concat (texts parts))
+size_of texts (Withheld size) = size
 
--- what a head says before this body
-abbrev pub fields_of : ReplyHead → ReplyBody → HeadFields
-fields_of h body = record {
+-- what a head says before a body of this many bytes
+abbrev pub fields_of : ReplyHead → ℕ → HeadFields
+fields_of h size = record {
   status = h.status;
   content_type = option_map (λ t. t.text.now) h.content_type;
-  content_length = size_of body;
+  content_length = size;
   etag = option_map (λ t. t.text.now) h.etag;
   accept_ranges = h.accept_ranges;
   content_range = h.content_range;
@@ -89,8 +89,8 @@ abbrev pub reply_text : HeadFields → List ℕ → List ℕ
 reply_text h body = head_text h ++ body
 
 -- the same of a head and a body as they are given
-abbrev pub sent_reply : ReplyHead → ReplyBody → List ℕ
-sent_reply h body = reply_text (fields_of h body) (sent_of body)
+abbrev pub sent_reply : {P : Type 0} → (texts : P → List (List ℕ)) → ReplyHead → ReplyBody P → List ℕ
+sent_reply texts h body = reply_text (fields_of h (size_of texts body)) (sent_of texts body)
 
 -- a byte that is neither CR nor LF
 abbrev pub is_within_line : ℕ → Bool

@@ -12,7 +12,7 @@ ghost use Rattle.http_wire.specs.Timing.{AtEnd, Event, IsLatest, Moves, NoRead, 
 ghost use Rattle.http_wire.specs.Wires.{AwaitsBody, AwaitsHead, HasWholeHead, ReadsBody, ReadsHead, RefusesHead, RefusesLargeHead, ServesHead};
 
 use crate::duplexes::Duplex;
-use crate::replies::{ReplyBody, ReplyHead};
+use crate::replies::ReplyHead;
 
 /// A stream begins with one head at most. A head's text says one set of parts at most, and where it says one it is
 /// neither bad nor has it too many fields. Fields announce at most one length, or have at most one first reason why not, and
@@ -37,8 +37,8 @@ pub fn few_reads()
 
 /// The head of a reply is the line of its status, one line for each field that is there, and the empty line that ends it:
 /// no text of a field begins another line.
-pub fn a_head_has_its_lines(head: &ReplyHead<'_>, body: ReplyBody<'_>)
-    ensures { HasLines (head_text (fields_of head.now body.entry)) (head_lines (fields_of head.now body.entry)) }
+pub fn a_head_has_its_lines(head: &ReplyHead<'_>, size: u64)
+    ensures { HasLines (head_text (fields_of head.now size)) (head_lines (fields_of head.now size)) }
 {}
 
 /// The phrases of 413 and 422 are the older ones (RFC 7231, section 6.5.11; RFC 4918, section 11.2), and not those of RFC 9110, sections

@@ -1,20 +1,21 @@
 //! Replies.
-ghost use Rattle.std.specs.Prelude.{◌≡◌, ◌≤◌, ◌<◌, length, codes, decimal, IfErr, OnOk, OnErr, [], ◌++◌, ◌+◌};
+ghost use Rattle.std.specs.Prelude.{◌≡◌, ℕ, ◌≤◌, ◌<◌, length, codes, decimal, IfErr, OnOk, OnErr, [], ◌++◌, ◌+◌};
 ghost use Rattle.std.specs.Option.{option_map};
 ghost use Rattle.std.specs.List.{flat_map};
 ghost use Rattle.arrayvec.specs.ArrayVec.{array_vec_len};
 ghost use Rattle.http_wire.specs.Expectations.{continue_text};
-ghost use Rattle.http_wire.specs.Replies.{crlf, range_text, line_of, sent_reply, size_of};
+ghost use Rattle.http_wire.specs.Replies.{crlf, fields_of, head_text, line_of, range_text, sent_of, sent_reply};
 ghost use Rattle.std.specs.Io.KnownBytes.{Appends};
-ghost use Rattle.http_wire.specs.Sending.{SentFront, WritesText};
+ghost use Rattle.http_wire.specs.Sending.{SentFront, WritesOn, WritesText};
 ghost use Rattle.http_wire.specs.Timing.{NoRead, Ran};
 
 use crate::duplexes::Duplex;
 use crate::entity_tags::EntityTag;
 use crate::faults::WriteFault;
 use crate::field_texts::FieldText;
-use crate::sends::write_pieces;
+use crate::sends::{Outgoing, put_parts, put_pieces};
 use arrayvec::{ArrayString, ArrayVec};
+use byte_view::BodyParts;
 use http::StatusCode;
 
 /// Which bytes of a file a reply holds (RFC 9110, section 14.4).
@@ -43,35 +44,25 @@ pub struct ReplyHead<'a> {
 }
 
 /// The body of a reply, whose length the head says.
-#[derive(Clone, Copy, Debug)]
-pub enum ReplyBody<'a> {
-    /// These bytes: the head says how many they are.
-    Sent(&'a [u8]),
+#[derive(Debug, Drop)]
+pub enum ReplyBody<P> {
+    /// These parts, one after another: the head says how many bytes they have.
+    Sent(P),
     /// No byte, as in the reply to HEAD: the head says how many a GET would be sent (RFC 9110, sections 8.6 and 9.3.2).
     Withheld(u64),
 }
 
-impl<'a> ReplyBody<'a> {
+impl<P: BodyParts> ReplyBody<P> {
     ghost use Rattle.std.specs.Prelude.{◌≡◌};
-    ghost use Rattle.http_wire.specs.Replies.{sent_of, size_of};
-
-    // The bytes that are sent.
-    fn sent(self) -> &'a [u8]
-        ensures { result.now ≡ sent_of self.entry }
-    {
-        match self {
-            ReplyBody::Sent(bytes) => bytes,
-            ReplyBody::Withheld(_) => &[],
-        }
-    }
+    ghost use Rattle.http_wire.specs.Replies.{size_of};
 
     // How many bytes the head says that it has.
-    fn size(self) -> u64
-        ensures { result ≡ size_of self.entry }
+    fn size(&self) -> u64
+        ensures { result ≡ size_of P.texts self.now }
     {
         match self {
-            ReplyBody::Sent(bytes) => bytes.len() as u64,
-            ReplyBody::Withheld(size) => size,
+            ReplyBody::Sent(parts) => parts.length(),
+            ReplyBody::Withheld(size) => *size,
         }
     }
 }
@@ -112,11 +103,11 @@ pub fn range_value(range: ContentRange) -> ArrayString<72>
     text
 }
 
-// The pieces of a reply, in order.
+// The pieces of a head, in order.
 type Pieces<'a> = ArrayVec<&'a [u8], PIECE_ROOM>;
 
-// Five pieces of the status line, three of each of seven fields, the empty line and the body.
-const PIECE_ROOM: usize = 28;
+// Five pieces of the status line, three of each of seven fields, and the empty line.
+const PIECE_ROOM: usize = 27;
 
 // A line of the head, where its value is there.
 fn push_line<'a>(pieces: &mut Pieces<'a>, before: &'a str, value: Option<&'a str>, behind: &'a str)
@@ -132,18 +123,17 @@ fn push_line<'a>(pieces: &mut Pieces<'a>, before: &'a str, value: Option<&'a str
     }
 }
 
-// The pieces of a reply, whose numbers are written out.
-fn push_reply<'a>(
+// The pieces of a head, whose numbers are written out: that of the body's bytes, and those of its range.
+fn push_head<'a>(
     pieces: &mut Pieces<'a>,
     head: &'a ReplyHead<'a>,
-    body: ReplyBody<'a>,
-    size: &'a str,
+    digits: &'a str,
     range: Option<&'a str>,
 )
     requires first { pieces.old.items ≡ [] }
-    requires size_is { size.now ≡ decimal (size_of body) }
     requires range_is { option_map (λ v. v.now) range ≡ option_map range_text head.now.content_range }
-    ensures { flat_map (λ p. p.now) pieces.new.items ≡ sent_reply head.now body.entry }
+    ensures { (size : ℕ) → digits.now ≡ decimal size
+        → flat_map (λ p. p.now) pieces.new.items ≡ head_text (fields_of head.now size) }
 {
     let code: &'a str = head.status.as_str();
     let phrase: &'a str = head.status.canonical_reason().unwrap_or("");
@@ -154,14 +144,13 @@ fn push_reply<'a>(
     let connection: Option<&'a str> = head.close.then_some("close");
     push_status(pieces, code, phrase);
     push_line(pieces, "Content-Type: ", content_type, "\r\n");
-    push_line(pieces, "Content-Length: ", Some(size), "\r\n");
+    push_line(pieces, "Content-Length: ", Some(digits), "\r\n");
     push_line(pieces, "ETag: \"", etag, "\"\r\n");
     push_line(pieces, "Accept-Ranges: ", ranges, "\r\n");
     push_line(pieces, "Content-Range: ", range, "\r\n");
     push_line(pieces, "Allow: ", allow, "\r\n");
     push_line(pieces, "Connection: ", connection, "\r\n");
     pieces.push(b"\r\n");
-    pieces.push(body.sent());
 }
 
 // The pieces of the status line.
@@ -178,44 +167,97 @@ fn push_status<'a>(pieces: &mut Pieces<'a>, code: &'a str, phrase: &'a str)
     pieces.push(b"\r\n");
 }
 
-// Writes a reply whose numbers are written out.
-fn write_texts<'a, D: Duplex>(
+// Puts a head whose numbers are written out.
+fn put_texts<'a, D: Duplex>(
     duplex: &mut D,
+    out: &mut Outgoing,
     head: &'a ReplyHead<'a>,
-    body: ReplyBody<'a>,
-    size: &'a str,
+    digits: &'a str,
     range: Option<&'a str>,
 ) -> Result<(), WriteFault>
-    requires size_is { size.now ≡ decimal (size_of body) }
-    requires range_is { option_map (λ v. v.now) range ≡ option_map range_text head.now.content_range }
-    ensures { Ran D.saw NoRead duplex.old duplex.new (WritesText result (sent_reply head.now body.entry)) }
+    requires { option_map (λ v. v.now) range ≡ option_map range_text head.now.content_range }
+    ensures { (size : ℕ) → digits.now ≡ decimal size → Ran D.saw NoRead duplex.old duplex.new
+        (WritesOn result (head_text (fields_of head.now size)) out.old.sent out.new.sent out.old.pending.items out.new.pending.items) }
 {
     let mut pieces = ArrayVec::new();
-    push_reply(&mut pieces, head, body, size, range);
-    write_pieces(duplex, pieces.as_slice())
+    push_head(&mut pieces, head, digits, range);
+    put_pieces(duplex, out, pieces.as_slice())
+}
+
+// Puts the head before a body of this many bytes.
+fn put_head<D: Duplex>(
+    duplex: &mut D,
+    out: &mut Outgoing,
+    head: &ReplyHead<'_>,
+    size: u64,
+) -> Result<(), WriteFault>
+    ensures { Ran D.saw NoRead duplex.old duplex.new
+        (WritesOn result (head_text (fields_of head.now size)) out.old.sent out.new.sent out.old.pending.items out.new.pending.items) }
+{
+    let digits = decimal_text(size);
+    let range = head.content_range.map(range_value);
+    let range = range.as_ref().map(|text| text.as_str());
+    put_texts(duplex, out, head, digits.as_str(), range)
+}
+
+// Puts a body, where it is sent.
+fn put_body<D: Duplex, P: BodyParts<Item: Drop> + Drop>(
+    duplex: &mut D,
+    out: &mut Outgoing,
+    body: ReplyBody<P>,
+) -> Result<(), WriteFault>
+    ensures { Ran D.saw NoRead duplex.old duplex.new
+        (WritesOn result (sent_of P.texts body) out.old.sent out.new.sent out.old.pending.items out.new.pending.items) }
+{
+    match body {
+        ReplyBody::Sent(parts) => put_parts(duplex, out, parts),
+        ReplyBody::Withheld(_) => Ok(()),
+    }
+}
+
+// Writes a head, and then the body.
+fn write_both<D: Duplex, P: BodyParts<Item: Drop> + Drop>(
+    duplex: &mut D,
+    head: &ReplyHead<'_>,
+    body: ReplyBody<P>,
+) -> Result<(), WriteFault>
+    ensures { Ran D.saw NoRead duplex.old duplex.new (WritesText result (sent_reply P.texts head.now body)) }
+{
+    let mut out = Outgoing::new();
+    put_head(duplex, &mut out, head, body.size())?;
+    put_body(duplex, &mut out, body)?;
+    out.flush(duplex)
 }
 
 /// Writes a reply: its head and then its body, where that is sent. Reads nothing. The head always has a Content-Length, so
 /// that it fits no reply of status 1xx or 204 (RFC 9110, section 8.6).
 ///
-/// It takes no memory. A write that takes no byte is a fault, and so is one that fails. Nothing is written after it.
-pub fn write_reply<D: Duplex>(
+/// Each part of the body goes out as it lies, but for small ones, which are gathered: head and body are one write where they have
+/// 8,192 bytes at most. It takes no memory. A write that takes no byte is a fault, and so is one that fails. Nothing is written
+/// after it.
+pub fn write_reply<D: Duplex, P: BodyParts<Item: Drop> + Drop>(
     duplex: &mut D,
     head: &ReplyHead<'_>,
-    body: ReplyBody<'_>,
+    body: ReplyBody<P>,
 ) -> Result<(), WriteFault>
-    ensures ok { OnOk result (Appends (D.held duplex.old) (D.held duplex.new) (sent_reply head.now body.entry)) }
+    ensures ok { OnOk result (Appends (D.held duplex.old) (D.held duplex.new) (sent_reply P.texts head.now body)) }
 
     // Of a reply that is cut short the first so many bytes were written, and not all.
     ensures fault { IfErr result
-        (λ fault. SentFront (D.held duplex.old) (D.held duplex.new) (sent_reply head.now body.entry) fault.0) }
+        (λ fault. SentFront (D.held duplex.old) (D.held duplex.new) (sent_reply P.texts head.now body) fault.0) }
     ensures cause { OnErr result D.write_fails }
-    ensures ran { Ran D.saw NoRead duplex.old duplex.new (WritesText result (sent_reply head.now body.entry)) }
+    ensures ran { Ran D.saw NoRead duplex.old duplex.new (WritesText result (sent_reply P.texts head.now body)) }
 {
-    let size = decimal_text(body.size());
-    let range = head.content_range.map(range_value);
-    let range = range.as_ref().map(|text| text.as_str());
-    write_texts(duplex, head, body, size.as_str(), range)
+    write_both(duplex, head, body)
+}
+
+// Writes a text.
+fn write_text<D: Duplex>(duplex: &mut D, text: &[u8]) -> Result<(), WriteFault>
+    ensures { Ran D.saw NoRead duplex.old duplex.new (WritesText result text.now) }
+{
+    let mut out = Outgoing::new();
+    out.put(duplex, text)?;
+    out.flush(duplex)
 }
 
 /// Writes the interim reply after which the client sends the body (RFC 9110, section 15.2.1). Reads nothing.
@@ -227,5 +269,5 @@ pub fn write_interim<D: Duplex>(duplex: &mut D) -> Result<(), WriteFault>
     ensures cause { OnErr result D.write_fails }
     ensures ran { Ran D.saw NoRead duplex.old duplex.new (WritesText result continue_text) }
 {
-    write_pieces(duplex, &[b"HTTP/1.1 100 Continue\r\n\r\n"])
+    write_text(duplex, b"HTTP/1.1 100 Continue\r\n\r\n")
 }

@@ -1,15 +1,16 @@
 //! Texts on their way out.
 ghost use Rattle.std.specs.Prelude.{◌≡◌, ℕ, List, Option, [], ◌++◌, OnOk, MatchBool};
-ghost use Rattle.std.specs.List.{flat_map};
+ghost use Rattle.std.specs.List.{concat, flat_map};
 ghost use Rattle.http_wire.specs.Sending.{Sent, WritesText, WritesAll, WritesOn};
 ghost use Rattle.http_wire.specs.Timing.{NoRead, Ran};
 
 use crate::duplexes::Duplex;
 use crate::faults::WriteFault;
 use arrayvec::ArrayVec;
+use byte_view::BodyParts;
 
-// How many bytes are gathered before they are written.
-const ROOM: usize = 2048;
+// How many bytes are gathered before they are written: a small reply is one write.
+const ROOM: usize = 8192;
 
 /// What was put and not yet written, and how many bytes were written before it.
 #[derive(Drop)]
@@ -90,13 +91,32 @@ impl Outgoing {
     }
 }
 
-/// Writes the pieces, one after another.
-pub fn write_pieces<D: Duplex>(duplex: &mut D, pieces: &[&[u8]]) -> Result<(), WriteFault>
-    ensures { Ran D.saw NoRead duplex.old duplex.new (WritesText result (flat_map (λ p. p.now) pieces.now)) }
+/// Puts the pieces, one after another.
+pub fn put_pieces<D: Duplex>(
+    duplex: &mut D,
+    out: &mut Outgoing,
+    pieces: &[&[u8]],
+) -> Result<(), WriteFault>
+    ensures { Ran D.saw NoRead duplex.old duplex.new
+        (WritesOn result (flat_map (λ p. p.now) pieces.now) out.old.sent out.new.sent out.old.pending.items out.new.pending.items) }
 {
-    let mut out = Outgoing::new();
     for piece in pieces {
         out.put(duplex, piece)?;
     }
-    out.flush(duplex)
+    Ok(())
+}
+
+/// Puts the parts of a body, one after another, each as it lies.
+pub fn put_parts<D: Duplex, P: BodyParts<Item: Drop> + Drop>(
+    duplex: &mut D,
+    out: &mut Outgoing,
+    parts: P,
+) -> Result<(), WriteFault>
+    ensures { Ran D.saw NoRead duplex.old duplex.new
+        (WritesOn result (concat (P.texts parts)) out.old.sent out.new.sent out.old.pending.items out.new.pending.items) }
+{
+    for part in parts {
+        out.put(duplex, P::bytes(&part))?;
+    }
+    Ok(())
 }

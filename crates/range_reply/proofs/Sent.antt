@@ -1,8 +1,7 @@
 -- What is sent, by the bytes that holds show and by those of their file.
-use Rattle.std.proofs.Common.{◌≡◌, Result, Ok, Err, IfOk, ℕ, ◌+◌, ◌-◌, ◌<◌, List, [], ◌∷◌, ◌++◌, zero, suc, length, map, drop, codes, refl, sym, ap, ◌∙◌, arith, All, append-nil}
-use Rattle.std.proofs.lemmas.List.{length-append, length-drop, length-map, length-take, nil_from_length, take_all}
+use Rattle.std.proofs.Common.{◌≡◌, ℕ, ◌+◌, ◌-◌, List, [], ◌∷◌, ◌++◌, zero, suc, length, map, codes, refl, sym, ap, ◌∙◌, arith, All, append-nil}
+use Rattle.std.proofs.lemmas.List.{length-append, nil_from_length, take_all}
 use Rattle.std.proofs.lemmas.List.Elements.{All-head, All-tail}
-use Rattle.std.proofs.lemmas.Result.{IfOk-weaker}
 use Rattle.std.specs.List.{concat, flat_map}
 use Rattle.byte_view.specs.Cuts.{IsPure, slice}
 use Rattle.byte_view.specs.Holds.{Held, IsHeld}
@@ -111,55 +110,8 @@ text-of_file boundary content_type file holds None416 are = refl
 -- ---- what is sent
 
 module _ (boundary content_type file : List ℕ) (holds : List Held) (plan : Choice) (are : AreFor holds file plan) where
-  sent-long : All IsHeld holds → length (shown_text boundary content_type holds plan) ≡ length (body_text boundary content_type file plan)
+  pub sent-long : All IsHeld holds → length (shown_text boundary content_type holds plan) ≡ length (body_text boundary content_type file plan)
   sent-long held = text-long boundary content_type holds plan held ∙ ap length (text-of_file boundary content_type file holds plan are)
 
-  sent-pure : ArePure holds → shown_text boundary content_type holds plan ≡ body_text boundary content_type file plan
+  pub sent-pure : ArePure holds → shown_text boundary content_type holds plan ≡ body_text boundary content_type file plan
   sent-pure pure = text-pure boundary content_type holds plan pure ∙ text-of_file boundary content_type file holds plan are
-
-  -- a result that is what the holds show
-  module _ {T E : Type 0} (r : Result T E) (items : T → List ℕ) where
-    pub ok-long : All IsHeld holds → IfOk r (λ v. items v ≡ shown_text boundary content_type holds plan)
-        → IfOk r (λ v. length (items v) ≡ length (body_text boundary content_type file plan))
-    ok-long held shows = IfOk-weaker r (λ v. items v ≡ shown_text boundary content_type holds plan) (λ v. length (items v) ≡ length (body_text boundary content_type file plan))
-        (λ v e. ap length e ∙ sent-long held) shows
-
-    pub ok-pure : ArePure holds → IfOk r (λ v. items v ≡ shown_text boundary content_type holds plan)
-        → IfOk r (λ v. items v ≡ body_text boundary content_type file plan)
-    ok-pure pure shows = IfOk-weaker r (λ v. items v ≡ shown_text boundary content_type holds plan) (λ v. items v ≡ body_text boundary content_type file plan)
-        (λ v e. e ∙ sent-pure pure) shows
-
--- the same, where no more is known of a result that isn't
-pub ok_held-long : {T E : Type 0} (r : Result T E) (items : T → List ℕ) (boundary content_type file : List ℕ) (holds : List Held) (plan : Choice) → AreFor holds file plan
-    → IfOk r (λ _. All IsHeld holds) → IfOk r (λ v. items v ≡ shown_text boundary content_type holds plan)
-    → IfOk r (λ v. length (items v) ≡ length (body_text boundary content_type file plan))
-ok_held-long (Ok v) items boundary content_type file holds plan are held shows =
-    ap length shows ∙ sent-long boundary content_type file holds plan are held
-ok_held-long (Err e) items boundary content_type file holds plan are held shows = tt
-
--- ---- there is something to send
-
-joined_some : (holds : List Held) → All IsHeld holds → 0 < length holds → 0 < length (concat (all_meant holds))
-joined_some [] held some = absurd (omega (arith, some))
-joined_some (h ∷ hs) held some =
-    let here = All-head IsHeld h hs held in
-    let after = length-drop h.first h.file in
-    let taken = length-take (h.last + 1 - h.first) (drop h.first h.file) in
-    let size = length-append (slice h.file h.first h.last) (concat (all_meant hs)) in
-    omega (arith, after, taken, size, here.ordered, here.within)
-
-parts_some : (boundary content_type file : List ℕ) (intervals : List (ℕ × ℕ)) → 0 < length (body_text boundary content_type file (Many intervals))
-parts_some boundary content_type file intervals =
-    let all = length-append (flat_map (part_text boundary content_type file) intervals) (last_line boundary) in
-    let line = length-append (codes "--") (boundary ++ codes "--\r\n") in
-    omega (arith, all, line)
-
-pub sent_some : (boundary content_type file : List ℕ) (holds : List Held) (plan : Choice) → AreFor holds file plan → All IsHeld holds
-    → 0 < length holds → 0 < length (body_text boundary content_type file plan)
-sent_some boundary content_type file holds Whole are held some =
-    omega (arith, joined_some holds held some, ap length (text-of_file boundary content_type file holds Whole are))
-sent_some boundary content_type file holds (One first last) are held some =
-    omega (arith, joined_some holds held some, ap length (text-of_file boundary content_type file holds (One first last) are))
-sent_some boundary content_type file holds (Many intervals) are held some = parts_some boundary content_type file intervals
-sent_some boundary content_type file holds None416 are held some =
-    absurd (omega (arith, some, length-map holds stretch_of, ap length are.in_order))

@@ -1,5 +1,5 @@
 //! The text that separates the parts of a body.
-ghost use Rattle.std.specs.Prelude.{◌≡◌};
+ghost use Rattle.std.specs.Prelude.{◌≡◌, ◌≤◌, length};
 ghost use Rattle.range_reply.specs.Multipart.{candidate, text_of};
 
 use arrayvec::ArrayString;
@@ -27,7 +27,8 @@ impl Boundary {
 
     /// Its text.
     pub fn as_str(&self) -> &str
-        ensures { result.now ≡ text_of self.now }
+        ensures text { result.now ≡ text_of self.now }
+        ensures short { length result.now ≤ 64 }
     {
         self.text.as_str()
     }

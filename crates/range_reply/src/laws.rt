@@ -1,8 +1,10 @@
-//! Laws of texts and boundaries, each the contract of a function that does nothing.
+//! Laws of texts, boundaries and bodies, each the contract of a function that does nothing.
 ghost use Rattle.std.specs.Prelude.{◌≡◌, ◌+◌, ◌≤◌, ◌↔◌, ℕ, List, [], length, slice_range};
 ghost use Rattle.host_names.specs.declared.digests.Digest.{Digest};
 ghost use Rattle.range_reply.specs.Boundaries.{HasNoBoundary, IsBoundaryFor};
+ghost use Rattle.range_reply.specs.Sending.{IsExact, SentFile};
 ghost use Rattle.range_reply.specs.Slices.{OccursIn};
+ghost use Rattle.range_spec.specs.declared.selection.Choice.TheVariants.{Whole};
 
 /// Bytes occur in a text exactly where there is a place from which on the text is these bytes.
 pub fn texts_are_found_where_they_stand()
@@ -13,6 +15,11 @@ pub fn texts_are_found_where_they_stand()
 pub fn one_boundary()
     ensures { (texts : List (List ℕ)) (digest : Digest) (one another : List ℕ) → IsBoundaryFor texts digest one → IsBoundaryFor texts digest another
         → one ≡ another }
+{}
+
+/// Where all of a file is asked for, the body that is that of the file itself is the file.
+pub fn a_whole_file_is_its_body()
+    ensures { (file content_type : List ℕ) (body : SentFile) → IsExact file Whole content_type body → body.bytes ≡ file }
 {}
 
 /// Of these relations each is refuted of one wrong answer, so none of them holds of everything.

@@ -5,9 +5,9 @@ ghost use Rattle.range_spec.specs.Chosen.{LiesWithin};
 ghost use Rattle.range_reply.specs.Multipart.{IsCount, multipart_text, part_text, text_of};
 
 use crate::boundaries::Boundary;
-use crate::texts::head_texts;
+use crate::texts::{last_line, line_before_type, line_behind_type};
 use byte_view::BlobInfo;
-use http_wire::{ContentRange, FieldText, range_value};
+use http_wire::FieldText;
 use range_spec::Intervals;
 
 /// The total with the lengths of these texts added, if that is a `u64`.
@@ -33,14 +33,9 @@ fn with_part(
         (total + length (part_text (text_of boundary.now) content_type.entry.text.now info.now interval)) }
 {
     let (first, last) = interval;
-    let length = info.len() as u64;
-    let range = range_value(ContentRange::Of {
-        first,
-        last,
-        length,
-    });
-    let head = head_texts(boundary.as_str(), content_type.as_str(), range.as_str());
-    let total = with_texts(total, &head)?;
+    let before = line_before_type(boundary.as_str());
+    let behind = line_behind_type(first, last, info.len() as u64);
+    let total = with_texts(total, &[before.as_str(), content_type.as_str(), behind.as_str()])?;
     with_texts(total.checked_add(last - first + 1)?, &["\r\n"])
 }
 
@@ -64,7 +59,7 @@ fn with_parts(
 
 /// How many bytes the body has that sends these intervals of a file in parts with this boundary, or `None` where a `u64` doesn't
 /// hold that. It takes no memory.
-pub fn multipart_length(
+pub(crate) fn multipart_length(
     info: &BlobInfo,
     boundary: &Boundary,
     content_type: FieldText<'_>,
@@ -75,5 +70,5 @@ pub fn multipart_length(
         (length (multipart_text (text_of boundary.now) content_type.entry.text.now info.now intervals.now)) }
 {
     let parts = with_parts(0, info, boundary, content_type, intervals.as_slice())?;
-    with_texts(parts, &["--", boundary.as_str(), "--\r\n"])
+    with_texts(parts, &[last_line(boundary).as_str()])
 }

@@ -1,20 +1,21 @@
-//! What a read of a file is answered where it asks for ranges of bytes (RFC 9110, section 14). `body` alone allocates.
+//! What a read of a file is answered where it asks for ranges of bytes (RFC 9110, section 14). `read_body` alone allocates.
 #![tactic(auto)]
 
-mod bodies;
 mod boundaries;
 mod choices;
 mod conditions;
+mod file_bodies;
 pub mod laws;
 mod lengths;
 mod parts;
 mod plans;
 mod searches;
+mod stretches;
 mod texts;
 
-pub use bodies::body;
 pub use boundaries::Boundary;
 pub use choices::boundary;
 pub use conditions::IfRange;
-pub use lengths::multipart_length;
+pub use file_bodies::{FileBody, FileForm, read_body};
+pub use parts::Parts;
 pub use plans::{ReplyPlan, plan};

@@ -1,23 +1,59 @@
 //! The texts of which a body of several ranges is made.
-ghost use Rattle.std.specs.Prelude.{◌≡◌};
-ghost use Rattle.std.specs.List.{flat_map};
-ghost use Rattle.range_reply.specs.Multipart.{head_with};
+ghost use Rattle.std.specs.Prelude.{◌≡◌, ◌≤◌, length};
+ghost use Rattle.range_reply.specs.Bodies as spec;
+ghost use Rattle.range_reply.specs.Multipart as multipart;
+ghost use Rattle.range_reply.specs.PartTexts.{boundary_line, range_line};
 
-/// The texts that a part's head is of, in order, where this is the value of its `Content-Range` field.
-pub(crate) fn head_texts<'a>(
-    boundary: &'a str,
-    content_type: &'a str,
-    range: &'a str,
-) -> [&'a str; 7]
-    ensures { flat_map (λ text. text.now) result ≡ head_with boundary.now content_type.now range.now }
+use crate::boundaries::Boundary;
+use arrayvec::ArrayString;
+use http_wire::{ContentRange, range_value};
+
+/// The text of a boundary, if there is one.
+pub(crate) fn text_in(boundary: &Option<Boundary>) -> &str
+    ensures text { result.now ≡ spec.text_in boundary.now }
+    ensures short { length result.now ≤ 64 }
 {
-    [
-        "--",
-        boundary,
-        "\r\nContent-Type: ",
-        content_type,
-        "\r\nContent-Range: ",
-        range,
-        "\r\n\r\n",
-    ]
+    match boundary {
+        Some(boundary) => boundary.as_str(),
+        None => "",
+    }
+}
+
+/// What comes before the type in the head of a part: the boundary's line, and the name of the field.
+pub(crate) fn line_before_type(boundary: &str) -> ArrayString<256>
+    requires { length boundary.now ≤ 64 }
+    ensures { result.bytes ≡ boundary_line boundary.now }
+{
+    let mut line = ArrayString::new();
+    line.push_str("--");
+    line.push_str(boundary);
+    line.push_str("\r\nContent-Type: ");
+    line
+}
+
+/// What comes behind the type in the head of a part: which bytes it has of a file of so many, and an empty line.
+pub(crate) fn line_behind_type(first: u64, last: u64, length: u64) -> ArrayString<256>
+    ensures { result.bytes ≡ range_line (first, last) length }
+{
+    let range = range_value(ContentRange::Of {
+        first,
+        last,
+        length,
+    });
+    let mut line = ArrayString::new();
+    line.push_str("\r\nContent-Range: ");
+    line.push_str(range.as_str());
+    line.push_str("\r\n\r\n");
+    line
+}
+
+/// The last boundary's line.
+pub(crate) fn last_line(boundary: &Boundary) -> ArrayString<256>
+    ensures { result.bytes ≡ multipart.last_line (multipart.text_of boundary.now) }
+{
+    let mut line = ArrayString::new();
+    line.push_str("--");
+    line.push_str(boundary.as_str());
+    line.push_str("--\r\n");
+    line
 }

@@ -1,12 +1,11 @@
 //! Uploads to a shelf in memory, stores that are opened over one, and what is read of them.
 use super::fixtures::{assert_text, halves};
 use blob_store::{Blobs, LentShelf, MemShelf, OpenFault, ShelfName, UploadFault, Wanted};
-use byte_view::BlobInfo;
+use byte_view::{BlobInfo, Part};
 use chunk_group::NodeFiles;
-use file_reads::read_body;
 use host_names::Digest;
 use http_wire::FieldText;
-use range_reply::{IfRange, plan};
+use range_reply::{IfRange, Parts, plan, read_body};
 use range_spec::parse;
 use std::alloc::{AllocError, Global};
 use std::process::Abort;
@@ -199,29 +198,57 @@ world !hello -> damaged aaf4c61ddcc5e8a2dabede0f3b482cd9aea9434d
     Ok(())
 }
 
-/// Asserts what is read of `hello world`, through a node over a store's shelf, for a value of Range.
+/// What parts are told as, one after another: `text` and `lent`, with their bytes.
+fn told(alloc: Global, parts: Parts<'_>) -> Result<String, Fail> {
+    let mut told = String::new(alloc);
+    for part in parts {
+        let kind = match &part {
+            Part::Text(_) => "text",
+            Part::Lent(_) => "lent",
+        };
+        let bytes = str::from_utf8(part.bytes())?;
+        told.push_str(format!(in alloc; "[{kind} {bytes}]")?.as_str())?;
+    }
+    Ok(told)
+}
+
+/// Asserts in which parts what is asked for of `hello world` is sent, read through a node over a store's shelf.
 fn assert_read(
     rt: &impl Abort,
     alloc: Global,
     mut blobs: Blobs<MemShelf>,
+    range: &str,
     wanted: &str,
 ) -> Result<(), Fail> {
     let info = blobs.upload(b"hello world")?;
     let (_, files) = blobs.into_parts();
     let mut node = NodeFiles::new(alloc, files).map_err(|_| "there is no memory for a node")?;
-    let planned = plan(&info, &parse(b"bytes=6-"), IfRange::Absent);
+    let planned = plan(&info, &parse(range.as_bytes()), IfRange::Absent);
     let plain = FieldText::new("text/plain");
     let body = read_body(alloc, &mut node, &info, planned, plain)?;
-    assert_text(
-        rt,
-        "a range",
-        str::from_utf8(body.bytes.as_slice())?,
-        wanted,
-    );
+    let parts = told(alloc, body.parts())?;
+    assert_text(rt, range, parts.as_str(), wanted);
     Ok(())
 }
 
 #[test]
 fn a_range_is_read_through_a_node(rt: HostRuntime) -> Result<(), Fail> {
-    assert_read(&rt, rt.alloc(), no_uploads(rt.alloc()), "world")
+    assert_read(&rt, rt.alloc(), no_uploads(rt.alloc()), "bytes=6-", "[lent world]")
+}
+
+#[test]
+fn several_ranges_are_lent_between_their_heads(rt: HostRuntime) -> Result<(), Fail> {
+    let boundary = "fh0-2aae6c35c94fcfb415dbe95f408b9ce91ee846ed";
+    let wanted = format!(in rt.alloc(); "[text --{boundary}\r\nContent-Type: ][lent text/plain]\
+        [text \r\nContent-Range: bytes 0-0/11\r\n\r\n][lent h][lent \r\n]\
+        [text --{boundary}\r\nContent-Type: ][lent text/plain]\
+        [text \r\nContent-Range: bytes 10-10/11\r\n\r\n][lent d][lent \r\n]\
+        [text --{boundary}--\r\n]")?;
+    assert_read(
+        &rt,
+        rt.alloc(),
+        no_uploads(rt.alloc()),
+        "bytes=0-0,-1",
+        wanted.as_str(),
+    )
 }

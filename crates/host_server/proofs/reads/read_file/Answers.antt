@@ -1,4 +1,4 @@
-use Rattle.std.proofs.Common.{rules, ◌≡◌, ◌⊎◌, Err, IfErr, IfOk, IsTrue, List, Result, length, ℕ, refl, subst, sym, ◌∙◌}
+use Rattle.std.proofs.Common.{rules, ◌≡◌, ◌⊎◌, Err, IfErr, IfOk, IsTrue, List, Result, length, ℕ, refl, ap, subst, sym, ◌∙◌}
 use Rattle.range_spec.specs.declared.selection.Choice.TheVariants.{None416}
 use Rattle.host_api.specs.declared.refusals.Refusal.{Refusal}
 use Rattle.host_api.specs.declared.refusals.Refusal.TheVariants.{NotSatisfiable, OutOfMemory}
@@ -6,11 +6,13 @@ use Rattle.byte_view.specs.Contents.{AreDigested}
 use Rattle.host_server.specs.Answers.{ReadsFile}
 use Rattle.host_server.specs.Files.{is_read}
 use Rattle.host_server.specs.Hosts.{state_of}
+use Rattle.host_api.specs.Types.{type_of}
+use Rattle.host_server.specs.Replies.{unread_answer}
 use Rattle.host_server.specs.Versions.{file_of}
 use Rattle.host_server.specs.declared.replies.Reply.{Reply}
 use Rattle.host_server.specs.declared.servers.Server.{Server}
 use Rattle.host_server.proofs.FilesKnown.{file_known}
-use Rattle.host_server.proofs.Reading.{IsAsked, IsReason, IsReplyWith, file_read, not_wanted}
+use Rattle.host_server.proofs.Reading.{IsAsked, IsReason, IsReplyWith, file_read, file_unread, not_wanted}
 use Rattle.host_server.proofs.reads.read_file.Goals as goal
 
 pub returns-in_err-info-clause-reads : goal.returns-in_err-info-clause-reads
@@ -44,9 +46,22 @@ returns-clause-reads g c =
     let digested = subst AreDigested c.uploads.ensures c.uploads_are_digested.ensures in
     let same = c.in_ok-info.ensures.ok ∙ c.info-2.ensures in
     file_read did failures server next parts path (file_of (state_of server.house) c.args.site.now c.args.version.now path) c.in_ok-file.file.now plan c.send.result
-    c.in_ok-file.ensures.found
+    (sym c.is_head_only.ensures ∙ c.if-is_head_only.false) c.in_ok-file.ensures.found
     (file_known server.house c.args.site.now c.args.version.now path c.in_ok-file.file.now digested c.lawful.ensures c.in_ok-file.ensures.found)
     (subst (λ (f : List ℕ). IsAsked parts f plan) (c.deref.ensures ∙ c.info.ensures) c.plan_asked-plan.ensures.asked)
     c.in_ok-info.ensures.some refl
     (subst (λ (f : List ℕ). IfOk c.send.result (IsReplyWith did failures server path f plan next)) same c.send.ensures.sent)
     (subst (λ (f : List ℕ). IfErr c.send.result (IsReason did failures server f plan next)) same c.send.ensures.refused)
+
+pub returns-then-is_head_only-clause-reads : goal.returns-then-is_head_only-clause-reads
+returns-then-is_head_only-clause-reads g c =
+    let server = c.args.server.now in
+    let parts = c.args.head.now in
+    let path = c.args.path.now in
+    let digested = subst AreDigested c.uploads.ensures c.uploads_are_digested.ensures in
+    let same = c.in_ok-info.ensures.ok ∙ c.info-2.ensures in
+    file_unread g.S.Shelf.did g.S.Shelf.failures server parts path (file_of (state_of server.house) c.args.site.now c.args.version.now path) c.in_ok-file.file.now c.plan_asked-plan.result c.unread.result
+    (sym c.is_head_only.ensures ∙ c.if-is_head_only.true) c.in_ok-file.ensures.found
+    (file_known server.house c.args.site.now c.args.version.now path c.in_ok-file.file.now digested c.lawful.ensures c.in_ok-file.ensures.found)
+    (subst (λ (f : List ℕ). IsAsked parts f c.plan_asked-plan.result) (c.deref.ensures ∙ c.info.ensures) c.plan_asked-plan.ensures.asked)
+    (c.unread.ensures ∙ ap (unread_answer (type_of path)) same)

@@ -1,5 +1,5 @@
 use Rattle.std.proofs.Common.{ap, subst, ◌∙◌, List, ℕ}
-use Rattle.file_reads.specs.Sending.{IsRead}
+use Rattle.range_reply.specs.Sending.{IsRead}
 use Rattle.chunk_group.specs.Cached.{GaveOfNode}
 use Rattle.host_server.proofs.StoredReads.{fault_goes_on, read_goes_on}
 use Rattle.host_server.specs.Files.{sent_answer}

@@ -17,4 +17,4 @@ tag_is_within (Some value) = tag_within value.text.now value.valid
 pub returns : goal.returns
 returns c =
     let head = c.args.head.now in
-    record { text_is = refl; each = lines_are_lines (fields_of head c.args.body) (text_is_within head.content_type) (tag_is_within head.etag) (text_is_within head.allow) }
+    record { text_is = refl; each = lines_are_lines (fields_of head c.args.size) (text_is_within head.content_type) (tag_is_within head.etag) (text_is_within head.allow) }

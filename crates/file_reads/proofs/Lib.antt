@@ -1,4 +1,0 @@
-mod HeldInTurn
-mod Joined
-pub mod Passing
-pub mod Honest

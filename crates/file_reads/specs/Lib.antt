@@ -1,3 +1,0 @@
--- what public clauses say
-pub mod Holding
-pub mod Sending

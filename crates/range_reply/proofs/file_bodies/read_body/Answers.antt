@@ -1,0 +1,101 @@
+use Rattle.std.proofs.Common.{rules, ◌≡◌, [], inl, inr, Err, None, length, refl, sym, ap, subst}
+use Rattle.host_names.specs.Digests.{digest_of}
+use Rattle.range_spec.specs.declared.selection.Choice.{Choice}
+use Rattle.range_spec.specs.declared.selection.Choice.TheVariants.{Whole}
+use Rattle.range_reply.specs.Bodies.{AreFor, HasBoundary, shown_text, stretches, text_in}
+use Rattle.range_reply.specs.Holding.{AreHeld}
+use Rattle.range_reply.specs.Sending.{IsNotRead, IsRead, IsSent, SentFile, more_of, sent_holds}
+use Rattle.range_reply.specs.Slices.{all_shown}
+use Rattle.range_reply.proofs.HeldInTurn.{no_room, nothing_held}
+use Rattle.range_reply.proofs.Joined.{are_pure, first-sent, no_boundary, none-more, pure-first, pure-rest, sent_of}
+use Rattle.range_reply.proofs.Sent.{sent-pure}
+use Rattle.range_reply.proofs.file_bodies.read_body.Goals as goal
+
+pub returns-in_err-new-in-Ok-clause-fault : goal.returns-in_err-new-in-Ok-clause-fault
+returns-in_err-new-in-Ok-clause-fault g c =
+    let file = c.args.info.now.value in
+    let why = c.in_err-new-in-Ok.field-0.0 in
+    let is : c.from_residual-in_err-new-in-Ok.result ≡ Err why = search rules in
+    let fault : IsNotRead g.H.Holder.gave g.H.Holder.failed c.args.holder.now file c.args.plan why c.hold_for.new.holder =
+    inl (no_room g.H.Holder.gave g.H.Holder.failed file c.args.holder.now c.hold_for.new.holder why (stretches (length file) c.args.plan) c.in_ok-holds.holds.items
+    c.in_ok-holds.ensures.held c.in_err-new-in-Ok.ensures.fault) in
+    search (rules, fault)
+
+pub returns-in_ok-new-in-Ok-clause-read : goal.returns-in_ok-new-in-Ok-clause-read
+returns-in_ok-new-in-Ok-clause-read g c =
+    let gave = g.H.Holder.gave in
+    let file = c.args.info.now.value in
+    let plan = c.args.plan in
+    let boundary = c.in-Ok.boundary in
+    let content_type = c.args.content_type.text.now in
+    let holds = c.in_ok-holds.holds.items in
+    let held = c.in_ok-holds.ensures.held in
+    let has : HasBoundary boundary plan = c.in-Ok.ensures.separated in
+    let digest : c.digest.result ≡ digest_of file = search rules in
+    let seen : c.as_slice.result.now ≡ holds = search rules in
+    let are : AreFor holds file plan = record { same_file = held.same_file; in_order = held.in_order } in
+    let R : SentFile → Type 0 = λ body. IsRead gave c.args.holder.now file plan content_type body c.hold_for.new.holder in
+    subst R (sym c.in_ok-new-in-Ok.ensures.made) (record {
+      holds = holds;
+      mid = c.hold_for.new.holder;
+      held = held;
+      sent = subst (λ d. IsSent (all_shown holds) d plan boundary plan) digest
+          (subst (λ hs. IsSent (all_shown hs) c.digest.result plan boundary plan) seen c.in-Ok.ensures.shown);
+      more = [];
+      more_held = nothing_held gave file c.hold_for.new.holder (more_of (length file) plan boundary) (none-more (length file) plan boundary has);
+      bytes = ap (λ hs. shown_text (text_in boundary) content_type hs plan) (sym (first-sent holds [] plan boundary has));
+      exact = λ pure. (
+          let all = are_pure file holds held.same_file held.lawful (pure-first file holds [] pure) in
+          record {
+            sent = sent_of file (length file) holds c.as_slice.result.now c.digest.result plan boundary plan seen digest held.same_file held.in_order c.in-Ok.ensures.pure all;
+            bytes = sent-pure (text_in boundary) content_type file holds plan are all;
+          });
+    })
+
+pub returns-in_err-whole-in-Err-clause-fault : goal.returns-in_err-whole-in-Err-clause-fault
+returns-in_err-whole-in-Err-clause-fault g c =
+    let gave = g.H.Holder.gave in
+    let file = c.args.info.now.value in
+    let plan = c.args.plan in
+    let xs = c.in_ok-holds.holds.items in
+    let why = c.in_err-whole-in-Err.field-0.0 in
+    let parts = c.in-Err.ensures.several in
+    let digest : c.digest.result ≡ digest_of file = search rules in
+    let seen : c.as_slice.result.now ≡ xs = search rules in
+    let sent = subst (λ d. IsSent (all_shown xs) d plan None Whole) digest (subst (λ hs. IsSent (all_shown hs) c.digest.result plan None Whole) seen c.in-Err.ensures.shown) in
+    let held = subst (λ p. AreHeld gave c.args.holder.now file (stretches (length file) p) xs c.hold_for.new.holder) parts.1 c.in_ok-holds.ensures.held in
+    let is : c.from_residual-in_err-whole-in-Err.result ≡ Err why = search rules in
+    let fault : IsNotRead gave g.H.Holder.failed c.args.holder.now file plan why c.hold_whole.new.holder =
+    inr (parts.0, xs, c.hold_for.new.holder, parts.1, held, no_boundary (all_shown xs) (digest_of file) plan Whole parts.0 parts.1 sent, c.in_err-whole-in-Err.ensures.fault) in
+    search (rules, fault)
+
+pub returns-in_ok-new-in-Err-clause-read : goal.returns-in_ok-new-in-Err-clause-read
+returns-in_ok-new-in-Err-clause-read g c =
+    let gave = g.H.Holder.gave in
+    let file = c.args.info.now.value in
+    let plan = c.args.plan in
+    let content_type = c.args.content_type.text.now in
+    let xs = c.in_ok-holds.holds.items in
+    let held = c.in_ok-holds.ensures.held in
+    let ys = c.in_ok-whole-in-Err.whole.items in
+    let rest = c.in_ok-whole-in-Err.ensures.held in
+    let parts = c.in-Err.ensures.several in
+    let digest : c.digest.result ≡ digest_of file = search rules in
+    let seen : c.as_slice.result.now ≡ xs = search rules in
+    let are : AreFor ys file Whole = record { same_file = rest.same_file; in_order = rest.in_order } in
+    let R : SentFile → Type 0 = λ body. IsRead gave c.args.holder.now file plan content_type body c.hold_whole.new.holder in
+    let B : Choice → Type 0 = λ p. shown_text (text_in None) content_type ys Whole ≡ shown_text (text_in None) content_type (sent_holds xs ys p None) Whole in
+    subst R (sym c.in_ok-new-in-Err.ensures.made) (record {
+      holds = xs;
+      mid = c.hold_for.new.holder;
+      held = held;
+      sent = subst (λ d. IsSent (all_shown xs) d plan None Whole) digest (subst (λ hs. IsSent (all_shown hs) c.digest.result plan None Whole) seen c.in-Err.ensures.shown);
+      more = ys;
+      more_held = subst (λ p. AreHeld gave c.hold_for.new.holder file (more_of (length file) p None) ys c.hold_whole.new.holder) (sym parts.1) rest;
+      bytes = subst B (sym parts.1) refl;
+      exact = λ pure. record {
+        sent = sent_of file (length file) xs c.as_slice.result.now c.digest.result plan None Whole seen digest held.same_file held.in_order c.in-Err.ensures.pure
+            (are_pure file xs held.same_file held.lawful (pure-first file xs ys pure));
+        bytes = sent-pure (text_in None) content_type file ys Whole are (are_pure file ys rest.same_file rest.lawful (pure-rest file xs ys pure));
+      };
+    })

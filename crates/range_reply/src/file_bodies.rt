@@ -1,0 +1,211 @@
+//! What is sent of a file: what is held of it, lent in parts.
+ghost use Rattle.std.specs.Prelude.{◌≡◌, ◌<◌, ◌≤◌, All, IfErr, IfNone, IfOk, IsTrue, MatchResult, None, length};
+ghost use Rattle.std.specs.List.{concat};
+ghost use Rattle.byte_view.specs.Holds.{IsHeld};
+ghost use Rattle.chunk_reads.specs.declared.faults.ReadFault.TheVariants.{OutOfMemory};
+ghost use Rattle.range_spec.specs.Chosen.{LiesWithin, intervals_in};
+ghost use Rattle.range_spec.specs.declared.selection.Choice.TheVariants as choice;
+ghost use Rattle.range_reply.specs.Bodies.{AreFor, HasBoundary, shown_text, text_in};
+ghost use Rattle.range_reply.specs.Multipart.{IsCount};
+ghost use Rattle.range_reply.specs.Sending.{HasParts, IsForm, IsNotRead, IsRead, IsSent, sends_bytes};
+ghost use Rattle.range_reply.specs.Slices.{ArePure, all_meant, all_shown};
+
+use crate::boundaries::Boundary;
+use crate::choices::boundary;
+use crate::lengths::multipart_length;
+use crate::parts::Parts;
+use crate::plans::ReplyPlan;
+use crate::stretches::{hold_for, hold_whole};
+use byte_view::{BlobInfo, Hold};
+use chunk_reads::{Holder, ReadFault};
+use host_names::Digest;
+use http_wire::FieldText;
+use range_spec::Choice;
+use std::alloc::Global;
+use std::marker::Model;
+use std::sync::Arc;
+
+/// What is sent of a file. Several ranges always have a text that separates their parts.
+#[derive(Clone, Copy, Debug)]
+pub enum FileForm {
+    /// All of it.
+    Whole,
+    /// The bytes from the first position to the last.
+    One(u64, u64),
+    /// Several ranges, in parts.
+    Several(Boundary),
+    /// None of the bytes that were asked for is there.
+    Nothing,
+}
+
+/// The body that sends some bytes of a file: it owns what is held of it, and lends that in parts.
+#[derive(Drop)]
+pub struct FileBody {
+    plan: ReplyPlan,
+    boundary: Option<Boundary>,
+    content_type: FieldText<'static>,
+    holds: Vec<Hold>,
+    /// How many bytes the file has, and the body.
+    size: u64,
+    length: u64,
+}
+
+impl Model for FileBody {
+    ghost use Rattle.range_reply.specs.Bodies.{shown_text, text_in};
+    ghost use Rattle.range_reply.specs.Sending.{IsMade, SentFile};
+
+    ghost Value = { SentFile };
+
+    ghost view = { λ b. record {
+        plan = b.plan;
+        boundary = b.boundary;
+        bytes = shown_text (text_in b.boundary) b.content_type.text.now b.holds.items b.plan;
+    } };
+
+    ghost invariant = { λ b. IsMade b.plan b.boundary b.content_type.text.now b.holds.items b.size b.length };
+}
+
+/// How many bytes a hold shows of its stretch, or none of no hold.
+fn single_length(holds: &[Hold]) -> u64
+    requires { length holds.now ≤ 1 }
+    ensures held { All IsHeld holds.now }
+    ensures long { result ≡ length (concat (all_shown holds.now)) }
+{
+    let [hold] = holds else {
+        return 0;
+    };
+    let (first, last) = hold.stretch();
+    (last - first + 1) as u64
+}
+
+/// How many bytes the body has, if a `u64` holds that.
+fn body_length(
+    holds: &[Hold],
+    plan: &ReplyPlan,
+    boundary: &Option<Boundary>,
+    content_type: FieldText<'static>,
+    info: &BlobInfo,
+) -> Option<u64>
+    requires held { AreFor holds.now info.now plan.now }
+    requires lawful { All IsHeld holds.now }
+    requires within { All (LiesWithin (length info.now)) (intervals_in plan.now) }
+    requires separated { HasBoundary boundary.now plan.now }
+    ensures long { IsCount result (length (shown_text (text_in boundary.now) content_type.entry.text.now holds.now plan.now)) }
+    ensures several { IfNone result (HasParts plan.now) }
+{
+    match (plan, boundary) {
+        (Choice::Many(intervals), Some(boundary)) => multipart_length(info, boundary, content_type, intervals),
+        _ => Some(single_length(holds)),
+    }
+}
+
+impl FileBody {
+    /// The body of these holds. One of 2^64 bytes or more counts as one for which there is no memory.
+    fn new(
+        holds: Vec<Hold>,
+        plan: ReplyPlan,
+        boundary: Option<Boundary>,
+        content_type: FieldText<'static>,
+        info: &BlobInfo,
+    ) -> Result<FileBody, ReadFault>
+        requires held { AreFor holds.items info.now plan }
+        requires lawful { All IsHeld holds.items }
+        requires within { All (LiesWithin (length info.now)) (intervals_in plan) }
+        requires separated { HasBoundary boundary plan }
+        ensures made { IfOk result (λ body. body ≡ record {
+            plan = plan;
+            boundary = boundary;
+            bytes = shown_text (text_in boundary) content_type.entry.text.now holds.items plan;
+        }) }
+        ensures fault { IfErr result (λ fault. fault ≡ OutOfMemory) }
+        ensures memory { IfErr result (λ _. HasParts plan) }
+    {
+        let length = body_length(holds.as_slice(), &plan, &boundary, content_type, info);
+        let length = length.ok_or(ReadFault::OutOfMemory)?;
+        Ok(FileBody {
+            plan,
+            boundary,
+            content_type,
+            holds,
+            size: info.len() as u64,
+            length,
+        })
+    }
+
+    /// What is sent.
+    pub fn form(&self) -> FileForm
+        ensures { IsForm result self.now.plan self.now.boundary }
+    {
+        match &self.plan {
+            Choice::Whole => FileForm::Whole,
+            Choice::One(first, last) => FileForm::One(*first, *last),
+            Choice::Many(_) => match &self.boundary {
+                Some(boundary) => FileForm::Several(*boundary),
+                None => unreachable!(),
+            },
+            Choice::None416 => FileForm::Nothing,
+        }
+    }
+
+    /// Its parts, in order, each as it lies. It takes no memory.
+    pub fn parts(&self) -> Parts<'_>
+        ensures { concat result ≡ self.now.bytes }
+    {
+        let holds = self.holds.as_slice();
+        match self.form() {
+            FileForm::Several(boundary) => {
+                Parts::of_several(holds, self.size, &boundary, self.content_type, self.length)
+            }
+            _ => Parts::of_stretch(holds.first(), self.length),
+        }
+    }
+}
+
+/// Several parts have no boundary: each candidate occurs in one of them.
+#[derive(Drop)]
+struct NoBoundary;
+
+/// What separates the parts of a plan that has several.
+fn boundary_for(
+    holds: &[Hold],
+    plan: &ReplyPlan,
+    digest: Digest,
+) -> Result<Option<Boundary>, NoBoundary>
+    ensures separated { IfOk result (λ found. HasBoundary found plan.now) }
+    ensures several { IfErr result (λ _. HasParts plan.now) }
+    ensures shown { MatchResult result (λ found. IsSent (all_shown holds.now) digest plan.now found plan.now)
+        (λ _. IsSent (all_shown holds.now) digest plan.now None choice.Whole) }
+    ensures pure { ArePure holds.now → MatchResult result
+        (λ found. IsSent (all_meant holds.now) digest plan.now found plan.now)
+        (λ _. IsSent (all_meant holds.now) digest plan.now None choice.Whole) }
+{
+    match plan {
+        Choice::Many(_) => Ok(Some(boundary(holds, digest).ok_or(NoBoundary)?)),
+        Choice::Whole | Choice::One(..) | Choice::None416 => Ok(None),
+    }
+}
+
+/// Reads what a plan asks for of a file: its stretches are held, and where several parts have no boundary the whole file is
+/// sent, which is held then. The body lends what is held; none of it is copied. It takes no memory where nothing is sent.
+pub fn read_body<H: Holder>(
+    alloc: Global,
+    holder: &mut H,
+    info: &Arc<BlobInfo>,
+    plan: ReplyPlan,
+    content_type: FieldText<'static>,
+) -> Result<FileBody, ReadFault>
+    requires { All (LiesWithin (length info.now.value)) (intervals_in plan) }
+    ensures read { IfOk result
+        (λ body. IsRead H.gave holder.old info.now.value plan content_type.entry.text.now body holder.new) }
+    ensures fault { IfErr result (λ fault. IsNotRead H.gave H.failed holder.old info.now.value plan fault holder.new) }
+    ensures some { IfErr result (λ _. IsTrue (sends_bytes (length info.now.value) plan)) }
+{
+    let holds = hold_for(alloc, holder, info, &plan)?;
+    match boundary_for(holds.as_slice(), &plan, info.digest()) {
+        Ok(boundary) => Ok(FileBody::new(holds, plan, boundary, content_type, info)?),
+        Err(NoBoundary) => {
+            let whole = hold_whole(alloc, holder, info)?;
+            Ok(FileBody::new(whole, Choice::Whole, None, content_type, info)?)
+        }
+    }
+}
