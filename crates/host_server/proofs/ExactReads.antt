@@ -23,7 +23,7 @@ use Rattle.host_server.proofs.KnownFiles.{known_cached}
 use Rattle.host_server.specs.Files.{IsFileSent, IsFileTold, IsReadReply, plan_of, refusal_of_read}
 use Rattle.host_server.specs.Hosts.{state_of}
 use Rattle.host_server.specs.ReadBack.{HasKnown, IsReadBack, IsSentExactly}
-use Rattle.host_server.specs.Replies.{Answer, is_head, refused_answer, unread_answer}
+use Rattle.host_replies.specs.Replies.{Answer, is_head, refused_answer, unread_answer}
 use Rattle.host_server.specs.Versions.{file_of}
 use Rattle.host_server.specs.declared.servers.Server.{Server}
 

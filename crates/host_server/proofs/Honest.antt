@@ -25,7 +25,7 @@ use Rattle.host_server.specs.Asks.{AskRunsOut, AskStops, IsAnswer, IsReplyToAsk,
 use Rattle.host_server.specs.Files.{IsFileSent, IsFileTold, IsReadReply, ReadRunsOut, plan_of}
 use Rattle.host_server.specs.Hosts.{state_of}
 use Rattle.host_server.specs.Outcomes.{judge_upload}
-use Rattle.host_server.specs.Replies.{Answer, is_head}
+use Rattle.host_replies.specs.Replies.{Answer, is_head}
 use Rattle.host_server.specs.Storing.{IsNotStored, IsRefusedByStore, IsStored, IsStoredIf, IsUnpublished, IsUploaded, IsUploadReply, UploadRunsOut}
 use Rattle.host_server.specs.Versions.{file_of}
 use Rattle.host_server.specs.declared.servers.Server.{Server}

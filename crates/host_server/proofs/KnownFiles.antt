@@ -32,7 +32,7 @@ use Rattle.host_server.specs.Files.{IsFileSent, IsFileTold, IsKnown, IsReadReply
 use Rattle.host_server.specs.Hosts.{Host, state_of, with_upload}
 use Rattle.host_server.specs.Outcomes.{judge_upload, uploaded}
 use Rattle.host_server.specs.ReadBack.{AgreesWith, HasKnown, IsKnownPiece, UploadAgrees}
-use Rattle.host_server.specs.Replies.{Answer, is_head}
+use Rattle.host_replies.specs.Replies.{Answer, is_head}
 use Rattle.host_server.specs.Storing.{IsRefusedByStore, IsStored, IsStoredIf, IsUploadReply, UploadRunsOut}
 use Rattle.host_server.specs.Versions.{file_of}
 use Rattle.host_server.specs.declared.servers.Server.{Server}

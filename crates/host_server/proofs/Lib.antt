@@ -2,8 +2,6 @@ pub mod Journaling
 pub mod Committing
 pub mod HoldingUp
 pub mod InRange
-pub mod FieldTexts
-pub mod EntityTags
 pub mod Telling
 mod KeptByReads
 mod StoredReads
@@ -24,12 +22,5 @@ pub mod Opening
 pub mod Opened
 pub mod Entering
 pub mod Growing
-pub mod Turns
-pub mod Served
 pub mod Lines
-pub mod TimedTrails
-pub mod TimedReads
-pub mod TimedTurns
-pub mod TimedConnections
 pub mod Refuted
-pub mod NoHead

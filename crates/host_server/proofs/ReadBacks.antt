@@ -12,7 +12,7 @@ use Rattle.host_disk.specs.declared.disks.Disk.{Ghosts}
 use Rattle.host_server.specs.Asks.{IsAnswer}
 use Rattle.host_server.specs.Openings.{IsOpened}
 use Rattle.host_server.specs.ReadBack.{Agreeing, HasKnown, IsKnownPiece, ReadsBack}
-use Rattle.host_server.specs.Serving.{AreServed, Stream, is_last_at}
+use Rattle.host_connection.specs.Serving.{AreServed, Stream, is_last_at}
 use Rattle.host_server.specs.declared.servers.Server.{Server}
 use Rattle.host_server.proofs.ExactReads.{answered_back}
 use Rattle.host_server.proofs.Honest.{answered}

@@ -28,11 +28,12 @@ use Rattle.host_api.specs.declared.refusals.Refusal.{Refusal}
 use Rattle.host_api.specs.declared.refusals.Refusal.TheVariants as reason
 use Rattle.host_disk.specs.declared.disks.Disk.{Ghosts}
 use Rattle.host_server.specs.Answers.{ReadsFile}
-use Rattle.host_server.specs.Bodies.{answer_of}
-use Rattle.host_server.specs.PartsTypes.{IsOfEight}
-use Rattle.host_server.specs.Files.{AskedBy, AsksRange, IsFileSent, IsFileTold, IsKnown, SendsParts, is_read, plan_of, refusal_of_read, sent_answer}
-use Rattle.host_server.specs.Replies.{Answer, is_head, refused_answer, unread_answer}
-use Rattle.host_server.specs.declared.replies.Reply.{Reply}
+use Rattle.host_replies.specs.Bodies.{answer_of}
+use Rattle.host_replies.specs.PartsTypes.{IsOfEight}
+use Rattle.host_server.specs.Files.{AskedBy, AsksRange, IsFileSent, IsFileTold, IsKnown, is_read, plan_of, refusal_of_read}
+use Rattle.host_replies.specs.SentFiles.{SendsParts, sent_answer}
+use Rattle.host_replies.specs.Replies.{Answer, is_head, refused_answer, unread_answer}
+use Rattle.host_replies.specs.declared.replies.Reply.{Reply}
 use Rattle.host_server.specs.declared.servers.Server.{Server}
 
 -- ---- several parts have a boundary

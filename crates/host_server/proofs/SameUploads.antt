@@ -15,7 +15,7 @@ use Rattle.host_server.specs.Asks.{HostRunsOut, HostStops, IsHostReply}
 use Rattle.host_server.specs.Hosts.{Host, next_number, with_entry}
 use Rattle.host_server.specs.Outcomes.{commit_outcome, committed, enter_outcome, is_ready, outcome_on, published_if_ready, publishing, site_of_deploy, undone}
 use Rattle.host_server.specs.Reasons.{commit_refusal, undo_refusal}
-use Rattle.host_server.specs.Replies.{Answer}
+use Rattle.host_replies.specs.Replies.{Answer}
 
 publishing_same : (host : Host) (change : Command) (refusal : Option ChangeRefusal) → (publishing host change refusal).host.uploads ≡ host.uploads
 publishing_same host change None = refl

@@ -15,22 +15,24 @@ use Rattle.blob_store.specs.Calls.{Call}
 use Rattle.blob_store.specs.declared.blobs.UploadFault.{UploadFault}
 use Rattle.blob_store.specs.declared.blobs.UploadFault.TheVariants as fault
 use Rattle.host_disk.specs.declared.disks.Disk.{Ghosts}
-use Rattle.host_server.specs.Answers.{Reads, ReadsFile, Tells}
+use Rattle.host_server.specs.Answers.{Reads, ReadsFile}
+use Rattle.host_replies.specs.Replies.{Tells}
 use Rattle.host_server.specs.Asks.{AnswersAsk, AnswersHost, AnswersRead, CarriesOut, HostRunsOut, HostStops, IsAnswer, IsHostReply, IsTold, asked_for}
 use Rattle.host_server.specs.Files.{IsReadReply, ReadRunsOut}
 use Rattle.host_server.specs.Storing.{DoesUpload, IsRefusedByStore, IsUploadReply, UploadRunsOut, refusal_of_upload}
 use Rattle.host_server.specs.declared.servers.Server.{Server}
-use Rattle.host_server.specs.Bodies.{answer_of}
+use Rattle.host_replies.specs.Bodies.{answer_of}
 use Rattle.change_journal.specs.entries.Held.{Keeps}
 use Rattle.host_server.specs.Hosts.{Host, state_of}
 use Rattle.host_server.specs.Journals.{BreaksOff, IsJournaled, IsStopped, KeepsUp}
 use Rattle.host_server.specs.ServerJournals.{GoesOn}
-use Rattle.host_server.specs.Memory.{CommandRunsOut, TextRunsOut, asking_takes, takes_text}
+use Rattle.host_server.specs.Memory.{CommandRunsOut, TextRunsOut, asking_takes}
+use Rattle.host_replies.specs.Replies.{takes_text}
 use Rattle.host_server.specs.Outcomes.{Outcome, Does, DoesCommit, told_by}
-use Rattle.host_server.specs.Replies.{Answer, refused_answer, told_answer}
+use Rattle.host_replies.specs.Replies.{Answer, refused_answer, told_answer}
 use Rattle.host_server.specs.Shown.{ShowsDeploy, is_open, shown_lines}
 use Rattle.host_server.specs.Versions.{file_of}
-use Rattle.host_server.specs.declared.replies.Reply.{Reply}
+use Rattle.host_replies.specs.declared.replies.Reply.{Reply}
 use Rattle.host_server.proofs.Journaling.{journaled_as, keeps_same}
 use Rattle.host_server.proofs.Memory.{IsUnasked}
 

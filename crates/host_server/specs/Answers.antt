@@ -8,18 +8,14 @@ use Rattle.host_api.specs.declared.refusals.Refusal.TheVariants.{OutOfMemory}
 use Rattle.host_api.specs.declared.texts.Told.{Told}
 use Rattle.host_api.specs.declared.versions.Version.{Version}
 use Rattle.host_disk.specs.declared.disks.Disk.{Ghosts}
-use Rattle.host_server.specs.declared.replies.Reply.{Reply}
+use Rattle.host_replies.specs.declared.replies.Reply.{Reply}
 use Rattle.host_server.specs.declared.servers.Server.{Server}
-use Rattle.host_server.specs.Bodies.{answer_of}
+use Rattle.host_replies.specs.Bodies.{answer_of}
 use Rattle.host_server.specs.Files.{IsReadReply, ReadRunsOut}
 use Rattle.host_server.specs.Hosts.{state_of}
-use Rattle.host_server.specs.Memory.{takes_text}
-use Rattle.host_server.specs.Replies.{Answer, told_answer, refused_answer}
+use Rattle.host_replies.specs.Replies.{takes_text}
+use Rattle.host_replies.specs.Replies.{Answer, told_answer, refused_answer}
 use Rattle.host_server.specs.Versions.{file_of}
-
--- the answer tells that, or that there is no memory for its text
-abbrev pub Tells : Told → Answer → Type 0
-Tells told answer = (answer ≡ told_answer told) ⊎ ((answer ≡ refused_answer OutOfMemory) × IsTrue (takes_text told))
 
 -- the answer where a call gives this reply, or this reason to refuse
 abbrev pub answer_by : Result Reply Refusal → Answer

@@ -20,10 +20,11 @@ use Rattle.host_server.specs.Files.{IsReadReply, ReadRunsOut}
 use Rattle.host_server.specs.HeldUp.{is_held_up}
 use Rattle.host_server.specs.Hosts.{Host, state_of}
 use Rattle.host_server.specs.Journals.{BreaksOff, KeepsUp}
-use Rattle.host_server.specs.Memory.{CommandRunsOut, UndoRunsOut, DeployRunsOut, TextRunsOut, asking_takes, takes_text}
+use Rattle.host_server.specs.Memory.{CommandRunsOut, UndoRunsOut, DeployRunsOut, TextRunsOut, asking_takes}
+use Rattle.host_replies.specs.Replies.{takes_text}
 use Rattle.host_server.specs.Outcomes.{Outcome, AreRequired, commit_outcome, deploy_outcome, undone}
 use Rattle.host_server.specs.Reasons.{commit_refusal, undo_refusal}
-use Rattle.host_server.specs.Replies.{Answer, refused_answer, told_answer}
+use Rattle.host_replies.specs.Replies.{Answer, refused_answer, told_answer}
 use Rattle.host_server.specs.Shown.{ShowsDeploy, is_open, shown_lines}
 use Rattle.host_server.specs.ServerJournals.{Breaks, GoesOn}
 use Rattle.host_server.specs.Storing.{IsUnpublished, IsUploadReply, UploadRunsOut}

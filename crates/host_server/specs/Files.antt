@@ -26,8 +26,9 @@ use Rattle.host_api.specs.Types.{type_of}
 use Rattle.host_api.specs.declared.refusals.Refusal.{Refusal}
 use Rattle.host_api.specs.declared.refusals.Refusal.TheVariants as reason
 use Rattle.host_disk.specs.declared.disks.Disk.{Ghosts}
-use Rattle.host_server.specs.PartsTypes.{IsOfEight, parts_type}
-use Rattle.host_server.specs.Replies.{Answer, is_head, part_answer, refused_answer, unread_answer}
+use Rattle.host_replies.specs.PartsTypes.{IsOfEight, parts_type}
+use Rattle.host_replies.specs.Replies.{Answer, is_head, part_answer, refused_answer, unread_answer}
+use Rattle.host_replies.specs.SentFiles.{sent_answer}
 use Rattle.host_server.specs.declared.servers.Server.{Server}
 
 -- ---- what is asked for
@@ -48,17 +49,6 @@ abbrev pub plan_of : RequestParts → Asked → List ℕ → Choice
 plan_of parts range file = planned range (condition_of (digest_of file) (values_of (codes "if-range") parts.fields)) (length file)
 
 -- ---- what is sent
-
--- what is sent of the file at a path, with these bytes (RFC 9110, sections 15.3.1, 15.3.7 and 15.5.17)
-abbrev pub sent_as : List ℕ → List ℕ → Choice → Option Boundary → List ℕ → Answer
-sent_as path file Whole boundary bytes = part_answer 200 (type_of path) file None bytes
-sent_as path file (One first last) boundary bytes = part_answer 206 (type_of path) file (Some (Of first last (length file))) bytes
-sent_as path file (Many intervals) boundary bytes = part_answer 206 (parts_type (text_in boundary)) file None bytes
-sent_as path file None416 boundary bytes = refused_answer (reason.NotSatisfiable (length file))
-
--- the same of what was read
-abbrev pub sent_answer : List ℕ → List ℕ → SentFile → Answer
-sent_answer path file body = sent_as path file body.plan body.boundary body.bytes
 
 -- why a file can't be read, as it is told
 abbrev pub refusal_of_read : ReadFault → Refusal
@@ -111,9 +101,3 @@ ReadRunsOut did failures server parts (Ok file) next =
     IsKnown server file × (range : Asked) × AsksRange parts range × IsTrue (is_read (plan_of parts range file)) × (next.house ≡ server.house)
     × ((next.files ≡ server.files)
     ⊎ IsNotRead (GaveOfNode did failures) (FailedOfNode did failures) server.files file (plan_of parts range file) fault.OutOfMemory next.files)
-
--- ---- what private functions say
-
--- where several parts are sent of it, one of these is between them
-abbrev pub SendsParts : Digest → SentFile → Type 0
-SendsParts digest body = (intervals : List (ℕ × ℕ)) → body.plan ≡ Many intervals → IsOfEight digest (text_in body.boundary) × ((boundary : Boundary) × (body.boundary ≡ Some boundary))

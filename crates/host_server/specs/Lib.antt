@@ -11,20 +11,15 @@ pub mod HeldUp
 pub mod Versions
 pub mod Shown
 -- what is answered, and what a connection and a run of the program do
-pub mod Replies
-pub mod PartsTypes
 pub mod Files
 pub mod ServerJournals
 pub mod Storing
 pub mod Asks
 pub mod ReadBack
-pub mod Serving
-pub mod Timing
 pub mod Openings
 pub mod OpeningLines
 pub mod Solo
 -- what the values and the calls of the code mean: `answer_of` and `Grows` for callers, the others for private functions
-pub mod Bodies
 pub mod Answers
 -- what stays of a host, step by step, and to what no body is sent
 pub mod Growth

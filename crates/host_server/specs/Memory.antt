@@ -15,6 +15,7 @@ use Rattle.host_api.specs.declared.refusals.Refusal.{Refusal}
 use Rattle.host_api.specs.declared.routes.Route.{Route}
 use Rattle.host_api.specs.declared.texts.Told.{Told}
 use Rattle.host_api.specs.declared.texts.Told.TheVariants.{Refused}
+use Rattle.host_replies.specs.Replies.{takes_text}
 use Rattle.host_server.specs.Hosts.{Host, next_number, with_entry}
 use Rattle.host_server.specs.Outcomes.{Outcome, is_ready, site_of_deploy}
 use Rattle.host_server.specs.Reasons.{commit_refusal, undo_refusal}
@@ -54,11 +55,6 @@ abbrev pub DeployRunsOut : Host → ℕ → (SiteName → Command) → Host → 
 DeployRunsOut host n command next = (next ≡ host) × (deploy_refusal host n command ≡ None)
 
 -- ---- the texts of replies
-
--- whether the text takes memory: that of a refusal does so only where it names a cell
-abbrev pub takes_text : Told → Bool
-takes_text (Refused refusal) = has_cell refusal
-takes_text told = true
 
 -- all is done, and there is no memory for the text that tells it
 abbrev pub TextRunsOut : Outcome → Host → Type 0

@@ -17,9 +17,9 @@ use Rattle.host_server.specs.Asks.{IsAnswer}
 use Rattle.host_server.specs.Hosts.{Host}
 use Rattle.host_server.specs.OpeningLines.{opening_line, opening_status}
 use Rattle.host_server.specs.Openings.{IsOpened, IsOpenFault}
-use Rattle.host_server.specs.Serving.{Answering, Stream, Serves}
-use Rattle.host_server.specs.declared.connections.ConnectionFault.{ConnectionFault}
-use Rattle.host_server.specs.declared.connections.ConnectionFault.TheVariants as fault
+use Rattle.host_connection.specs.Serving.{Answering, Stream, Serves}
+use Rattle.host_connection.specs.declared.connections.ConnectionFault.{ConnectionFault}
+use Rattle.host_connection.specs.declared.connections.ConnectionFault.TheVariants as fault
 use Rattle.host_server.specs.declared.openings.OpenFault.{OpenFault}
 use Rattle.host_server.specs.declared.openings.OpenFault.TheVariants as open_fault
 use Rattle.host_server.specs.declared.servers.Server.{Server}

@@ -16,7 +16,7 @@ use Rattle.host_disk.specs.declared.disks.Disk.{Ghosts}
 use Rattle.host_server.specs.Hosts.{with_upload}
 use Rattle.host_server.specs.Memory.{is_published, TextRunsOut}
 use Rattle.host_server.specs.Outcomes.{judge_upload, told_by, upload_outcome}
-use Rattle.host_server.specs.Replies.{Answer, refused_answer, told_answer}
+use Rattle.host_replies.specs.Replies.{Answer, refused_answer, told_answer}
 use Rattle.host_server.specs.ServerJournals.{Breaks, GoesOn}
 use Rattle.host_server.specs.declared.servers.Server.{Server}
 

@@ -13,9 +13,10 @@ use Rattle.range_reply.specs.declared.boundaries.Boundary.{Boundary}
 use Rattle.range_spec.specs.declared.selection.Choice.{Choice}
 use Rattle.range_spec.specs.declared.selection.Choice.TheVariants.{Whole, One, Many, None416}
 use Rattle.host_server.specs.Asks.{IsAnswer, IsHostReply, IsReplyToAsk, asked_for}
-use Rattle.host_server.specs.Files.{IsFileSent, IsFileTold, IsReadReply, sent_as}
+use Rattle.host_server.specs.Files.{IsFileSent, IsFileTold, IsReadReply}
+use Rattle.host_replies.specs.SentFiles.{sent_as}
 use Rattle.host_server.specs.Hosts.{Host, state_of}
-use Rattle.host_server.specs.Replies.{Answer, is_head, refused_answer, told_answer}
+use Rattle.host_replies.specs.Replies.{Answer, is_head, refused_answer, told_answer}
 use Rattle.host_server.specs.Versions.{file_of}
 use Rattle.host_server.specs.declared.servers.Server.{Server}
 

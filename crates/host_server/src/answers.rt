@@ -7,9 +7,9 @@ ghost use Rattle.site_change.specs.declared.commands.Command.{Command as Change}
 ghost use Rattle.host_server.specs.Asks as spec;
 ghost use Rattle.host_server.specs.Asks.{AnswersAsk, AnswersRead, CarriesOut, IsAnswer};
 ghost use Rattle.host_server.specs.HeldUp.{is_held_up};
-ghost use Rattle.host_server.specs.Bodies.{answer_of};
+ghost use Rattle.host_replies.specs.Bodies.{answer_of};
 ghost use Rattle.host_server.specs.Hosts.{Grows, state_of, with_log};
-ghost use Rattle.host_server.specs.Answers.{Tells};
+ghost use Rattle.host_replies.specs.Replies.{Tells};
 ghost use Rattle.host_server.specs.Memory.{asking_takes};
 ghost use Rattle.host_server.specs.Shown.{shown_lines};
 ghost use Rattle.host_server.specs.Outcomes.{told_by};
@@ -17,35 +17,15 @@ ghost use Rattle.host_server.specs.Versions.{file_of};
 
 use crate::host::{HostView, list_changes, show_deploy};
 use crate::reads::read_file;
-use crate::replies::Reply;
+use host_replies::Reply;
 use crate::servers::Server;
 use blob_store::Shelf;
 use host_api::{Ask, Refusal, Told, Version, ask_of, route_of};
+use host_connection::Request;
 use host_disk::Disk;
 use host_names::{FilePath, SiteName};
-use http::Version as HttpVersion;
 use http_wire::Head;
 use std::alloc::Global;
-
-/// A request, and whether it is the last that its connection answers.
-#[derive(Drop)]
-pub struct Request {
-    pub head: Head,
-    pub body: Vec<u8>,
-    pub is_last: bool,
-}
-
-impl Request {
-    ghost use Rattle.std.specs.Prelude.{◌≡◌};
-    ghost use Rattle.host_server.specs.Replies as replies;
-
-    /// Whether the connection ends after the reply (RFC 9112, section 9.6).
-    pub(crate) fn closes(&self) -> bool
-        ensures { result ≡ replies.closes self.now.head self.now.is_last }
-    {
-        self.is_last || self.head.version() == HttpVersion::HTTP_10 || self.head.asks_close()
-    }
-}
 
 /// The reply to the reading of a file.
 fn read<S: Shelf, D: Disk>(

@@ -13,13 +13,14 @@ ghost use Rattle.host_api.specs.Texts.{has_cell};
 ghost use Rattle.host_api.specs.Types.{type_of};
 ghost use Rattle.host_api.specs.declared.refusals.Refusal.TheVariants.{NotSatisfiable, OutOfMemory};
 ghost use Rattle.host_server.specs.Answers.{Reads};
-ghost use Rattle.host_server.specs.Bodies.{answer_of};
+ghost use Rattle.host_replies.specs.Bodies.{answer_of};
 ghost use Rattle.host_server.specs.Files as spec;
-ghost use Rattle.host_server.specs.Files.{AsksRange, is_read, plan_of, sent_answer};
+ghost use Rattle.host_server.specs.Files.{AsksRange, is_read, plan_of};
+ghost use Rattle.host_replies.specs.SentFiles.{sent_answer};
 
 use crate::host::file;
-use crate::media_types::file_type;
-use crate::replies::{Reply, is_head_only};
+use host_replies::file_type;
+use host_replies::{Reply, is_head_only};
 use crate::servers::Server;
 use blob_store::Shelf;
 use byte_view::BlobInfo;

@@ -3,7 +3,7 @@ ghost use Rattle.std.specs.Prelude.{◌≡◌};
 ghost use Rattle.host_server.specs.Asks.{IsAnswer};
 ghost use Rattle.host_server.specs.Solo.{IsSaid, IsServed, SaysEnd, status_of};
 
-use crate::connections::{ConnectionFault, serve_connection};
+use host_connection::{ConnectionFault, serve_connection};
 use crate::servers::Server;
 use blob_store::Shelf;
 use host_disk::Disk;

@@ -1,9 +1,9 @@
 //! A stream of known bytes that records in which order a connection reads and writes.
 ghost use Rattle.std.specs.Prelude.{◌≡◌, [], Some, ⊤};
-ghost use Rattle.host_server.specs.Timing.{Connects, IsCaughtUp};
+ghost use Rattle.host_connection.specs.Timing.{Connects, IsCaughtUp};
 ghost use Rattle.server_tests.specs.Recorders.{IsRecorded, Records, put_of};
 
-use host_server::{ConnectionFault, Service, serve_connection};
+use host_connection::{ConnectionFault, Service, serve_connection};
 use http_wire::{Duplex, ReadFailed, WriteFailed};
 use std::alloc::Global;
 

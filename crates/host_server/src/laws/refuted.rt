@@ -27,13 +27,13 @@ ghost use Rattle.host_server.specs.Memory.{CommandRunsOut, DeployRunsOut, TextRu
 ghost use Rattle.host_server.specs.Openings.{IsNoRecordFault, IsOpenFault, IsOpened};
 ghost use Rattle.host_server.specs.Outcomes.{Does, DoesCommit, refused};
 ghost use Rattle.host_server.specs.ReadBack.{IsReadBack};
-ghost use Rattle.host_server.specs.Replies.{Answer, refused_answer};
-ghost use Rattle.host_server.specs.Serving.{IsHeadBad, IsInterim, Serves, Stream};
+ghost use Rattle.host_replies.specs.Replies.{Answer, refused_answer};
+ghost use Rattle.host_connection.specs.Serving.{IsHeadBad, IsInterim, Serves, Stream};
 ghost use Rattle.host_server.specs.Shown.{ShowsDeploy, Stands};
 ghost use Rattle.host_server.specs.Solo.{IsFolderFault, Runs, RunsStore};
 ghost use Rattle.host_server.specs.Storing.{DoesUpload, IsNotStored, IsStored};
-ghost use Rattle.host_server.specs.Timing.{Connects, IsCaughtUp};
-ghost use Rattle.host_server.specs.declared.connections.ConnectionFault.TheVariants as fault;
+ghost use Rattle.host_connection.specs.Timing.{Connects, IsCaughtUp};
+ghost use Rattle.host_connection.specs.declared.connections.ConnectionFault.TheVariants as fault;
 ghost use Rattle.host_server.specs.declared.openings.OpenFault.TheVariants as open_fault;
 ghost use Rattle.host_server.specs.declared.servers.Server.{Server};
 

@@ -13,8 +13,8 @@ ghost use Rattle.host_server.specs.Asks.{IsAnswer, asked_for};
 ghost use Rattle.host_server.specs.Hosts.{state_of};
 ghost use Rattle.host_server.specs.ReadBack.{Agreeing, HasKnown, IsReadBack, ReadsBack, UploadAgrees};
 ghost use Rattle.host_server.specs.Openings.{IsOpened};
-ghost use Rattle.host_server.specs.Replies.{Answer, refused_answer};
-ghost use Rattle.host_server.specs.Serving.{AreServed, Stream};
+ghost use Rattle.host_replies.specs.Replies.{Answer, refused_answer};
+ghost use Rattle.host_connection.specs.Serving.{AreServed, Stream};
 ghost use Rattle.host_server.specs.Versions.{file_of};
 ghost use Rattle.host_server.specs.declared.servers.Server.{Server};
 

@@ -1,5 +1,5 @@
 use Rattle.std.proofs.Common.{Ok, arith}
-use Rattle.host_server.specs.Bodies.{answer_of}
+use Rattle.host_replies.specs.Bodies.{answer_of}
 use Rattle.host_server.specs.Growth.{itself}
 use Rattle.host_server.proofs.Growing.{undone_at_once}
 use Rattle.host_server.proofs.Telling.{answered, unasked}

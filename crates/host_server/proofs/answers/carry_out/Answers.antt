@@ -1,7 +1,7 @@
 use Rattle.std.proofs.Common.{◌≡◌, Ok, subst, sym}
 use Rattle.host_api.specs.declared.bodies.Ask.{Ask}
 use Rattle.host_server.specs.Asks.{CarriesOut}
-use Rattle.host_server.specs.Bodies.{answer_of}
+use Rattle.host_replies.specs.Bodies.{answer_of}
 use Rattle.host_server.proofs.Journaling.{agrees_journaled}
 use Rattle.host_server.proofs.Telling.{on_server, told_command, told_upload}
 use Rattle.host_server.proofs.answers.carry_out.Goals as goal

@@ -1,5 +1,5 @@
 use Rattle.host_server.proofs.Telling.{file_given, no_file_given}
-use Rattle.host_server.specs.Bodies.{answer_of}
+use Rattle.host_replies.specs.Bodies.{answer_of}
 use Rattle.host_server.proofs.answers.read.Goals as goal
 
 pub returns-in-Ok-clause-replied : goal.returns-in-Ok-clause-replied

@@ -2,7 +2,7 @@ use Rattle.std.proofs.Common.{ap, subst, ◌∙◌, List, ℕ}
 use Rattle.range_reply.specs.Sending.{IsRead}
 use Rattle.chunk_group.specs.Cached.{GaveOfNode}
 use Rattle.host_server.proofs.StoredReads.{fault_goes_on, read_goes_on}
-use Rattle.host_server.specs.Files.{sent_answer}
+use Rattle.host_replies.specs.SentFiles.{sent_answer}
 use Rattle.host_server.proofs.reads.send.Goals as goal
 
 pub returns-in-Ok-clause-sent : goal.returns-in-Ok-clause-sent

@@ -1,10 +1,10 @@
 use Rattle.std.proofs.Common.{◌≡◌, ◌⊎◌, inl, inr, ℕ, ◌<◌, List, [], ◌∷◌, ◌++◌, length, Option, Some, None, Result, Ok, Err, refl, sym, ap, ◌∙◌, arith}
 use Rattle.host_server.specs.OpeningLines.{opening_status}
 use Rattle.host_server.specs.Solo.{status_of}
-use Rattle.host_server.specs.declared.connections.ConnectionFault.{ConnectionFault}
+use Rattle.host_connection.specs.declared.connections.ConnectionFault.{ConnectionFault}
 use Rattle.host_server.specs.declared.openings.OpenFault.{OpenFault}
 use Rattle.host_server.specs.declared.openings.OpenFault.TheVariants as fault
-use Rattle.host_server.proofs.NoHead.{not_caught_up}
+use Rattle.host_connection.proofs.NoHead.{not_caught_up}
 use Rattle.host_server.proofs.laws.refuted.wrong_runs_are_refused.Goals as goal
 
 pub returns-clause-input : goal.returns-clause-input

@@ -5,7 +5,7 @@ use Rattle.byte_view.specs.Contents.{Contents}
 use Rattle.host_names.specs.Digests.{digest_cmp}
 use Rattle.chunk_group.specs.Cached.{AllCached}
 use Rattle.host_server.specs.ReadBack.{IsKnownPiece, IsReadBack}
-use Rattle.host_server.specs.Replies.{Answer}
+use Rattle.host_replies.specs.Replies.{Answer}
 use Rattle.host_server.proofs.ExactReads.{answered_back}
 use Rattle.host_server.proofs.Honest.{answered}
 use Rattle.host_server.proofs.KnownFiles.{answered_known}

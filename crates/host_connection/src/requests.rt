@@ -1,0 +1,23 @@
+//! A request, once it is read.
+use http::Version as HttpVersion;
+use http_wire::Head;
+
+/// A request, and whether it is the last that its connection answers.
+#[derive(Drop)]
+pub struct Request {
+    pub head: Head,
+    pub body: Vec<u8>,
+    pub is_last: bool,
+}
+
+impl Request {
+    ghost use Rattle.std.specs.Prelude.{◌≡◌};
+    ghost use Rattle.host_replies.specs.Replies as replies;
+
+    /// Whether the connection ends after the reply (RFC 9112, section 9.6).
+    pub(crate) fn closes(&self) -> bool
+        ensures { result ≡ replies.closes self.now.head self.now.is_last }
+    {
+        self.is_last || self.head.version() == HttpVersion::HTTP_10 || self.head.asks_close()
+    }
+}

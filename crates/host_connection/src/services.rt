@@ -1,0 +1,32 @@
+//! What answers the requests of a connection.
+ghost use Rattle.std.specs.Prelude.{◌≡◌, ℕ, List, true};
+ghost use Rattle.http_wire.specs.Requests.{RequestParts};
+ghost use Rattle.host_replies.specs.Bodies.{answer_of};
+ghost use Rattle.host_replies.specs.Replies.{Answer, is_head};
+
+use crate::requests::Request;
+use host_replies::Reply;
+use std::alloc::Global;
+
+/// Answers requests, one after another.
+pub trait Service {
+    // What a request of these parts and this body is answered, and what the service has then.
+    ghost answers: { Self → RequestParts → List ℕ → Answer → Self → Type 0 };
+
+    // What stays of a service, whatever it answers.
+    ghost grows: { Self → Self → Type 0 };
+
+    /// The reply to a request.
+    fn answer(&mut self, alloc: Global, request: Request) -> Reply
+        ensures replied { answers self.old request.head request.body.items (answer_of result) self.new }
+        ensures grows { grows self.old self.new };
+
+    // Only to HEAD is a body told by its length alone.
+    ghost withheld: { (old : Self) (parts : RequestParts) (body : List ℕ) (answer : Answer) (new : Self)
+        → answers old parts body answer new → answer.withheld ≡ true → is_head parts ≡ true };
+
+    // It stays where nothing is answered, and from one answer to the next.
+    ghost stays: { (service : Self) → grows service service };
+
+    ghost goes_on: { (first mid last : Self) → grows first mid → grows mid last → grows first last };
+}

@@ -1,0 +1,2 @@
+mod FieldTexts
+mod EntityTags

@@ -1,0 +1,10 @@
+//! Replies: what they say, and how they are sent. A reply owns what is held of a file, and lends it in parts.
+#![tactic(auto)]
+
+mod bodies;
+mod media_types;
+mod parts_types;
+mod replies;
+
+pub use media_types::file_type;
+pub use replies::{Reply, is_head_only};

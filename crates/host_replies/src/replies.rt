@@ -1,0 +1,291 @@
+//! Replies, before they are written.
+ghost use Rattle.std.specs.Prelude.{◌≡◌, ◌≢◌, All, length, true, false, Some, None, IsTrue, IfOk, IfErr, OnErr, Err, IsErrOf, MatchOption, option_map};
+ghost use Rattle.std.specs.List.{concat};
+ghost use Rattle.http_wire.specs.Replies.{fields_of};
+ghost use Rattle.http_wire.specs.Sending.{WritesText};
+ghost use Rattle.http_wire.specs.Timing.{NoRead, Ran};
+ghost use Rattle.host_api.specs.Texts.{has_cell, told_text};
+ghost use Rattle.host_api.specs.declared.refusals.Refusal.TheVariants as reason;
+ghost use Rattle.host_api.specs.declared.refusals.Refusal.TheVariants.{OutOfMemory};
+ghost use Rattle.host_replies.specs.Bodies.{answer_of, text_bytes};
+ghost use Rattle.host_replies.specs.Replies as spec;
+ghost use Rattle.host_replies.specs.Replies.{Tells};
+ghost use Rattle.host_replies.specs.Replies.{takes_text};
+ghost use Rattle.host_names.specs.Digests.{digest_of};
+ghost use Rattle.range_reply.specs.Multipart.{text_of};
+ghost use Rattle.host_api.specs.Types.{type_of};
+ghost use Rattle.host_replies.specs.SentFiles.{SendsParts, sent_answer};
+ghost use Rattle.host_replies.specs.PartsTypes.{IsOfEight, parts_type};
+ghost use Rattle.host_replies.specs.Replies.{told_answer, refused_answer, part_answer, fields_for, is_head, sent_text, unread_answer};
+
+use crate::bodies::{Body, BodyText};
+use crate::media_types::{MediaType, file_type};
+use crate::parts_types::PartsType;
+use byte_view::BlobInfo;
+use host_api::{HeadRefusal, Refusal, Told, short_text, text};
+use host_names::{Digest, FilePath};
+use http::StatusCode;
+use http_wire::{
+    ContentRange, Duplex, EntityTag, FieldText, Head, ReplyBody, ReplyHead, WriteFault, write_reply,
+};
+use range_reply::{Boundary, FileBody, FileForm, Parts};
+use std::alloc::{AllocError, Global};
+use std::sync::Arc;
+
+/// A reply, before it is written. Its length, and whether ranges are served, follow from the rest.
+#[derive(Drop)]
+pub struct Reply {
+    status: StatusCode,
+    content_type: MediaType,
+    /// The digest of the file, where the reply has a file or a part of one.
+    etag: Option<Digest>,
+    content_range: Option<ContentRange>,
+    allow: Option<FieldText<'static>>,
+    body: Body,
+}
+
+/// Whether a reply to the request has no body.
+pub fn is_head_only(head: &Head) -> bool
+    ensures { result ≡ is_head head.now }
+{
+    head.method().as_str() == "HEAD"
+}
+
+/// The status code of a reply that tells something.
+fn status_told(told: &Told) -> StatusCode
+    ensures { result ≡ spec.status_told told.now }
+{
+    match told {
+        Told::Refused(refusal) => refusal.status(),
+        _ => StatusCode::OK,
+    }
+}
+
+/// Which bytes of the file there are, where none of the range are.
+fn range_told(told: &Told) -> Option<ContentRange>
+    ensures { result ≡ spec.range_told told.now }
+{
+    match told {
+        Told::Refused(Refusal::NotSatisfiable(length)) => {
+            Some(ContentRange::Unsatisfied { length: *length })
+        }
+        _ => None,
+    }
+}
+
+/// The methods that the route has, where it hasn't that of the request.
+fn allow_told(told: &Told) -> Option<FieldText<'static>>
+    ensures { option_map (λ t. t.text.now) result ≡ spec.allow_told told.now }
+{
+    match told {
+        Told::Refused(Refusal::BadMethod(kind)) => Some(FieldText::new(kind.methods_text())),
+        _ => None,
+    }
+}
+
+/// The text of a refusal, where it takes no memory.
+fn short_body(told: &Told) -> Option<BodyText>
+    ensures { MatchOption result (IsTrue (takes_text told.now)) (λ text. text_bytes text ≡ told_text told.now) }
+{
+    match told {
+        Told::Refused(refusal) => Some(BodyText::Short(short_text(refusal)?)),
+        _ => None,
+    }
+}
+
+/// The text of what is told.
+fn body_of(alloc: Global, told: &Told) -> Result<BodyText, AllocError>
+    ensures ok { IfOk result (λ text. text_bytes text ≡ told_text told.now) }
+    ensures memory { OnErr result (IsTrue (takes_text told.now)) }
+{
+    if let Some(body) = short_body(told) {
+        return Ok(body);
+    }
+    Ok(BodyText::Made(text(alloc, told)?))
+}
+
+impl Reply {
+    /// A reply with JSON.
+    fn with_json(told: &Told, text: BodyText) -> Reply
+        requires { text_bytes text ≡ told_text told.now }
+        ensures { answer_of result ≡ told_answer told.now }
+    {
+        Reply {
+            status: status_told(told),
+            content_type: MediaType::Fixed(FieldText::new("application/json")),
+            etag: None,
+            content_range: range_told(told),
+            allow: allow_told(told),
+            body: Body::Text(text),
+        }
+    }
+
+    /// The reply that tells something, or the one where there is no memory for its text.
+    pub fn of_told(alloc: Global, told: &Told) -> Reply
+        ensures { Tells told.now (answer_of result) }
+    {
+        match body_of(alloc, told) {
+            Ok(body) => Reply::with_json(told, body),
+            Err(_) => Reply::out_of_memory(),
+        }
+    }
+
+    /// The reply where there is no memory. It takes none.
+    pub fn out_of_memory() -> Reply
+        ensures { answer_of result ≡ refused_answer OutOfMemory }
+    {
+        let text = BodyText::Fixed("{\"error\":\"OutOfMemory\"}");
+        Reply::with_json(&Told::Refused(Refusal::OutOfMemory), text)
+    }
+
+    /// The reply to a request that is refused for a reason that names no cell. It takes no memory.
+    pub fn plain(reason: Refusal) -> Reply
+        requires { has_cell reason ≡ false }
+        ensures { answer_of result ≡ refused_answer reason }
+    {
+        let told = Told::Refused(reason);
+        match short_body(&told) {
+            Some(body) => Reply::with_json(&told, body),
+            None => unreachable!(),
+        }
+    }
+
+    /// The reply to a request that is refused by its head. It takes no memory.
+    pub fn refusing(why: HeadRefusal) -> Reply
+        ensures { answer_of result ≡ refused_answer (reason.Head why) }
+    {
+        Reply::plain(Refusal::Head(why))
+    }
+
+    /// The reply with some bytes of the file at a path. Its entity tag is the digest of the whole (RFC 9110, section 8.8.3).
+    fn of_part(
+        status: StatusCode,
+        path: &FilePath,
+        info: &BlobInfo,
+        range: Option<ContentRange>,
+        body: FileBody,
+    ) -> Reply
+        ensures { answer_of result ≡ part_answer status (type_of path.now) info.now range body.bytes }
+    {
+        Reply {
+            status,
+            content_type: MediaType::Fixed(file_type(path)),
+            etag: Some(info.digest()),
+            content_range: range,
+            allow: None,
+            body: Body::File(body),
+        }
+    }
+
+    /// The reply with several parts of a file.
+    fn of_parts(info: &BlobInfo, boundary: &Boundary, body: FileBody) -> Reply
+        requires { IsOfEight (digest_of info.now) (text_of boundary.now) }
+        ensures { answer_of result ≡ part_answer 206 (parts_type (text_of boundary.now)) info.now None body.bytes }
+    {
+        let digest = info.digest();
+        Reply {
+            status: StatusCode::PARTIAL_CONTENT,
+            content_type: MediaType::Parts(PartsType::of(boundary, digest)),
+            etag: Some(digest),
+            content_range: None,
+            allow: None,
+            body: Body::File(body),
+        }
+    }
+
+    /// The reply with what is sent of the file at a path (RFC 9110, sections 15.3.1, 15.3.7 and 15.5.17).
+    pub fn of_file(path: &FilePath, info: &BlobInfo, body: FileBody) -> Reply
+        requires { SendsParts (digest_of info.now) body }
+        ensures { answer_of result ≡ sent_answer path.now info.now body }
+    {
+        let length = info.len() as u64;
+        match body.form() {
+            FileForm::Whole => Reply::of_part(StatusCode::OK, path, info, None, body),
+            FileForm::One(first, last) => {
+                let range = ContentRange::Of {
+                    first,
+                    last,
+                    length,
+                };
+                Reply::of_part(StatusCode::PARTIAL_CONTENT, path, info, Some(range), body)
+            }
+            FileForm::Several(boundary) => Reply::of_parts(info, &boundary, body),
+            FileForm::Nothing => Reply::plain(Refusal::NotSatisfiable(length)),
+        }
+    }
+
+    /// The reply that tells of the file at a path without a byte of it (RFC 9110, section 9.3.2).
+    pub fn unread(path: &FilePath, info: Arc<BlobInfo>) -> Reply
+        ensures { answer_of result ≡ unread_answer (type_of path.now) info.value }
+    {
+        Reply {
+            status: StatusCode::OK,
+            content_type: MediaType::Fixed(file_type(path)),
+            etag: Some(info.digest()),
+            content_range: None,
+            allow: None,
+            body: Body::Unread(info),
+        }
+    }
+
+    /// Its head, with this entity tag.
+    fn head<'a>(&'a self, etag: Option<EntityTag<'a>>, close: bool) -> ReplyHead<'a>
+        requires { option_map (λ t. t.text.now) etag ≡ (answer_of self.now).etag }
+        ensures { fields_of result (length (answer_of self.now).body) ≡ fields_for close (answer_of self.now) }
+    {
+        ReplyHead {
+            status: self.status,
+            content_type: Some(self.content_type.as_field()),
+            etag,
+            accept_ranges: self.etag.is_some(),
+            content_range: self.content_range,
+            allow: self.allow,
+            close,
+        }
+    }
+
+    /// Its parts, in order, each as it lies. It takes no memory.
+    fn parts(&self) -> Parts<'_>
+        requires { (answer_of self.now).withheld ≡ false }
+        ensures { concat result ≡ (answer_of self.now).body }
+    {
+        self.body.parts()
+    }
+
+    /// Writes it with this entity tag, without its body where only the head is wanted.
+    fn send_with<D: Duplex>(
+        &self,
+        duplex: &mut D,
+        etag: Option<EntityTag<'_>>,
+        close: bool,
+        head_only: bool,
+    ) -> Result<(), WriteFault>
+        requires tag { option_map (λ t. t.text.now) etag ≡ (answer_of self.now).etag }
+        requires sent { (answer_of self.now).withheld ≡ true → head_only ≡ true }
+        ensures { Ran D.saw NoRead duplex.old duplex.new (WritesText result (sent_text close head_only (answer_of self.now))) }
+    {
+        let head = self.head(etag, close);
+        if head_only {
+            return write_reply(duplex, &head, ReplyBody::<Parts<'_>>::Withheld(self.body.length()));
+        }
+        write_reply(duplex, &head, ReplyBody::Sent(self.parts()))
+    }
+
+    /// Writes it, without its body where only the head is wanted (RFC 9110, section 9.3.2); its head says whether the
+    /// connection closes.
+    pub fn send<D: Duplex>(
+        &self,
+        duplex: &mut D,
+        close: bool,
+        head_only: bool,
+    ) -> Result<(), WriteFault>
+        requires { (answer_of self.now).withheld ≡ true → head_only ≡ true }
+        ensures { Ran D.saw NoRead duplex.old duplex.new (WritesText result (sent_text close head_only (answer_of self.now))) }
+    {
+        let Some(digest) = self.etag else {
+            return self.send_with(duplex, None, close, head_only);
+        };
+        let hex = digest.to_hex();
+        self.send_with(duplex, Some(EntityTag::new(hex.as_str())), close, head_only)
+    }
+}
