@@ -47,7 +47,7 @@ module _ {S : Type 0} (did : S → Call → S → Type 0) (failures : S → ℕ)
   told_back true old new path file plan answer there cached (says, same) = inr (refl, says)
   told_back false old new path file plan answer there cached sent = inl (sent_back old new path file plan answer there cached sent)
 
-module _ {S D : Type 0} {disk : Ghosts D} (did : S → Call → S → Type 0) (failures : S → ℕ) (faults : D → ℕ) (has : S → ShelfName → Option (List ℕ)) (keeps : AlwaysKeeps did has) where
+module _ {S D : Type 0} {disk : Ghosts D} (did : S → Call → S → Type 0) (failures : S → ℕ) (has : S → ShelfName → Option (List ℕ)) (keeps : AlwaysKeeps did has) where
   reply_back : (server next : Server S D disk) (parts : RequestParts) (path : List ℕ) (found : Result (List ℕ) Refusal) (file : List ℕ) (answer : Answer) → found ≡ Ok file
       → HasKnown has server → IsReadReply did failures server parts path found answer next → IsReadBack parts path file answer
   reply_back server next parts path found file answer is known reply =
@@ -62,7 +62,7 @@ module _ {S D : Type 0} {disk : Ghosts D} (did : S → Call → S → Type 0) (f
 
   pub answered_back : (server next : Server S D disk) (parts : RequestParts) (body : List ℕ) (answer : Answer) (site : SiteName) (version : Version) (path file : List ℕ)
       → HasKnown has server → asked_for parts body ≡ Ok (ask.Read site version path)
-      → file_of (state_of server.house) site version path ≡ Ok file → IsAnswer did failures faults server parts body answer next → IsReadBack parts path file answer
+      → file_of (state_of server.house) site version path ≡ Ok file → IsAnswer did failures server parts body answer next → IsReadBack parts path file answer
   answered_back server next parts body answer site version path file known asks is (inl (inl (held, says, same), kept)) =
       absurd (cc (sym (no_and (is_broken server.journal)) ∙ ap (λ (a : Result Ask Refusal). holds_up server a) (sym asks) ∙ held))
   answered_back server next parts body answer site version path file known asks is (inl (inr (free, reply), kept)) =

@@ -1,6 +1,6 @@
 -- Where the shelf of a server is honest at the end, it was at each call before.
 use Rattle.std.specs.Prelude.{IsTrue}
-use Rattle.std.proofs.Common.{◌≡◌, inl, inr, Bool, true, false, ℕ, List, Option, None, Result, Ok, Err, sym, ap, subst}
+use Rattle.std.proofs.Common.{◌≡◌, inl, inr, Bool, true, false, ℕ, List, Option, None, Result, Ok, Err, subst}
 use Rattle.byte_view.specs.Contents.{Contents}
 use Rattle.host_names.specs.declared.digests.Digest.{Digest}
 use Rattle.host_names.specs.declared.names.SiteName.{SiteName}
@@ -49,7 +49,7 @@ module _ {S : Type 0} (did : S → Call → S → Type 0) (failures : S → ℕ)
   file_told true old new path file plan answer so (says, same) = (subst (λ (n : CachedShelf S). IsTrue (honest n.shelf)) same so, (says, same))
   file_told false old new path file plan answer so sent = file_sent old new path file plan answer so sent
 
-module _ {S D : Type 0} {disk : Ghosts D} (did : S → Call → S → Type 0) (failures : S → ℕ) (faults : D → ℕ) (honest : S → Bool) (has : S → ShelfName → Option (List ℕ))
+module _ {S D : Type 0} {disk : Ghosts D} (did : S → Call → S → Type 0) (failures : S → ℕ) (honest : S → Bool) (has : S → ShelfName → Option (List ℕ))
     (keeps : Keeps did honest has) where
   module _ (server next : Server S D disk) (so : IsTrue (honest next.files.shelf)) where
     same_files : next.files ≡ server.files → IsTrue (honest server.files.shelf)
@@ -144,8 +144,8 @@ module _ {S D : Type 0} {disk : Ghosts D} (did : S → Call → S → Type 0) (f
       stops (Ok (ask.Upload n path)) is = unpublished n path body is
       stops asking is = (same_files is.1, is)
 
-      pub answered : (answer : Answer) → IsAnswer did failures faults server parts body answer next
-          → IsTrue (honest server.files.shelf) × IsAnswer (Where honest did) failures faults server parts body answer next
+      pub answered : (answer : Answer) → IsAnswer did failures server parts body answer next
+          → IsTrue (honest server.files.shelf) × IsAnswer (Where honest did) failures server parts body answer next
       answered answer (inl (inl (held, says, same), kept)) = (same_server same, inl (inl (held, says, same), kept))
       answered answer (inl (inr (free, reply), kept)) =
           let all = reply_to (asked_for parts body) answer reply in

@@ -1,8 +1,7 @@
 -- Where the shelf of a node is honest at the end, each read of a chunk before was honest.
 use Rattle.std.specs.Prelude.{IsTrue}
-use Rattle.std.proofs.Common.{◌≡◌, inl, inr, Bool, ℕ, List, [], ◌∷◌, Option, Some, Result, Ok, Err, sym, subst}
+use Rattle.std.proofs.Common.{inl, inr, Bool, ℕ, List, Option, Some, Result, Ok, Err, subst}
 use Rattle.byte_view.specs.Holds.{Held}
-use Rattle.host_names.specs.Digests.{digest_of}
 use Rattle.host_names.specs.declared.digests.Digest.{Digest}
 use Rattle.blob_store.proofs.Honest.{chunk}
 use Rattle.blob_store.specs.Calls.{Call, Got}

@@ -1,5 +1,5 @@
 -- A journal keeps up with its host, call by call.
-use Rattle.std.proofs.Common.{◌≡◌, ◌≢◌, ◌⊎◌, inl, inr, ℕ, List, [], ◌∷◌, ◌++◌, length, false, Option, Some, None, Result, Ok, Err, refl, sym, ap, subst, ◌∙◌}
+use Rattle.std.proofs.Common.{◌≡◌, ◌≢◌, ◌⊎◌, inl, inr, List, [], ◌∷◌, ◌++◌, length, false, Option, Some, None, Result, Ok, Err, refl, sym, ap, subst, ◌∙◌}
 use Rattle.std.proofs.lemmas.List.{append-nil, append_assoc}
 use Rattle.change_journal.specs.entries.Held.{Keeps}
 use Rattle.change_undo.specs.declared.entries.Entry.{Entry}
@@ -9,25 +9,26 @@ use Rattle.host_server.specs.declared.host.entry_errors.EntryError.{EntryError}
 use Rattle.host_server.specs.declared.host.entry_errors.EntryError.TheVariants as error
 use Rattle.host_server.specs.Entries.{IsEntered, told_error}
 use Rattle.host_server.specs.Hosts.{Host, with_entry}
+use Rattle.host_disk.specs.declared.disks.Disk.{Ghosts}
 use Rattle.host_server.specs.Journals.{Agrees, BreaksOff, IsJournaled, KeepsUp, Puts, is_broken}
 
 pub no_entries : (entries : List Entry) → length entries ≡ 0 → entries ≡ []
 no_entries [] none = refl
 no_entries (entry ∷ entries) none = absurd (cc none)
 
-module _ {D : Type 0} (faults : D → ℕ) where
+module _ {D : Type 0} (disk : Ghosts D) where
   -- ---- puts
 
-  puts_none : (more : List Entry) (new : Option (Keeps D)) → Puts faults None more new → new ≡ None
+  puts_none : (more : List Entry) (new : Option (Keeps D)) → Puts disk None more new → new ≡ None
   puts_none [] new is = is
   puts_none (entry ∷ more) new is = is
 
-  puts_then : (old : Option (Keeps D)) (first more : List Entry) (mid new : Option (Keeps D)) → Puts faults old first mid → Puts faults mid more new → Puts faults old (first ++ more) new
-  puts_then old [] more mid new put after = subst (λ (j : Option (Keeps D)). Puts faults j more new) put after
-  puts_then None (entry ∷ first) more mid new put after = puts_none more new (subst (λ (j : Option (Keeps D)). Puts faults j more new) put after)
+  puts_then : (old : Option (Keeps D)) (first more : List Entry) (mid new : Option (Keeps D)) → Puts disk old first mid → Puts disk mid more new → Puts disk old (first ++ more) new
+  puts_then old [] more mid new put after = subst (λ (j : Option (Keeps D)). Puts disk j more new) put after
+  puts_then None (entry ∷ first) more mid new put after = puts_none more new (subst (λ (j : Option (Keeps D)). Puts disk j more new) put after)
   puts_then (Some old) (entry ∷ first) more mid new (next, put, rest) after = (next, put, puts_then (Some next) first more mid new rest after)
 
-  puts_entries : (old : Option (Keeps D)) (more : List Entry) (new : Option (Keeps D)) (entries : List Entry) → Agrees old entries → Puts faults old more new → Agrees new (entries ++ more)
+  puts_entries : (old : Option (Keeps D)) (more : List Entry) (new : Option (Keeps D)) (entries : List Entry) → Agrees old entries → Puts disk old more new → Agrees new (entries ++ more)
   puts_entries old [] new entries agrees is =
       subst (λ (j : Option (Keeps D)). Agrees j (entries ++ [])) (sym is) (subst (Agrees old) (sym (append-nil entries)) agrees)
   puts_entries None (entry ∷ more) new entries agrees is = subst (λ (j : Option (Keeps D)). Agrees j (entries ++ entry ∷ more)) (sym is) refl
@@ -35,7 +36,7 @@ module _ {D : Type 0} (faults : D → ℕ) where
       subst (Agrees new) (append_assoc entries (entry ∷ []) more)
       (puts_entries (Some mid) more new (entries ++ entry ∷ []) (put.entries ∙ ap (λ (es : List Entry). es ++ entry ∷ []) agrees) rest)
 
-  pub puts_whole : (old : Option (Keeps D)) (more : List Entry) (new : Option (Keeps D)) → is_broken old ≡ false → Puts faults old more new → is_broken new ≡ false
+  pub puts_whole : (old : Option (Keeps D)) (more : List Entry) (new : Option (Keeps D)) → is_broken old ≡ false → Puts disk old more new → is_broken new ≡ false
   puts_whole old [] new whole is = ap is_broken is ∙ whole
   puts_whole None (entry ∷ more) new whole is = ap is_broken is
   puts_whole (Some old) (entry ∷ more) new whole (mid, put, rest) = puts_whole (Some mid) more new put.whole rest
@@ -43,23 +44,24 @@ module _ {D : Type 0} (faults : D → ℕ) where
   -- ---- a call of the host
 
   -- it gets no entry
-  pub keeps_entries : (host new : Host) (journal next : Option (Keeps D)) → new.entries ≡ host.entries → next ≡ journal → KeepsUp faults host journal new next
+  pub keeps_entries : (host new : Host) (journal next : Option (Keeps D)) → new.entries ≡ host.entries → next ≡ journal → KeepsUp disk host journal new next
   keeps_entries host new journal next is same = record { more = []; longer = is ∙ sym (append-nil host.entries); put = same }
 
-  pub keeps_same : (host new : Host) (journal next : Option (Keeps D)) → new ≡ host → next ≡ journal → KeepsUp faults host journal new next
+  pub keeps_same : (host new : Host) (journal next : Option (Keeps D)) → new ≡ host → next ≡ journal → KeepsUp disk host journal new next
   keeps_same host new journal next is same = record { more = []; longer = ap (λ (h : Host). h.entries) is ∙ sym (append-nil host.entries); put = same }
 
-  pub keeps_then : (a b c : Host) (j k l : Option (Keeps D)) → KeepsUp faults a j b k → KeepsUp faults b k c l → KeepsUp faults a j c l
+  pub keeps_then : (a b c : Host) (j k l : Option (Keeps D)) → KeepsUp disk a j b k → KeepsUp disk b k c l → KeepsUp disk a j c l
   keeps_then a b c j k l ab bc = record {
     more = ab.more ++ bc.more;
     longer = bc.longer ∙ ap (λ (es : List Entry). es ++ bc.more) ab.longer ∙ append_assoc a.entries ab.more bc.more;
     put = puts_then j ab.more bc.more k l ab.put bc.put;
   }
 
-  pub breaks_then : (a b c : Host) (j k l : Option (Keeps D)) → KeepsUp faults a j b k → BreaksOff faults b k c l → BreaksOff faults a j c l
+  pub breaks_then : (a b c : Host) (j k l : Option (Keeps D)) → KeepsUp disk a j b k → BreaksOff disk b k c l → BreaksOff disk a j c l
   breaks_then a b c j k l ab bc = record {
     more = ab.more ++ bc.more;
     longer = bc.longer ∙ ap (λ (es : List Entry). es ++ bc.more) ab.longer ∙ append_assoc a.entries ab.more bc.more;
+    missed = bc.missed;
     put = record {
       mid = bc.put.mid;
       put = puts_then j ab.more bc.more k (Some bc.put.mid) ab.put bc.put.put;
@@ -70,41 +72,41 @@ module _ {D : Type 0} (faults : D → ℕ) where
   }
 
   -- the device failed, or the journal kept up
-  pub journaled_as : {A : Type 0} (result : Result A Refusal) (old new : Host) (journal next : Option (Keeps D)) → IsJournaled faults result old journal new next
-      → ((result ≡ Err reason.Device) × BreaksOff faults old journal new next) ⊎ ((result ≢ Err reason.Device) × KeepsUp faults old journal new next)
+  pub journaled_as : {A : Type 0} (result : Result A Refusal) (old new : Host) (journal next : Option (Keeps D)) → IsJournaled disk result old journal new next
+      → ((result ≡ Err reason.Device) × BreaksOff disk old journal new next) ⊎ ((result ≢ Err reason.Device) × KeepsUp disk old journal new next)
   journaled_as (Ok x) old new journal next is = inr ((λ e. cc e), is)
   journaled_as (Err reason.Device) old new journal next is = inl (refl, is)
   journaled_as (Err other) old new journal next is = inr ((λ e. cc e), is)
 
-  pub journaled_then : {A : Type 0} (result : Result A Refusal) (a b c : Host) (j k l : Option (Keeps D)) → KeepsUp faults a j b k → IsJournaled faults result b k c l
-      → IsJournaled faults result a j c l
+  pub journaled_then : {A : Type 0} (result : Result A Refusal) (a b c : Host) (j k l : Option (Keeps D)) → KeepsUp disk a j b k → IsJournaled disk result b k c l
+      → IsJournaled disk result a j c l
   journaled_then (Ok x) a b c j k l ab bc = keeps_then a b c j k l ab bc
   journaled_then (Err reason.Device) a b c j k l ab bc = breaks_then a b c j k l ab bc
   journaled_then (Err other) a b c j k l ab bc = keeps_then a b c j k l ab bc
 
-  same_error : (A B : Type 0) (why : Refusal) (old new : Host) (journal next : Option (Keeps D)) → IsJournaled {A = A} faults (Err why) old journal new next
-      → IsJournaled {A = B} faults (Err why) old journal new next
+  same_error : (A B : Type 0) (why : Refusal) (old new : Host) (journal next : Option (Keeps D)) → IsJournaled {A = A} disk (Err why) old journal new next
+      → IsJournaled {A = B} disk (Err why) old journal new next
   same_error A B reason.Device old new journal next is = is
   same_error A B other old new journal next is = is
 
   pub journaled_err : {A B : Type 0} (result : Result A Refusal) (told : Result B Refusal) (why : Refusal) (old new : Host) (journal next : Option (Keeps D))
-      → IsJournaled faults result old journal new next → result ≡ Err why → told ≡ Err why → IsJournaled faults told old journal new next
+      → IsJournaled disk result old journal new next → result ≡ Err why → told ≡ Err why → IsJournaled disk told old journal new next
   journaled_err {A = A} {B = B} result told why old new journal next journaled is tells =
-      subst (λ (r : Result B Refusal). IsJournaled faults r old journal new next) (sym tells)
-      (same_error A B why old new journal next (subst (λ (r : Result A Refusal). IsJournaled faults r old journal new next) is journaled))
+      subst (λ (r : Result B Refusal). IsJournaled disk r old journal new next) (sym tells)
+      (same_error A B why old new journal next (subst (λ (r : Result A Refusal). IsJournaled disk r old journal new next) is journaled))
 
   -- it has the host's entries
 
-  pub agrees_after : (old new : Host) (journal next : Option (Keeps D)) → Agrees journal old.entries → KeepsUp faults old journal new next → Agrees next new.entries
+  pub agrees_after : (old new : Host) (journal next : Option (Keeps D)) → Agrees journal old.entries → KeepsUp disk old journal new next → Agrees next new.entries
   agrees_after old new journal next agrees keeps = subst (Agrees next) (sym keeps.longer) (puts_entries journal keeps.more next old.entries agrees keeps.put)
 
-  pub agrees_broken : (old new : Host) (journal next : Option (Keeps D)) → Agrees journal old.entries → BreaksOff faults old journal new next → Agrees next new.entries
+  pub agrees_broken : (old new : Host) (journal next : Option (Keeps D)) → Agrees journal old.entries → BreaksOff disk old journal new next → Agrees next new.entries
   agrees_broken old new journal next agrees breaks =
       let had = puts_entries journal breaks.more (Some breaks.put.mid) old.entries agrees breaks.put.put in
       subst (λ (j : Option (Keeps D)). Agrees j new.entries) (sym breaks.put.is) (breaks.put.in_vain.entries ∙ had ∙ sym breaks.longer)
 
   pub agrees_journaled : {A : Type 0} (result : Result A Refusal) (old new : Host) (journal next : Option (Keeps D)) → Agrees journal old.entries
-      → IsJournaled faults result old journal new next → Agrees next new.entries
+      → IsJournaled disk result old journal new next → Agrees next new.entries
   agrees_journaled result old new journal next agrees is = elim (journaled_as result old new journal next is) [
     | inl broken ↦ agrees_broken old new journal next agrees broken.1
     | inr kept ↦ agrees_after old new journal next agrees kept.1
@@ -112,18 +114,18 @@ module _ {D : Type 0} (faults : D → ℕ) where
 
   -- ---- an entry
 
-  pub entered_ok : (entry : Entry) (old new : Host) (journal next : Option (Keeps D)) → Puts faults journal (entry ∷ []) next → new ≡ with_entry old entry
-      → KeepsUp faults old journal new next
+  pub entered_ok : (entry : Entry) (old new : Host) (journal next : Option (Keeps D)) → Puts disk journal (entry ∷ []) next → new ≡ with_entry old entry
+      → KeepsUp disk old journal new next
   entered_ok entry old new journal next put is = record { more = entry ∷ []; longer = ap (λ (h : Host). h.entries) is; put = put }
 
-  of_error : (A B : Type 0) (e : EntryError) (entry : Entry) (old new : Host) (journal next : Option (Keeps D)) → new ≡ old → IsEntered {A = A} faults (Err e) entry journal next
-      → IsJournaled {A = B} faults (Err (told_error e)) old journal new next
+  of_error : (A B : Type 0) (e : EntryError) (entry : Entry) (old new : Host) (journal next : Option (Keeps D)) → new ≡ old → IsEntered {A = A} disk (Err e) entry journal next
+      → IsJournaled {A = B} disk (Err (told_error e)) old journal new next
   of_error A B (error.Refused why) entry old new journal next same put = keeps_same old new journal next same put
   of_error A B error.OutOfMemory entry old new journal next same put = keeps_same old new journal next same put
-  of_error A B error.Device entry old new journal next same put = record { more = []; longer = ap (λ (h : Host). h.entries) same ∙ sym (append-nil old.entries); put = put }
+  of_error A B error.Device entry old new journal next same put = record { more = []; longer = ap (λ (h : Host). h.entries) same ∙ sym (append-nil old.entries); missed = entry; put = put }
 
   pub entered_err : {A B : Type 0} (result : Result A EntryError) (told : Result B Refusal) (why : EntryError) (entry : Entry) (old new : Host) (journal next : Option (Keeps D))
-      → IsEntered faults result entry journal next → result ≡ Err why → told ≡ Err (told_error why) → new ≡ old → IsJournaled faults told old journal new next
+      → IsEntered disk result entry journal next → result ≡ Err why → told ≡ Err (told_error why) → new ≡ old → IsJournaled disk told old journal new next
   entered_err {A = A} {B = B} result told why entry old new journal next put is tells same =
-      let there : IsEntered {A = A} faults (Err why) entry journal next = subst (λ (r : Result A EntryError). IsEntered faults r entry journal next) is put in
-      subst (λ (r : Result B Refusal). IsJournaled faults r old journal new next) (sym tells) (of_error A B why entry old new journal next same there)
+      let there : IsEntered {A = A} disk (Err why) entry journal next = subst (λ (r : Result A EntryError). IsEntered disk r entry journal next) is put in
+      subst (λ (r : Result B Refusal). IsJournaled disk r old journal new next) (sym tells) (of_error A B why entry old new journal next same there)

@@ -23,9 +23,9 @@ left_at : {A E : Type 0} (L : Type 0) (r : Result A E) (why : E) → r ≡ Err w
 left_at L (Ok x) why is left = absurd (cc is)
 left_at L (Err e) why is left = left
 
-module _ {S D : Type 0} {disk : Ghosts D} (did : S → Call → S → Type 0) (failures : S → ℕ) (faults : D → ℕ) where
+module _ {S D : Type 0} {disk : Ghosts D} (did : S → Call → S → Type 0) (failures : S → ℕ) where
   pub not_judged : (server : Server S D disk) (n : ℕ) (path bytes : List ℕ) (why : Refusal) → judge_upload server.house n path bytes ≡ Err why
-      → DoesUpload did failures faults server n path bytes (Err why) server
+      → DoesUpload did failures server n path bytes (Err why) server
   not_judged server n path bytes why is = inl (
     record {
       stored = subst (λ j. IsStoredIf did j server.house.uploads server.files.shelf bytes server.files.shelf) (sym is) refl;
@@ -33,7 +33,7 @@ module _ {S D : Type 0} {disk : Ghosts D} (did : S → Call → S → Type 0) (f
       told_is = ap (λ j. (uploaded server.house n bytes j).told) (sym is);
       host_is = ap (λ j. (uploaded server.house n bytes j).host) (sym is);
     },
-    keeps_same faults server.house server.house server.journal server.journal refl refl,
+    keeps_same disk server.house server.house server.journal server.journal refl refl,
   )
 
   -- the entry that would publish the deploy isn't made, for this reason
@@ -55,9 +55,9 @@ module _ {S D : Type 0} {disk : Ghosts D} (did : S → Call → S → Type 0) (f
       → judge_upload server.house n path bytes ≡ Ok at → mid ≡ with_upload server.house bytes
       → IsStored did server.house.uploads server.files.shelf bytes next.files.shelf → next.files.cache ≡ server.files.cache
       → Publishes entry next.house (published_if_ready mid at.0 n) → (IsStopped entry → IsTrue (is_published mid at.0 n)) → OnErr entry (next.house ≡ mid)
-      → ((entry ≡ Err reason.Device) × Breaks faults server next) ⊎ ((entry ≢ Err reason.Device) × GoesOn faults server next)
+      → ((entry ≡ Err reason.Device) × Breaks server next) ⊎ ((entry ≢ Err reason.Device) × GoesOn server next)
       → told_by told ≡ told_of entry (λ published. Uploaded published at.1) → ((why : Refusal) → entry ≡ Err why → told ≡ Err why)
-      → DoesUpload did failures faults server n path bytes told next
+      → DoesUpload did failures server n path bytes told next
   done_so server next mid n path bytes at entry told judged known stored cache done stops left (inl (is, broken)) says fails =
       inr (inr (unpublished server next mid n path bytes at entry reason.Device judged known stored cache (stops (inr is)) left is, inr (fails reason.Device is, broken)))
   done_so server next mid n path bytes at entry told judged known stored cache (inl (inl none)) stops left (inr (other, kept)) says fails =
@@ -79,11 +79,11 @@ module _ {S D : Type 0} {disk : Ghosts D} (did : S → Call → S → Type 0) (f
       → judge_upload server.house n path bytes ≡ Ok at → mid ≡ with_upload server.house bytes
       → IsStored did server.house.uploads server.files.shelf bytes next.files.shelf → next.files.cache ≡ server.files.cache
       → Publishes entry next.house (published_if_ready mid at.0 n) → (IsStopped entry → IsTrue (is_published mid at.0 n)) → OnErr entry (next.house ≡ mid)
-      → IsJournaled faults entry mid server.journal next.house next.journal
+      → IsJournaled disk entry mid server.journal next.house next.journal
       → told_by told ≡ told_of entry (λ published. Uploaded published at.1) → ((why : Refusal) → entry ≡ Err why → told ≡ Err why)
-      → DoesUpload did failures faults server n path bytes told next
+      → DoesUpload did failures server n path bytes told next
   upload_done server next mid n path bytes at entry told judged known stored cache done stops left journaled says fails =
-      let from : KeepsUp faults server.house server.journal mid server.journal = keeps_entries faults server.house mid server.journal server.journal (ap (λ (h : Host). h.entries) known) refl in
-      let same = journaled_then faults entry server.house mid next.house server.journal server.journal next.journal from journaled in
+      let from : KeepsUp disk server.house server.journal mid server.journal = keeps_entries disk server.house mid server.journal server.journal (ap (λ (h : Host). h.entries) known) refl in
+      let same = journaled_then disk entry server.house mid next.house server.journal server.journal next.journal from journaled in
       done_so server next mid n path bytes at entry told judged known stored cache done stops left
-      (journaled_as faults entry server.house next.house server.journal next.journal same) says fails
+      (journaled_as disk entry server.house next.house server.journal next.journal same) says fails

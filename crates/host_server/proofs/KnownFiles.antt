@@ -117,7 +117,7 @@ module _ {S : Type 0} (did : S → Call → S → Type 0) (failures : S → ℕ)
     told_cached P pieces true answer there cached all (says, same) = subst (λ (n : CachedShelf S). AllCached P n.cache) (sym same) all
     told_cached P pieces false answer there cached all sent = sent_cached P pieces answer there cached all sent
 
-module _ {S D : Type 0} {disk : Ghosts D} (did : S → Call → S → Type 0) (failures : S → ℕ) (faults : D → ℕ) (has : S → ShelfName → Option (List ℕ)) (keeps : AlwaysKeeps did has) where
+module _ {S D : Type 0} {disk : Ghosts D} (did : S → Call → S → Type 0) (failures : S → ℕ) (has : S → ShelfName → Option (List ℕ)) (keeps : AlwaysKeeps did has) where
   -- ---- where no more is known
 
   -- what is known stays on the shelf
@@ -255,7 +255,7 @@ module _ {S D : Type 0} {disk : Ghosts D} (did : S → Call → S → Type 0) (f
   stops_known server next body asking agrees known is = unmoved server next (stops_same server.house next.house asking is.0) is.1 known
 
   pub answered_known : (server next : Server S D disk) (parts : RequestParts) (body : List ℕ) (answer : Answer) → UploadAgrees server.house.uploads parts body → HasKnown has server
-      → IsAnswer did failures faults server parts body answer next → HasKnown has next
+      → IsAnswer did failures server parts body answer next → HasKnown has next
   answered_known server next parts body answer agrees known (inl (inl (held, says, same), kept)) = as_it_was server next same known
   answered_known server next parts body answer agrees known (inl (inr (free, reply), kept)) = reply_known server next parts body (asked_for parts body) answer agrees known reply
   answered_known server next parts body answer agrees known (inr (inl ((says, inl (same, takes)), kept))) = as_it_was server next same known

@@ -1,10 +1,9 @@
 -- What no reading, no refused request and no upload is answered.
-use Rattle.std.proofs.Common.{◌≡◌, ◌⊎◌, inl, inr, ℕ, ◌<◌, ◌≤◌, List, [], ◌∷◌, Bool, true, false, Option, Some, None, Result, Ok, Err, length, refl, sym, ap, subst, ◌∙◌, arith}
+use Rattle.std.proofs.Common.{◌≡◌, ◌⊎◌, inl, inr, ℕ, ◌<◌, List, true, false, Option, Result, Ok, Err, length, refl, sym, ap, subst, ◌∙◌, arith}
 use Rattle.byte_view.specs.Contents.{Contents}
 use Rattle.host_names.specs.declared.digests.Digest.{Digest}
 use Rattle.host_names.specs.declared.names.SiteName.{SiteName}
 use Rattle.blob_store.specs.Calls.{Call}
-use Rattle.range_spec.specs.declared.grammar.Asked.{Asked}
 use Rattle.range_spec.specs.declared.selection.Choice.{Choice}
 use Rattle.range_spec.specs.declared.selection.Choice.TheVariants.{Whole, One, Many, None416}
 use Rattle.range_reply.specs.declared.boundaries.Boundary.{Boundary}
@@ -34,13 +33,13 @@ other_status path file None416 boundary bytes e = let wrong : 416 ≡ 503 = e in
 not_read_back : (parts : RequestParts) (path file : List ℕ) (answer : Answer) → answer.status ≡ 503
     → (length answer.body ≡ length (refused_answer reason.OutOfMemory).body → ⊥) → (length answer.body ≡ length (refused_answer reason.Device).body → ⊥)
     → IsReadBack parts path file answer → ⊥
-not_read_back parts path file answer status memory device (inl is) = memory (ap (λ (a : Answer). length a.body) is)
-not_read_back parts path file answer status memory device (inr (inl is)) = device (ap (λ (a : Answer). length a.body) is)
-not_read_back parts path file answer status memory device (inr (inr (inl (range, asks, inl (none, is))))) =
+not_read_back parts path file answer status memory disk (inl is) = memory (ap (λ (a : Answer). length a.body) is)
+not_read_back parts path file answer status memory disk (inr (inl is)) = disk (ap (λ (a : Answer). length a.body) is)
+not_read_back parts path file answer status memory disk (inr (inr (inl (range, asks, inl (none, is))))) =
     let wrong : 503 ≡ 416 = sym status ∙ ap (λ (a : Answer). a.status) is in omega (arith, wrong)
-not_read_back parts path file answer status memory device (inr (inr (inl (range, asks, inr (body, exact, is))))) =
+not_read_back parts path file answer status memory disk (inr (inr (inl (range, asks, inr (body, exact, is))))) =
     other_status path file body.plan body.boundary body.bytes (sym (ap (λ (a : Answer). a.status) is) ∙ status)
-not_read_back parts path file answer status memory device (inr (inr (inr (head, is)))) =
+not_read_back parts path file answer status memory disk (inr (inr (inr (head, is)))) =
     let wrong : 503 ≡ 200 = sym status ∙ ap (λ (a : Answer). a.status) is in omega (arith, wrong)
 
 pub not_missing : (parts : RequestParts) (path file : List ℕ) → IsReadBack parts path file (refused_answer reason.Missing) → ⊥
@@ -50,9 +49,9 @@ pub not_damaged : (parts : RequestParts) (path file : List ℕ) → IsReadBack p
 not_damaged parts path file is = not_read_back parts path file (refused_answer reason.Damaged) refl (λ e. absurd (cc e)) (λ e. absurd (cc e)) is
 
 -- what a request that is refused is answered, and the host it leaves
-module _ {S D : Type 0} {disk : Ghosts D} (did : S → Call → S → Type 0) (failures : S → ℕ) (faults : D → ℕ) where
+module _ {S D : Type 0} {disk : Ghosts D} (did : S → Call → S → Type 0) (failures : S → ℕ) where
   pub refusal_is : (old new : Server S D disk) (parts : RequestParts) (body : List ℕ) (answer : Answer) (why : Refusal) → asked_for parts body ≡ Err why
-      → IsAnswer did failures faults old parts body answer new
+      → IsAnswer did failures old parts body answer new
       → (new.house ≡ old.house) × ((answer ≡ refused_answer why) ⊎ (answer ≡ refused_answer reason.OutOfMemory))
   refusal_is old new parts body answer why asks (inl (inl (held, says, same), kept)) =
       let wrong : false ≡ true = sym (ap (λ (a : Result Ask Refusal). holds_up old a) asks) ∙ held in absurd (cc wrong)

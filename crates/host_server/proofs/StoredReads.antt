@@ -62,15 +62,15 @@ module _ {S : Type 0} (did : S → Call → S → Type 0) (failures : S → ℕ)
     fault_on : (now new : CachedShelf S) (name : Digest) (why : ReadFault) → Any name → GoesOn old now → ReadsChunk did failures now name (Err why) new → StopsOn why new
     fault_on now new name why any so read = (
       read_on now new name (Err why) any so read,
-      λ device. omega (arith, so, one_counts now new name (subst (λ w. ReadsChunk did failures now name (Err w) new) device read)),
+      λ disk. omega (arith, so, one_counts now new name (subst (λ w. ReadsChunk did failures now name (Err w) new) disk read)),
     )
 
     none_on : (new : CachedShelf S) → GoesOn old new → StopsOn OutOfMemory new
-    none_on new so = (so, λ device. absurd (cc device))
+    none_on new so = (so, λ disk. absurd (cc disk))
 
     wrong_on : (now new : CachedShelf S) (chunks : List (List ℕ)) (first last : ℕ) → GoesOn old now → GoesOn old new → HaveWrongLengths chunks file first last
         → ReadsInTurn (ReadsChunk did failures) now chunks new → StopsOn Damaged new
-    wrong_on now new chunks first last so after wrong turns = (after, λ device. absurd (cc device))
+    wrong_on now new chunks first last so after wrong turns = (after, λ disk. absurd (cc disk))
 
     stops_on : (new : CachedShelf S) (plan : Choice) (why : ReadFault) → IsNotRead (GaveOfNode did failures) (FailedOfNode did failures) old file plan why new → StopsOn why new
     stops_on new plan why is =

@@ -60,11 +60,11 @@ kept_up K (inr none) kept = inr (inl (none, kept))
 pub told_outcome : (R B K O : Type 0) (out : Outcome) (told : Result Told Refusal) (answer : Answer) (next : Host) → Does told next out
     → (IsErrOf told OutOfMemory → R) → (IsErrOf told Device → B) → ((told ≡ Err Device) × O) ⊎ ((told ≢ Err Device) × K) → Tells (told_by told) answer
     → (IsTold out answer next × K) ⊎ (((answer ≡ refused_answer OutOfMemory) × (R ⊎ TextRunsOut out next)) × K) ⊎ (((answer ≡ refused_answer Device) × B) × O)
-told_outcome R B K O out told answer next does memory device (inl (is, broken)) says = inr (inr ((failed told answer is says, device is), broken))
-told_outcome R B K O out told answer next (inl (inl none)) memory device (inr (other, kept)) says = inr (inl ((without told answer none says, inl (memory none)), kept))
-told_outcome R B K O out told answer next (inl (inr is)) memory device (inr (other, kept)) says = absurd (other is)
-told_outcome R B K O out told answer next (inr done) memory device (inr (other, kept)) (inl is) = inl ((is ∙ ap told_answer done.0, done.1), kept)
-told_outcome R B K O out told answer next (inr done) memory device (inr (other, kept)) (inr ran_out) =
+told_outcome R B K O out told answer next does memory disk (inl (is, broken)) says = inr (inr ((failed told answer is says, disk is), broken))
+told_outcome R B K O out told answer next (inl (inl none)) memory disk (inr (other, kept)) says = inr (inl ((without told answer none says, inl (memory none)), kept))
+told_outcome R B K O out told answer next (inl (inr is)) memory disk (inr (other, kept)) says = absurd (other is)
+told_outcome R B K O out told answer next (inr done) memory disk (inr (other, kept)) (inl is) = inl ((is ∙ ap told_answer done.0, done.1), kept)
+told_outcome R B K O out told answer next (inr done) memory disk (inr (other, kept)) (inr ran_out) =
     inr (inl ((ran_out.0, inr (done.1, subst (λ t. takes_text t ≡ true) done.0 ran_out.1)), kept))
 
 -- the same of a command
@@ -79,12 +79,12 @@ told_commit K O host next change told answer (inr done) stops (inr (other, kept)
 told_commit K O host next change told answer (inr done) stops (inr (other, kept)) (inr ran_out) =
     inr (inl ((ran_out.0, inr (done.0, done.1, (done.3, subst (λ t. takes_text t ≡ true) done.2 ran_out.1))), kept))
 
-pub told_command : {D : Type 0} (faults : D → ℕ) (host next : Host) (journal new_journal : Option (Keeps D)) (change : Command) (told : Result Told Refusal) (answer : Answer)
-    → DoesCommit told next host change → (IsStopped told → CommandRunsOut host change next) → IsJournaled faults told host journal next new_journal → Tells (told_by told) answer
-    → AnswersHost faults host journal (Ok (ask.Command change)) answer next new_journal
-told_command faults host next journal new_journal change told answer does stops journaled says =
-    told_commit (KeepsUp faults host journal next new_journal) (BreaksOff faults host journal next new_journal) host next change told answer does stops
-    (journaled_as faults told host next journal new_journal journaled) says
+pub told_command : {D : Type 0} (disk : Ghosts D) (host next : Host) (journal new_journal : Option (Keeps D)) (change : Command) (told : Result Told Refusal) (answer : Answer)
+    → DoesCommit told next host change → (IsStopped told → CommandRunsOut host change next) → IsJournaled disk told host journal next new_journal → Tells (told_by told) answer
+    → AnswersHost disk host journal (Ok (ask.Command change)) answer next new_journal
+told_command disk host next journal new_journal change told answer does stops journaled says =
+    told_commit (KeepsUp disk host journal next new_journal) (BreaksOff disk host journal next new_journal) host next change told answer does stops
+    (journaled_as disk told host next journal new_journal journaled) says
 
 pub told_deploy : (host : Host) (deploy : ℕ) (told : Result Told Refusal) (answer : Answer)
     → (told ≡ Err OutOfMemory) ⊎ ShowsDeploy host deploy (told_by told) → (IsErrOf told OutOfMemory → is_open host deploy ≡ true) → Tells (told_by told) answer
@@ -111,7 +111,7 @@ on_server F (inl (done, kept)) same = inl ((done, same), kept)
 on_server F (inr (inl (none, kept))) same = inr (inl ((none.0, (none.1, same)), kept))
 on_server F (inr (inr (none, broken))) same = inr (inr ((none.0, (none.1, same)), broken))
 
-module _ {S D : Type 0} {disk : Ghosts D} (did : S → Call → S → Type 0) (failures : S → ℕ) (faults : D → ℕ) where
+module _ {S D : Type 0} {disk : Ghosts D} (did : S → Call → S → Type 0) (failures : S → ℕ) where
   -- ---- an upload
 
   store_tells : (server next : Server S D disk) (n : ℕ) (path bytes : List ℕ) (why : UploadFault) (told : Result Told Refusal) (answer : Answer)
@@ -126,13 +126,13 @@ module _ {S D : Type 0} {disk : Ghosts D} (did : S → Call → S → Type 0) (f
   store_tells server next n path bytes fault.Device told answer refused is (inr ran_out) = absurd (cc (ap (λ t. takes_text (told_by t)) (sym is) ∙ ran_out.1))
 
   pub told_upload : (server next : Server S D disk) (parts : RequestParts) (n : ℕ) (path bytes : List ℕ) (told : Result Told Refusal) (answer : Answer)
-      → DoesUpload did failures faults server n path bytes told next → Tells (told_by told) answer
-      → CarriesOut did failures faults server parts bytes (Ok (ask.Upload n path)) answer next
+      → DoesUpload did failures server n path bytes told next → Tells (told_by told) answer
+      → CarriesOut did failures server parts bytes (Ok (ask.Upload n path)) answer next
   told_upload server next parts n path bytes told answer (inl (done, kept)) (inl says) = inl (inl (told_by told, done, says), kept)
   told_upload server next parts n path bytes told answer (inl (done, kept)) (inr ran_out) =
       inr (inl ((ran_out.0, inr (inr (told_by told, done, (done.host_is, subst (λ t. takes_text t ≡ true) done.told_is ran_out.1)))), kept))
   told_upload server next parts n path bytes told answer (inr (inl (why, refused, is, kept))) says =
-      kept_up (GoesOn faults server next) (store_tells server next n path bytes why told answer refused is says) kept
+      kept_up (GoesOn server next) (store_tells server next n path bytes why told answer refused is says) kept
   told_upload server next parts n path bytes told answer (inr (inr (left, inl (none, kept)))) says = inr (inl ((without told answer none says, inr (inl left)), kept))
   told_upload server next parts n path bytes told answer (inr (inr (left, inr (is, broken)))) says = inr (inr ((failed told answer is says, left), broken))
 
@@ -159,26 +159,26 @@ module _ {S D : Type 0} {disk : Ghosts D} (did : S → Call → S → Type 0) (f
 
   -- ---- any request
 
-  stays : (server next : Server S D disk) → next ≡ server → GoesOn faults server next
+  stays : (server next : Server S D disk) → next ≡ server → GoesOn server next
   stays server next is =
-      keeps_same faults server.house next.house server.journal next.journal (ap (λ (s : Server S D disk). s.house) is) (ap (λ (s : Server S D disk). s.journal) is)
+      keeps_same disk server.house next.house server.journal next.journal (ap (λ (s : Server S D disk). s.house) is) (ap (λ (s : Server S D disk). s.journal) is)
 
   -- the answer to what is asked for is that to the request
-  of_asked : (server next : Server S D disk) (parts : RequestParts) (body : List ℕ) (answer : Answer) → AnswersAsk did failures faults server parts body (asked_for parts body) answer next
-      → IsAnswer did failures faults server parts body answer next
+  of_asked : (server next : Server S D disk) (parts : RequestParts) (body : List ℕ) (answer : Answer) → AnswersAsk did failures server parts body (asked_for parts body) answer next
+      → IsAnswer did failures server parts body answer next
   of_asked server next parts body answer (inl (held, says, same)) = inl (inl (held, says, same), stays server next same)
   of_asked server next parts body answer (inr (free, inl (reply, kept))) = inl (inr (free, reply), kept)
   of_asked server next parts body answer (inr (free, inr (inl ((says, out), kept)))) = inr (inl ((says, inr (free, out)), kept))
   of_asked server next parts body answer (inr (free, inr (inr ((says, stops), broken)))) = inr (inr ((says, stops), broken))
 
   pub answered : (server next : Server S D disk) (parts : RequestParts) (lent body : List ℕ) (asking : Result Ask Refusal) (answer : Answer) → lent ≡ body
-      → asked_for parts lent ≡ asking → AnswersAsk did failures faults server parts body asking answer next → IsAnswer did failures faults server parts body answer next
+      → asked_for parts lent ≡ asking → AnswersAsk did failures server parts body asking answer next → IsAnswer did failures server parts body answer next
   answered server next parts lent body asking answer same is answers =
       let there : asking ≡ asked_for parts body = sym is ∙ ap (asked_for parts) same in
-      of_asked server next parts body answer (subst (λ a. AnswersAsk did failures faults server parts body a answer next) there answers)
+      of_asked server next parts body answer (subst (λ a. AnswersAsk did failures server parts body a answer next) there answers)
 
   pub unasked : (server : Server S D disk) (parts : RequestParts) (lent body : List ℕ) (reason : Refusal) (answer : Answer) → lent ≡ body
-      → IsUnasked parts lent reason → Tells (tells.Refused reason) answer → IsAnswer did failures faults server parts body answer server
+      → IsUnasked parts lent reason → Tells (tells.Refused reason) answer → IsAnswer did failures server parts body answer server
   unasked server parts lent body reason answer same (inl none) (inl says) =
       inr (inl ((says ∙ ap refused_answer none.0, inl (refl, sym (ap (asking_takes parts) same) ∙ none.1)), stays server server refl))
   unasked server parts lent body reason answer same (inl none) (inr ran_out) =

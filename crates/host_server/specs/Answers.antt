@@ -1,11 +1,10 @@
 -- What the functions that answer a request do.
-use Rattle.std.specs.Prelude.{◌≡◌, ◌⊎◌, ℕ, List, Result, Ok, Err, IsTrue}
+use Rattle.std.specs.Prelude.{◌≡◌, ◌⊎◌, ℕ, List, Result, Ok, Err}
 use Rattle.host_names.specs.declared.names.SiteName.{SiteName}
 use Rattle.blob_store.specs.Calls.{Call}
 use Rattle.http_wire.specs.Requests.{RequestParts}
 use Rattle.host_api.specs.declared.refusals.Refusal.{Refusal}
 use Rattle.host_api.specs.declared.refusals.Refusal.TheVariants.{OutOfMemory}
-use Rattle.host_api.specs.declared.texts.Told.{Told}
 use Rattle.host_api.specs.declared.versions.Version.{Version}
 use Rattle.host_disk.specs.declared.disks.Disk.{Ghosts}
 use Rattle.host_replies.specs.declared.replies.Reply.{Reply}
@@ -13,8 +12,7 @@ use Rattle.host_server.specs.declared.servers.Server.{Server}
 use Rattle.host_replies.specs.Bodies.{answer_of}
 use Rattle.host_server.specs.Files.{IsReadReply, ReadRunsOut}
 use Rattle.host_server.specs.Hosts.{state_of}
-use Rattle.host_replies.specs.Replies.{takes_text}
-use Rattle.host_replies.specs.Replies.{Answer, told_answer, refused_answer}
+use Rattle.host_replies.specs.Replies.{Answer, refused_answer}
 use Rattle.host_server.specs.Versions.{file_of}
 
 -- the answer where a call gives this reply, or this reason to refuse

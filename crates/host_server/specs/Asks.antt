@@ -145,33 +145,33 @@ IsBrokenOff did server parts body answer next = (answer ≡ refused_answer Devic
 
 -- The answer to a request: the reply to it, or that there is no memory, and the journal then has what the host got; or that the journal's
 -- device failed.
-abbrev pub IsAnswer : {S D : Type 0} {disk : Ghosts D} → (did : S → Call → S → Type 0) → (failures : S → ℕ) → (faults : D → ℕ) → Server S D disk → RequestParts → List ℕ → Answer → Server S D disk → Type 0
-IsAnswer did failures faults server parts body answer next =
-    (IsReply did failures server parts body answer next × GoesOn faults server next)
-    ⊎ (IsWithoutMemory did failures server parts body answer next × GoesOn faults server next)
-    ⊎ (IsBrokenOff did server parts body answer next × Breaks faults server next)
+abbrev pub IsAnswer : {S D : Type 0} {disk : Ghosts D} → (did : S → Call → S → Type 0) → (failures : S → ℕ) → Server S D disk → RequestParts → List ℕ → Answer → Server S D disk → Type 0
+IsAnswer did failures server parts body answer next =
+    (IsReply did failures server parts body answer next × GoesOn server next)
+    ⊎ (IsWithoutMemory did failures server parts body answer next × GoesOn server next)
+    ⊎ (IsBrokenOff did server parts body answer next × Breaks server next)
 
 -- ---- what private functions say
 
 -- the answer to what a request asks for that no file is read or stored for
-abbrev pub AnswersHost : {D : Type 0} → (faults : D → ℕ) → Host → Option (Keeps D) → Result Ask Refusal → Answer → Host → Option (Keeps D) → Type 0
-AnswersHost faults host journal asking answer next new_journal =
-    (IsHostReply host asking answer next × KeepsUp faults host journal next new_journal)
-    ⊎ (((answer ≡ refused_answer OutOfMemory) × HostRunsOut host asking next) × KeepsUp faults host journal next new_journal)
-    ⊎ (((answer ≡ refused_answer Device) × HostStops host asking next) × BreaksOff faults host journal next new_journal)
+abbrev pub AnswersHost : {D : Type 0} → (disk : Ghosts D) → Host → Option (Keeps D) → Result Ask Refusal → Answer → Host → Option (Keeps D) → Type 0
+AnswersHost disk host journal asking answer next new_journal =
+    (IsHostReply host asking answer next × KeepsUp disk host journal next new_journal)
+    ⊎ (((answer ≡ refused_answer OutOfMemory) × HostRunsOut host asking next) × KeepsUp disk host journal next new_journal)
+    ⊎ (((answer ≡ refused_answer Device) × HostStops host asking next) × BreaksOff disk host journal next new_journal)
 
 -- the answer to what a request asks for that isn't held up
-abbrev pub CarriesOut : {S D : Type 0} {disk : Ghosts D} → (did : S → Call → S → Type 0) → (failures : S → ℕ) → (faults : D → ℕ) → Server S D disk → RequestParts → List ℕ → Result Ask Refusal → Answer → Server S D disk → Type 0
-CarriesOut did failures faults server parts body asking answer next =
-    (IsReplyToAsk did failures server parts body asking answer next × GoesOn faults server next)
-    ⊎ (((answer ≡ refused_answer OutOfMemory) × AskRunsOut did failures server parts body asking next) × GoesOn faults server next)
-    ⊎ (((answer ≡ refused_answer Device) × AskStops did server body asking next) × Breaks faults server next)
+abbrev pub CarriesOut : {S D : Type 0} {disk : Ghosts D} → (did : S → Call → S → Type 0) → (failures : S → ℕ) → Server S D disk → RequestParts → List ℕ → Result Ask Refusal → Answer → Server S D disk → Type 0
+CarriesOut did failures server parts body asking answer next =
+    (IsReplyToAsk did failures server parts body asking answer next × GoesOn server next)
+    ⊎ (((answer ≡ refused_answer OutOfMemory) × AskRunsOut did failures server parts body asking next) × GoesOn server next)
+    ⊎ (((answer ≡ refused_answer Device) × AskStops did server body asking next) × Breaks server next)
 
 -- the answer to what a request asks for
-abbrev pub AnswersAsk : {S D : Type 0} {disk : Ghosts D} → (did : S → Call → S → Type 0) → (failures : S → ℕ) → (faults : D → ℕ) → Server S D disk → RequestParts → List ℕ → Result Ask Refusal → Answer → Server S D disk → Type 0
-AnswersAsk did failures faults server parts body asking answer next =
+abbrev pub AnswersAsk : {S D : Type 0} {disk : Ghosts D} → (did : S → Call → S → Type 0) → (failures : S → ℕ) → Server S D disk → RequestParts → List ℕ → Result Ask Refusal → Answer → Server S D disk → Type 0
+AnswersAsk did failures server parts body asking answer next =
     ((holds_up server asking ≡ true) × (answer ≡ refused_answer Broken) × (next ≡ server))
-    ⊎ ((holds_up server asking ≡ false) × CarriesOut did failures faults server parts body asking answer next)
+    ⊎ ((holds_up server asking ≡ false) × CarriesOut did failures server parts body asking answer next)
 
 -- the answer to the reading of a file
 abbrev pub AnswersRead : {S D : Type 0} {disk : Ghosts D} → (did : S → Call → S → Type 0) → (failures : S → ℕ) → Server S D disk → RequestParts → List ℕ → Result (List ℕ) Refusal → Answer → Server S D disk → Type 0

@@ -1,5 +1,5 @@
 -- How a host gets an entry.
-use Rattle.std.specs.Prelude.{◌≡◌, ℕ, [], ◌∷◌, true, Option, Some, None, Result, Ok, Err}
+use Rattle.std.specs.Prelude.{◌≡◌, [], ◌∷◌, true, Option, Some, None, Result, Ok, Err}
 use Rattle.site_change.specs.declared.refusals.ChangeError.{ChangeError}
 use Rattle.site_change.specs.declared.refusals.ChangeError.TheVariants as change
 use Rattle.site_change.specs.declared.refusals.ChangeRefusal.{ChangeRefusal}
@@ -10,6 +10,7 @@ use Rattle.host_api.specs.declared.refusals.Refusal.{Refusal}
 use Rattle.host_api.specs.declared.refusals.Refusal.TheVariants as reason
 use Rattle.host_server.specs.declared.host.entry_errors.EntryError.{EntryError}
 use Rattle.host_server.specs.declared.host.entry_errors.EntryError.TheVariants.{Refused, OutOfMemory, Device}
+use Rattle.host_disk.specs.declared.disks.Disk.{Ghosts}
 use Rattle.host_server.specs.Journals.{Puts, PutsInPart}
 
 -- the error where a history answers so
@@ -38,8 +39,8 @@ IsUndoRefusedAs why (Err OutOfMemory) = may_take_memory why ≡ true
 IsUndoRefusedAs why (Err Device) = why ≡ None
 
 -- the entry was put into the journal, if there is one; or the device failed in that; or nothing was put
-abbrev pub IsEntered : {A D : Type 0} → (faults : D → ℕ) → Result A EntryError → Entry → Option (Keeps D) → Option (Keeps D) → Type 0
-IsEntered faults (Ok answer) entry old new = Puts faults old (entry ∷ []) new
-IsEntered faults (Err (Refused told)) entry old new = new ≡ old
-IsEntered faults (Err OutOfMemory) entry old new = new ≡ old
-IsEntered faults (Err Device) entry old new = PutsInPart faults old [] new
+abbrev pub IsEntered : {A D : Type 0} → (disk : Ghosts D) → Result A EntryError → Entry → Option (Keeps D) → Option (Keeps D) → Type 0
+IsEntered disk (Ok answer) entry old new = Puts disk old (entry ∷ []) new
+IsEntered disk (Err (Refused told)) entry old new = new ≡ old
+IsEntered disk (Err OutOfMemory) entry old new = new ≡ old
+IsEntered disk (Err Device) entry old new = PutsInPart disk old [] entry new

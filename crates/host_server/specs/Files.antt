@@ -1,33 +1,28 @@
 -- What is answered to the reading of a file.
-use Rattle.std.specs.Prelude.{◌≡◌, ◌≢◌, ◌⊎◌, ℕ, List, [], ◌∷◌, Bool, true, false, Option, Some, None, Result, Ok, Err, IsTrue, length, codes}
+use Rattle.std.specs.Prelude.{◌≡◌, ◌≢◌, ◌⊎◌, ℕ, List, [], ◌∷◌, Bool, true, false, Some, Result, Ok, Err, IsTrue, length, codes}
 use Rattle.std.specs.FinMap as map
 use Rattle.std.specs.Str.{bytes_eq}
 use Rattle.host_names.specs.Digests.{digest_of}
-use Rattle.host_names.specs.declared.digests.Digest.{Digest}
 use Rattle.blob_store.specs.Calls.{Call}
 use Rattle.chunk_reads.specs.declared.faults.ReadFault.{ReadFault}
 use Rattle.chunk_reads.specs.declared.faults.ReadFault.TheVariants as fault
 use Rattle.range_spec.specs.declared.grammar.Asked.{Asked}
 use Rattle.range_spec.specs.declared.grammar.Asked.TheVariants.{Ignore}
 use Rattle.range_spec.specs.declared.selection.Choice.{Choice}
-use Rattle.range_spec.specs.declared.selection.Choice.TheVariants.{Whole, One, Many, None416}
+use Rattle.range_spec.specs.declared.selection.Choice.TheVariants.{None416}
 use Rattle.range_spec.specs.Understood.{IsUnderstoodAs}
-use Rattle.range_reply.specs.Bodies.{text_in}
 use Rattle.range_reply.specs.Conditions.{condition_of}
 use Rattle.range_reply.specs.Plans.{planned}
-use Rattle.range_reply.specs.declared.boundaries.Boundary.{Boundary}
 use Rattle.range_reply.specs.Sending.{IsNotRead, IsRead}
 use Rattle.range_reply.specs.Sending.{SentFile}
 use Rattle.chunk_group.specs.Cached.{CachedShelf, FailedOfNode, GaveOfNode}
 use Rattle.http_wire.specs.Fields.{values_of}
 use Rattle.http_wire.specs.Requests.{RequestParts}
-use Rattle.http_wire.specs.declared.replies.ContentRange.TheVariants.{Of}
 use Rattle.host_api.specs.Types.{type_of}
 use Rattle.host_api.specs.declared.refusals.Refusal.{Refusal}
 use Rattle.host_api.specs.declared.refusals.Refusal.TheVariants as reason
 use Rattle.host_disk.specs.declared.disks.Disk.{Ghosts}
-use Rattle.host_replies.specs.PartsTypes.{IsOfEight, parts_type}
-use Rattle.host_replies.specs.Replies.{Answer, is_head, part_answer, refused_answer, unread_answer}
+use Rattle.host_replies.specs.Replies.{Answer, is_head, refused_answer, unread_answer}
 use Rattle.host_replies.specs.SentFiles.{sent_answer}
 use Rattle.host_server.specs.declared.servers.Server.{Server}
 

@@ -1,6 +1,9 @@
 -- What becomes of a journal where a host gets more entries.
-use Rattle.std.specs.Prelude.{◌≡◌, ◌⊎◌, ℕ, List, [], ◌∷◌, Bool, true, false, Option, Some, None, Result, Err}
+use Rattle.std.specs.Prelude.{◌≡◌, ◌⊎◌, List, [], ◌∷◌, Bool, true, false, Option, Some, None, Result, Err, IsTrue}
 use Rattle.change_journal.specs.entries.Held.{Keeps}
+use Rattle.change_journal.specs.entries.Texts.{AllStored, MayHoldNext}
+use Rattle.host_disk.specs.Crashes.{LeavesOnly}
+use Rattle.host_disk.specs.declared.disks.Disk.{Ghosts}
 use Rattle.change_journal.specs.file.Settled.{TellsBreak}
 use Rattle.change_journal.specs.declared.file.records.PutFault.TheVariants as put_fault
 use Rattle.change_undo.specs.Logs as logs
@@ -27,52 +30,57 @@ is_broken (Some journal) = journal.broken
 
 -- ---- puts
 
--- an entry was put after the others
-pub record IsPut {D : Type 0} (faults : D → ℕ) (old : Keeps D) (entry : Entry) (new : Keeps D) : Type 0 where
+-- an entry was put after the others: of a modelled disk, whatever a crash leaves holds them all then, and at any moment of the put those
+-- before it, and perhaps this one too
+pub record IsPut {D : Type 0} (disk : Ghosts D) (old : Keeps D) (entry : Entry) (new : Keeps D) : Type 0 where
   pub was_whole : old.broken ≡ false
   pub entries : new.entries ≡ logs.with_entry old.entries entry
   pub whole : new.broken ≡ false
-  pub cause : faults new.disk ≡ faults old.disk
+  pub stored : IsTrue disk.is_modelled → AllStored (disk.may_leave new.disk) new.entries
+  pub moments : IsTrue disk.is_modelled → LeavesOnly disk.moment disk.left_since old.disk new.disk (MayHoldNext old.entries entry)
+  pub cause : disk.faults new.disk ≡ disk.faults old.disk
 
--- the device failed while an entry was put: it is none of the journal's, of which nothing more is put
-pub record IsPutInVain {D : Type 0} (faults : D → ℕ) (old new : Keeps D) : Type 0 where
+-- the device failed while an entry was put: it is none of the journal's, of which nothing more is put; the disk may hold it or not
+pub record IsPutInVain {D : Type 0} (disk : Ghosts D) (old : Keeps D) (entry : Entry) (new : Keeps D) : Type 0 where
   pub was_whole : old.broken ≡ false
   pub entries : new.entries ≡ old.entries
   pub broken : new.broken ≡ true
-  pub cause : TellsBreak put_fault.Device (faults old.disk) (faults new.disk)
+  pub moments : IsTrue disk.is_modelled → LeavesOnly disk.moment disk.left_since old.disk new.disk (MayHoldNext old.entries entry)
+  pub cause : TellsBreak put_fault.Device (disk.faults old.disk) (disk.faults new.disk)
 
 -- these entries were put, one after another; where there is no journal, or no entry, nothing was
-abbrev pub Puts : {D : Type 0} → (faults : D → ℕ) → Option (Keeps D) → List Entry → Option (Keeps D) → Type 0
-Puts faults old [] new = new ≡ old
-Puts faults None (entry ∷ more) new = new ≡ None
-Puts {D = D} faults (Some old) (entry ∷ more) new = (mid : Keeps D) × IsPut faults old entry mid × Puts faults (Some mid) more new
+abbrev pub Puts : {D : Type 0} → (disk : Ghosts D) → Option (Keeps D) → List Entry → Option (Keeps D) → Type 0
+Puts disk old [] new = new ≡ old
+Puts disk None (entry ∷ more) new = new ≡ None
+Puts {D = D} disk (Some old) (entry ∷ more) new = (mid : Keeps D) × IsPut disk old entry mid × Puts disk (Some mid) more new
 
--- these were, and then the device failed while one more was put
-pub record PutsInPart {D : Type 0} (faults : D → ℕ) (old : Option (Keeps D)) (more : List Entry) (new : Option (Keeps D)) : Type 0 where
+-- these were, and then the device failed while this one was put
+pub record PutsInPart {D : Type 0} (disk : Ghosts D) (old : Option (Keeps D)) (more : List Entry) (entry : Entry) (new : Option (Keeps D)) : Type 0 where
   pub mid : Keeps D
-  pub put : Puts faults old more (Some mid)
+  pub put : Puts disk old more (Some mid)
   pub last : Keeps D
-  pub in_vain : IsPutInVain faults mid last
+  pub in_vain : IsPutInVain disk mid entry last
   pub is : new ≡ Some last
 
 -- ---- what a host's call does to its journal
 
 -- the entries that the host got were put
-pub record KeepsUp {D : Type 0} (faults : D → ℕ) (old : Host) (journal : Option (Keeps D)) (new : Host) (next : Option (Keeps D)) : Type 0 where
+pub record KeepsUp {D : Type 0} (disk : Ghosts D) (old : Host) (journal : Option (Keeps D)) (new : Host) (next : Option (Keeps D)) : Type 0 where
   pub more : List Entry
   pub longer : new.entries ≡ logs.with_entries old.entries more
-  pub put : Puts faults journal more next
+  pub put : Puts disk journal more next
 
 -- they were, and then the device failed while one more was put, which the host didn't get
-pub record BreaksOff {D : Type 0} (faults : D → ℕ) (old : Host) (journal : Option (Keeps D)) (new : Host) (next : Option (Keeps D)) : Type 0 where
+pub record BreaksOff {D : Type 0} (disk : Ghosts D) (old : Host) (journal : Option (Keeps D)) (new : Host) (next : Option (Keeps D)) : Type 0 where
   pub more : List Entry
   pub longer : new.entries ≡ logs.with_entries old.entries more
-  pub put : PutsInPart faults journal more next
+  pub missed : Entry
+  pub put : PutsInPart disk journal more missed next
 
 -- where a call of the host answers so, a failure of the device is that of its journal
-abbrev pub IsJournaled : {A D : Type 0} → (faults : D → ℕ) → Result A Refusal → Host → Option (Keeps D) → Host → Option (Keeps D) → Type 0
-IsJournaled faults (Err reason.Device) old journal new next = BreaksOff faults old journal new next
-IsJournaled faults result old journal new next = KeepsUp faults old journal new next
+abbrev pub IsJournaled : {A D : Type 0} → (disk : Ghosts D) → Result A Refusal → Host → Option (Keeps D) → Host → Option (Keeps D) → Type 0
+IsJournaled disk (Err reason.Device) old journal new next = BreaksOff disk old journal new next
+IsJournaled disk result old journal new next = KeepsUp disk old journal new next
 
 -- there was no memory, or the device of the journal failed
 abbrev pub IsStopped : {A : Type 0} → Result A Refusal → Type 0

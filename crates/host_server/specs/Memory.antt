@@ -1,5 +1,5 @@
 -- Where memory may run out, and what a host has by then.
-use Rattle.std.specs.Prelude.{◌≡◌, ◌⊎◌, ℕ, List, Bool, true, false, ◌&&◌, ◌||◌, Option, Some, None, Result, Ok, Err, is_none, IsTrue}
+use Rattle.std.specs.Prelude.{◌≡◌, ◌⊎◌, ℕ, List, Bool, false, ◌&&◌, ◌||◌, Option, Some, None, Result, Ok, Err, is_none, IsTrue}
 use Rattle.host_names.specs.declared.names.SiteName.{SiteName}
 use Rattle.site_change.specs.declared.refusals.ChangeRefusal.{ChangeRefusal}
 use Rattle.site_change.specs.declared.refusals.ChangeRefusal.TheVariants.{NoSuchDeploy}
@@ -10,11 +10,8 @@ use Rattle.change_undo.specs.Histories.{entry_at, may_take_memory}
 use Rattle.http_wire.specs.Requests.{RequestParts}
 use Rattle.host_api.specs.Bodies.{is_parsed}
 use Rattle.host_api.specs.Routes.{routed, has_path}
-use Rattle.host_api.specs.Texts.{has_cell}
 use Rattle.host_api.specs.declared.refusals.Refusal.{Refusal}
 use Rattle.host_api.specs.declared.routes.Route.{Route}
-use Rattle.host_api.specs.declared.texts.Told.{Told}
-use Rattle.host_api.specs.declared.texts.Told.TheVariants.{Refused}
 use Rattle.host_replies.specs.Replies.{takes_text}
 use Rattle.host_server.specs.Hosts.{Host, next_number, with_entry}
 use Rattle.host_server.specs.Outcomes.{Outcome, is_ready, site_of_deploy}

@@ -1,5 +1,5 @@
 -- How far the files of open deploys are known to be uploaded.
-use Rattle.std.specs.Prelude.{ℕ, ◌≤◌, List, [], Option, Some, unwrap_or}
+use Rattle.std.specs.Prelude.{ℕ, ◌≤◌, [], Option, Some, unwrap_or}
 use Rattle.std.specs.BTreeMap as tree
 use Rattle.std.specs.BTreeMap.{BTreeMap}
 use Rattle.std.specs.Ordering.{nat_cmp}

@@ -5,6 +5,8 @@ use Rattle.std.specs.FinMap as map
 use Rattle.std.specs.Io.KnownBytes.{Appends}
 use Rattle.command_line.specs.CommandLine.{AskForSolo}
 use Rattle.http_wire.specs.Sending.{AppendsFront}
+use Rattle.http_wire.specs.Timing.{Ran}
+use Rattle.http_wire.specs.declared.duplexes.Duplex as duplexes
 use Rattle.blob_store.specs.Calls.{Call}
 use Rattle.blob_store.specs.Shelves.{Does, found_in}
 use Rattle.blob_store.specs.declared.mem_shelf.MemShelf.{MemShelf}
@@ -18,6 +20,7 @@ use Rattle.host_server.specs.Hosts.{Host}
 use Rattle.host_server.specs.OpeningLines.{opening_line, opening_status}
 use Rattle.host_server.specs.Openings.{IsOpened, IsOpenFault}
 use Rattle.host_connection.specs.Serving.{Answering, Stream, Serves}
+use Rattle.host_connection.specs.Timing.{Connects, IsCaughtUp}
 use Rattle.host_connection.specs.declared.connections.ConnectionFault.{ConnectionFault}
 use Rattle.host_connection.specs.declared.connections.ConnectionFault.TheVariants as fault
 use Rattle.host_server.specs.declared.openings.OpenFault.{OpenFault}
@@ -75,13 +78,14 @@ IsNotServed says_fail words status said new_said = IsRefused says_fail words sta
 
 -- ---- what is served
 
--- a connection to this server is served, and the status says how it ended
-pub record IsServed {H : Type 0} (answers : Answering H) (read_fails write_fails says_fail : Type 0) (start : H) (status : ℕ) (stream held new_held said new_said : Stream)
+-- a connection to this server is served, each reply in time, and the status says how it ended
+pub record IsServed {H X : Type 0} (answers : Answering H) (duplex : duplexes.Ghosts X) (says_fail : Type 0) (start : H) (status : ℕ) (old new : X) (said new_said : Stream)
     : Type 0 where
   pub ended : Result (Unit {0}) ConnectionFault
   pub says : status ≡ status_of ended
   pub next : H
-  pub serves : Serves answers read_fails write_fails ended start next stream held new_held
+  pub serves : Serves answers duplex.read_fails duplex.write_fails ended start next (duplex.left old) (duplex.held old) (duplex.held new)
+  pub timely : Ran duplex.saw (IsCaughtUp answers start) old new (Connects answers ended start next)
   pub end_said : SaysEnd says_fail ended said new_said
 
 -- a server without entries, files and a journal, whose shelf is in memory, and whose cache has nothing yet
@@ -95,22 +99,21 @@ pub record IsEmpty {disk : Ghosts MemDisk} (server : Server MemShelf MemDisk dis
 abbrev pub IsOutOfMemory : (says_fail : Type 0) → ℕ → (said new_said : Stream) → Type 0
 IsOutOfMemory says_fail status said new_said = (status ≡ 2) × IsSaid says_fail memory_line said new_said
 
--- a connection to such a server is served; or there was no memory for it, and nothing is answered
-abbrev pub IsEmptyServed : (disk : Ghosts MemDisk) → (read_fails write_fails says_fail : Type 0) → ℕ → (stream held new_held said new_said : Stream) → Type 0
-IsEmptyServed disk read_fails write_fails says_fail status stream held new_held said new_said =
-    ((start : Server MemShelf MemDisk disk) × IsEmpty start
-    × IsServed (IsAnswer Does (λ shelf. 0) disk.faults) read_fails write_fails says_fail start status stream held new_held said new_said)
-    ⊎ (IsOutOfMemory says_fail status said new_said × (new_held ≡ held))
+-- a connection to such a server is served; or there was no memory for it, and nothing is read or answered
+abbrev pub IsEmptyServed : {X : Type 0} → (disk : Ghosts MemDisk) → (duplex : duplexes.Ghosts X) → (says_fail : Type 0) → ℕ → (old new : X) → (said new_said : Stream) → Type 0
+IsEmptyServed disk duplex says_fail status old new said new_said =
+    ((start : Server MemShelf MemDisk disk) × IsEmpty start × IsServed (IsAnswer Does (λ shelf. 0)) duplex says_fail start status old new said new_said)
+    ⊎ (IsOutOfMemory says_fail status said new_said × (new ≡ old))
 
 -- A run over the store of a disk and a shelf: a server is opened of them, and a connection to it is served; or none can be, and that
--- is said, and nothing is answered.
-abbrev pub RunsStore : {S D : Type 0} → (disk : Ghosts D) → (did : S → Call → S → Type 0) → (failures : S → ℕ) → (read_fails write_fails says_fail : Type 0)
-    → (old : D) → (shelf : S) → ℕ → (stream held new_held said new_said : Stream) → Type 0
-RunsStore {S = S} {D = D} disk did failures read_fails write_fails says_fail old shelf status stream held new_held said new_said =
-    ((start : Server S D disk) × IsOpened did old shelf 1000000 start
-    × IsServed (IsAnswer did failures disk.faults) read_fails write_fails says_fail start status stream held new_held said new_said)
-    ⊎ ((why : OpenFault) × (new : D) × (new_shelf : S) × IsOpenFault disk did old shelf 1000000 why new new_shelf
-    × SaysFault says_fail why status said new_said × (new_held ≡ held))
+-- is said, and nothing is read or answered.
+abbrev pub RunsStore : {S D X : Type 0} → (disk : Ghosts D) → (did : S → Call → S → Type 0) → (failures : S → ℕ) → (duplex : duplexes.Ghosts X) → (says_fail : Type 0)
+    → (first : D) → (shelf : S) → ℕ → (old new : X) → (said new_said : Stream) → Type 0
+RunsStore {S = S} {D = D} disk did failures duplex says_fail first shelf status old new said new_said =
+    ((start : Server S D disk) × IsOpened did first shelf 1000000 start
+    × IsServed (IsAnswer did failures) duplex says_fail start status old new said new_said)
+    ⊎ ((why : OpenFault) × (last : D) × (last_shelf : S) × IsOpenFault disk did first shelf 1000000 why last last_shelf
+    × SaysFault says_fail why status said new_said × (new ≡ old))
 
 -- why there is no disk or shelf in a folder: the journal's file can't be opened, or memory ran out
 abbrev pub IsFolderFault : OpenFault → Type 0
@@ -119,29 +122,25 @@ IsFolderFault open_fault.OutOfMemory = Unit {0}
 IsFolderFault why = ⊥
 
 -- A run over the store in a folder, which has a name: over the disk and the shelf there; or there is none, and that is said.
-abbrev pub RunsFolder : {S D : Type 0} → (disk : Ghosts D) → (shelf : shelves.Ghosts S) → (read_fails write_fails says_fail : Type 0)
-    → (folder : List ℕ) → ℕ → (stream held new_held said new_said : Stream) → Type 0
-RunsFolder {S = S} {D = D} disk shelf read_fails write_fails says_fail folder status stream held new_held said new_said =
-    ((folder ≢ []) × ((old : D) × (there : S)
-    × RunsStore disk shelf.did shelf.failures read_fails write_fails says_fail old there status stream held new_held said new_said))
-    ⊎ ((why : OpenFault) × IsFolderFault why × SaysFault says_fail why status said new_said × (new_held ≡ held))
+abbrev pub RunsFolder : {S D X : Type 0} → (disk : Ghosts D) → (shelf : shelves.Ghosts S) → (duplex : duplexes.Ghosts X) → (says_fail : Type 0)
+    → (folder : List ℕ) → ℕ → (old new : X) → (said new_said : Stream) → Type 0
+RunsFolder {S = S} {D = D} disk shelf duplex says_fail folder status old new said new_said =
+    ((folder ≢ []) × ((first : D) × (there : S) × RunsStore disk shelf.did shelf.failures duplex says_fail first there status old new said new_said))
+    ⊎ ((why : OpenFault) × IsFolderFault why × SaysFault says_fail why status said new_said × (new ≡ old))
 
 -- ---- the whole
 
 -- what is served, by whether the words name a folder
-abbrev pub RunsOver : {S D : Type 0} → Ghosts MemDisk → (disk : Ghosts D) → (shelf : shelves.Ghosts S) → (read_fails write_fails says_fail : Type 0)
-    → Option (List ℕ) → ℕ → (stream held new_held said new_said : Stream) → Type 0
-RunsOver in_memory disk shelf read_fails write_fails says_fail None status stream held new_held said new_said =
-    IsEmptyServed in_memory read_fails write_fails says_fail status stream held new_held said new_said
-RunsOver in_memory disk shelf read_fails write_fails says_fail (Some folder) status stream held new_held said new_said =
-    RunsFolder disk shelf read_fails write_fails says_fail folder status stream held new_held said new_said
+abbrev pub RunsOver : {S D X : Type 0} → Ghosts MemDisk → (disk : Ghosts D) → (shelf : shelves.Ghosts S) → (duplex : duplexes.Ghosts X) → (says_fail : Type 0)
+    → Option (List ℕ) → ℕ → (old new : X) → (said new_said : Stream) → Type 0
+RunsOver in_memory disk shelf duplex says_fail None status old new said new_said = IsEmptyServed in_memory duplex says_fail status old new said new_said
+RunsOver in_memory disk shelf duplex says_fail (Some folder) status old new said new_said = RunsFolder disk shelf duplex says_fail folder status old new said new_said
 
--- A run: no connection is served, and nothing is answered; or the words ask for one. So the status is 1 exactly where the words ask for
--- nothing that the program does, unless memory ran out while they were read; this and a fault of the connection are 2, and a store that
+-- A run: no connection is served, and nothing is read or answered; or the words ask for one. So the status is 1 exactly where the words
+-- ask for nothing that the program does, unless memory ran out while they were read; this and a fault of the connection are 2, and a store that
 -- can't be opened has a status of its own.
-abbrev pub Runs : {S D : Type 0} → Ghosts MemDisk → (disk : Ghosts D) → (shelf : shelves.Ghosts S) → (read_fails write_fails says_fail : Type 0)
-    → List (List ℕ) → ℕ → (stream held new_held said new_said : Stream) → Type 0
-Runs in_memory disk shelf read_fails write_fails says_fail words status stream held new_held said new_said =
-    (IsNotServed says_fail words status said new_said × (new_held ≡ held))
-    ⊎ ((store : Option (List ℕ)) × AskForSolo words store
-    × RunsOver in_memory disk shelf read_fails write_fails says_fail store status stream held new_held said new_said)
+abbrev pub Runs : {S D X : Type 0} → Ghosts MemDisk → (disk : Ghosts D) → (shelf : shelves.Ghosts S) → (duplex : duplexes.Ghosts X) → (says_fail : Type 0)
+    → List (List ℕ) → ℕ → (old new : X) → (said new_said : Stream) → Type 0
+Runs in_memory disk shelf duplex says_fail words status old new said new_said =
+    (IsNotServed says_fail words status said new_said × (new ≡ old))
+    ⊎ ((store : Option (List ℕ)) × AskForSolo words store × RunsOver in_memory disk shelf duplex says_fail store status old new said new_said)

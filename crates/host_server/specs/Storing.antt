@@ -89,13 +89,13 @@ UploadRunsOut did failures server n path bytes next =
 -- ---- what private functions say
 
 -- there was no memory for that entry, or the journal's device failed while it was put
-abbrev pub StopsPublishing : {S D : Type 0} {disk : Ghosts D} → (faults : D → ℕ) → Server S D disk → Result Told Refusal → Server S D disk → Type 0
-StopsPublishing faults server result next =
-    ((result ≡ Err reason.OutOfMemory) × GoesOn faults server next) ⊎ ((result ≡ Err reason.Device) × Breaks faults server next)
+abbrev pub StopsPublishing : {S D : Type 0} {disk : Ghosts D} → Server S D disk → Result Told Refusal → Server S D disk → Type 0
+StopsPublishing server result next =
+    ((result ≡ Err reason.OutOfMemory) × GoesOn server next) ⊎ ((result ≡ Err reason.Device) × Breaks server next)
 
 -- the call did that, or says why not
-abbrev pub DoesUpload : {S D : Type 0} {disk : Ghosts D} → (did : S → Call → S → Type 0) → (failures : S → ℕ) → (faults : D → ℕ) → Server S D disk → ℕ → List ℕ → List ℕ → Result Told Refusal → Server S D disk → Type 0
-DoesUpload did failures faults server n path bytes result next =
-    (IsUploaded did server n path bytes (told_by result) next × GoesOn faults server next)
-    ⊎ ((why : UploadFault) × IsRefusedByStore did failures server n path bytes why next × (result ≡ Err (refusal_of_upload why)) × GoesOn faults server next)
-    ⊎ (IsUnpublished did server n path bytes next × StopsPublishing faults server result next)
+abbrev pub DoesUpload : {S D : Type 0} {disk : Ghosts D} → (did : S → Call → S → Type 0) → (failures : S → ℕ) → Server S D disk → ℕ → List ℕ → List ℕ → Result Told Refusal → Server S D disk → Type 0
+DoesUpload did failures server n path bytes result next =
+    (IsUploaded did server n path bytes (told_by result) next × GoesOn server next)
+    ⊎ ((why : UploadFault) × IsRefusedByStore did failures server n path bytes why next × (result ≡ Err (refusal_of_upload why)) × GoesOn server next)
+    ⊎ (IsUnpublished did server n path bytes next × StopsPublishing server result next)

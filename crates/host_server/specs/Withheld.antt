@@ -6,17 +6,16 @@ use Rattle.chunk_group.specs.Cached.{CachedShelf}
 use Rattle.host_api.specs.declared.bodies.Ask.{Ask}
 use Rattle.host_api.specs.declared.bodies.Ask.TheVariants as ask
 use Rattle.host_api.specs.declared.refusals.Refusal.{Refusal}
-use Rattle.host_api.specs.declared.texts.Told.{Told}
 use Rattle.host_disk.specs.declared.disks.Disk.{Ghosts}
 use Rattle.http_wire.specs.Requests.{RequestParts}
 use Rattle.range_reply.specs.declared.boundaries.Boundary.{Boundary}
 use Rattle.range_spec.specs.declared.selection.Choice.{Choice}
 use Rattle.range_spec.specs.declared.selection.Choice.TheVariants.{Whole, One, Many, None416}
 use Rattle.host_server.specs.Asks.{IsAnswer, IsHostReply, IsReplyToAsk, asked_for}
-use Rattle.host_server.specs.Files.{IsFileSent, IsFileTold, IsReadReply}
+use Rattle.host_server.specs.Files.{IsFileTold, IsReadReply}
 use Rattle.host_replies.specs.SentFiles.{sent_as}
 use Rattle.host_server.specs.Hosts.{Host, state_of}
-use Rattle.host_replies.specs.Replies.{Answer, is_head, refused_answer, told_answer}
+use Rattle.host_replies.specs.Replies.{Answer, is_head}
 use Rattle.host_server.specs.Versions.{file_of}
 use Rattle.host_server.specs.declared.servers.Server.{Server}
 
@@ -51,7 +50,7 @@ host_told host (Ok (ask.Cancel deploy)) answer next (says, same) withheld = whol
 host_told host (Ok (ask.Read site version path)) answer next is withheld = is
 host_told host (Ok (ask.Upload deploy path)) answer next is withheld = is
 
-module _ {S D : Type 0} {disk : Ghosts D} (did : S → Call → S → Type 0) (failures : S → ℕ) (faults : D → ℕ) (server next : Server S D disk) (parts : RequestParts) where
+module _ {S D : Type 0} {disk : Ghosts D} (did : S → Call → S → Type 0) (failures : S → ℕ) (server next : Server S D disk) (parts : RequestParts) where
   read_told : (path : List ℕ) (found : Result (List ℕ) Refusal) (answer : Answer) → IsReadReply did failures server parts path found answer next → answer.withheld ≡ true
       → is_head parts ≡ true
   read_told path (Err why) answer (says, same) withheld = absurd (whole answer _ says refl withheld)
@@ -70,7 +69,7 @@ module _ {S D : Type 0} {disk : Ghosts D} (did : S → Call → S → Type 0) (f
   reply_told body (Ok (ask.RemoveDeploy deploy)) answer (is, same) withheld = absurd (host_told server.house (Ok (ask.RemoveDeploy deploy)) answer next.house is withheld)
   reply_told body (Ok (ask.Cancel deploy)) answer (is, same) withheld = absurd (host_told server.house (Ok (ask.Cancel deploy)) answer next.house is withheld)
 
-  pub withheld_to_head : (body : List ℕ) (answer : Answer) → IsAnswer did failures faults server parts body answer next → answer.withheld ≡ true → is_head parts ≡ true
+  pub withheld_to_head : (body : List ℕ) (answer : Answer) → IsAnswer did failures server parts body answer next → answer.withheld ≡ true → is_head parts ≡ true
   withheld_to_head body answer (inl (inl (held, says, same), kept)) withheld = absurd (whole answer _ says refl withheld)
   withheld_to_head body answer (inl (inr (free, reply), kept)) withheld = reply_told body (asked_for parts body) answer reply withheld
   withheld_to_head body answer (inr (inl ((says, out), kept))) withheld = absurd (whole answer _ says refl withheld)

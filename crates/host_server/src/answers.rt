@@ -83,7 +83,7 @@ fn carry_out<S: Shelf, D: Disk>(
     ask: Ask,
 ) -> Reply
     requires { is_held_up server.old.house server.old.journal (Ok ask) ≡ false }
-    ensures replied { CarriesOut S.did S.failures D.faults server.old head.now body.items (Ok ask) (answer_of result) server.new }
+    ensures replied { CarriesOut S.did S.failures server.old head.now body.items (Ok ask) (answer_of result) server.new }
     ensures grows { Grows server.old.house server.new.house }
     ensures count { S.failures server.old.files.shelf ≤ S.failures server.new.files.shelf }
 {
@@ -117,7 +117,7 @@ fn respond<S: Shelf, D: Disk>(
     server: &mut Server<S, D>,
     ask: Ask,
 ) -> Reply
-    ensures replied { AnswersAsk S.did S.failures D.faults server.old head.now body.items (Ok ask) (answer_of result) server.new }
+    ensures replied { AnswersAsk S.did S.failures server.old head.now body.items (Ok ask) (answer_of result) server.new }
     ensures grows { Grows server.old.house server.new.house }
     ensures count { S.failures server.old.files.shelf ≤ S.failures server.new.files.shelf }
 {
@@ -135,7 +135,7 @@ pub fn answer<S: Shelf, D: Disk>(
     request: Request,
     server: &mut Server<S, D>,
 ) -> Reply
-    ensures replied { IsAnswer S.did S.failures D.faults server.old request.head request.body.items (answer_of result) server.new }
+    ensures replied { IsAnswer S.did S.failures server.old request.head request.body.items (answer_of result) server.new }
     ensures grows { Grows server.old.house server.new.house }
     ensures count { S.failures server.old.files.shelf ≤ S.failures server.new.files.shelf }
     // Where an accepted change is undone next, the state is the one before it.

@@ -18,7 +18,7 @@ impl<S, D: Disk> Server<S, D> {
         ensures done { DoesCommit result self.new.house self.old.house command }
         ensures told { IfOk result (λ told. Outcomes.is_refusal told ≡ false) }
         ensures stops { IsStopped result → CommandRunsOut self.old.house command self.new.house }
-        ensures journal { IsJournaled D.faults result self.old.house self.old.journal self.new.house self.new.journal }
+        ensures journal { IsJournaled D.Disk result self.old.house self.old.journal self.new.house self.new.journal }
         ensures grows { Grows self.old.house self.new.house }
         ensures files { self.new.files ≡ self.old.files }
     {

@@ -3,9 +3,9 @@ ghost use Rattle.std.specs.Prelude.{◌≡◌};
 ghost use Rattle.host_server.specs.Asks.{IsAnswer};
 ghost use Rattle.host_server.specs.Solo.{IsSaid, IsServed, SaysEnd, status_of};
 
-use host_connection::{ConnectionFault, serve_connection};
 use crate::servers::Server;
 use blob_store::Shelf;
+use host_connection::{ConnectionFault, serve_connection};
 use host_disk::Disk;
 use http_wire::{Duplex, Sink, write_all};
 use std::alloc::Global;
@@ -47,8 +47,8 @@ pub(crate) fn serve_server<S: Shelf + Drop, D: Disk + Drop, X: Duplex, E: Sink>(
     duplex: &mut X,
     errors: &mut E,
 ) -> u8
-    ensures { IsServed (IsAnswer S.did S.failures D.faults) X.read_fails X.write_fails E.may_fail server result
-        (X.left duplex.old) (X.held duplex.old) (X.held duplex.new) (E.held errors.old) (E.held errors.new) }
+    ensures { IsServed (IsAnswer S.did S.failures) X.Duplex E.may_fail server result
+        duplex.old duplex.new (E.held errors.old) (E.held errors.new) }
 {
     let mut server = server;
     let ended = serve_connection(alloc, duplex, &mut server);

@@ -13,7 +13,7 @@ use host_replies::Reply;
 use std::alloc::Global;
 
 impl<S: Shelf, D: Disk> Service for Server<S, D> {
-    ghost answers = { IsAnswer S.did S.failures D.faults };
+    ghost answers = { IsAnswer S.did S.failures };
 
     ghost grows = { λ old new. Grows old.house new.house };
 
@@ -21,7 +21,7 @@ impl<S: Shelf, D: Disk> Service for Server<S, D> {
         answer(alloc, request, self)
     }
 
-    ghost withheld = { λ old parts body answer new is told. withheld_to_head S.did S.failures D.faults old new parts body answer is told };
+    ghost withheld = { λ old parts body answer new is told. withheld_to_head S.did S.failures old new parts body answer is told };
 
     ghost stays = { λ server. itself server.house };
 

@@ -31,8 +31,8 @@ fn refuse<E: Sink>(errors: &mut E, refusal: Refusal) -> u8
 
 /// Serves one connection over an empty server in memory, and gives the exit status; or there is no memory for the server.
 fn run_in_memory<D: Duplex, E: Sink>(alloc: Global, duplex: &mut D, errors: &mut E) -> u8
-    ensures { IsEmptyServed ⟦<MemDisk as Disk>⟧ D.read_fails D.write_fails E.may_fail result
-        (D.left duplex.old) (D.held duplex.old) (D.held duplex.new) (E.held errors.old) (E.held errors.new) }
+    ensures { IsEmptyServed ⟦<MemDisk as Disk>⟧ D.Duplex E.may_fail result
+        duplex.old duplex.new (E.held errors.old) (E.held errors.new) }
 {
     let made: Result<Server<MemShelf, MemDisk>, AllocError> = Server::new(
         alloc,
@@ -57,8 +57,8 @@ pub fn run_solo<R: Files<File = File>, S: AsStr, D: Duplex, E: Sink>(
     duplex: &mut D,
     errors: &mut E,
 ) -> u8
-    ensures { Runs ⟦<MemDisk as Disk>⟧ ⟦<FileDisk as Disk>⟧ ⟦<DirShelf<'static, R> as Shelf>⟧ D.read_fails D.write_fails E.may_fail (map S.text words.now) result
-        (D.left duplex.old) (D.held duplex.old) (D.held duplex.new) (E.held errors.old) (E.held errors.new) }
+    ensures { Runs ⟦<MemDisk as Disk>⟧ ⟦<FileDisk as Disk>⟧ ⟦<DirShelf<'static, R> as Shelf>⟧ D.Duplex E.may_fail (map S.text words.now) result
+        duplex.old duplex.new (E.held errors.old) (E.held errors.new) }
 {
     match read(alloc, words) {
         Ok(Wanted::Solo { store: None }) => run_in_memory(alloc, duplex, errors),

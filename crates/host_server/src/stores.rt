@@ -28,8 +28,8 @@ pub fn run_store<S: Shelf + Drop, D: Disk + Drop, X: Duplex, E: Sink>(
     duplex: &mut X,
     errors: &mut E,
 ) -> u8
-    ensures { RunsStore D.Disk S.did S.failures X.read_fails X.write_fails E.may_fail disk shelf result
-        (X.left duplex.old) (X.held duplex.old) (X.held duplex.new) (E.held errors.old) (E.held errors.new) }
+    ensures { RunsStore D.Disk S.did S.failures X.Duplex E.may_fail disk shelf result
+        duplex.old duplex.new (E.held errors.old) (E.held errors.new) }
 {
     match Server::open(alloc, disk, shelf, GREATEST_LIMIT) {
         Ok(server) => serve_server(alloc, server, duplex, errors),
@@ -70,8 +70,8 @@ pub(crate) fn run_folder<R: Files<File = File>, X: Duplex, E: Sink>(
     duplex: &mut X,
     errors: &mut E,
 ) -> u8
-    ensures { RunsFolder ⟦<FileDisk as Disk>⟧ ⟦<DirShelf<'static, R> as Shelf>⟧ X.read_fails X.write_fails E.may_fail folder.now result
-        (X.left duplex.old) (X.held duplex.old) (X.held duplex.new) (E.held errors.old) (E.held errors.new) }
+    ensures { RunsFolder ⟦<FileDisk as Disk>⟧ ⟦<DirShelf<'static, R> as Shelf>⟧ X.Duplex E.may_fail folder.now result
+        duplex.old duplex.new (E.held errors.old) (E.held errors.new) }
 {
     match open_folder(rt, alloc, folder) {
         Ok((disk, shelf)) => run_store(alloc, disk, shelf, duplex, errors),

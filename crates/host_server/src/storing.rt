@@ -58,7 +58,7 @@ impl<S: Shelf, D: Disk> Server<S, D> {
     /// upload remains.
     pub fn upload(&mut self, number: u64, path: &FilePath, bytes: Vec<u8>) -> Result<Told, Refusal>
         requires whole { IsWholeFor self.old.journal self.old.house number }
-        ensures done { DoesUpload S.did S.failures D.faults self.old number path.now bytes.items result self.new }
+        ensures done { DoesUpload S.did S.failures self.old number path.now bytes.items result self.new }
         ensures told { IfOk result (λ told. Outcomes.is_refusal told ≡ false) }
         ensures grows { Grows self.old.house self.new.house }
         ensures count { S.failures self.old.files.shelf ≤ S.failures self.new.files.shelf }

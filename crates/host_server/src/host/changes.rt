@@ -50,7 +50,7 @@ impl SoloHouse {
         requires whole { is_broken journal.old ≡ false }
         ensures done { Publishes result self.new (published_if_ready self.old site.now number) }
         ensures stops { IsStopped result → IsTrue (is_published self.old site.now number) }
-        ensures journal { IsJournaled D.faults result self.old journal.old self.new journal.new }
+        ensures journal { IsJournaled D.Disk result self.old journal.old self.new journal.new }
         ensures err { OnErr result (self.new ≡ self.old) }
         ensures grows { Grows self.old self.new }
     {
@@ -71,7 +71,7 @@ impl SoloHouse {
         requires whole { is_broken journal.old ≡ false }
         ensures done { Publishes result self.new (published_if_ready self.old site.now number) }
         ensures stops { IsStopped result → IsTrue (is_published self.old site.now number) }
-        ensures journal { IsJournaled D.faults result self.old journal.old self.new journal.new }
+        ensures journal { IsJournaled D.Disk result self.old journal.old self.new journal.new }
         ensures err { OnErr result (self.new ≡ self.old) }
         ensures grows { Grows self.old self.new }
     {
@@ -99,7 +99,7 @@ impl SoloHouse {
         ensures stands { let opening = command.Open site files auto in
             OnErr result ((self.new ≡ self.old) ⊎ (self.new ≡ entered self.old opening (commit_refusal self.old opening))) }
         ensures stops { IsStopped result → CommandRunsOut self.old (command.Open site files auto) self.new }
-        ensures journal { IsJournaled D.faults result self.old journal.old self.new journal.new }
+        ensures journal { IsJournaled D.Disk result self.old journal.old self.new journal.new }
         ensures grows { Grows self.old self.new }
     {
         judge_opening(self, &files)?;
@@ -129,7 +129,7 @@ impl SoloHouse {
         ensures done { Does result self.new (enter_outcome self.old command (commit_refusal self.old command)) }
         ensures told { IfOk result (λ told. Outcomes.is_refusal told ≡ false) }
         ensures stops { IsStopped result → commit_refusal self.old command ≡ None }
-        ensures journal { IsJournaled D.faults result self.old journal.old self.new journal.new }
+        ensures journal { IsJournaled D.Disk result self.old journal.old self.new journal.new }
         ensures err { OnErr result (self.new ≡ self.old) }
         ensures grows { Grows self.old self.new }
     {
@@ -149,7 +149,7 @@ impl SoloHouse {
         ensures done { DoesCommit result self.new self.old command }
         ensures told { IfOk result (λ told. Outcomes.is_refusal told ≡ false) }
         ensures stops { IsStopped result → CommandRunsOut self.old command self.new }
-        ensures journal { IsJournaled D.faults result self.old journal.old self.new journal.new }
+        ensures journal { IsJournaled D.Disk result self.old journal.old self.new journal.new }
         ensures stands { OnErr result ((self.new ≡ self.old) ⊎ (self.new ≡ entered self.old command (commit_refusal self.old command))) }
         ensures grows { Grows self.old self.new }
     {
@@ -172,7 +172,7 @@ impl SoloHouse {
         ensures told { IfOk result (λ told. Outcomes.is_refusal told ≡ false) }
         ensures memory { IsErrOf result Refusal.OutOfMemory → may_take_memory (Reasons.undo_refusal self.old site.now change) ≡ true }
         ensures device { IsErrOf result Refusal.Device → Reasons.undo_refusal self.old site.now change ≡ None }
-        ensures journal { IsJournaled D.faults result self.old journal.old self.new journal.new }
+        ensures journal { IsJournaled D.Disk result self.old journal.old self.new journal.new }
         ensures err { OnErr result (self.new ≡ self.old) }
         ensures grows { Grows self.old self.new }
     {
@@ -192,7 +192,7 @@ impl SoloHouse {
         ensures done { Does result self.new (deploy_outcome self.old number (λ site. command.Cancel site number)) }
         ensures told { IfOk result (λ told. Outcomes.is_refusal told ≡ false) }
         ensures stops { IsStopped result → deploy_refusal self.old number (λ site. command.Cancel site number) ≡ None }
-        ensures journal { IsJournaled D.faults result self.old journal.old self.new journal.new }
+        ensures journal { IsJournaled D.Disk result self.old journal.old self.new journal.new }
         ensures err { OnErr result (self.new ≡ self.old) }
         ensures grows { Grows self.old self.new }
     {
@@ -213,7 +213,7 @@ impl SoloHouse {
         ensures done { Does result self.new (deploy_outcome self.old number (λ site. command.RemoveDeploy site number)) }
         ensures told { IfOk result (λ told. Outcomes.is_refusal told ≡ false) }
         ensures stops { IsStopped result → deploy_refusal self.old number (λ site. command.RemoveDeploy site number) ≡ None }
-        ensures journal { IsJournaled D.faults result self.old journal.old self.new journal.new }
+        ensures journal { IsJournaled D.Disk result self.old journal.old self.new journal.new }
         ensures err { OnErr result (self.new ≡ self.old) }
         ensures grows { Grows self.old self.new }
     {

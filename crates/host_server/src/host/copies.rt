@@ -12,7 +12,7 @@ ghost use Rattle.change_undo.specs.Plans.{IsHistoryOver};
 ghost use Rattle.change_undo.specs.declared.entries.Entry.{Entry as Line};
 ghost use Rattle.change_undo.specs.declared.entries.Entry.TheVariants as entry;
 ghost use Rattle.host_server.specs.declared.host.entry_errors.EntryError.TheVariants.{Device, OutOfMemory};
-ghost use Rattle.host_server.specs.Journals.{IsPutInVain};
+ghost use Rattle.host_server.specs.Journals.{IsPut, IsPutInVain};
 
 use super::entry_errors::EntryError;
 use blob_store::BlobIndex;
@@ -116,11 +116,11 @@ pub(super) fn put_last<D: Disk>(
 ) -> Result<(), EntryError>
     requires follows { (last : Line) × IsInRange last × (next.now.entries ≡ with_entry journal.old.entries last) }
     requires whole { journal.old.broken ≡ false }
-    ensures entries { OnOk result (journal.new.entries ≡ next.now.entries) }
-    ensures whole { OnOk result (journal.new.broken ≡ false) }
-    ensures cause { OnOk result (D.faults journal.new.disk ≡ D.faults journal.old.disk) }
+    ensures put { OnOk result ((last : Line) → next.now.entries ≡ with_entry journal.old.entries last
+        → IsPut D.Disk journal.old last journal.new) }
     ensures error { IfErr result (λ error. ((error ≡ OutOfMemory) × (journal.new ≡ journal.old))
-        ⊎ ((error ≡ Device) × IsPutInVain D.faults journal.old journal.new)) }
+        ⊎ ((error ≡ Device) × ((last : Line) → next.now.entries ≡ with_entry journal.old.entries last
+            → IsPutInVain D.Disk journal.old last journal.new))) }
 {
     let entry = next.entry(next.len()).unwrap();
     let prepared = prepare(alloc, entry)?;

@@ -147,7 +147,7 @@ impl SoloHouse {
         ensures number { IfOk result (λ number. number ≡ next_number self.old) }
         ensures entries { OnOk result (self.new ≡ with_entry self.old (entry.Change command)) }
         ensures refused { IsRefusedAs (commit_refusal self.old command) result }
-        ensures journal { IsEntered D.faults result (entry.Change command) journal.old journal.new }
+        ensures journal { IsEntered D.Disk result (entry.Change command) journal.old journal.new }
         ensures err { OnErr result (self.new ≡ self.old) }
         ensures grows { Grows self.old self.new }
     {
@@ -179,7 +179,7 @@ impl SoloHouse {
         ensures number { IfOk result (λ number. number ≡ next_number self.old) }
         ensures entries { OnOk result (self.new ≡ with_entry self.old (entry.Change command)) }
         ensures refused { IsRefusedAs (commit_refusal self.old command) result }
-        ensures journal { IsEntered D.faults result (entry.Change command) (Some journal.old) (Some journal.new) }
+        ensures journal { IsEntered D.Disk result (entry.Change command) (Some journal.old) (Some journal.new) }
         ensures err { OnErr result (self.new ≡ self.old) }
         ensures grows { Grows self.old self.new }
     {
@@ -202,7 +202,7 @@ impl SoloHouse {
         ensures number { IfOk result (λ number. number ≡ next_number self.old) }
         ensures entries { OnOk result (self.new ≡ with_entry self.old (entry.Undo site.now change)) }
         ensures refused { IsUndoRefusedAs (Reasons.undo_refusal self.old site.now change) result }
-        ensures journal { IsEntered D.faults result (entry.Undo site.now change) journal.old journal.new }
+        ensures journal { IsEntered D.Disk result (entry.Undo site.now change) journal.old journal.new }
         ensures err { OnErr result (self.new ≡ self.old) }
         ensures grows { Grows self.old self.new }
     {
@@ -235,7 +235,7 @@ impl SoloHouse {
         ensures number { IfOk result (λ number. number ≡ next_number self.old) }
         ensures entries { OnOk result (self.new ≡ with_entry self.old (entry.Undo site.now change)) }
         ensures refused { IsUndoRefusedAs (Reasons.undo_refusal self.old site.now change) result }
-        ensures journal { IsEntered D.faults result (entry.Undo site.now change) (Some journal.old) (Some journal.new) }
+        ensures journal { IsEntered D.Disk result (entry.Undo site.now change) (Some journal.old) (Some journal.new) }
         ensures err { OnErr result (self.new ≡ self.old) }
         ensures grows { Grows self.old self.new }
     {

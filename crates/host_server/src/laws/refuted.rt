@@ -1,6 +1,6 @@
 //! What the relations of the contracts refuse. Each function does nothing: its contract is the law.
 ghost use Rattle.std.specs.FinMap as map;
-ghost use Rattle.std.specs.Prelude.{◌≡◌, ◌⊎◌, ℕ, ◌<◌, ◌≤◌, ◌+◌, ◌-◌, ◌^◌, min, List, [], ◌∷◌, Option, None, Some, Ok, Err, true, false, length};
+ghost use Rattle.std.specs.Prelude.{◌≡◌, ◌⊎◌, ℕ, ◌<◌, ◌≤◌, ◌+◌, ◌-◌, ◌^◌, min, List, [], ◌∷◌, Option, None, Some, Ok, Err, true, false, IsTrue, length};
 ghost use Rattle.byte_view.specs.Contents.{Contents};
 ghost use Rattle.host_names.specs.declared.digests.Digest.{Digest};
 ghost use Rattle.host_names.specs.declared.names.SiteName.{SiteName};
@@ -8,10 +8,11 @@ ghost use Rattle.site_change.specs.declared.refusals.ChangeRefusal.TheVariants.{
 ghost use Rattle.blob_store.specs.declared.blobs.UploadFault.TheVariants as upload_fault;
 ghost use Rattle.range_spec.specs.declared.grammar.Asked.{Asked};
 ghost use Rattle.http_wire.specs.Requests.{RequestParts};
-ghost use Rattle.http_wire.specs.Timing.{AtEnd};
+ghost use Rattle.http_wire.specs.Timing.{AtEnd, Event, Steps, Timely};
 ghost use Rattle.site_change.specs.declared.commands.Command.{Command};
 ghost use Rattle.change_undo.specs.declared.entries.Entry.{Entry};
 ghost use Rattle.change_journal.specs.entries.Held.{Keeps};
+ghost use Rattle.change_journal.specs.entries.Texts.{AllStored};
 ghost use Rattle.host_api.specs.declared.bodies.Ask.TheVariants as ask;
 ghost use Rattle.host_api.specs.declared.refusals.HeadRefusal.TheVariants.{CodingRefused};
 ghost use Rattle.host_api.specs.declared.refusals.Refusal.{Refusal};
@@ -30,7 +31,7 @@ ghost use Rattle.host_server.specs.ReadBack.{IsReadBack};
 ghost use Rattle.host_replies.specs.Replies.{Answer, refused_answer};
 ghost use Rattle.host_connection.specs.Serving.{IsHeadBad, IsInterim, Serves, Stream};
 ghost use Rattle.host_server.specs.Shown.{ShowsDeploy, Stands};
-ghost use Rattle.host_server.specs.Solo.{IsFolderFault, Runs, RunsStore};
+ghost use Rattle.host_server.specs.Solo.{IsFolderFault, IsServed, Runs, RunsStore};
 ghost use Rattle.host_server.specs.Storing.{DoesUpload, IsNotStored, IsStored};
 ghost use Rattle.host_connection.specs.Timing.{Connects, IsCaughtUp};
 ghost use Rattle.host_connection.specs.declared.connections.ConnectionFault.TheVariants as fault;
@@ -39,6 +40,7 @@ ghost use Rattle.host_server.specs.declared.servers.Server.{Server};
 
 use blob_store::Shelf;
 use host_disk::{Disk, MemDisk};
+use http_wire::Duplex;
 
 /// Of these relations each is refuted of one wrong answer, so none of them holds of everything. `range` says that a
 /// head asks for one list of ranges. An answer that a file is missing or damaged is none by which it is read back (`IsReadBack`).
@@ -47,25 +49,26 @@ pub fn wrong_answers_are_refused<S: Shelf, D: Disk>()
     ensures damaged { (parts : RequestParts) (path file : List ℕ) → ¬ (IsReadBack parts path file (refused_answer reason.Damaged)) }
     ensures range { (parts : RequestParts) (one another : Asked) → AsksRange parts one → AsksRange parts another → one ≡ another }
     ensures refused { (old new : Server S D D.Disk) (parts : RequestParts) (body : List ℕ) (answer : Answer) (why : Refusal) → asked_for parts body ≡ Err why
-        → IsAnswer S.did S.failures D.faults old parts body answer new → new.house ≡ old.house }
+        → IsAnswer S.did S.failures old parts body answer new → new.house ≡ old.house }
     ensures refusal { (old new : Server S D D.Disk) (parts : RequestParts) (body : List ℕ) (answer : Answer) (why : Refusal) → asked_for parts body ≡ Err why
-        → IsAnswer S.did S.failures D.faults old parts body answer new → (answer ≡ refused_answer why) ⊎ (answer ≡ refused_answer reason.OutOfMemory) }
+        → IsAnswer S.did S.failures old parts body answer new → (answer ≡ refused_answer why) ⊎ (answer ≡ refused_answer reason.OutOfMemory) }
     ensures stored { (uploads : Contents) (old new : S) (bytes : List ℕ) → IsStored S.did uploads old bytes new → length bytes ≤ 16777216 }
     ensures large { (uploads : Contents) (old new : S) (bytes : List ℕ) → length bytes ≤ 16777216
         → ¬ (IsNotStored S.did S.failures uploads old bytes upload_fault.TooLarge new) }
     ensures device { (uploads : Contents) (old new : S) (bytes : List ℕ) → IsNotStored S.did S.failures uploads old bytes upload_fault.Device new
         → S.failures old < S.failures new }
     ensures upload { (old new : Server S D D.Disk) (n : ℕ) (path bytes : List ℕ) (published : Option ℕ) (digest : Digest) → 16777216 < length bytes
-        → ¬ (DoesUpload S.did S.failures D.faults old n path bytes (Ok (Uploaded published digest)) new) }
+        → ¬ (DoesUpload S.did S.failures old n path bytes (Ok (Uploaded published digest)) new) }
 {}
 
 /// The same of what a host and its journal do.
 pub fn wrong_changes_are_refused<D: Disk>()
     ensures grows { (entry : Entry) → ¬ (Grows (record { limit = 1; entries = entry ∷ []; uploads = map.empty }) (record { limit = 1; entries = []; uploads = map.empty })) }
-    ensures journaled { (old new : Host) (journal : Keeps D) → ¬ (IsJournaled {A = ℕ} D.faults (Ok 0) old None new (Some journal)) }
-    ensures broken { (old new : Host) → ¬ (IsJournaled {A = ℕ} D.faults (Err reason.Device) old None new None) }
-    ensures put { (old new : Keeps D) (entry : Entry) → old.broken ≡ true → ¬ (IsPut D.faults old entry new) }
-    ensures put_in_vain { (old new : Keeps D) → new.broken ≡ false → ¬ (IsPutInVain D.faults old new) }
+    ensures journaled { (old new : Host) (journal : Keeps D) → ¬ (IsJournaled {A = ℕ} D.Disk (Ok 0) old None new (Some journal)) }
+    ensures broken { (old new : Host) → ¬ (IsJournaled {A = ℕ} D.Disk (Err reason.Device) old None new None) }
+    ensures put { (old new : Keeps D) (entry : Entry) → old.broken ≡ true → ¬ (IsPut D.Disk old entry new) }
+    ensures put_in_vain { (old new : Keeps D) (entry : Entry) → new.broken ≡ false → ¬ (IsPutInVain D.Disk old entry new) }
+    ensures kept { (old new : Keeps D) (entry : Entry) → IsTrue D.is_modelled → ¬ (AllStored (D.may_leave new.disk) new.entries) → ¬ (IsPut D.Disk old entry new) }
     ensures stopped { ¬ (IsStopped {A = ℕ} (Ok 0)) }
     ensures stops { (host next : Host) (site : SiteName) → ¬ (HostStops host (Ok (ask.Changes site)) next) }
     ensures command { (command : Command) (next : Host) → ¬ (CommandRunsOut (record { limit = 0; entries = []; uploads = map.empty }) command next) }
@@ -80,13 +83,13 @@ pub fn wrong_changes_are_refused<D: Disk>()
 {}
 
 /// The same of what a connection does, of openings, and of runs of the program.
-pub fn wrong_runs_are_refused<S: Shelf, D: Disk>()
+pub fn wrong_runs_are_refused<S: Shelf, D: Disk, X: Duplex>()
     ensures input { (host next : Server S D D.Disk) (stream held new_held : Stream)
-        → ¬ (Serves (IsAnswer S.did S.failures D.faults) ⊥ ⊥ (Err fault.InputFault) host next stream held new_held) }
+        → ¬ (Serves (IsAnswer S.did S.failures) ⊥ ⊥ (Err fault.InputFault) host next stream held new_held) }
     ensures output { (host next : Server S D D.Disk) (stream held new_held : Stream)
-        → ¬ (Serves (IsAnswer S.did S.failures D.faults) ⊥ ⊥ (Err fault.OutputFault) host next stream held new_held) }
-    ensures idle { (host next : Server S D D.Disk) → ¬ (Connects (IsAnswer S.did S.failures D.faults) (Err fault.OutOfMemory) host next (AtEnd ∷ [])) }
-    ensures caught_up { (host : Server S D D.Disk) → ¬ (IsCaughtUp (IsAnswer S.did S.failures D.faults) host [] (0 ∷ [])) }
+        → ¬ (Serves (IsAnswer S.did S.failures) ⊥ ⊥ (Err fault.OutputFault) host next stream held new_held) }
+    ensures idle { (host next : Server S D D.Disk) → ¬ (Connects (IsAnswer S.did S.failures) (Err fault.OutOfMemory) host next (AtEnd ∷ [])) }
+    ensures caught_up { (host : Server S D D.Disk) → ¬ (IsCaughtUp (IsAnswer S.did S.failures) host [] (0 ∷ [])) }
     ensures head { (stream : Stream) → ¬ (IsHeadBad CodingRefused stream) }
     ensures interim { (parts : RequestParts) → ¬ (IsInterim parts (0 ∷ [])) }
     ensures opened { (old : D) (shelf : S) (limit : ℕ) (server : Server S D D.Disk) → server.journal ≡ None → ¬ (IsOpened S.did old shelf limit server) }
@@ -94,8 +97,10 @@ pub fn wrong_runs_are_refused<S: Shelf, D: Disk>()
         → D.faults new ≡ min (D.faults old + 1) (2 ^ 64 - 1) }
     ensures record_fault { ¬ (IsNoRecordFault open_fault.BadHeader) }
     ensures folder_fault { ¬ (IsFolderFault open_fault.BadHeader) }
-    ensures store { (old : D) (shelf : S) (stream held new_held said new_said : Stream)
-        → ¬ (RunsStore D.Disk S.did S.failures ⊥ ⊥ ⊥ old shelf 1 stream held new_held said new_said) }
-    ensures run { (words : List (List ℕ)) (stream held new_held said new_said : Stream)
-        → ¬ (Runs ⟦<MemDisk as Disk>⟧ D.Disk S.Shelf ⊥ ⊥ ⊥ words 5 stream held new_held said new_said) }
+    ensures store { (first : D) (shelf : S) (old new : X) (said new_said : Stream)
+        → ¬ (RunsStore D.Disk S.did S.failures X.Duplex ⊥ first shelf 1 old new said new_said) }
+    ensures run { (words : List (List ℕ)) (old new : X) (said new_said : Stream)
+        → ¬ (Runs ⟦<MemDisk as Disk>⟧ D.Disk S.Shelf X.Duplex ⊥ words 5 old new said new_said) }
+    ensures held_back { (host : Server S D D.Disk) (old new : X) (said new_said : Stream) → IsServed (IsAnswer S.did S.failures) X.Duplex ⊥ host 0 old new said new_said
+        → (events : List Event) × Steps X.saw old events new × Timely (IsCaughtUp (IsAnswer S.did S.failures) host) events }
 {}

@@ -9,7 +9,7 @@ pub returns-in-Ok : goal.returns-in-Ok
 returns-in-Ok g c =
     let request = c.args.request in
     record {
-      replied = answered g.S.Shelf.did g.S.Shelf.failures g.D.Disk.faults c.args.server.now c.respond.new.server request.head c.as_slice.result.now request.body.items (Ok c.in-Ok.ask)
+      replied = answered g.S.Shelf.did g.S.Shelf.failures c.args.server.now c.respond.new.server request.head c.as_slice.result.now request.body.items (Ok c.in-Ok.ask)
           (answer_of c.respond.result) c.as_slice.ensures.value c.in-Ok.ensures.ok c.respond.ensures.replied;
       grows = c.respond.ensures.grows;
       count = c.respond.ensures.count;
@@ -21,7 +21,7 @@ pub returns : goal.returns
 returns g c =
     let request = c.args.request in
     record {
-      replied = unasked g.S.Shelf.did g.S.Shelf.failures g.D.Disk.faults c.args.server.now request.head c.as_slice.result.now request.body.items c.in-Err.reason (answer_of c.of_told.result)
+      replied = unasked g.S.Shelf.did g.S.Shelf.failures c.args.server.now request.head c.as_slice.result.now request.body.items c.in-Err.reason (answer_of c.of_told.result)
           c.as_slice.ensures.value c.in-Err.ensures.refused c.of_told.ensures;
       grows = itself c.args.server.now.house;
       count = omega arith;

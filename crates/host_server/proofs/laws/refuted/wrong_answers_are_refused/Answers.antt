@@ -1,4 +1,4 @@
-use Rattle.std.proofs.Common.{◌≡◌, ◌⊎◌, inl, inr, ℕ, List, [], ◌∷◌, Bool, true, false, refl, sym, ◌∙◌, codes, arith, Ok, Err, length}
+use Rattle.std.proofs.Common.{◌≡◌, inl, inr, ℕ, List, [], ◌∷◌, Bool, true, false, refl, sym, ◌∙◌, codes, arith}
 use Rattle.std.specs.Str.{bytes_eq}
 use Rattle.range_spec.specs.Understood.{IsUnderstoodAs}
 use Rattle.range_spec.specs.declared.grammar.Asked.{Asked}
@@ -31,11 +31,11 @@ returns-clause-range g c parts one another p q = one_asked (bytes_eq parts.metho
 
 pub returns-clause-refused : goal.returns-clause-refused
 returns-clause-refused g c old new parts body answer why asks is =
-    (refusal_is g.S.Shelf.did g.S.Shelf.failures g.D.Disk.faults old new parts body answer why asks is).0
+    (refusal_is g.S.Shelf.did g.S.Shelf.failures old new parts body answer why asks is).0
 
 pub returns-clause-refusal : goal.returns-clause-refusal
 returns-clause-refusal g c old new parts body answer why asks is =
-    (refusal_is g.S.Shelf.did g.S.Shelf.failures g.D.Disk.faults old new parts body answer why asks is).1
+    (refusal_is g.S.Shelf.did g.S.Shelf.failures old new parts body answer why asks is).1
 
 pub returns-clause-stored : goal.returns-clause-stored
 returns-clause-stored g c uploads old new bytes is = is.0

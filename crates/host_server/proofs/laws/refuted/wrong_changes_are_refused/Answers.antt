@@ -1,6 +1,7 @@
-use Rattle.std.proofs.Common.{◌≡◌, ◌⊎◌, inl, inr, ℕ, List, [], ◌∷◌, Option, Some, None, true, false, refl, sym, ◌∙◌}
+use Rattle.std.proofs.Common.{◌≡◌, inl, inr, List, [], ◌∷◌, Option, Some, None, true, false, sym, ◌∙◌}
 use Rattle.change_journal.specs.entries.Held.{Keeps}
 use Rattle.change_undo.specs.declared.entries.Entry.{Entry}
+use Rattle.host_disk.specs.declared.disks.Disk.{Ghosts}
 use Rattle.host_server.specs.Journals.{Puts}
 use Rattle.host_server.proofs.laws.refuted.wrong_changes_are_refused.Goals as goal
 
@@ -8,12 +9,12 @@ pub returns-clause-grows : goal.returns-clause-grows
 returns-clause-grows g c entry grows = absurd (cc grows.longer)
 
 -- nothing is put into no journal
-none_put : {D : Type 0} (faults : D → ℕ) (more : List Entry) (new : Option (Keeps D)) → Puts faults None more new → new ≡ None
-none_put faults [] new put = put
-none_put faults (entry ∷ more) new put = put
+none_put : {D : Type 0} (disk : Ghosts D) (more : List Entry) (new : Option (Keeps D)) → Puts disk None more new → new ≡ None
+none_put disk [] new put = put
+none_put disk (entry ∷ more) new put = put
 
 pub returns-clause-journaled : goal.returns-clause-journaled
-returns-clause-journaled g c old new journal is = let none = none_put g.D.Disk.faults is.more (Some journal) is.put in absurd (cc none)
+returns-clause-journaled g c old new journal is = let none = none_put g.D.Disk is.more (Some journal) is.put in absurd (cc none)
 
 pub returns-clause-broken : goal.returns-clause-broken
 returns-clause-broken g c old new is = absurd (cc is.put.is)
@@ -22,7 +23,7 @@ pub returns-clause-put : goal.returns-clause-put
 returns-clause-put g c old new entry broken is = let wrong : true ≡ false = sym broken ∙ is.was_whole in absurd (cc wrong)
 
 pub returns-clause-put_in_vain : goal.returns-clause-put_in_vain
-returns-clause-put_in_vain g c old new whole is = let wrong : false ≡ true = sym whole ∙ is.broken in absurd (cc wrong)
+returns-clause-put_in_vain g c old new entry whole is = let wrong : false ≡ true = sym whole ∙ is.broken in absurd (cc wrong)
 
 pub returns-clause-stopped : goal.returns-clause-stopped
 returns-clause-stopped g c (inl is) = absurd (cc is)
@@ -55,3 +56,6 @@ returns-clause-shown g c told is = is
 
 pub returns-clause-stands : goal.returns-clause-stands
 returns-clause-stands g c uploads is = absurd (cc is)
+
+pub returns-clause-kept : goal.returns-clause-kept
+returns-clause-kept g c old new entry modelled lost is = lost (is.stored modelled)

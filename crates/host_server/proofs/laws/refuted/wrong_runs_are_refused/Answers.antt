@@ -1,4 +1,4 @@
-use Rattle.std.proofs.Common.{◌≡◌, ◌⊎◌, inl, inr, ℕ, ◌<◌, List, [], ◌∷◌, ◌++◌, length, Option, Some, None, Result, Ok, Err, refl, sym, ap, ◌∙◌, arith}
+use Rattle.std.proofs.Common.{◌≡◌, inl, inr, Some, None, Result, Ok, Err, sym, ◌∙◌}
 use Rattle.host_server.specs.OpeningLines.{opening_status}
 use Rattle.host_server.specs.Solo.{status_of}
 use Rattle.host_connection.specs.declared.connections.ConnectionFault.{ConnectionFault}
@@ -45,14 +45,17 @@ not_opened_so fault.BlobsDevice = ((λ e. absurd (cc e)), (λ e. absurd (cc e)))
 not_opened_so fault.OutOfMemory = ((λ e. absurd (cc e)), (λ e. absurd (cc e)))
 
 pub returns-clause-store : goal.returns-clause-store
-returns-clause-store g c old shelf stream held new_held said new_said (inl (start, opened, served)) = (ended_so served.ended).0 served.says
-returns-clause-store g c old shelf stream held new_held said new_said (inr (why, new, new_shelf, is, says, same)) = (not_opened_so why).0 says.0
+returns-clause-store g c first shelf old new said new_said (inl (start, opened, served)) = (ended_so served.ended).0 served.says
+returns-clause-store g c first shelf old new said new_said (inr (why, last, last_shelf, is, says, same)) = (not_opened_so why).0 says.0
 
 pub returns-clause-run : goal.returns-clause-run
-returns-clause-run g c words stream held new_held said new_said (inl (inl (none, status, text), same)) = absurd (cc status)
-returns-clause-run g c words stream held new_held said new_said (inl (inr (status, text), same)) = absurd (cc status)
-returns-clause-run g c words stream held new_held said new_said (inr (None, asks, inl (start, empty, served))) = (ended_so served.ended).1 served.says
-returns-clause-run g c words stream held new_held said new_said (inr (None, asks, inr ((status, text), same))) = absurd (cc status)
-returns-clause-run g c words stream held new_held said new_said (inr (Some folder, asks, inl (name, (old, there, inl (start, opened, served))))) = (ended_so served.ended).1 served.says
-returns-clause-run g c words stream held new_held said new_said (inr (Some folder, asks, inl (name, (old, there, inr (why, new, new_shelf, is, says, same))))) = (not_opened_so why).1 says.0
-returns-clause-run g c words stream held new_held said new_said (inr (Some folder, asks, inr (why, is, says, same))) = (not_opened_so why).1 says.0
+returns-clause-run g c words old new said new_said (inl (inl (none, status, text), same)) = absurd (cc status)
+returns-clause-run g c words old new said new_said (inl (inr (status, text), same)) = absurd (cc status)
+returns-clause-run g c words old new said new_said (inr (None, asks, inl (start, empty, served))) = (ended_so served.ended).1 served.says
+returns-clause-run g c words old new said new_said (inr (None, asks, inr ((status, text), same))) = absurd (cc status)
+returns-clause-run g c words old new said new_said (inr (Some folder, asks, inl (name, (first, there, inl (start, opened, served))))) = (ended_so served.ended).1 served.says
+returns-clause-run g c words old new said new_said (inr (Some folder, asks, inl (name, (first, there, inr (why, last, last_shelf, is, says, same))))) = (not_opened_so why).1 says.0
+returns-clause-run g c words old new said new_said (inr (Some folder, asks, inr (why, is, says, same))) = (not_opened_so why).1 says.0
+
+pub returns-clause-held_back : goal.returns-clause-held_back
+returns-clause-held_back g c host old new said new_said served = (served.timely.events, served.timely.steps, served.timely.timely)

@@ -24,45 +24,45 @@ returns-clause-empty g c = λ has server limit none nothing. record {
 
 pub returns-clause-opened : goal.returns-clause-opened
 returns-clause-opened g c = λ honest has old shelf limit server keeps so is.
-    opened_known g.S.Shelf.did g.S.Shelf.failures g.D.Disk.faults honest has keeps old shelf limit server so is
+    opened_known g.S.Shelf.did g.S.Shelf.failures honest has keeps old shelf limit server so is
 
 pub returns-clause-kept : goal.returns-clause-kept
 returns-clause-kept g c = λ honest has old new parts body answer keeps so agrees known is.
     let did = g.S.Shelf.did in
     let failures = g.S.Shelf.failures in
-    let faults = g.D.Disk.faults in
-    answered_known (Where honest did) failures faults has keeps.kept old new parts body answer agrees known (answered did failures faults honest has keeps old new so parts body answer is).1
+    let disk = g.D.Disk in
+    answered_known (Where honest did) failures has keeps.kept old new parts body answer agrees known (answered did failures honest has keeps old new so parts body answer is).1
 
 pub returns-clause-read : goal.returns-clause-read
 returns-clause-read g c = λ honest has old new parts body answer site version path file keeps so known asks there is.
     let did = g.S.Shelf.did in
     let failures = g.S.Shelf.failures in
-    let faults = g.D.Disk.faults in
-    answered_back (Where honest did) failures faults has keeps.kept old new parts body answer site version path file known asks there
-    (answered did failures faults honest has keeps old new so parts body answer is).1
+    let disk = g.D.Disk in
+    answered_back (Where honest did) failures has keeps.kept old new parts body answer site version path file known asks there
+    (answered did failures honest has keeps old new so parts body answer is).1
 
 pub returns-clause-there : goal.returns-clause-there
 returns-clause-there g c honest has old new parts body answer site version path file keeps so known asks there is told =
     let did = g.S.Shelf.did in
     let failures = g.S.Shelf.failures in
-    let faults = g.D.Disk.faults in
+    let disk = g.D.Disk in
     not_missing parts path file (subst (λ (a : Answer). IsReadBack parts path file a) told
-    (answered_back (Where honest did) failures faults has keeps.kept old new parts body answer site version path file known asks there
-    (answered did failures faults honest has keeps old new so parts body answer is).1))
+    (answered_back (Where honest did) failures has keeps.kept old new parts body answer site version path file known asks there
+    (answered did failures honest has keeps old new so parts body answer is).1))
 
 pub returns-clause-whole : goal.returns-clause-whole
 returns-clause-whole g c honest has old new parts body answer site version path file keeps so known asks there is told =
     let did = g.S.Shelf.did in
     let failures = g.S.Shelf.failures in
-    let faults = g.D.Disk.faults in
+    let disk = g.D.Disk in
     not_damaged parts path file (subst (λ (a : Answer). IsReadBack parts path file a) told
-    (answered_back (Where honest did) failures faults has keeps.kept old new parts body answer site version path file known asks there
-    (answered did failures faults honest has keeps old new so parts body answer is).1))
+    (answered_back (Where honest did) failures has keeps.kept old new parts body answer site version path file known asks there
+    (answered did failures honest has keeps old new so parts body answer is).1))
 
 pub returns-clause-before : goal.returns-clause-before
 returns-clause-before g c = λ honest has number old new stream left replies keeps so served.
-    was_honest g.S.Shelf.did g.S.Shelf.failures g.D.Disk.faults honest has keeps number old stream replies new left so served
+    was_honest g.S.Shelf.did g.S.Shelf.failures honest has keeps number old stream replies new left so served
 
 pub returns-clause-connection : goal.returns-clause-connection
 returns-clause-connection g c = λ honest has number old new stream left replies keeps so known served.
-    (served_back g.S.Shelf.did g.S.Shelf.failures g.D.Disk.faults honest has keeps number old stream replies new left so served).1 known
+    (served_back g.S.Shelf.did g.S.Shelf.failures honest has keeps number old stream replies new left so served).1 known

@@ -18,7 +18,7 @@ pub invariant_of-self-2 : goal.invariant_of-self-2
 invariant_of-self-2 g c =
     let mid = c.keep.new.self in
     record {
-      agrees = agrees_journaled g.D.Disk.faults c.publish_if_ready.result mid.house c.publish_if_ready.new.self mid.journal c.publish_if_ready.new.journal mid.agrees
+      agrees = agrees_journaled g.D.Disk c.publish_if_ready.result mid.house c.publish_if_ready.new.self mid.journal c.publish_if_ready.new.journal mid.agrees
           c.publish_if_ready.ensures.journal;
     }
 
@@ -40,25 +40,25 @@ returns-in_err-keep-clause-done g c =
         same = c.in_err-keep.ensures.err;
       },
       is ∙ ap Err told,
-      keeps_same g.D.Disk.faults server.house next.house server.journal next.journal c.in_err-keep.ensures.err c.keep.ensures.journal,
+      keeps_same g.D.Disk server.house next.house server.journal next.journal c.in_err-keep.ensures.err c.keep.ensures.journal,
     ))
 
 pub returns-in_err-published-clause-done : goal.returns-in_err-published-clause-done
 returns-in_err-published-clause-done g c =
     let server = c.args.self.now in
     let did = g.S.Shelf.did in
-    let faults = g.D.Disk.faults in
+    let disk = g.D.Disk in
     let why = c.in_err-published.field-0.0 in
     let new_house = c.publish_if_ready.new.self in
     let new_journal = c.publish_if_ready.new.journal in
     let is : c.from_residual-in_err-published.result ≡ Err why = search rules in
     let next : Server g.row.S.Denot g.row.D.Denot g.D.Disk = record { house = new_house; journal = new_journal; files = c.keep.new.self.files; agrees = _ } in
-    upload_done did g.S.Shelf.failures faults server next c.keep.new.self.house c.args.number c.args.path.now
+    upload_done did g.S.Shelf.failures server next c.keep.new.self.house c.args.number c.args.path.now
     c.args.bytes.items (c.in_ok-site.site, c.in_ok-site.digest) (Err why) c.from_residual-in_err-published.result
     (sym (ap (λ bytes. judge_upload server.house c.args.number c.args.path.now bytes) c.as_slice.ensures.value) ∙ c.in_ok-site.ensures.ok)
     (c.in_ok-keep.ensures.known ∙ ap (with_upload server.house) c.as_slice-2.ensures.value)
     (subst (λ bytes. IsStored did server.house.uploads server.files.shelf bytes c.keep.new.self.files.shelf) c.as_slice-2.ensures.value c.in_ok-keep.ensures.stored)
     c.keep.ensures.cache
     c.in_err-published.ensures.done c.in_err-published.ensures.stops c.in_err-published.ensures.err
-    (subst (λ j. IsJournaled {A = Option ℕ} faults (Err why) c.keep.new.self.house j new_house new_journal) c.keep.ensures.journal c.in_err-published.ensures.journal)
+    (subst (λ j. IsJournaled {A = Option ℕ} disk (Err why) c.keep.new.self.house j new_house new_journal) c.keep.ensures.journal c.in_err-published.ensures.journal)
     (ap told_by is) (λ (reason : Refusal) told. let same : why ≡ reason = cc told in is ∙ ap Err same)

@@ -5,5 +5,5 @@ use Rattle.host_server.proofs.host.houses.SoloHouse.enter.Goals as goal
 
 pub returns-in_err-number-clause-journal : goal.returns-in_err-number-clause-journal
 returns-in_err-number-clause-journal g c =
-    entered_err g.D.Disk.faults c.commit.result c.from_residual.result c.in_err-number.field-0.0 (Change c.args.command) c.args.self.now c.commit.new.self c.args.journal.now c.commit.new.journal
+    entered_err g.D.Disk c.commit.result c.from_residual.result c.in_err-number.field-0.0 (Change c.args.command) c.args.self.now c.commit.new.self c.args.journal.now c.commit.new.journal
     c.commit.ensures.journal c.in_err-number.was (search rules) c.in_err-number.ensures.err

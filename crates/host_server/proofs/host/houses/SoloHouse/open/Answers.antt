@@ -66,29 +66,29 @@ returns-in_err-required-clause-stops g c = λ _. (c.in_ok-judge_opening.ensures.
 
 pub publish_if-requires-clause-agrees : goal.publish_if-requires-clause-agrees
 publish_if-requires-clause-agrees g c =
-    let keeps = entered_ok g.D.Disk.faults (Change (Open c.args.site c.args.files c.args.auto)) c.args.self.now c.commit.new.self c.args.journal.now c.commit.new.journal c.in_ok-id.ensures.journal c.in_ok-id.ensures.entries in
-    agrees_after g.D.Disk.faults c.args.self.now c.commit.new.self c.args.journal.now c.commit.new.journal c.requires.agrees keeps
+    let keeps = entered_ok g.D.Disk (Change (Open c.args.site c.args.files c.args.auto)) c.args.self.now c.commit.new.self c.args.journal.now c.commit.new.journal c.in_ok-id.ensures.journal c.in_ok-id.ensures.entries in
+    agrees_after g.D.Disk c.args.self.now c.commit.new.self c.args.journal.now c.commit.new.journal c.requires.agrees keeps
 
 pub publish_if-requires-clause-whole : goal.publish_if-requires-clause-whole
 publish_if-requires-clause-whole g c =
-    puts_whole g.D.Disk.faults c.args.journal.now (Change (Open c.args.site c.args.files c.args.auto) ∷ []) c.commit.new.journal c.requires.whole c.in_ok-id.ensures.journal
+    puts_whole g.D.Disk c.args.journal.now (Change (Open c.args.site c.args.files c.args.auto) ∷ []) c.commit.new.journal c.requires.whole c.in_ok-id.ensures.journal
 
 pub returns-in_err-id-clause-journal : goal.returns-in_err-id-clause-journal
 returns-in_err-id-clause-journal g c =
-    entered_err g.D.Disk.faults c.commit.result c.from_residual-in_err-id.result c.in_err-id.field-0.0 (Change (Open c.args.site c.args.files c.args.auto)) c.args.self.now c.commit.new.self c.args.journal.now c.commit.new.journal
+    entered_err g.D.Disk c.commit.result c.from_residual-in_err-id.result c.in_err-id.field-0.0 (Change (Open c.args.site c.args.files c.args.auto)) c.args.self.now c.commit.new.self c.args.journal.now c.commit.new.journal
     c.commit.ensures.journal c.in_err-id.was (search rules) c.in_err-id.ensures.err
 
 pub returns-in_err-published-clause-journal : goal.returns-in_err-published-clause-journal
 returns-in_err-published-clause-journal g c =
-    let faults = g.D.Disk.faults in
-    let keeps = entered_ok faults (Change (Open c.args.site c.args.files c.args.auto)) c.args.self.now c.commit.new.self c.args.journal.now c.commit.new.journal c.in_ok-id.ensures.journal c.in_ok-id.ensures.entries in
+    let disk = g.D.Disk in
+    let keeps = entered_ok disk (Change (Open c.args.site c.args.files c.args.auto)) c.args.self.now c.commit.new.self c.args.journal.now c.commit.new.journal c.in_ok-id.ensures.journal c.in_ok-id.ensures.entries in
     let told = c.from_residual-in_err-published.result in
-    journaled_then faults told c.args.self.now c.commit.new.self c.publish_if.new.self c.args.journal.now c.commit.new.journal c.publish_if.new.journal keeps
-    (journaled_err faults c.publish_if.result told c.in_err-published.field-0.0 c.commit.new.self c.publish_if.new.self c.commit.new.journal c.publish_if.new.journal
+    journaled_then disk told c.args.self.now c.commit.new.self c.publish_if.new.self c.args.journal.now c.commit.new.journal c.publish_if.new.journal keeps
+    (journaled_err disk c.publish_if.result told c.in_err-published.field-0.0 c.commit.new.self c.publish_if.new.self c.commit.new.journal c.publish_if.new.journal
     c.publish_if.ensures.journal c.in_err-published.was (search rules))
 
 pub returns-clause-journal : goal.returns-clause-journal
 returns-clause-journal g c =
-    let faults = g.D.Disk.faults in
-    let keeps = entered_ok faults (Change (Open c.args.site c.args.files c.args.auto)) c.args.self.now c.commit.new.self c.args.journal.now c.commit.new.journal c.in_ok-id.ensures.journal c.in_ok-id.ensures.entries in
-    keeps_then faults c.args.self.now c.commit.new.self c.publish_if.new.self c.args.journal.now c.commit.new.journal c.publish_if.new.journal keeps c.in_ok-published.ensures.journal
+    let disk = g.D.Disk in
+    let keeps = entered_ok disk (Change (Open c.args.site c.args.files c.args.auto)) c.args.self.now c.commit.new.self c.args.journal.now c.commit.new.journal c.in_ok-id.ensures.journal c.in_ok-id.ensures.entries in
+    keeps_then disk c.args.self.now c.commit.new.self c.publish_if.new.self c.args.journal.now c.commit.new.journal c.publish_if.new.journal keeps c.in_ok-published.ensures.journal

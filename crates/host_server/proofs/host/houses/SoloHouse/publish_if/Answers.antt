@@ -6,5 +6,5 @@ use Rattle.host_server.proofs.host.houses.SoloHouse.publish_if.Goals as goal
 
 pub returns-in_err-entry-clause-journal : goal.returns-in_err-entry-clause-journal
 returns-in_err-entry-clause-journal g c =
-    entered_err g.D.Disk.faults c.commit.result c.from_residual.result c.in_err-entry.field-0.0 (Change (Publish c.copied-site.result c.args.number)) c.args.self.now c.commit.new.self c.args.journal.now c.commit.new.journal
+    entered_err g.D.Disk c.commit.result c.from_residual.result c.in_err-entry.field-0.0 (Change (Publish c.copied-site.result c.args.number)) c.args.self.now c.commit.new.self c.args.journal.now c.commit.new.journal
     c.commit.ensures.journal c.in_err-entry.was (search rules) c.in_err-entry.ensures.err

@@ -1,4 +1,5 @@
-use Rattle.std.proofs.Common.{ℕ, ◌++◌, ◌∷◌, [], List, rules, sym, ap, subst, ◌∙◌}
+use Rattle.std.proofs.Common.{ℕ, List, rules, sym, ap, subst, ◌∙◌}
+use Rattle.change_undo.specs.Logs.{with_entry}
 use Rattle.change_undo.specs.declared.entries.Entry.{Entry}
 use Rattle.change_undo.specs.declared.entries.Entry.TheVariants.{Undo}
 use Rattle.host_server.specs.Hosts.{Host}
@@ -9,19 +10,19 @@ use Rattle.host_server.proofs.host.houses.SoloHouse.undo_into.Goals as goal
 
 pub put_last-requires-clause-follows : goal.put_last-requires-clause-follows
 put_last-requires-clause-follows g c =
-    let same = ap (λ (h : Host). h.entries) c.self.view_is ∙ sym c.requires.agrees in
-    ((Undo c.args.site.now c.args.change), (c.in_ok-next.ensures.in_range c.self.inside.uploads c.self.invariant.over), c.in_ok-next.ensures.entries ∙ ap (λ (es : List Entry). es ++ (Undo c.args.site.now c.args.change) ∷ []) same)
+    let longer = c.in_ok-next.ensures.entries ∙ ap (λ (es : List Entry). with_entry es (Undo c.args.site.now c.args.change)) (ap (λ (h : Host). h.entries) c.self.view_is ∙ sym c.requires.agrees) in
+    ((Undo c.args.site.now c.args.change), (c.in_ok-next.ensures.in_range c.self.inside.uploads c.self.invariant.over), longer)
 
 pub returns-in_err-put_last-clause-journal : goal.returns-in_err-put_last-clause-journal
 returns-in_err-put_last-clause-journal g c =
-    put_missed g.D.Disk.faults c.in_err-put_last.field-0.0 c.from_residual-in_err-put_last.result (Undo c.args.site.now c.args.change) c.args.journal.now c.put_last.new.journal
-    c.in_err-put_last.ensures.error (search rules)
+    let longer = c.in_ok-next.ensures.entries ∙ ap (λ (es : List Entry). with_entry es (Undo c.args.site.now c.args.change)) (ap (λ (h : Host). h.entries) c.self.view_is ∙ sym c.requires.agrees) in
+    put_missed g.D.Disk c.in_err-put_last.field-0.0 c.from_residual-in_err-put_last.result (Undo c.args.site.now c.args.change) c.in_ok-next.next.entries c.args.journal.now c.put_last.new.journal
+    longer c.in_err-put_last.ensures.error (search rules)
 
 pub returns-clause-journal : goal.returns-clause-journal
 returns-clause-journal g c =
-    let longer = c.in_ok-next.ensures.entries ∙ ap (λ (h : Host). h.entries ++ (Undo c.args.site.now c.args.change) ∷ []) c.self.view_is in
-    put_whole g.D.Disk.faults ℕ 0 (Undo c.args.site.now c.args.change) c.args.self.now.entries c.in_ok-next.next.entries c.args.journal.now c.put_last.new.journal c.requires.whole c.requires.agrees longer
-    c.in_ok-put_last.ensures.entries c.in_ok-put_last.ensures.whole c.in_ok-put_last.ensures.cause
+    let longer = c.in_ok-next.ensures.entries ∙ ap (λ (es : List Entry). with_entry es (Undo c.args.site.now c.args.change)) (ap (λ (h : Host). h.entries) c.self.view_is ∙ sym c.requires.agrees) in
+    put_whole g.D.Disk ℕ 0 (Undo c.args.site.now c.args.change) c.in_ok-next.next.entries c.args.journal.now c.put_last.new.journal longer c.in_ok-put_last.ensures.put
 
 pub invariant_of-self : goal.invariant_of-self
 invariant_of-self g c = record {

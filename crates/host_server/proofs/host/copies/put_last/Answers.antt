@@ -1,0 +1,43 @@
+use Rattle.std.proofs.Common.{rules, ◌≡◌, Some, inr, refl, subst, ◌∙◌}
+use Rattle.change_undo.specs.Logs.{entry_at}
+use Rattle.change_undo.specs.declared.entries.Entry.{Entry as Line}
+use Rattle.host_server.specs.Journals.{IsPut, IsPutInVain}
+use Rattle.host_server.proofs.Committing.{last_of}
+use Rattle.host_server.proofs.host.copies.put_last.Goals as goal
+
+pub returns-in-Ok-clause-put : goal.returns-in-Ok-clause-put
+returns-in-Ok-clause-put g c =
+    let old = c.args.journal.now in
+    let new = c.put.new.self in
+    let next = c.args.next.now in
+    let prepared = c.in_ok-prepared.prepared in
+    λ last is.
+    let there : Some c.unwrap-entry.result.now ≡ entry_at next.entries c.len.result = search rules in
+    let same : prepared ≡ last = c.in_ok-prepared.ensures ∙ last_of old.entries next.entries last c.unwrap-entry.result.now c.len.result is c.len.ensures.number there in
+    let P : Line → Type 0 = λ entry. IsPut g.D.Disk old entry new in
+    subst P same (record {
+      was_whole = c.requires.whole;
+      entries = c.in-Ok.ensures.entries;
+      whole = c.in-Ok.ensures.broken;
+      stored = c.in-Ok.ensures.stored;
+      moments = λ modelled. c.in-Ok.ensures.any_moment modelled c.requires.whole;
+      cause = c.in-Ok.ensures.cause;
+    })
+
+pub returns-in-Err-clause-error : goal.returns-in-Err-clause-error
+returns-in-Err-clause-error g c =
+    let old = c.args.journal.now in
+    let new = c.put.new.self in
+    let next = c.args.next.now in
+    let prepared = c.in_ok-prepared.prepared in
+    inr (refl, λ last is.
+    let there : Some c.unwrap-entry.result.now ≡ entry_at next.entries c.len.result = search rules in
+    let same : prepared ≡ last = c.in_ok-prepared.ensures ∙ last_of old.entries next.entries last c.unwrap-entry.result.now c.len.result is c.len.ensures.number there in
+    let P : Line → Type 0 = λ entry. IsPutInVain g.D.Disk old entry new in
+    subst P same (record {
+      was_whole = c.requires.whole;
+      entries = c.in-Err.ensures.entries;
+      broken = c.in-Err.ensures.broken;
+      moments = λ modelled. c.in-Err.ensures.any_moment modelled c.requires.whole;
+      cause = search rules;
+    }))
