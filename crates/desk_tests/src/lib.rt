@@ -1,0 +1,5 @@
+//! Tests of what threads share of a host, by public calls.
+#![tactic(auto)]
+
+#[cfg(test)]
+mod tests;

@@ -1,0 +1,3 @@
+//! One file of tests for lists, and one for what is shown of them.
+mod lists;
+mod visitors;

@@ -1,0 +1,5 @@
+mod Beginnings
+mod Cells
+mod Logs
+mod Pushing
+mod Steps

@@ -1,0 +1,135 @@
+//! A list, with what is shown of it.
+ghost use Rattle.std.specs.Prelude.{◌≡◌, ◌<◌, ◌^◌, ◌++◌, ◌∷◌, [], IfOk, IfSome, List, MatchOption, Some, length};
+ghost use Rattle.left_right.specs.Handles.{pending, published};
+
+use crate::lists::SeenList;
+use crate::names::ListName;
+use crate::receipts::{Listed, Receipt};
+use crate::shows::publish;
+use left_right::{Absorb, WriteHandle};
+use std::alloc::{AllocError, Global};
+use std::marker::{Model, PhantomData};
+use std::sync::{Arc, Wait};
+
+/// The owners of a snapshot: one that is kept, one that is shown, and one that is told. Contracts see its items.
+#[derive(Drop)]
+pub struct Owners<E, S: Listed<E> + Drop> {
+    kept: Arc<S>,
+    shown: Arc<S>,
+    told: Arc<S>,
+    of: PhantomData<E>,
+}
+
+impl<E, S: Listed<E> + Drop> Model for Owners<E, S> {
+    ghost use Rattle.std.specs.Prelude.{◌≡◌, List};
+
+    ghost Value = { List E };
+
+    ghost view = { λ o. S.items o.told.value };
+
+    ghost invariant = { λ o. (S.items o.kept.value ≡ S.items o.told.value) × (S.items o.shown.value ≡ S.items o.told.value) };
+}
+
+impl<E, S: Listed<E> + Drop> Owners<E, S> {
+    /// The owners of a new snapshot.
+    pub fn of(alloc: Global, snap: S) -> Result<Owners<E, S>, AllocError>
+        ensures { IfOk result (λ owners. owners ≡ S.items snap) }
+    {
+        let kept = Arc::new(alloc, snap)?;
+        let shown = Arc::try_clone(&kept)?;
+        let told = Arc::try_clone(&kept)?;
+        Ok(Owners {
+            kept,
+            shown,
+            told,
+            of: PhantomData,
+        })
+    }
+}
+
+/// A list, the receipt of all its items, and what is shown of it, which is the same. Contracts see the items.
+#[derive(Drop)]
+pub struct Publisher<
+    E,
+    L: ListName<E>,
+    S: Listed<E> + Drop,
+    T: Absorb<Receipt<E, L, S>, State = [E; 0]> + Drop,
+    R: Wait + Drop,
+> {
+    list: SeenList<E, L>,
+    last: Receipt<E, L, S>,
+    shown: WriteHandle<T, Receipt<E, L, S>, R>,
+}
+
+impl<
+    E,
+    L: ListName<E>,
+    S: Listed<E> + Drop,
+    T: Absorb<Receipt<E, L, S>, State = [E; 0]> + Drop,
+    R: Wait + Drop,
+> Model for Publisher<E, L, S, T, R> {
+    ghost use Rattle.std.specs.Prelude.{List};
+    ghost use Rattle.left_right.specs.Handles.{pending, published};
+    ghost use Rattle.seen_lists.specs.Publishers.{IsShown};
+
+    ghost Value = { List E };
+
+    ghost view = { λ p. p.list };
+
+    ghost invariant = { λ p. IsShown p.list p.last (T.state (published p.shown)) (pending p.shown) T.applied };
+}
+
+impl<
+    E,
+    L: ListName<E>,
+    S: Listed<E> + Drop,
+    T: Absorb<Receipt<E, L, S>, State = [E; 0]> + Drop,
+    R: Wait + Drop,
+> Publisher<E, L, S, T, R> {
+    /// The list, with its receipt and what is shown of it. It takes these out of options, since a caller that is generic in L can't pass them by
+    /// value: the bound of T is made of L.
+    pub fn of(
+        list: &mut Option<SeenList<E, L>>,
+        last: &mut Option<Receipt<E, L, S>>,
+        shown: &mut Option<WriteHandle<T, Receipt<E, L, S>, R>>,
+    ) -> Publisher<E, L, S, T, R>
+        requires last { last.old ≡ list.old }
+        requires shown { MatchOption shown.old ⊥ (λ handle. list.old ≡ Some (T.state (published handle))) }
+        requires none { IfSome shown.old (λ handle. pending handle ≡ []) }
+        requires shows_last { (before : List E) (next : List E) → T.applied before next ≡ next }
+        ensures { list.old ≡ Some result }
+    {
+        Publisher {
+            list: list.take().unwrap(),
+            last: last.take().unwrap(),
+            shown: shown.take().unwrap(),
+        }
+    }
+
+    /// The receipt of all items.
+    pub fn last(&self) -> &Receipt<E, L, S>
+        ensures { result.now ≡ self.now }
+    {
+        &self.last
+    }
+
+    /// Pushes an item, shows the snapshot that has it, and gives the receipt of that.
+    pub fn push(&mut self, rt: &impl Wait, item: &E, owners: Owners<E, S>) -> Receipt<E, L, S>
+        requires room { length self.old < 2 ^ 62 }
+        requires next { owners ≡ self.old ++ item.now ∷ [] }
+        ensures pushed { self.new ≡ self.old ++ item.now ∷ [] }
+        ensures receipt { result ≡ self.old ++ item.now ∷ [] }
+    {
+        let Owners {
+            kept,
+            shown,
+            told,
+            of: _,
+        } = owners;
+        self.list.push(item);
+        let front = self.list.front();
+        publish(rt, &mut self.shown, Receipt::of(shown, front.again()));
+        self.last = Receipt::of(kept, front.again());
+        Receipt::of(told, front)
+    }
+}
