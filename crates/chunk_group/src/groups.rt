@@ -7,14 +7,14 @@ ghost use Rattle.chunk_group.specs.Holding.{MayNotHold};
 
 use crate::caches::Caches;
 use crate::coins::Coin;
-use crate::loads::{Given, Suppliers};
+use crate::loads::{Given, Giver, Suppliers, from_source};
 use crate::places::RingPlace;
 use crate::sources::{Loading, Outcome, Source};
 use byte_view::{BlobInfo, Chunk, Hold};
 use chunk_lru::ChunkCache;
 use chunk_reads::{ChunkReader, ReadFault, hold_stretch};
 use host_names::Digest;
-use peer_link::PeerLink;
+use peer_link::{LocalChunks, PeerLink};
 use peer_ring::{Ring, RingHash};
 use single_flight::{Flights, Loads};
 use std::alloc::{AllocError, Global};
@@ -71,6 +71,16 @@ impl<H: RingHash + Copy + Drop, S: Source + Copy, L: PeerLink + Copy, C: Coin + 
         looked.map_err(|_| ReadFault::OutOfMemory)
     }
 
+    /// A share of a chunk that was given, which is kept as the rule says.
+    fn share<R: Wait>(&self, rt: &R, giver: Giver, chunk: Chunk) -> Outcome
+        ensures same { IfOk result (λ share. share.value ≡ chunk) }
+        ensures fault { IfErr result (λ fault. fault ≡ OutOfMemory) }
+    {
+        let share = Arc::new(self.alloc, chunk).map_err(|_| ReadFault::OutOfMemory)?;
+        self.caches.lock(rt).keep(giver, &share);
+        Ok(share)
+    }
+
     /// What a leader does: it looks once more, and then loads. It holds no lock while it loads.
     fn fill<R: Wait>(&self, rt: &R, key: &Digest) -> Outcome
         ensures named { IfOk result (λ chunk. digest_of chunk.value ≡ key.now) }
@@ -81,9 +91,20 @@ impl<H: RingHash + Copy + Drop, S: Source + Copy, L: PeerLink + Copy, C: Coin + 
         }
         let mut suppliers = self.suppliers;
         let Given { chunk, giver } = suppliers.ask(&self.place, key)?;
-        let chunk = Arc::new(self.alloc, chunk).map_err(|_| ReadFault::OutOfMemory)?;
-        self.caches.lock(rt).keep(giver, &chunk);
-        Ok(chunk)
+        self.share(rt, giver, chunk)
+    }
+
+    /// The same for a leader that asks no peer.
+    fn fill_alone<R: Wait>(&self, rt: &R, key: &Digest) -> Outcome
+        ensures named { IfOk result (λ chunk. digest_of chunk.value ≡ key.now) }
+        ensures fault { IfErr result (λ fault. may_answer S.allows key.now fault ≡ true) }
+    {
+        if let Some(chunk) = self.look(rt, key)? {
+            return Ok(chunk);
+        }
+        let mut source = self.suppliers.source;
+        let chunk = from_source(&mut source, key)?;
+        self.share(rt, Giver::Source, chunk)
     }
 
     /// A share of the chunk of a key: from the caches, or else from the load of it that is in flight, or else loaded: from the peer that
@@ -96,6 +117,23 @@ impl<H: RingHash + Copy + Drop, S: Source + Copy, L: PeerLink + Copy, C: Coin + 
             return Ok(chunk);
         }
         let run: Result<Outcome, AllocError> = self.flights.run(rt, key, || self.fill(rt, key));
+        match run {
+            Ok(outcome) => outcome,
+            Err(_) => Err(ReadFault::OutOfMemory),
+        }
+    }
+
+    /// The same, but who leads the load asks the source alone.
+    fn get_alone<R: Wait>(&self, rt: &R, key: &Digest) -> Result<Arc<Chunk>, ReadFault>
+        ensures named { IfOk result (λ chunk. digest_of chunk.value ≡ key.now) }
+        ensures fault { IfErr result (λ fault. may_answer S.allows key.now fault ≡ true) }
+    {
+        if let Some(chunk) = self.look(rt, key)? {
+            return Ok(chunk);
+        }
+        let run: Result<Outcome, AllocError> = self
+            .flights
+            .run(rt, key, || self.fill_alone(rt, key));
         match run {
             Ok(outcome) => outcome,
             Err(_) => Err(ReadFault::OutOfMemory),
@@ -118,6 +156,15 @@ impl<H: RingHash + Copy + Drop, S: Source + Copy, L: PeerLink + Copy, C: Coin + 
     {
         let mut reading = Reading { rt, group: self };
         hold_stretch(self.alloc, &mut reading, info, first, last)
+    }
+}
+
+/// What a peer is given: a chunk from the caches, or from the load of it that is in flight, or from the source, as `get` gives it; for each
+/// fault nothing. It asks no peer.
+impl<H: RingHash + Copy + Drop, S: Source + Copy, L: PeerLink + Copy, C: Coin + Drop> LocalChunks
+    for Group<H, S, L, C> {
+    fn local<R: Wait>(&self, rt: &R, key: &Digest) -> Option<Arc<Chunk>> {
+        self.get_alone(rt, key).ok()
     }
 }
 

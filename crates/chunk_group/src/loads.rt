@@ -44,7 +44,7 @@ fn from_peer<L: PeerLink>(link: &mut L, peer: usize, key: &Digest) -> Option<Chu
 }
 
 /// The chunk of a key, from the source.
-fn from_source<S: Source>(source: &mut S, key: &Digest) -> Result<Chunk, ReadFault>
+pub(crate) fn from_source<S: Source>(source: &mut S, key: &Digest) -> Result<Chunk, ReadFault>
     ensures named { IfOk result (λ chunk. (digest_of chunk ≡ key.now) × S.loaded source.old key.now (Ok chunk) source.new) }
     ensures fault { IfErr result (λ fault. IsGivenFault S.loaded source.old key.now fault source.new) }
     ensures allowed { IfErr result (λ fault. may_answer S.allows key.now fault ≡ true) }

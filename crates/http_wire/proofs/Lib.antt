@@ -19,3 +19,6 @@ pub mod PartsPut
 pub mod OneHead
 pub mod ReadCounts
 pub mod ManyFields
+pub mod AnswerHeads
+pub mod AnswerTrails
+pub mod OneAnswer

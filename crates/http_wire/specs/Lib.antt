@@ -10,5 +10,7 @@ pub mod EntityTags
 pub mod Replies
 pub mod Connections
 pub mod Expectations
+pub mod Answers
+pub mod AnswerReads
 -- what the functions that find the end of a head say of each other
 pub mod Scanning

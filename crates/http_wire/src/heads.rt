@@ -17,7 +17,7 @@ use std::marker::Model;
 use std::str;
 
 /// How many fields a head has at most.
-const FIELD_LIMIT: usize = 64;
+pub(crate) const FIELD_LIMIT: usize = 64;
 
 /// The head of a request. A contract sees its parts: method, target, minor version and fields.
 #[derive(Drop)]

@@ -1,8 +1,11 @@
 //! Laws of the definitions, each the contract of a function that does nothing.
 ghost use Rattle.std.specs.Prelude.{◌≡◌, ◌≤◌, ◌-◌, ℕ, List, [], ◌∷◌, Option, Some, Result, Ok, Err, length, codes};
+ghost use Rattle.http_wire.specs.declared.answers.AnswerFault.{AnswerFault};
 ghost use Rattle.http_wire.specs.declared.faults.BodyFault.TheVariants as body_fault;
 ghost use Rattle.http_wire.specs.declared.faults.HeadFault.TheVariants as head_fault;
 ghost use Rattle.http_wire.specs.declared.faults.LengthFault.{LengthFault};
+ghost use Rattle.http_wire.specs.Answers.{AnswerParts, Begins, Brings, Tells};
+ghost use Rattle.http_wire.specs.AnswerReads.{AwaitsAnswer};
 ghost use Rattle.http_wire.specs.Fields.{IsBodyLength};
 ghost use Rattle.http_wire.specs.HeadText.{CutShort, HasHead, head_limit};
 ghost use Rattle.http_wire.specs.Replies.{HasLines, fields_of, head_lines, head_text, status_line};
@@ -25,6 +28,19 @@ pub fn one_head()
     ensures fits { (text : List ℕ) (parts : RequestParts) → Says text parts → ¬ (HasManyFields text) }
     ensures announces { (fields : List (List ℕ × List ℕ)) (limit : ℕ) (one another : Result ℕ LengthFault)
         → IsBodyLength one fields limit → IsBodyLength another fields limit → one ≡ another }
+{}
+
+/// The head of an answer tells one set of parts at most, and a body of one length at most. A stream that begins with an answer begins with no other,
+/// and with none that is refused; nothing begins with one.
+pub fn one_answer()
+    ensures tells { (text : List ℕ) (parts others : AnswerParts) → Tells text parts → Tells text others → parts ≡ others }
+    ensures brings { (text : List ℕ) (n m : ℕ) → Brings text n → Brings text m → n ≡ m }
+    ensures one { (limit n m : ℕ) (stream rest others : List ℕ) → Begins (Ok n) limit stream rest
+        → Begins (Ok m) limit stream others → (n ≡ m) × (rest ≡ others) }
+    ensures refused { (fault : AnswerFault) (limit n : ℕ) (stream rest others : List ℕ) → Begins (Ok n) limit stream rest
+        → ¬ (Begins (Err fault) limit stream others) }
+    ensures nothing { (answer : Result ℕ AnswerFault) (limit : ℕ) (rest : List ℕ) → ¬ (Begins answer limit [] rest) }
+    ensures asked { (limit : ℕ) (got : List ℕ) → ¬ (AwaitsAnswer limit got (0 ∷ [])) }
 {}
 
 /// A head and a body are read in no more reads than bytes are missing: those of the body, or of the longest head.

@@ -1,6 +1,8 @@
-//! HTTP/1.1 on a stream of bytes: request heads and bodies in, replies out.
+//! HTTP/1.1 on a stream of bytes: request heads and bodies in and replies out, and for a client a request out and its answer in.
 #![tactic(auto)]
 
+mod answer_heads;
+mod answers;
 mod bodies;
 mod buffers;
 mod connections;
@@ -10,6 +12,7 @@ mod expectations;
 mod faults;
 mod field_texts;
 mod fields;
+mod gets;
 mod heads;
 pub mod laws;
 mod lengths;
@@ -20,11 +23,13 @@ mod sinks;
 mod sources;
 mod wires;
 
+pub use answers::{AnswerFault, read_answer};
 pub use duplexes::{Duplex, Pair};
 pub use entity_tags::EntityTag;
 pub use faults::{BodyFault, HeadFault, LengthFault, WriteFault};
 pub use field_texts::FieldText;
 pub use fields::{Fields, Values};
+pub use gets::write_get;
 pub use heads::Head;
 pub use lengths::check_body;
 pub use replies::{

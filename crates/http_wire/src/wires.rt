@@ -100,7 +100,7 @@ fn take_head<D: Duplex>(buffer: &mut Buffer, duplex: &mut D) -> Result<Head, Hea
 }
 
 // Reads on until the head at the front of the buffer is whole, and answers its length.
-fn find_head<D: Duplex>(buffer: &mut Buffer, duplex: &mut D) -> Result<usize, HeadFault>
+pub(crate) fn find_head<D: Duplex>(buffer: &mut Buffer, duplex: &mut D) -> Result<usize, HeadFault>
     ensures { Ran D.saw (AwaitsHead buffer.old) duplex.old duplex.new (FindsHead result buffer.old buffer.new) }
 {
     let (mut state, mut scanned) = scan(State::Before, buffer.as_slice());

@@ -15,6 +15,15 @@ use std::test::Fail;
 /// The names of the nodes. The first of them is read through.
 pub(super) const PEERS: [&str; 3] = ["node0", "node1", "node2"];
 
+/// The number of the first chunk that another node owns.
+pub(super) fn number_of_others(alloc: Global, names: &[Digest]) -> Result<usize, Fail> {
+    let ring = Ring::new(alloc, &PEERS, &DigestHash)?;
+    let number = names
+        .iter()
+        .position(|name| ring.owner(name.to_hex().as_bytes()) != 0);
+    Ok(number.ok_or("the node owns all")?)
+}
+
 /// What chunks are read through.
 pub(super) trait Reads {
     fn read(&mut self, name: &Digest) -> Outcome;

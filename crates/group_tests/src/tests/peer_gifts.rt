@@ -1,24 +1,14 @@
 //! Whom a node asks for a chunk that another node owns, by what its owner gives.
 
 use super::fixtures::{Gift, Giver, is_chunk_of, names};
-use super::nodes_with_peers::{Asked, PEERS, Reads, Visitor, lone_node, shared_node};
+use super::nodes_with_peers::{Asked, Reads, Visitor, lone_node, number_of_others, shared_node};
 use chunk_group::Outcome;
 use chunk_reads::ReadFault;
 use host_names::Digest;
-use peer_ring::{DigestHash, Ring};
 use std::alloc::Global;
 use std::process::Abort;
 use std::sync::Wait;
 use std::test::Fail;
-
-/// The number of the first chunk that another node owns.
-fn number_of_others(alloc: Global, names: &[Digest]) -> Result<usize, Fail> {
-    let ring = Ring::new(alloc, &PEERS, &DigestHash)?;
-    let number = names
-        .iter()
-        .position(|name| ring.owner(name.to_hex().as_bytes()) != 0);
-    Ok(number.ok_or("the node owns all")?)
-}
 
 /// Asserts that a read gave the chunk of a number.
 fn assert_chunk(

@@ -3,7 +3,7 @@
 use super::fixtures::{bytes_of, is_chunk_of, names};
 use super::gates::assert_count;
 use super::node_fixtures::first_node;
-use blob_store::{Files, BlobIndex, MemShelf};
+use blob_store::{BlobIndex, Files, MemShelf};
 use chunk_group::{Counter, Group, SharedSource};
 use chunk_reads::ReadFault;
 use host_names::Digest;

@@ -1,0 +1,33 @@
+//! Requests for a path.
+ghost use Rattle.std.specs.Prelude.{OnOk, OnErr, IfErr};
+ghost use Rattle.std.specs.Io.KnownBytes.{Appends};
+ghost use Rattle.http_wire.specs.Answers.{get_text};
+ghost use Rattle.http_wire.specs.Sending.{SentFront, WritesText};
+ghost use Rattle.http_wire.specs.Timing.{NoRead, Ran};
+
+use crate::duplexes::Duplex;
+use crate::faults::WriteFault;
+use crate::sends::{Outgoing, put_pieces};
+
+// Writes the pieces of a request.
+fn write_pieces<D: Duplex>(duplex: &mut D, path: &[u8]) -> Result<(), WriteFault>
+    ensures { Ran D.saw NoRead duplex.old duplex.new (WritesText result (get_text path.now)) }
+{
+    let mut out = Outgoing::new();
+    let pieces: [&[u8]; 3] = [b"GET ", path, b" HTTP/1.1\r\nHost: peer\r\n\r\n"];
+    put_pieces(duplex, &mut out, &pieces)?;
+    out.flush(duplex)
+}
+
+/// Writes the request for a path, as it is, of a peer: a GET whose one field is `Host`, which every request has (RFC 9112, section
+/// 3.2). Reads nothing.
+///
+/// It takes no memory, and fails as `write_reply` does.
+pub fn write_get<D: Duplex>(duplex: &mut D, path: &str) -> Result<(), WriteFault>
+    ensures ok { OnOk result (Appends (D.held duplex.old) (D.held duplex.new) (get_text path.now)) }
+    ensures fault { IfErr result (λ fault. SentFront (D.held duplex.old) (D.held duplex.new) (get_text path.now) fault.0) }
+    ensures cause { OnErr result D.write_fails }
+    ensures ran { Ran D.saw NoRead duplex.old duplex.new (WritesText result (get_text path.now)) }
+{
+    write_pieces(duplex, path.as_bytes())
+}

@@ -1,0 +1,4 @@
+pub mod Asking
+pub mod PathStarts
+pub mod AnswerTexts
+pub mod Answering

@@ -1,0 +1,90 @@
+//! The two directions of a connection to a peer, until its time is over.
+ghost use Rattle.std.specs.Prelude.{◌<◌, ◌≤◌, length, IfOk, None, ⊤};
+
+use http_wire::{ReadFailed, Sink, Source, WriteFailed};
+use std::io::{ErrorKind, Read, Write};
+use std::net::TcpStream;
+use std::time::{Clock, Duration, Instant};
+
+/// How often a call is made again that a signal cut short.
+const MOST_TRIES: u32 = 16;
+
+/// How long something may take, from its beginning on.
+#[derive(Drop)]
+pub(crate) struct Budget<'a, R> {
+    rt: &'a R,
+    begun: Instant,
+    whole: Duration,
+}
+
+impl<'a, R: Clock> Budget<'a, R> {
+    /// So long from now on, if the clock tells the time.
+    pub(crate) fn new(rt: &'a R, whole: Duration) -> Option<Budget<'a, R>> {
+        let begun = Instant::now(rt).ok()?;
+        Some(Budget { rt, begun, whole })
+    }
+
+    /// What is left of it: none where it is over.
+    pub(crate) fn left(&self) -> Option<Duration> {
+        let spent = self.begun.elapsed(self.rt).ok()?;
+        let left = self.whole.checked_sub(spent)?;
+        if left.is_zero() { None } else { Some(left) }
+    }
+}
+
+/// What comes from a peer.
+#[derive(Drop)]
+pub(crate) struct TimedReads<'a, R> {
+    pub(crate) stream: &'a TcpStream,
+    pub(crate) budget: &'a Budget<'a, R>,
+}
+
+impl<R: Clock> Source for TimedReads<'_, R> {
+    ghost left = { λ _. None };
+
+    ghost may_fail = { ⊤ };
+
+    fn read_some(&mut self, buf: &mut [u8]) -> Result<usize, ReadFailed> {
+        let mut stream = self.stream;
+        for _ in 0..MOST_TRIES {
+            let left = self.budget.left().ok_or(ReadFailed)?;
+            stream.set_read_timeout(Some(left)).map_err(|_| ReadFailed)?;
+            match stream.read(buf) {
+                Ok(count) => return Ok(count),
+                Err(error) if error.kind() == ErrorKind::Interrupted => {}
+                Err(_) => return Err(ReadFailed),
+            }
+        }
+        Err(ReadFailed)
+    }
+}
+
+/// What goes to a peer.
+#[derive(Drop)]
+pub(crate) struct TimedWrites<'a, R> {
+    pub(crate) stream: &'a TcpStream,
+    pub(crate) budget: &'a Budget<'a, R>,
+}
+
+impl<R: Clock> Sink for TimedWrites<'_, R> {
+    ghost held = { λ _. None };
+
+    ghost may_fail = { ⊤ };
+
+    fn write_some(&mut self, bytes: &[u8]) -> Result<usize, WriteFailed> {
+        let mut stream = self.stream;
+        for _ in 0..MOST_TRIES {
+            let left = self.budget.left().ok_or(WriteFailed)?;
+            stream
+                .set_write_timeout(Some(left))
+                .map_err(|_| WriteFailed)?;
+            match stream.write(bytes) {
+                Ok(0) if !bytes.is_empty() => return Err(WriteFailed),
+                Ok(count) => return Ok(count),
+                Err(error) if error.kind() == ErrorKind::Interrupted => {}
+                Err(_) => return Err(WriteFailed),
+            }
+        }
+        Err(WriteFailed)
+    }
+}
