@@ -34,7 +34,11 @@ fn read_table<S: Shelf>(alloc: Global, shelf: &mut S, digest: Digest) -> Result<
 }
 
 /// Reads the piece of a name, and adds it to those before it.
-fn read_next<S: Shelf>(shelf: &mut S, name: Digest, joined: &mut BlobBuilder) -> Result<(), ReadFault>
+fn read_next<S: Shelf>(
+    shelf: &mut S,
+    name: Digest,
+    joined: &mut BlobBuilder,
+) -> Result<(), ReadFault>
     ensures read { IfOk result (λ _. IsNextRead S.did shelf.old name joined.old joined.new shelf.new) }
     ensures fault { IfErr result (λ fault. IsNextFault S.did shelf.old name joined.old fault shelf.new) }
     ensures device { IfErr result (λ fault. fault ≡ read_fault.Device → S.failures shelf.old < S.failures shelf.new) }

@@ -3,8 +3,8 @@ ghost use Rattle.std.specs.Prelude.{◌≡◌, ◌≢◌, ◌<◌, ◌≤◌, If
 ghost use Rattle.blob_store.specs.declared.openings.OpenFault.TheVariants as open_fault;
 ghost use Rattle.blob_store.specs.Openings.{AreTaken, IsOpenFault, IsOpened, IsOrderOf, IsTaken, IsTakeFault, StopsAmong, Taken, known_of, known_with, must_of};
 
-use crate::files::read_file;
 use crate::blob_indexes::BlobIndex;
+use crate::files::read_file;
 use crate::shelves::Shelf;
 use chunk_reads::ReadFault;
 use host_names::Digest;

@@ -7,8 +7,8 @@ ghost use Rattle.blob_store.specs.declared.shelves.ShelfName.TheVariants.{Part};
 ghost use Rattle.blob_store.specs.Calls.{Got, PutsFile};
 ghost use Rattle.blob_store.specs.Faults.{HasPutPart, IsChunkFault};
 
-use crate::blobs::{UploadFault, put_whole};
 use crate::blob_indexes::BlobIndex;
+use crate::blobs::{UploadFault, put_whole};
 use crate::reading::{of_shelf, read_chunk};
 use crate::shelves::{Shelf, ShelfName};
 use byte_view::{BlobInfo, Chunk};

@@ -11,8 +11,8 @@ ghost use Rattle.host_api.specs.Texts.{quoted, detail_of, has_cell, refused_text
 use crate::refusals::Refusal;
 use arrayvec::ArrayString;
 use host_names::Cell;
-use site_change::ChangeRefusal;
 use serde_json::Value;
+use site_change::ChangeRefusal;
 use std::alloc::{AllocError, Global};
 
 /// So many bytes hold the text of a refusal that names no cell, also where it names an alias of 63 bytes.

@@ -4,8 +4,8 @@ ghost use Rattle.host_api.specs.Refusals.{name_of, shown_of_change, shown_of_hea
 
 use crate::resources::Resource;
 use host_names::PathError;
-use site_change::{ChangeError, ChangeRefusal};
 use http::StatusCode;
+use site_change::{ChangeError, ChangeRefusal};
 use std::alloc::AllocError;
 
 /// Why a request is refused by its head alone.

@@ -3,8 +3,8 @@ ghost use Rattle.std.specs.Prelude.{◌≡◌, None};
 
 use anyhow::{Result, anyhow};
 use blob_store::MemShelf;
-use host_disk::MemDisk;
 use host_connection::serve_connection;
+use host_disk::MemDisk;
 use host_server::Server;
 use http_wire::{Pair, Sink, WriteFailed};
 use std::alloc::{AllocError, Global};

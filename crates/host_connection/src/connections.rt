@@ -8,9 +8,9 @@ ghost use Rattle.host_connection.specs.Serving.{refusal_of, Announced, TakesBody
 ghost use Rattle.host_connection.specs.Timing.{AwaitsAnnounced, AwaitsRequest, InvitesAs, IsCaughtUp, ReadsHeadAs, TakesBodyAs, ReadsAs, SendsAs, RefusesAs, ExchangesAs, TurnsAs, Connects};
 
 use crate::requests::Request;
-use host_replies::{Reply, is_head_only};
 use crate::services::Service;
 use host_api::{HeadRefusal, body_limit};
+use host_replies::{Reply, is_head_only};
 use http_wire::{BodyFault, Duplex, Head, HeadFault, LengthFault, Wire, check_body, write_interim};
 use std::alloc::Global;
 use thiserror::Error;

@@ -266,7 +266,11 @@ impl Reply {
     {
         let head = self.head(etag, close);
         if head_only {
-            return write_reply(duplex, &head, ReplyBody::<Parts<'_>>::Withheld(self.body.length()));
+            return write_reply(
+                duplex,
+                &head,
+                ReplyBody::<Parts<'_>>::Withheld(self.body.length()),
+            );
         }
         write_reply(duplex, &head, ReplyBody::Sent(self.parts()))
     }

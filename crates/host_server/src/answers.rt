@@ -17,13 +17,13 @@ ghost use Rattle.host_server.specs.Versions.{file_of};
 
 use crate::host::{HostView, list_changes, show_deploy};
 use crate::reads::read_file;
-use host_replies::Reply;
 use crate::servers::Server;
 use blob_store::Shelf;
 use host_api::{Ask, Refusal, Told, Version, ask_of, route_of};
 use host_connection::Request;
 use host_disk::Disk;
 use host_names::{FilePath, SiteName};
+use host_replies::Reply;
 use http_wire::Head;
 use std::alloc::Global;
 

@@ -19,8 +19,6 @@ ghost use Rattle.host_server.specs.Files.{AsksRange, is_read, plan_of};
 ghost use Rattle.host_replies.specs.SentFiles.{sent_answer};
 
 use crate::host::file;
-use host_replies::file_type;
-use host_replies::{Reply, is_head_only};
 use crate::servers::Server;
 use blob_store::Shelf;
 use byte_view::BlobInfo;
@@ -29,6 +27,7 @@ use chunk_reads::ReadFault;
 use host_api::{Refusal, Version};
 use host_disk::Disk;
 use host_names::{Digest, FilePath, SiteName};
+use host_replies::{Reply, file_type, is_head_only};
 use http_wire::Head;
 use range_reply::{IfRange, ReplyPlan, plan, read_body};
 use range_spec::{Asked, Choice, parse};

@@ -38,7 +38,7 @@ pub part_cut : {S : Type 0} (saw : S → Event → S → Type 0) (old mid new : 
     → Ran saw NoRead old new (WritesOn (Err fault) (concat all) count after rest new_rest)
 part_cut saw old mid new all left less part count between after rest mid_rest new_rest fault so is ran =
     let whole : concat all ≡ (concat so.done ++ part) ++ concat less =
-        ap concat (so.all_is ∙ ap (λ l. so.done ++ l) is) ∙ concat-append so.done (part ∷ less) ∙ sym (append_assoc (concat so.done) part (concat less)) in
+    ap concat (so.all_is ∙ ap (λ l. so.done ++ l) is) ∙ concat-append so.done (part ∷ less) ∙ sym (append_assoc (concat so.done) part (concat less)) in
     subst (λ t. Ran saw NoRead old new (WritesOn (Err fault) t count after rest new_rest)) (sym whole)
     (cut_before saw old new fault (concat so.done ++ part) (concat less) count after after rest new_rest new_rest
     (and_then saw old mid new (Err fault) (concat so.done) part count between after rest mid_rest new_rest so.ran ran))

@@ -14,9 +14,11 @@ use httparse::spans::{EMPTY_HEADER_SPAN, HeaderSpan, ResponseSpans, parse_respon
 // Where the parts of the head lie, if the whole text is one whose fields fit.
 fn find_parts(text: &[u8], room: &mut [HeaderSpan]) -> Result<ResponseSpans, AnswerFault>
     requires { length room.old ≡ FIELD_LIMIT }
-    ensures found { IfOk result (λ spans. Tells text.now (record { status = spans.code; fields = map (header_bytes text.now) (take spans.headers room.new) })) }
+    ensures found { IfOk result (λ spans. Tells text.now
+        (record { status = spans.code; fields = map (header_bytes text.now) (take spans.headers room.new) })) }
     ensures within { IfOk result (IsResponseWithin text.now room.new) }
-    ensures fault { IfErr result (λ fault. (fault ≡ BadHead) × ((parts : AnswerParts) → ¬ (Tells text.now parts))) }
+    ensures fault { IfErr result
+        (λ fault. (fault ≡ BadHead) × ((parts : AnswerParts) → ¬ (Tells text.now parts))) }
 {
     match parse_response(text, room) {
         Ok(Status::Complete(spans)) if spans.len == text.len() => Ok(spans),
@@ -30,7 +32,10 @@ fn one_length(text: &[u8], fields: &[HeaderSpan]) -> Option<u64>
     ensures some { IfSome result (HasOneLength (map (header_bytes text.now) fields.now)) }
     ensures none { IfNone result ((n : ℕ) → ¬ (HasOneLength (map (header_bytes text.now) fields.now) n)) }
 {
-    if Values::new(text, fields, "transfer-encoding").next().is_some() {
+    if Values::new(text, fields, "transfer-encoding")
+        .next()
+        .is_some()
+    {
         return None;
     }
     let mut lengths = Values::new(text, fields, "content-length");

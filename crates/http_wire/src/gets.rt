@@ -25,7 +25,8 @@ fn write_pieces<D: Duplex>(duplex: &mut D, path: &[u8]) -> Result<(), WriteFault
 /// It takes no memory, and fails as `write_reply` does.
 pub fn write_get<D: Duplex>(duplex: &mut D, path: &str) -> Result<(), WriteFault>
     ensures ok { OnOk result (Appends (D.held duplex.old) (D.held duplex.new) (get_text path.now)) }
-    ensures fault { IfErr result (λ fault. SentFront (D.held duplex.old) (D.held duplex.new) (get_text path.now) fault.0) }
+    ensures fault { IfErr result
+        (λ fault. SentFront (D.held duplex.old) (D.held duplex.new) (get_text path.now) fault.0) }
     ensures cause { OnErr result D.write_fails }
     ensures ran { Ran D.saw NoRead duplex.old duplex.new (WritesText result (get_text path.now)) }
 {

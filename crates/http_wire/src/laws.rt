@@ -33,13 +33,15 @@ pub fn one_head()
 /// The head of an answer tells one set of parts at most, and a body of one length at most. A stream that begins with an answer begins with no other,
 /// and with none that is refused; nothing begins with one.
 pub fn one_answer()
-    ensures tells { (text : List ℕ) (parts others : AnswerParts) → Tells text parts → Tells text others → parts ≡ others }
+    ensures tells { (text : List ℕ) (parts others : AnswerParts) → Tells text parts → Tells text others
+        → parts ≡ others }
     ensures brings { (text : List ℕ) (n m : ℕ) → Brings text n → Brings text m → n ≡ m }
     ensures one { (limit n m : ℕ) (stream rest others : List ℕ) → Begins (Ok n) limit stream rest
         → Begins (Ok m) limit stream others → (n ≡ m) × (rest ≡ others) }
-    ensures refused { (fault : AnswerFault) (limit n : ℕ) (stream rest others : List ℕ) → Begins (Ok n) limit stream rest
-        → ¬ (Begins (Err fault) limit stream others) }
-    ensures nothing { (answer : Result ℕ AnswerFault) (limit : ℕ) (rest : List ℕ) → ¬ (Begins answer limit [] rest) }
+    ensures refused { (fault : AnswerFault) (limit n : ℕ) (stream rest others : List ℕ)
+        → Begins (Ok n) limit stream rest → ¬ (Begins (Err fault) limit stream others) }
+    ensures nothing { (answer : Result ℕ AnswerFault) (limit : ℕ) (rest : List ℕ)
+        → ¬ (Begins answer limit [] rest) }
     ensures asked { (limit : ℕ) (got : List ℕ) → ¬ (AwaitsAnswer limit got (0 ∷ [])) }
 {}
 

@@ -16,8 +16,10 @@ pub const CHUNK_LIMIT: u64 = 65536;
 /// Asks the peer at the other end of a stream for a chunk, by one request, and gives what it answers: any bytes, of which there are no more
 /// than a chunk has.
 pub fn ask<D: Duplex>(alloc: Global, duplex: &mut D, key: &Digest) -> Result<Vec<u8>, PeerFault>
-    ensures asked { OnOk result (Appends (D.held duplex.old) (D.held duplex.new) (get_text (spec.chunk_path key.now))) }
-    ensures answered { IfOk result (λ bytes. IfSome (D.left duplex.old) (IsAnswer D.read_fails (Ok bytes) CHUNK_LIMIT)) }
+    ensures asked { OnOk result
+        (Appends (D.held duplex.old) (D.held duplex.new) (get_text (spec.chunk_path key.now))) }
+    ensures answered { IfOk result (λ bytes.
+        IfSome (D.left duplex.old) (IsAnswer D.read_fails (Ok bytes) CHUNK_LIMIT)) }
     ensures within { IfOk result (λ bytes. vec_len bytes ≤ CHUNK_LIMIT) }
 {
     let Ok(()) = write_get(duplex, chunk_path(key).as_str()) else {

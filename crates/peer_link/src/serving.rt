@@ -111,7 +111,8 @@ pub fn answer_peer<R: Wait, D: Duplex, C: LocalChunks>(
     chunks: &C,
     head: &Head,
 ) -> Result<(), WriteFault>
-    ensures ok { OnOk result ((answer : Option (List ℕ)) × Answers head.now answer × Appends (D.held duplex.old) (D.held duplex.new) (answer_text answer)) }
+    ensures ok { OnOk result ((answer : Option (List ℕ)) × Answers head.now answer
+        × Appends (D.held duplex.old) (D.held duplex.new) (answer_text answer)) }
     ensures cause { OnErr result D.write_fails }
 {
     let Some(key) = asked_key(head) else {

@@ -6,7 +6,7 @@ use Rattle.byte_view.specs.Holds.{Held, IsHeld}
 use Rattle.chunk_reads.specs.declared.faults.ReadFault.{ReadFault}
 use Rattle.chunk_reads.specs.declared.faults.ReadFault.TheVariants.{OutOfMemory}
 use Rattle.range_reply.specs.Bodies.{stretch_of}
-use Rattle.range_reply.specs.Holding.{AreHeld, AreNotHeld, GivesHolds, IsNextFault, IsNextHold}
+use Rattle.range_reply.specs.Holding.{AreHeld, AreNotHeld, GivesHolds, IsHoldOf, IsNextFault, IsNextHold, IsNoHold}
 
 module _ {H : Type 0} (gave : H → Held → H → Type 0) where
   gives_all : (old mid new : H) (xs ys : List Held) → GivesHolds gave old xs mid → GivesHolds gave mid ys new → GivesHolds gave old (xs ++ ys) new
@@ -56,16 +56,15 @@ module _ {H : Type 0} (gave : H → Held → H → Type 0) where
 
   module _ (old : H) (file : List ℕ) (holds : List Held) (left rest stretches : List (ℕ × ℕ)) (now : H) (stretch : ℕ × ℕ) (next : left ≡ stretch ∷ rest)
       (so : HeldSoFar old file holds left stretches now) where
-    longer : (hold : Held) (new : H) → hold.file ≡ file → stretch_of hold ≡ stretch → IsHeld hold → gave now hold new
-        → HeldSoFar old file (holds ++ hold ∷ []) rest stretches new
-    longer hold new same there lawful given = record {
+    longer : (hold : Held) (new : H) → IsHoldOf gave now file stretch hold new → HeldSoFar old file (holds ++ hold ∷ []) rest stretches new
+    longer hold new h = record {
       done = so.done ++ stretch ∷ [];
       all = append_assoc so.done (stretch ∷ []) rest ∙ ap (λ l. so.done ++ l) (sym next) ∙ so.all;
-      held = held_more file old now new so.done (stretch ∷ []) holds (hold ∷ []) so.held (held_one file now new stretch hold same there lawful given);
+      held = held_more file old now new so.done (stretch ∷ []) holds (hold ∷ []) so.held (held_one file now new stretch hold h.0 h.1 h.2 h.3);
     }
 
     pub one_more : (after : List Held) (new : H) → IsNextHold gave now file stretch holds after new → HeldSoFar old file after rest stretches new
-    one_more after new h = subst (λ hs. HeldSoFar old file hs rest stretches new) (sym h.1) (longer h.0 new h.2 h.3 h.4 h.5)
+    one_more after new h = subst (λ hs. HeldSoFar old file hs rest stretches new) (sym h.1) (longer h.0 new h.2)
 
     pub no_more : (failed : H → List ℕ → ℕ → ℕ → ReadFault → H → Type 0) (why : ReadFault) (new : H) → IsNextFault gave failed now file stretch why new
         → AreNotHeld gave failed old file stretches why new
@@ -73,7 +72,7 @@ module _ {H : Type 0} (gave : H → Held → H → Type 0) where
     no_more failed why new (inr (inl fault)) = (so.done, left, holds, now, sym so.all, so.held, inr fault)
     no_more failed why new (inr (inr fault)) =
         let h = fault.1 in
-        let after = longer h.0 new h.1 h.2 h.3 h.4 in
+        let after = longer h.0 new h.1 in
         (after.done, rest, holds ++ h.0 ∷ [], new, sym after.all, after.held, inr (fault.0, refl))
 
   module _ (failed : H → List ℕ → ℕ → ℕ → ReadFault → H → Type 0) (file : List ℕ) (old new : H) (why : ReadFault) where
@@ -89,3 +88,9 @@ module _ {H : Type 0} (gave : H → Held → H → Type 0) where
     lawful = All-nil IsHeld;
     given = refl;
   })
+
+  -- a stretch can't be held alone
+  pub not_alone : (failed : H → List ℕ → ℕ → ℕ → ReadFault → H → Type 0) (old : H) (file : List ℕ) (stretch : ℕ × ℕ) (why : ReadFault) (new : H)
+      → IsNoHold failed old file stretch why new → AreNotHeld gave failed old file (stretch ∷ []) why new
+  not_alone failed old file stretch why new (inl fault) = ([], stretch ∷ [], [], old, refl, nothing_held file old [] refl, inl (stretch, [], refl, fault))
+  not_alone failed old file stretch why new (inr fault) = ([], stretch ∷ [], [], old, refl, nothing_held file old [] refl, inr fault)

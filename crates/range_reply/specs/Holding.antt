@@ -4,6 +4,13 @@ use Rattle.byte_view.specs.Holds.{Held, IsHeld}
 use Rattle.chunk_reads.specs.declared.faults.ReadFault.{ReadFault}
 use Rattle.chunk_reads.specs.declared.faults.ReadFault.TheVariants.{OutOfMemory}
 use Rattle.range_reply.specs.Bodies.{stretch_of}
+use Rattle.range_reply.specs.declared.holds.Holds.{Holds}
+use Rattle.range_reply.specs.declared.holds.Holds.TheVariants.{Alone, Listed}
+
+-- what is held, in order
+abbrev pub held_in : Holds → List Held
+held_in (Alone hold) = hold ∷ []
+held_in (Listed holds) = holds.items
 
 -- a holder gives these holds one after another, and nothing else is done with it
 abbrev pub GivesHolds : {H : Type 0} → (gave : H → Held → H → Type 0) → H → List Held → H → Type 0
@@ -27,14 +34,22 @@ AreNotHeld {H} gave failed old file stretches why new =
 
 -- ---- what private functions say
 
+-- this stretch is held
+abbrev pub IsHoldOf : {H : Type 0} → (gave : H → Held → H → Type 0) → H → List ℕ → ℕ × ℕ → Held → H → Type 0
+IsHoldOf gave old file stretch hold new = (hold.file ≡ file) × (stretch_of hold ≡ stretch) × IsHeld hold × gave old hold new
+
+-- why it isn't: it can't be, or there was no memory before
+abbrev pub IsNoHold : {H : Type 0} → (failed : H → List ℕ → ℕ → ℕ → ReadFault → H → Type 0) → H → List ℕ → ℕ × ℕ → ReadFault → H → Type 0
+IsNoHold failed old file stretch why new = failed old file stretch.0 stretch.1 why new ⊎ ((why ≡ OutOfMemory) × (new ≡ old))
+
 -- one more is held, of this stretch
 abbrev pub IsNextHold : {H : Type 0} → (gave : H → Held → H → Type 0) → H → List ℕ → ℕ × ℕ → (before after : List Held) → H → Type 0
 IsNextHold gave old file stretch before after new =
-    (hold : Held) × (after ≡ before ++ hold ∷ []) × (hold.file ≡ file) × (stretch_of hold ≡ stretch) × IsHeld hold × gave old hold new
+    (hold : Held) × (after ≡ before ++ hold ∷ []) × IsHoldOf gave old file stretch hold new
 
 -- why it isn't: it can't be, or there was no memory before or after it
 abbrev pub IsNextFault : {H : Type 0} → (gave : H → Held → H → Type 0) → (failed : H → List ℕ → ℕ → ℕ → ReadFault → H → Type 0) → H → List ℕ → ℕ × ℕ → ReadFault → H → Type 0
 IsNextFault gave failed old file stretch why new =
     failed old file stretch.0 stretch.1 why new
     ⊎ ((why ≡ OutOfMemory) × (new ≡ old))
-    ⊎ ((why ≡ OutOfMemory) × ((hold : Held) × (hold.file ≡ file) × (stretch_of hold ≡ stretch) × IsHeld hold × gave old hold new))
+    ⊎ ((why ≡ OutOfMemory) × ((hold : Held) × IsHoldOf gave old file stretch hold new))

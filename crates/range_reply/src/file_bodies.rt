@@ -6,12 +6,14 @@ ghost use Rattle.chunk_reads.specs.declared.faults.ReadFault.TheVariants.{OutOfM
 ghost use Rattle.range_spec.specs.Chosen.{LiesWithin, intervals_in};
 ghost use Rattle.range_spec.specs.declared.selection.Choice.TheVariants as choice;
 ghost use Rattle.range_reply.specs.Bodies.{AreFor, HasBoundary, shown_text, text_in};
+ghost use Rattle.range_reply.specs.Holding.{held_in};
 ghost use Rattle.range_reply.specs.Multipart.{IsCount};
 ghost use Rattle.range_reply.specs.Sending.{HasParts, IsForm, IsNotRead, IsRead, IsSent, sends_bytes};
 ghost use Rattle.range_reply.specs.Slices.{ArePure, all_meant, all_shown};
 
 use crate::boundaries::Boundary;
 use crate::choices::boundary;
+use crate::holds::Holds;
 use crate::lengths::multipart_length;
 use crate::parts::Parts;
 use crate::plans::ReplyPlan;
@@ -44,7 +46,7 @@ pub struct FileBody {
     plan: ReplyPlan,
     boundary: Option<Boundary>,
     content_type: FieldText<'static>,
-    holds: Vec<Hold>,
+    holds: Holds,
     /// How many bytes the file has, and the body.
     size: u64,
     length: u64,
@@ -52,17 +54,18 @@ pub struct FileBody {
 
 impl Model for FileBody {
     ghost use Rattle.range_reply.specs.Bodies.{shown_text, text_in};
+    ghost use Rattle.range_reply.specs.Holding.{held_in};
     ghost use Rattle.range_reply.specs.Sending.{IsMade, SentFile};
 
     ghost Value = { SentFile };
 
     ghost view = { λ b. record {
-        plan = b.plan;
-        boundary = b.boundary;
-        bytes = shown_text (text_in b.boundary) b.content_type.text.now b.holds.items b.plan;
+      plan = b.plan;
+      boundary = b.boundary;
+      bytes = shown_text (text_in b.boundary) b.content_type.text.now (held_in b.holds) b.plan;
     } };
 
-    ghost invariant = { λ b. IsMade b.plan b.boundary b.content_type.text.now b.holds.items b.size b.length };
+    ghost invariant = { λ b. IsMade b.plan b.boundary b.content_type.text.now (held_in b.holds) b.size b.length };
 }
 
 /// How many bytes a hold shows of its stretch, or none of no hold.
@@ -94,7 +97,12 @@ fn body_length(
     ensures several { IfNone result (HasParts plan.now) }
 {
     match (plan, boundary) {
-        (Choice::Many(intervals), Some(boundary)) => multipart_length(info, boundary, content_type, intervals),
+        (Choice::Many(intervals), Some(boundary)) => multipart_length(
+            info,
+            boundary,
+            content_type,
+            intervals,
+        ),
         _ => Some(single_length(holds)),
     }
 }
@@ -102,20 +110,20 @@ fn body_length(
 impl FileBody {
     /// The body of these holds. One of 2^64 bytes or more counts as one for which there is no memory.
     fn new(
-        holds: Vec<Hold>,
+        holds: Holds,
         plan: ReplyPlan,
         boundary: Option<Boundary>,
         content_type: FieldText<'static>,
         info: &BlobInfo,
     ) -> Result<FileBody, ReadFault>
-        requires held { AreFor holds.items info.now plan }
-        requires lawful { All IsHeld holds.items }
+        requires held { AreFor (held_in holds) info.now plan }
+        requires lawful { All IsHeld (held_in holds) }
         requires within { All (LiesWithin (length info.now)) (intervals_in plan) }
         requires separated { HasBoundary boundary plan }
         ensures made { IfOk result (λ body. body ≡ record {
-            plan = plan;
-            boundary = boundary;
-            bytes = shown_text (text_in boundary) content_type.entry.text.now holds.items plan;
+          plan = plan;
+          boundary = boundary;
+          bytes = shown_text (text_in boundary) content_type.entry.text.now (held_in holds) plan;
         }) }
         ensures fault { IfErr result (λ fault. fault ≡ OutOfMemory) }
         ensures memory { IfErr result (λ _. HasParts plan) }

@@ -35,7 +35,10 @@ fn with_part(
     let (first, last) = interval;
     let before = line_before_type(boundary.as_str());
     let behind = line_behind_type(first, last, info.len() as u64);
-    let total = with_texts(total, &[before.as_str(), content_type.as_str(), behind.as_str()])?;
+    let total = with_texts(
+        total,
+        &[before.as_str(), content_type.as_str(), behind.as_str()],
+    )?;
     with_texts(total.checked_add(last - first + 1)?, &["\r\n"])
 }
 

@@ -5,6 +5,7 @@ mod boundaries;
 mod choices;
 mod conditions;
 mod file_bodies;
+mod holds;
 pub mod laws;
 mod lengths;
 mod parts;

@@ -71,7 +71,12 @@ impl<'a> Opened<'a> {
     }
 
     /// The part for the stretch of a hold, where its file has so many bytes.
-    fn part(boundary: &Option<Boundary>, content_type: &'a str, size: u64, hold: &'a Hold) -> Opened<'a>
+    fn part(
+        boundary: &Option<Boundary>,
+        content_type: &'a str,
+        size: u64,
+        hold: &'a Hold,
+    ) -> Opened<'a>
         requires { length hold.now.file ≡ size }
         ensures { opened_texts result ≡ hold_texts (spec.text_in boundary.now) content_type.now hold.now }
     {

@@ -1,10 +1,11 @@
 //! Stretches of a file that are held one after another.
-ghost use Rattle.std.specs.Prelude.{◌≡◌, ◌<◌, All, IfErr, IfOk, length};
+ghost use Rattle.std.specs.Prelude.{◌≡◌, ◌<◌, ◌∷◌, [], All, IfErr, IfOk, length};
 ghost use Rattle.byte_view.specs.Holds.{IsHeld};
 ghost use Rattle.range_reply.specs.Bodies.{stretches, whole_of};
 ghost use Rattle.range_spec.specs.Chosen.{LiesWithin, intervals_in};
-ghost use Rattle.range_reply.specs.Holding.{AreHeld, AreNotHeld, IsNextFault, IsNextHold};
+ghost use Rattle.range_reply.specs.Holding.{AreHeld, AreNotHeld, IsHoldOf, IsNextFault, IsNextHold, IsNoHold, held_in};
 
+use crate::holds::Holds;
 use crate::plans::ReplyPlan;
 use byte_view::{BlobInfo, Hold};
 use chunk_reads::{Holder, ReadFault};
@@ -19,6 +20,35 @@ fn lawful(hold: &Hold)
     let _ = hold.stretch();
 }
 
+/// Holds a stretch of a file.
+fn hold_one<H: Holder>(
+    holder: &mut H,
+    info: &Arc<BlobInfo>,
+    stretch: (u64, u64),
+) -> Result<Hold, ReadFault>
+    requires { LiesWithin (length info.now.value) stretch }
+    ensures held { IfOk result (λ hold. IsHoldOf H.gave holder.old info.now.value stretch hold holder.new) }
+    ensures fault { IfErr result (λ fault. IsNoHold H.failed holder.old info.now.value stretch fault holder.new) }
+{
+    let info = info.clone().map_err(|_| ReadFault::OutOfMemory)?;
+    let hold = holder.hold(info, stretch.0 as usize, stretch.1 as usize)?;
+    lawful(&hold);
+    Ok(hold)
+}
+
+/// Holds a stretch of a file and nothing else of it, which takes no list.
+fn hold_alone<H: Holder>(
+    holder: &mut H,
+    info: &Arc<BlobInfo>,
+    stretch: (u64, u64),
+) -> Result<Holds, ReadFault>
+    requires { LiesWithin (length info.now.value) stretch }
+    ensures held { IfOk result (λ holds. AreHeld H.gave holder.old info.now.value (stretch ∷ []) (held_in holds) holder.new) }
+    ensures fault { IfErr result (λ fault. AreNotHeld H.gave H.failed holder.old info.now.value (stretch ∷ []) fault holder.new) }
+{
+    Ok(Holds::Alone(hold_one(holder, info, stretch)?))
+}
+
 /// Holds one more stretch of a file.
 fn hold_next<H: Holder>(
     holder: &mut H,
@@ -30,9 +60,7 @@ fn hold_next<H: Holder>(
     ensures held { IfOk result (λ _. IsNextHold H.gave holder.old info.now.value stretch holds.old.items holds.new.items holder.new) }
     ensures fault { IfErr result (λ fault. IsNextFault H.gave H.failed holder.old info.now.value stretch fault holder.new) }
 {
-    let info = info.clone().map_err(|_| ReadFault::OutOfMemory)?;
-    let hold = holder.hold(info, stretch.0 as usize, stretch.1 as usize)?;
-    lawful(&hold);
+    let hold = hold_one(holder, info, stretch)?;
     holds.push(hold).map_err(|_| ReadFault::OutOfMemory)
 }
 
@@ -42,9 +70,9 @@ fn hold_each<H: Holder>(
     holder: &mut H,
     info: &Arc<BlobInfo>,
     stretches: &[(u64, u64)],
-) -> Result<Vec<Hold>, ReadFault>
+) -> Result<Holds, ReadFault>
     requires { All (LiesWithin (length info.now.value)) stretches.now }
-    ensures held { IfOk result (λ holds. AreHeld H.gave holder.old info.now.value stretches.now holds.items holder.new) }
+    ensures held { IfOk result (λ holds. AreHeld H.gave holder.old info.now.value stretches.now (held_in holds) holder.new) }
     ensures fault { IfErr result (λ fault. AreNotHeld H.gave H.failed holder.old info.now.value stretches.now fault holder.new) }
     ensures some { IfErr result (λ _. 0 < length stretches.now) }
 {
@@ -52,7 +80,7 @@ fn hold_each<H: Holder>(
     for stretch in stretches {
         hold_next(holder, info, *stretch, &mut holds)?;
     }
-    Ok(holds)
+    Ok(Holds::Listed(holds))
 }
 
 /// Holds all of a file, if it has a byte.
@@ -60,14 +88,14 @@ pub(crate) fn hold_whole<H: Holder>(
     alloc: Global,
     holder: &mut H,
     info: &Arc<BlobInfo>,
-) -> Result<Vec<Hold>, ReadFault>
-    ensures held { IfOk result (λ holds. AreHeld H.gave holder.old info.now.value (whole_of (length info.now.value)) holds.items holder.new) }
+) -> Result<Holds, ReadFault>
+    ensures held { IfOk result (λ holds. AreHeld H.gave holder.old info.now.value (whole_of (length info.now.value)) (held_in holds) holder.new) }
     ensures fault { IfErr result (λ fault. AreNotHeld H.gave H.failed holder.old info.now.value (whole_of (length info.now.value)) fault holder.new) }
     ensures some { IfErr result (λ _. 0 < length (whole_of (length info.now.value))) }
 {
     match info.len() {
         0 => hold_each(alloc, holder, info, &[]),
-        size => hold_each(alloc, holder, info, &[(0, size as u64 - 1)]),
+        size => hold_alone(holder, info, (0, size as u64 - 1)),
     }
 }
 
@@ -77,15 +105,15 @@ pub(crate) fn hold_for<H: Holder>(
     holder: &mut H,
     info: &Arc<BlobInfo>,
     plan: &ReplyPlan,
-) -> Result<Vec<Hold>, ReadFault>
+) -> Result<Holds, ReadFault>
     requires { All (LiesWithin (length info.now.value)) (intervals_in plan.now) }
-    ensures held { IfOk result (λ holds. AreHeld H.gave holder.old info.now.value (stretches (length info.now.value) plan.now) holds.items holder.new) }
+    ensures held { IfOk result (λ holds. AreHeld H.gave holder.old info.now.value (stretches (length info.now.value) plan.now) (held_in holds) holder.new) }
     ensures fault { IfErr result (λ fault. AreNotHeld H.gave H.failed holder.old info.now.value (stretches (length info.now.value) plan.now) fault holder.new) }
     ensures some { IfErr result (λ _. 0 < length (stretches (length info.now.value) plan.now)) }
 {
     match plan {
         Choice::Whole => hold_whole(alloc, holder, info),
-        Choice::One(first, last) => hold_each(alloc, holder, info, &[(*first, *last)]),
+        Choice::One(first, last) => hold_alone(holder, info, (*first, *last)),
         Choice::Many(intervals) => hold_each(alloc, holder, info, intervals.as_slice()),
         Choice::None416 => hold_each(alloc, holder, info, &[]),
     }

@@ -16,9 +16,9 @@ ghost use Rattle.site_change.specs.Plans.{IsDifference};
 ghost use Rattle.site_change.specs.TouchedCells.{AreTouched, is_among};
 
 use crate::plans::{Plan, push_change};
+use crate::refusals::{ChangeError, ChangeRefusal};
 use crate::touched::{Touched, TouchedCells};
 use host_names::{AliasName, Cell, CellRef, FilePath, SiteName};
-use crate::refusals::{ChangeError, ChangeRefusal};
 use site_state::{Change, File, State, Value};
 use std::alloc::{AllocError, Global};
 use std::cmp::Ordering;

@@ -21,10 +21,10 @@ use crate::cell_commands::{
 use crate::commands::Command;
 use crate::plans::Plan;
 use crate::publishing::{publish, restore};
+use crate::refusals::{ChangeError, ChangeRefusal};
 use crate::touched::TouchedCells;
 use byte_view::Uploads;
 use host_names::{Cell, SiteName};
-use crate::refusals::{ChangeError, ChangeRefusal};
 use site_state::{Draft, Listing, State, Value};
 use std::alloc::{AllocError, Global};
 

@@ -18,12 +18,12 @@ ghost use Rattle.site_change.specs.Uploaded.{AreUploaded};
 
 use crate::live::live_changes;
 use crate::plans::{Plan, push_change};
+use crate::refusals::{ChangeError, ChangeRefusal};
 use crate::touched::{Touched, TouchedCells};
 use crate::trees::{file_at, tree_of};
 use crate::uploads::uploads_are_digested;
 use byte_view::Uploads;
 use host_names::{Cell, CellRef, Digest, FilePath, SiteName};
-use crate::refusals::{ChangeError, ChangeRefusal};
 use site_state::{Change, Draft, Listing, State, Tree, Value, least_missing};
 use std::alloc::{AllocError, Global};
 

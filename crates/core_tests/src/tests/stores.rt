@@ -233,17 +233,25 @@ fn assert_read(
 
 #[test]
 fn a_range_is_read_through_a_node(rt: HostRuntime) -> Result<(), Fail> {
-    assert_read(&rt, rt.alloc(), no_uploads(rt.alloc()), "bytes=6-", "[lent world]")
+    assert_read(
+        &rt,
+        rt.alloc(),
+        no_uploads(rt.alloc()),
+        "bytes=6-",
+        "[lent world]",
+    )
 }
 
 #[test]
 fn several_ranges_are_lent_between_their_heads(rt: HostRuntime) -> Result<(), Fail> {
     let boundary = "fh0-2aae6c35c94fcfb415dbe95f408b9ce91ee846ed";
-    let wanted = format!(in rt.alloc(); "[text --{boundary}\r\nContent-Type: ][lent text/plain]\
+    let wanted = format!(in rt.alloc();
+        "[text --{boundary}\r\nContent-Type: ][lent text/plain]\
         [text \r\nContent-Range: bytes 0-0/11\r\n\r\n][lent h][lent \r\n]\
         [text --{boundary}\r\nContent-Type: ][lent text/plain]\
         [text \r\nContent-Range: bytes 10-10/11\r\n\r\n][lent d][lent \r\n]\
-        [text --{boundary}--\r\n]")?;
+        [text --{boundary}--\r\n]"
+    )?;
     assert_read(
         &rt,
         rt.alloc(),

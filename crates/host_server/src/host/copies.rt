@@ -17,8 +17,8 @@ ghost use Rattle.host_server.specs.Journals.{IsPut, IsPutInVain};
 use super::entry_errors::EntryError;
 use blob_store::BlobIndex;
 use change_journal::{Journal, prepare};
-use change_undo::laws::deploys_were_opened_by_their_entries;
 use change_undo::History;
+use change_undo::laws::deploys_were_opened_by_their_entries;
 use host_disk::Disk;
 use host_names::SiteName;
 use site_change::{ChangeError, ChangeRefusal, Command, decide};
@@ -26,7 +26,12 @@ use std::alloc::Global;
 
 /// Why there is no copy of the history with this command as its next entry, where there was no memory for a copy: the
 /// first reason against the command, or else that.
-fn without_copy(alloc: Global, history: &History, uploads: &BlobIndex, command: &Command) -> ChangeError
+fn without_copy(
+    alloc: Global,
+    history: &History,
+    uploads: &BlobIndex,
+    command: &Command,
+) -> ChangeError
     requires { IsHistoryOver uploads.now history.now }
     ensures { IsRefusedBy {A = ℕ} (Histories.commit_refusal uploads.now history.now.limit history.now.entries history.now.state command.now) (Err result) }
 {
@@ -120,7 +125,7 @@ pub(super) fn put_last<D: Disk>(
         → IsPut D.Disk journal.old last journal.new) }
     ensures error { IfErr result (λ error. ((error ≡ OutOfMemory) × (journal.new ≡ journal.old))
         ⊎ ((error ≡ Device) × ((last : Line) → next.now.entries ≡ with_entry journal.old.entries last
-            → IsPutInVain D.Disk journal.old last journal.new))) }
+        → IsPutInVain D.Disk journal.old last journal.new))) }
 {
     let entry = next.entry(next.len()).unwrap();
     let prepared = prepare(alloc, entry)?;

@@ -2,8 +2,8 @@
 
 use blob_store::MemShelf;
 use change_undo::GREATEST_LIMIT;
-use host_disk::MemDisk;
 use host_connection::ConnectionFault;
+use host_disk::MemDisk;
 use host_server::Server;
 use std::alloc::{AllocError, Global};
 use std::process::Abort;

@@ -3,7 +3,7 @@ use Rattle.host_names.specs.Digests.{digest_of}
 use Rattle.range_spec.specs.declared.selection.Choice.{Choice}
 use Rattle.range_spec.specs.declared.selection.Choice.TheVariants.{Whole}
 use Rattle.range_reply.specs.Bodies.{AreFor, HasBoundary, shown_text, stretches, text_in}
-use Rattle.range_reply.specs.Holding.{AreHeld}
+use Rattle.range_reply.specs.Holding.{AreHeld, held_in}
 use Rattle.range_reply.specs.Sending.{IsNotRead, IsRead, IsSent, SentFile, more_of, sent_holds}
 use Rattle.range_reply.specs.Slices.{all_shown}
 use Rattle.range_reply.proofs.HeldInTurn.{no_room, nothing_held}
@@ -17,7 +17,7 @@ returns-in_err-new-in-Ok-clause-fault g c =
     let why = c.in_err-new-in-Ok.field-0.0 in
     let is : c.from_residual-in_err-new-in-Ok.result ≡ Err why = search rules in
     let fault : IsNotRead g.H.Holder.gave g.H.Holder.failed c.args.holder.now file c.args.plan why c.hold_for.new.holder =
-    inl (no_room g.H.Holder.gave g.H.Holder.failed file c.args.holder.now c.hold_for.new.holder why (stretches (length file) c.args.plan) c.in_ok-holds.holds.items
+    inl (no_room g.H.Holder.gave g.H.Holder.failed file c.args.holder.now c.hold_for.new.holder why (stretches (length file) c.args.plan) (held_in c.in_ok-holds.holds)
     c.in_ok-holds.ensures.held c.in_err-new-in-Ok.ensures.fault) in
     search (rules, fault)
 
@@ -28,7 +28,7 @@ returns-in_ok-new-in-Ok-clause-read g c =
     let plan = c.args.plan in
     let boundary = c.in-Ok.boundary in
     let content_type = c.args.content_type.text.now in
-    let holds = c.in_ok-holds.holds.items in
+    let holds = held_in c.in_ok-holds.holds in
     let held = c.in_ok-holds.ensures.held in
     let has : HasBoundary boundary plan = c.in-Ok.ensures.separated in
     let digest : c.digest.result ≡ digest_of file = search rules in
@@ -57,7 +57,7 @@ returns-in_err-whole-in-Err-clause-fault g c =
     let gave = g.H.Holder.gave in
     let file = c.args.info.now.value in
     let plan = c.args.plan in
-    let xs = c.in_ok-holds.holds.items in
+    let xs = held_in c.in_ok-holds.holds in
     let why = c.in_err-whole-in-Err.field-0.0 in
     let parts = c.in-Err.ensures.several in
     let digest : c.digest.result ≡ digest_of file = search rules in
@@ -75,9 +75,9 @@ returns-in_ok-new-in-Err-clause-read g c =
     let file = c.args.info.now.value in
     let plan = c.args.plan in
     let content_type = c.args.content_type.text.now in
-    let xs = c.in_ok-holds.holds.items in
+    let xs = held_in c.in_ok-holds.holds in
     let held = c.in_ok-holds.ensures.held in
-    let ys = c.in_ok-whole-in-Err.whole.items in
+    let ys = held_in c.in_ok-whole-in-Err.whole in
     let rest = c.in_ok-whole-in-Err.ensures.held in
     let parts = c.in-Err.ensures.several in
     let digest : c.digest.result ≡ digest_of file = search rules in

@@ -30,14 +30,17 @@ returns-in-Err-clause-error g c =
     let new = c.put.new.self in
     let next = c.args.next.now in
     let prepared = c.in_ok-prepared.prepared in
-    inr (refl, λ last is.
-    let there : Some c.unwrap-entry.result.now ≡ entry_at next.entries c.len.result = search rules in
-    let same : prepared ≡ last = c.in_ok-prepared.ensures ∙ last_of old.entries next.entries last c.unwrap-entry.result.now c.len.result is c.len.ensures.number there in
-    let P : Line → Type 0 = λ entry. IsPutInVain g.D.Disk old entry new in
-    subst P same (record {
-      was_whole = c.requires.whole;
-      entries = c.in-Err.ensures.entries;
-      broken = c.in-Err.ensures.broken;
-      moments = λ modelled. c.in-Err.ensures.any_moment modelled c.requires.whole;
-      cause = search rules;
-    }))
+    inr (
+      refl,
+      λ last is.
+          let there : Some c.unwrap-entry.result.now ≡ entry_at next.entries c.len.result = search rules in
+          let same : prepared ≡ last = c.in_ok-prepared.ensures ∙ last_of old.entries next.entries last c.unwrap-entry.result.now c.len.result is c.len.ensures.number there in
+          let P : Line → Type 0 = λ entry. IsPutInVain g.D.Disk old entry new in
+          subst P same (record {
+            was_whole = c.requires.whole;
+            entries = c.in-Err.ensures.entries;
+            broken = c.in-Err.ensures.broken;
+            moments = λ modelled. c.in-Err.ensures.any_moment modelled c.requires.whole;
+            cause = search rules;
+          }),
+    )
