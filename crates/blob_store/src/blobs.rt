@@ -1,30 +1,26 @@
 //! The store: files whose pieces and tables are on a shelf.
-ghost use Rattle.std.specs.Prelude.{◌≡◌, ◌≢◌, ◌↔◌, ◌<◌, ◌≤◌, Contains, Err, IfErr, IfOk, IsTrue, MatchResult, None, OnErr, OnOk, Some, IsSome, length, option_map};
+ghost use Rattle.std.specs.Prelude.{◌≡◌, ◌≢◌, ◌↔◌, ◌<◌, ◌≤◌, Err, IfErr, IfOk, MatchResult, None, OnErr, OnOk, Some, IsSome, length, option_map};
 ghost use Rattle.std.specs.FinMap as map;
 ghost use Rattle.host_names.specs.Digests.{digest_of};
 ghost use Rattle.byte_view.specs.Contents.{AreDigested, with_file};
-ghost use Rattle.byte_view.specs.Cuts.{names_of};
 ghost use Rattle.blob_store.specs.declared.shelves.ShelfName.TheVariants.{Part};
 ghost use Rattle.chunk_reads.specs.declared.faults.ReadFault.TheVariants as read_fault;
-ghost use Rattle.blob_store.specs.Calls.{Got, HoldsOfFault, PutsFile, PutsNew, PutsOthers, part_of};
-ghost use Rattle.blob_store.specs.Faults.{HasPutPart, HasPutSome, IsChunkFault};
+ghost use Rattle.blob_store.specs.Calls.{Got, PutsFile};
+ghost use Rattle.blob_store.specs.Faults.{HasPutSome, IsChunkFault};
 ghost use Rattle.blob_store.specs.Openings.{IsOpenFault, IsOpened};
-ghost use Rattle.blob_store.specs.Tables.{text_of};
 ghost use Rattle.blob_store.specs.declared.openings.OpenFault.TheVariants as open_fault;
 ghost use Rattle.blob_store.specs.declared.shelves.ShelfFault.TheVariants as shelf_fault;
 ghost use Rattle.blob_store.specs.declared.blobs.UploadFault.TheVariants as upload_fault;
 
 use crate::blob_indexes::BlobIndex;
 use crate::openings::{OpenFault, Wanted, open_files};
-use crate::reading::read_chunk;
 use crate::shelf_files::Files;
-use crate::shelves::{Shelf, ShelfFault, ShelfName};
-use crate::stored_pieces::StoredPieces;
-use crate::tables::table_text;
-use byte_view::{BlobInfo, Chunk, MAX_SIZE, PIECE_SIZE, Uploads};
+use crate::shelves::{Shelf, ShelfFault};
+use byte_view::{BlobInfo, Chunk, MAX_SIZE, Uploads};
 use chunk_reads::ReadFault;
 use host_names::Digest;
 use std::alloc::Global;
+use std::marker::Model;
 use std::sync::Arc;
 use thiserror::Error;
 
@@ -39,12 +35,35 @@ pub enum UploadFault {
     OutOfMemory,
 }
 
-/// Files that were uploaded. What it knows of each stays in memory, and the bytes are on the shelf.
+impl UploadFault {
+    /// What an upload answers for a fault of the shelf.
+    pub(crate) fn of_shelf(fault: ShelfFault) -> UploadFault
+        ensures device { (result ≡ upload_fault.Device) ↔ (fault ≡ shelf_fault.Device) }
+        ensures memory { (result ≡ upload_fault.OutOfMemory) ↔ (fault ≡ shelf_fault.OutOfMemory) }
+        ensures judged { result ≢ upload_fault.TooLarge }
+    {
+        match fault {
+            ShelfFault::Device => UploadFault::Device,
+            ShelfFault::OutOfMemory => UploadFault::OutOfMemory,
+        }
+    }
+}
+
+/// Files that were uploaded. What it knows of each stays in memory, and the bytes are on the shelf. Contracts see both.
 #[derive(Drop)]
 pub struct Blobs<S> {
-    alloc: Global,
-    shelf: S,
     known: BlobIndex,
+    files: Files<S>,
+}
+
+impl<S> Model for Blobs<S> {
+    ghost use Rattle.blob_store.specs.Files.{Store, coded_store};
+
+    ghost Value = { Store S };
+
+    ghost coded = { coded_store S.code };
+
+    ghost view = { λ blobs. record { known = blobs.known; shelf = blobs.files.shelf } };
 }
 
 /// A store that couldn't be opened: why, and its shelf as it is then.
@@ -54,95 +73,6 @@ pub struct NotOpened<S> {
     pub shelf: S,
 }
 
-/// What an upload answers for a fault of the shelf.
-fn of_shelf(fault: ShelfFault) -> UploadFault
-    ensures device { (result ≡ upload_fault.Device) ↔ (fault ≡ shelf_fault.Device) }
-    ensures memory { (result ≡ upload_fault.OutOfMemory) ↔ (fault ≡ shelf_fault.OutOfMemory) }
-    ensures judged { result ≢ upload_fault.TooLarge }
-{
-    match fault {
-        ShelfFault::Device => UploadFault::Device,
-        ShelfFault::OutOfMemory => UploadFault::OutOfMemory,
-    }
-}
-
-/// Whether a name is one of these.
-fn is_among(name: &Digest, names: &[Digest]) -> bool
-    ensures { IsTrue result ↔ Contains names.now name.now }
-{
-    names.contains(name)
-}
-
-/// Puts a piece on a shelf, unless its name is stored, or one of those before it.
-fn put_new<S: Shelf>(
-    shelf: &mut S,
-    stored: &StoredPieces,
-    before: &[Digest],
-    name: &Digest,
-    piece: &[u8],
-) -> Result<(), ShelfFault>
-    ensures put { HoldsOfFault result (λ fault.
-        PutsNew S.did shelf.old stored.now.names.keys before.now (Part name.now, piece.now) name.now fault shelf.new) }
-    ensures device { IfErr result (λ fault. fault ≡ shelf_fault.Device → S.failures shelf.old < S.failures shelf.new) }
-    ensures count { S.failures shelf.old ≤ S.failures shelf.new }
-{
-    if stored.has(name) || is_among(name, before) {
-        return Ok(());
-    }
-    shelf.put(ShelfName::Part(*name), piece)
-}
-
-/// Puts the pieces of a file on a shelf, of each name that isn't stored the first one, and its table after them.
-fn put_file<S: Shelf>(
-    shelf: &mut S,
-    stored: &StoredPieces,
-    info: &BlobInfo,
-    bytes: &[u8],
-    table: &[u8],
-) -> Result<(), ShelfFault>
-    requires info { info.now ≡ bytes.now }
-    requires table { table.now ≡ text_of (length bytes.now) (names_of bytes.now) }
-    ensures put { HoldsOfFault result (λ fault.
-        PutsOthers S.did stored.now.names.keys shelf.old bytes.now fault shelf.new) }
-    ensures device { IfErr result (λ fault. fault ≡ shelf_fault.Device → S.failures shelf.old < S.failures shelf.new) }
-    ensures count { S.failures shelf.old ≤ S.failures shelf.new }
-{
-    let names = info.names();
-    let mut rest = bytes;
-    for (index, name) in names.iter().enumerate() {
-        let (piece, after) = rest.split_at(rest.len().min(PIECE_SIZE));
-        put_new(shelf, stored, &names[..index], name, piece)?;
-        rest = after;
-    }
-    shelf.put(ShelfName::Table(info.digest()), table)
-}
-
-/// Puts a file of at most `MAX_SIZE` bytes on a shelf that has the known files, and answers what is kept of it.
-pub(crate) fn put_whole<S: Shelf>(
-    alloc: Global,
-    shelf: &mut S,
-    known: &BlobIndex,
-    digest: Digest,
-    bytes: &[u8],
-) -> Result<Arc<BlobInfo>, UploadFault>
-    requires { digest ≡ digest_of bytes.now }
-    ensures large { (result ≡ Err upload_fault.TooLarge) ↔ (16777216 < length bytes.now) }
-    ensures info { IfOk result (λ info. info.value ≡ bytes.now) }
-    ensures put { OnOk result (PutsFile S.did known.now shelf.old bytes.now None shelf.new) }
-    ensures not_put { IfErr result (λ fault. HasPutPart S.did known.now shelf.old bytes.now fault shelf.new) }
-    ensures device { IfErr result (λ fault. fault ≡ upload_fault.Device → S.failures shelf.old < S.failures shelf.new) }
-    ensures count { S.failures shelf.old ≤ S.failures shelf.new }
-{
-    if bytes.len() > MAX_SIZE {
-        return Err(UploadFault::TooLarge);
-    }
-    let info = BlobInfo::digested(alloc, digest, bytes).map_err(|_| UploadFault::OutOfMemory)?;
-    let table = table_text(alloc, info.len(), info.names()).map_err(|_| UploadFault::OutOfMemory)?;
-    let info = Arc::new(alloc, info).map_err(|_| UploadFault::OutOfMemory)?;
-    put_file(shelf, known.pieces(), &info, bytes, table.as_slice()).map_err(of_shelf)?;
-    Ok(info)
-}
-
 impl<S: Shelf> Blobs<S> {
     /// A store over a shelf, of which it knows no file yet.
     pub fn new(alloc: Global, shelf: S) -> Blobs<S>
@@ -150,16 +80,15 @@ impl<S: Shelf> Blobs<S> {
         ensures shelf { result.shelf ≡ shelf }
     {
         Blobs {
-            alloc,
-            shelf,
             known: BlobIndex::new(alloc),
+            files: Files::new(alloc, shelf),
         }
     }
 
     /// A store over a shelf that may have files. Each wanted file is read whole, in the order of the digests, and those that
     /// the shelf gave whole are known. One that is missing or damaged isn't known, and is a fault where it must be there: the
     /// first such one. A digest that is wanted twice must be there if it must for either. A failure of the device is a
-    /// fault at any file, and so is want of memory. After a fault nothing more is asked for, and the shelf is handed back.
+    /// fault at any file, and so is a lack of memory. After a fault nothing more is asked for, and the shelf is handed back.
     pub fn open(alloc: Global, shelf: S, wanted: &[Wanted]) -> Result<Blobs<S>, NotOpened<S>>
         ensures opened { IfOk result (λ blobs. IsOpened S.did shelf wanted.now blobs.known blobs.shelf) }
         ensures fault { IfErr result (λ stop. IsOpenFault S.did shelf wanted.now stop.fault stop.shelf) }
@@ -169,9 +98,8 @@ impl<S: Shelf> Blobs<S> {
         let mut shelf = shelf;
         match open_files(alloc, &mut shelf, wanted) {
             Ok(known) => Ok(Blobs {
-                alloc,
-                shelf,
                 known,
+                files: Files::new(alloc, shelf),
             }),
             Err(fault) => Err(NotOpened { fault, shelf }),
         }
@@ -182,19 +110,14 @@ impl<S: Shelf> Blobs<S> {
         ensures known { result.0 ≡ self.known }
         ensures shelf { result.1.shelf ≡ self.shelf }
     {
-        let Blobs {
-            alloc,
-            shelf,
-            known,
-        } = self;
-        (known, Files::new(alloc, shelf))
+        (self.known, self.files)
     }
 
     /// Hands out the shelf, without what is known.
     pub fn into_shelf(self) -> S
         ensures { result ≡ self.shelf }
     {
-        self.shelf
+        self.files.into_shelf()
     }
 
     /// What is known of the file of a digest.
@@ -228,7 +151,7 @@ impl<S: Shelf> Blobs<S> {
         if let Some(known) = self.known.find(&digest) {
             return known.clone().map_err(|_| UploadFault::OutOfMemory);
         }
-        let info = put_whole(self.alloc, &mut self.shelf, &self.known, digest, bytes)?;
+        let info = self.files.put(&self.known, digest, bytes)?;
         let kept = info.clone().map_err(|_| UploadFault::OutOfMemory)?;
         self.known.keep(kept).map_err(|_| UploadFault::OutOfMemory)?;
         Ok(info)
@@ -243,7 +166,7 @@ impl<S: Shelf> Blobs<S> {
         ensures count { S.failures self.old.shelf ≤ S.failures self.new.shelf }
         ensures known { self.new.known ≡ self.old.known }
     {
-        read_chunk(&mut self.shelf, *name)
+        self.files.chunk(name)
     }
 }
 

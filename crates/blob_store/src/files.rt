@@ -75,7 +75,7 @@ fn read_pieces<S: Shelf>(
 
 /// The file of a digest, which is read whole: its table, and each of its pieces. Kept of it is what is known of a file, and no
 /// bytes. A file that the shelf has no table of is missing; one that anything else is wrong with is damaged.
-pub fn read_file<S: Shelf>(
+pub(crate) fn read_file<S: Shelf>(
     alloc: Global,
     shelf: &mut S,
     digest: &Digest,

@@ -8,10 +8,12 @@ ghost use Rattle.blob_store.specs.Calls.{Got, PutsFile};
 ghost use Rattle.blob_store.specs.Faults.{HasPutPart, IsChunkFault};
 
 use crate::blob_indexes::BlobIndex;
-use crate::blobs::{UploadFault, put_whole};
+use crate::blobs::UploadFault;
+use crate::puts::put_file;
 use crate::reading::{of_shelf, read_chunk};
 use crate::shelves::{Shelf, ShelfName};
-use byte_view::{BlobInfo, Chunk};
+use crate::tables::table_text;
+use byte_view::{BlobInfo, Chunk, MAX_SIZE};
 use chunk_reads::ReadFault;
 use host_names::Digest;
 use std::alloc::Global;
@@ -56,7 +58,24 @@ impl<S: Shelf> Files<S> {
         ensures device { IfErr result (λ fault. fault ≡ upload_fault.Device → S.failures self.old.shelf < S.failures self.new.shelf) }
         ensures count { S.failures self.old.shelf ≤ S.failures self.new.shelf }
     {
-        put_whole(self.alloc, &mut self.shelf, known, digest, bytes)
+        if bytes.len() > MAX_SIZE {
+            return Err(UploadFault::TooLarge);
+        }
+        let alloc = self.alloc;
+        let info = BlobInfo::digested(alloc, digest, bytes).map_err(|_| UploadFault::OutOfMemory)?;
+        let table = table_text(alloc, info.len(), info.names()).map_err(
+            |_| UploadFault::OutOfMemory,
+        )?;
+        let info = Arc::new(alloc, info).map_err(|_| UploadFault::OutOfMemory)?;
+        put_file(
+            &mut self.shelf,
+            known.pieces(),
+            &info,
+            bytes,
+            table.as_slice(),
+        )
+        .map_err(UploadFault::of_shelf)?;
+        Ok(info)
     }
 
     /// What the shelf has as the piece of a name, as it gives it now. It is not checked, and may be any bytes.

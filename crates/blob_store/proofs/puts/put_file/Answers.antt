@@ -6,7 +6,7 @@ use Rattle.host_names.specs.declared.digests.Digest.{Digest}
 use Rattle.blob_store.specs.Calls.{PutsOthers, table_of}
 use Rattle.blob_store.specs.declared.shelves.ShelfName.TheVariants.{Table}
 use Rattle.blob_store.proofs.Turns.{front_of, is_put, last_put, piece_fails, piece_put, puts_of, rest_of}
-use Rattle.blob_store.proofs.blobs.put_file.Goals as goal
+use Rattle.blob_store.proofs.puts.put_file.Goals as goal
 
 pub returns-in_err-put_new-clause-put : goal.returns-in_err-put_new-clause-put
 returns-in_err-put_new-clause-put g c =

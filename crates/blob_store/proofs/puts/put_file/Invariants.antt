@@ -1,7 +1,7 @@
 use Rattle.std.proofs.Common.{◌≤◌, ◌∷◌, ◌++◌, [], drop, take}
 use Rattle.blob_store.specs.Calls.{table_of}
 use Rattle.blob_store.proofs.Turns.{PiecesLeft, puts_of}
-use Rattle.blob_store.proofs.blobs.put_file.Given as goal
+use Rattle.blob_store.proofs.puts.put_file.Given as goal
 
 abbrev pub invariant-loop-index : goal.invariant-loop-index
 invariant-loop-index g l =
