@@ -18,7 +18,7 @@ pub enum Spec {
 
 impl Spec {
     /// Whether its last position, if it has one, is not below its first.
-    pub fn is_in_order(self) -> bool
+    fn is_in_order(self) -> bool
         ensures { IsTrue result ↔ IsInOrder self }
     {
         match self {
@@ -62,14 +62,6 @@ impl Model for Specs {
 
 impl Specs {
     /// The list of these specs, if a field may ask for it.
-    pub fn new(specs: &[Spec]) -> Option<Self>
-        ensures askable { IsSome result ↔ IsAskable specs.now }
-        ensures value { IfSome result (λ list. list ≡ specs.now) }
-    {
-        Specs::of(ArrayVec::try_from(specs).ok()?)
-    }
-
-    /// The same of specs of which there are 16 at most.
     fn of(list: ArrayVec<Spec, 16>) -> Option<Self>
         ensures askable { IsSome result ↔ IsAskable list.items }
         ensures value { IfSome result (λ specs. specs ≡ list.items) }
