@@ -120,7 +120,8 @@ fn take_body<D: Duplex>(
     head: &Head,
     size: u64,
 ) -> Result<Vec<u8>, Stop>
-    ensures { Ran D.saw (AwaitsBody wire.old size) duplex.old duplex.new (TakesBodyAs result head.now size wire.old wire.new) }
+    ensures { Ran D.saw (AwaitsBody wire.old size) duplex.old duplex.new
+        (TakesBodyAs result head.now size wire.old wire.new) }
 {
     match wire.read_body(duplex, size) {
         Ok(body) => Ok(body),
@@ -193,7 +194,8 @@ fn exchange<D: Duplex, S: Service>(
     request: Request,
 ) -> Result<Next, ConnectionFault>
     ensures exchanged { Ran D.saw NoRead duplex.old duplex.new
-        (ExchangesAs S.answers result (closes request.head request.is_last) service.old request.head request.body.items service.new) }
+        (ExchangesAs S.answers result (closes request.head request.is_last) service.old request.head request.body.items
+        service.new) }
     ensures grows { S.grows service.old service.new }
 {
     let head_only = is_head_only(&request.head);
@@ -236,7 +238,8 @@ fn serve_requests<D: Duplex, S: Service>(
     service: &mut S,
 ) -> Result<(), ConnectionFault>
     requires { wire.old ≡ [] }
-    ensures connected { Ran D.saw (IsCaughtUp S.answers service.old) duplex.old duplex.new (Connects S.answers result service.old service.new) }
+    ensures connected { Ran D.saw (IsCaughtUp S.answers service.old) duplex.old duplex.new
+        (Connects S.answers result service.old service.new) }
     ensures grows { S.grows service.old service.new }
 {
     'requests: for number in 1..=MOST_REQUESTS {
@@ -261,8 +264,10 @@ pub fn serve_connection<D: Duplex, S: Service>(
     duplex: &mut D,
     service: &mut S,
 ) -> Result<(), ConnectionFault>
-    ensures served { Serves S.answers D.read_fails D.write_fails result service.old service.new (D.left duplex.old) (D.held duplex.old) (D.held duplex.new) }
-    ensures timely { Ran D.saw (IsCaughtUp S.answers service.old) duplex.old duplex.new (Connects S.answers result service.old service.new) }
+    ensures served { Serves S.answers D.read_fails D.write_fails result service.old service.new (D.left duplex.old)
+        (D.held duplex.old) (D.held duplex.new) }
+    ensures timely { Ran D.saw (IsCaughtUp S.answers service.old) duplex.old duplex.new
+        (Connects S.answers result service.old service.new) }
     ensures grows { S.grows service.old service.new }
 {
     let Ok(mut wire) = Wire::new(alloc) else {

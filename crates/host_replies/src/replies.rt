@@ -262,7 +262,8 @@ impl Reply {
     ) -> Result<(), WriteFault>
         requires tag { option_map (λ t. t.text.now) etag ≡ (answer_of self.now).etag }
         requires sent { (answer_of self.now).withheld ≡ true → head_only ≡ true }
-        ensures { Ran D.saw NoRead duplex.old duplex.new (WritesText result (sent_text close head_only (answer_of self.now))) }
+        ensures { Ran D.saw NoRead duplex.old duplex.new
+            (WritesText result (sent_text close head_only (answer_of self.now))) }
     {
         let head = self.head(etag, close);
         if head_only {
@@ -284,7 +285,8 @@ impl Reply {
         head_only: bool,
     ) -> Result<(), WriteFault>
         requires { (answer_of self.now).withheld ≡ true → head_only ≡ true }
-        ensures { Ran D.saw NoRead duplex.old duplex.new (WritesText result (sent_text close head_only (answer_of self.now))) }
+        ensures { Ran D.saw NoRead duplex.old duplex.new
+            (WritesText result (sent_text close head_only (answer_of self.now))) }
     {
         let Some(digest) = self.etag else {
             return self.send_with(duplex, None, close, head_only);

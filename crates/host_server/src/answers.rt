@@ -36,7 +36,8 @@ fn read<S: Shelf, D: Disk>(
     version: &Version,
     path: &FilePath,
 ) -> Reply
-    ensures replied { AnswersRead S.did S.failures server.old head.now path.now (file_of (state_of server.old.house) site.now version.now path.now) (answer_of result) server.new }
+    ensures replied { AnswersRead S.did S.failures server.old head.now path.now
+        (file_of (state_of server.old.house) site.now version.now path.now) (answer_of result) server.new }
     ensures house { server.new.house ≡ server.old.house }
     ensures journal { server.new.journal ≡ server.old.journal }
     ensures count { S.failures server.old.files.shelf ≤ S.failures server.new.files.shelf }
@@ -59,7 +60,8 @@ fn tell(alloc: Global, told: Result<Told, Refusal>) -> Reply
 
 /// The changes of a site, as they are told.
 fn told_changes<H: HostView>(alloc: Global, host: &H, site: &SiteName) -> Result<Told, Refusal>
-    ensures { (result ≡ Err Refusal.OutOfMemory) ⊎ (result ≡ Ok (Told.Changes (shown_lines (H.host host.now) site.now))) }
+    ensures { (result ≡ Err Refusal.OutOfMemory)
+        ⊎ (result ≡ Ok (Told.Changes (shown_lines (H.host host.now) site.now))) }
 {
     Ok(Told::Changes(list_changes(alloc, host, site)?))
 }
@@ -83,7 +85,8 @@ fn carry_out<S: Shelf, D: Disk>(
     ask: Ask,
 ) -> Reply
     requires { is_held_up server.old.house server.old.journal (Ok ask) ≡ false }
-    ensures replied { CarriesOut S.did S.failures server.old head.now body.items (Ok ask) (answer_of result) server.new }
+    ensures replied { CarriesOut S.did S.failures server.old head.now body.items (Ok ask) (answer_of result)
+        server.new }
     ensures grows { Grows server.old.house server.new.house }
     ensures count { S.failures server.old.files.shelf ≤ S.failures server.new.files.shelf }
 {
@@ -117,7 +120,8 @@ fn respond<S: Shelf, D: Disk>(
     server: &mut Server<S, D>,
     ask: Ask,
 ) -> Reply
-    ensures replied { AnswersAsk S.did S.failures server.old head.now body.items (Ok ask) (answer_of result) server.new }
+    ensures replied { AnswersAsk S.did S.failures server.old head.now body.items (Ok ask) (answer_of result)
+        server.new }
     ensures grows { Grows server.old.house server.new.house }
     ensures count { S.failures server.old.files.shelf ≤ S.failures server.new.files.shelf }
 {
@@ -135,13 +139,15 @@ pub fn answer<S: Shelf, D: Disk>(
     request: Request,
     server: &mut Server<S, D>,
 ) -> Reply
-    ensures replied { IsAnswer S.did S.failures server.old request.head request.body.items (answer_of result) server.new }
+    ensures replied { IsAnswer S.did S.failures server.old request.head request.body.items (answer_of result)
+        server.new }
     ensures grows { Grows server.old.house server.new.house }
     ensures count { S.failures server.old.files.shelf ≤ S.failures server.new.files.shelf }
     // Where an accepted change is undone next, the state is the one before it.
     ensures undone { (before : logs.Log) (command : Change) (site : Site)
         → server.old.house.entries ≡ logs.with_entry before (entry.Change command)
-        → server.new.house.entries ≡ logs.with_entry server.old.house.entries (entry.Undo site (logs.next_number before))
+        → server.new.house.entries ≡ logs.with_entry server.old.house.entries
+        (entry.Undo site (logs.next_number before))
         → state_of server.new.house ≡ state_of (with_log server.old.house before) }
 {
     server.house.lawful();

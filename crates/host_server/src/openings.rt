@@ -106,7 +106,8 @@ fn open_blobs<S: Shelf>(alloc: Global, log: &Log, shelf: S) -> Result<Blobs<S>, 
     ensures opened { IfOk result (λ blobs. HasFiles S.did shelf log.now blobs.known blobs.shelf) }
     ensures fault { IfErr result (λ stop. spec.IsFilesFault S.did shelf log.now stop.fault stop.shelf) }
     ensures device { IfErr result (λ stop. stop.fault ≡ BlobsDevice → S.failures shelf < S.failures stop.shelf) }
-    ensures count { MatchResult result (λ blobs. S.failures shelf ≤ S.failures blobs.shelf) (λ stop. S.failures shelf ≤ S.failures stop.shelf) }
+    ensures count { MatchResult result (λ blobs. S.failures shelf ≤ S.failures blobs.shelf) (λ stop.
+        S.failures shelf ≤ S.failures stop.shelf) }
 {
     let Ok(wanted) = wanted(alloc, log) else {
         return Err(NoHost {
@@ -152,7 +153,8 @@ pub(crate) fn open_host<S: Shelf>(
     ensures limit { IfOk result (λ answer. answer.0.limit ≡ limit) }
     ensures fault { IfErr result (λ stop. IsHostFault S.did shelf limit log.now stop.fault stop.shelf) }
     ensures device { IfErr result (λ stop. stop.fault ≡ BlobsDevice → S.failures shelf < S.failures stop.shelf) }
-    ensures count { MatchResult result (λ answer. S.failures shelf ≤ S.failures answer.1.shelf) (λ stop. S.failures shelf ≤ S.failures stop.shelf) }
+    ensures count { MatchResult result (λ answer. S.failures shelf ≤ S.failures answer.1.shelf) (λ stop.
+        S.failures shelf ≤ S.failures stop.shelf) }
 {
     let blobs = open_blobs(alloc, log, shelf)?;
     match replay(alloc, log, limit, &blobs) {
@@ -175,9 +177,16 @@ impl<S: Shelf, D: Disk> Server<S, D> {
         requires some { 1 ≤ limit }
         requires bounded { limit ≤ 1000000 }
         ensures opened { IfOk result (λ server. IsOpened S.did disk shelf limit server) }
-        ensures fault { IfErr result (λ stop. IsOpenFault D.Disk S.did disk shelf limit stop.fault stop.disk stop.shelf) }
-        ensures kept { IsTrue D.is_modelled → (had : logs.Log) → logs.last_number had ≤ 1000000 → HoldsEntries had (D.seen disk) → MatchResult result (λ server. server.house.entries ≡ had) (λ stop. IsNoRecordFault stop.fault) }
-        ensures any_moment { IsTrue D.is_modelled → (had : logs.Log) (next : Line) → ((c : List ℕ) → D.may_leave disk c → MayHoldNext had next c) → MatchResult result (λ server. (journal : Keeps _) → server.journal ≡ Some journal → LeavesOnly D.moment D.left_since disk journal.disk (MayHoldNext had next)) (λ stop. LeavesOnly D.moment D.left_since disk stop.disk (MayHoldNext had next)) }
+        ensures fault { IfErr result (λ stop.
+            IsOpenFault D.Disk S.did disk shelf limit stop.fault stop.disk stop.shelf) }
+        ensures kept { IsTrue D.is_modelled → (had : logs.Log) → logs.last_number had ≤ 1000000
+            → HoldsEntries had (D.seen disk)
+            → MatchResult result (λ server. server.house.entries ≡ had) (λ stop. IsNoRecordFault stop.fault) }
+        ensures any_moment { IsTrue D.is_modelled → (had : logs.Log) (next : Line)
+            → ((c : List ℕ) → D.may_leave disk c → MayHoldNext had next c)
+            → MatchResult result (λ server. (journal : Keeps _) → server.journal ≡ Some journal
+            → LeavesOnly D.moment D.left_since disk journal.disk (MayHoldNext had next)) (λ stop.
+            LeavesOnly D.moment D.left_since disk stop.disk (MayHoldNext had next)) }
         ensures memory { IsTrue D.is_modelled → IfErr result (λ stop. stop.fault ≡ OutOfMemory
             → HasRecord (D.seen disk) ⊎ HadJournal D.Disk disk stop.disk) }
         ensures no_journal { IsTrue D.is_modelled → IsNoJournal (D.seen disk)
@@ -185,7 +194,8 @@ impl<S: Shelf, D: Disk> Server<S, D> {
         ensures reason { IsTrue D.is_modelled → IsRefused IsText (D.seen disk)
             → IfErr result (λ stop. stop.fault ≡ JournalDevice → MayFailReading D.seen D.may_fail (D.seen disk)) }
         ensures device { IfErr result (λ stop. stop.fault ≡ BlobsDevice → S.failures shelf < S.failures stop.shelf) }
-        ensures count { MatchResult result (λ server. S.failures shelf ≤ S.failures server.files.shelf) (λ stop. S.failures shelf ≤ S.failures stop.shelf) }
+        ensures count { MatchResult result (λ server. S.failures shelf ≤ S.failures server.files.shelf) (λ stop.
+            S.failures shelf ≤ S.failures stop.shelf) }
     {
         let (journal, log) = match Journal::open(alloc, disk) {
             Ok(opened) => opened,

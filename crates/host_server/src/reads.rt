@@ -103,11 +103,12 @@ fn send<S: Shelf>(
     path: &FilePath,
 ) -> Result<Reply, Refusal>
     requires { All (LiesWithin (length info.now.value)) (intervals_in plan) }
-    ensures sent { IfOk result (λ reply. (body : Sent) × IsRead (GaveOfNode S.did S.failures) files.old info.now.value plan (type_of path.now) body files.new
+    ensures sent { IfOk result (λ reply. (body : Sent)
+        × IsRead (GaveOfNode S.did S.failures) files.old info.now.value plan (type_of path.now) body files.new
         × (answer_of reply ≡ sent_answer path.now info.now.value body)) }
     ensures refused { IfErr result (λ reason. (why : Fault)
-        × IsNotRead (GaveOfNode S.did S.failures) (FailedOfNode S.did S.failures) files.old info.now.value plan why files.new
-        × (reason ≡ spec.refusal_of_read why)) }
+        × IsNotRead (GaveOfNode S.did S.failures) (FailedOfNode S.did S.failures) files.old info.now.value plan why
+        files.new × (reason ≡ spec.refusal_of_read why)) }
     ensures count { S.failures files.old.shelf ≤ S.failures files.new.shelf }
 {
     match read_body(alloc, files, info, plan, file_type(path)) {

@@ -26,7 +26,8 @@ impl<S: Shelf + Drop, D: Disk> Server<S, D> {
     pub fn new(alloc: Global, shelf: S, limit: u64) -> Result<Server<S, D>, AllocError>
         requires some { 1 ≤ limit }
         requires bounded { limit ≤ 1000000 }
-        ensures house { IfOk result (λ server. server.house ≡ record { limit = limit; entries = []; uploads = map.empty }) }
+        ensures house { IfOk result (λ server.
+            server.house ≡ record { limit = limit; entries = []; uploads = map.empty }) }
         ensures journal { IfOk result (λ server. server.journal ≡ None) }
         ensures shelf { IfOk result (λ server. server.files.shelf ≡ shelf) }
         ensures cache { IfOk result (λ server. server.files.cache ≡ empty 67108864) }

@@ -21,7 +21,8 @@ impl<S: Shelf, D: Disk> Service for Server<S, D> {
         answer(alloc, request, self)
     }
 
-    ghost withheld = { λ old parts body answer new is told. withheld_to_head S.did S.failures old new parts body answer is told };
+    ghost withheld = { λ old parts body answer new is told.
+        withheld_to_head S.did S.failures old new parts body answer is told };
 
     ghost stays = { λ server. itself server.house };
 

@@ -21,7 +21,8 @@ const NOT_TAKEN: u8 = 1;
 
 /// Says why the words ask for nothing that the program does, or that memory ran out, and gives the exit status.
 fn refuse<E: Sink>(errors: &mut E, refusal: Refusal) -> u8
-    ensures { (words : List (List ℕ)) → Reads words (Err refusal) → IsNotServed E.may_fail words result (E.held errors.old) (E.held errors.new) }
+    ensures { (words : List (List ℕ)) → Reads words (Err refusal)
+        → IsNotServed E.may_fail words result (E.held errors.old) (E.held errors.new) }
 {
     match refusal {
         Refusal::Shown(text) => fail(errors, NOT_TAKEN, text.as_str()),
@@ -57,8 +58,8 @@ pub fn run_solo<R: Files<File = File>, S: AsStr, D: Duplex, E: Sink>(
     duplex: &mut D,
     errors: &mut E,
 ) -> u8
-    ensures { Runs ⟦<MemDisk as Disk>⟧ ⟦<FileDisk as Disk>⟧ ⟦<DirShelf<'static, R> as Shelf>⟧ D.Duplex E.may_fail (map S.text words.now) result
-        duplex.old duplex.new (E.held errors.old) (E.held errors.new) }
+    ensures { Runs ⟦<MemDisk as Disk>⟧ ⟦<FileDisk as Disk>⟧ ⟦<DirShelf<'static, R> as Shelf>⟧ D.Duplex E.may_fail
+        (map S.text words.now) result duplex.old duplex.new (E.held errors.old) (E.held errors.new) }
 {
     match read(alloc, words) {
         Ok(Wanted::Solo { store: None }) => run_in_memory(alloc, duplex, errors),

@@ -31,11 +31,12 @@ impl<S: Shelf, D: Disk> Server<S, D> {
     /// Stores the bytes of an upload, and knows them from then on. Of those that are known nothing is stored, and no piece that a known file has.
     fn keep(&mut self, digest: Digest, bytes: &[u8]) -> Result<(), Refusal>
         requires { digest ≡ digest_of bytes.now }
-        ensures stored { OnOk result (IsStored S.did self.old.house.uploads self.old.files.shelf bytes.now self.new.files.shelf) }
+        ensures stored { OnOk result
+            (IsStored S.did self.old.house.uploads self.old.files.shelf bytes.now self.new.files.shelf) }
         ensures known { OnOk result (self.new.house ≡ with_upload self.old.house bytes.now) }
-        ensures refused { IfErr result (λ reason.
-            (why : Fault) × IsNotStored S.did S.failures self.old.house.uploads self.old.files.shelf bytes.now why self.new.files.shelf
-            × (reason ≡ spec.refusal_of_upload why)) }
+        ensures refused { IfErr result (λ reason. (why : Fault)
+            × IsNotStored S.did S.failures self.old.house.uploads self.old.files.shelf bytes.now why
+            self.new.files.shelf × (reason ≡ spec.refusal_of_upload why)) }
         ensures err { OnErr result (self.new.house ≡ self.old.house) }
         ensures journal { self.new.journal ≡ self.old.journal }
         ensures grows { Grows self.old.house self.new.house }

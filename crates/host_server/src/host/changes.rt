@@ -25,7 +25,8 @@ use site_state::{Draft, Listing, missing};
 
 /// Whether a deploy of these files may be opened, or the first reason why not. It takes no memory.
 fn judge_opening<H: HostView>(host: &H, files: &Listing) -> Result<(), ChangeRefusal>
-    ensures ok { OnOk result ((site : Site) (auto : _) → commit_refusal (H.host host.now) (command.Open site files.now auto) ≡ None) }
+    ensures ok { OnOk result ((site : Site) (auto : _)
+        → commit_refusal (H.host host.now) (command.Open site files.now auto) ≡ None) }
     ensures refused { IfErr result (λ reason.
         (site : Site) (auto : _) → commit_refusal (H.host host.now) (command.Open site files.now auto) ≡ Some reason) }
 {
@@ -96,8 +97,8 @@ impl SoloHouse {
         requires whole { is_broken journal.old ≡ false }
         ensures done { DoesCommit result self.new self.old (command.Open site files auto) }
         ensures told { IfOk result (λ told. Outcomes.is_refusal told ≡ false) }
-        ensures stands { let opening = command.Open site files auto in
-            OnErr result ((self.new ≡ self.old) ⊎ (self.new ≡ entered self.old opening (commit_refusal self.old opening))) }
+        ensures stands { let opening = command.Open site files auto in OnErr result ((self.new ≡ self.old)
+            ⊎ (self.new ≡ entered self.old opening (commit_refusal self.old opening))) }
         ensures stops { IsStopped result → CommandRunsOut self.old (command.Open site files auto) self.new }
         ensures journal { IsJournaled D.Disk result self.old journal.old self.new journal.new }
         ensures grows { Grows self.old self.new }
@@ -150,7 +151,8 @@ impl SoloHouse {
         ensures told { IfOk result (λ told. Outcomes.is_refusal told ≡ false) }
         ensures stops { IsStopped result → CommandRunsOut self.old command self.new }
         ensures journal { IsJournaled D.Disk result self.old journal.old self.new journal.new }
-        ensures stands { OnErr result ((self.new ≡ self.old) ⊎ (self.new ≡ entered self.old command (commit_refusal self.old command))) }
+        ensures stands { OnErr result ((self.new ≡ self.old)
+            ⊎ (self.new ≡ entered self.old command (commit_refusal self.old command))) }
         ensures grows { Grows self.old self.new }
     {
         match command {
@@ -168,9 +170,11 @@ impl SoloHouse {
     ) -> Result<Told, Refusal>
         requires agrees { Agrees journal.old self.old.entries }
         requires whole { is_broken journal.old ≡ false }
-        ensures done { Does result self.new (undone self.old site.now change (Reasons.undo_refusal self.old site.now change)) }
+        ensures done { Does result self.new
+            (undone self.old site.now change (Reasons.undo_refusal self.old site.now change)) }
         ensures told { IfOk result (λ told. Outcomes.is_refusal told ≡ false) }
-        ensures memory { IsErrOf result Refusal.OutOfMemory → may_take_memory (Reasons.undo_refusal self.old site.now change) ≡ true }
+        ensures memory { IsErrOf result Refusal.OutOfMemory
+            → may_take_memory (Reasons.undo_refusal self.old site.now change) ≡ true }
         ensures device { IsErrOf result Refusal.Device → Reasons.undo_refusal self.old site.now change ≡ None }
         ensures journal { IsJournaled D.Disk result self.old journal.old self.new journal.new }
         ensures err { OnErr result (self.new ≡ self.old) }
@@ -210,9 +214,11 @@ impl SoloHouse {
     ) -> Result<Told, Refusal>
         requires agrees { Agrees journal.old self.old.entries }
         requires whole { IsWholeFor journal.old self.old number }
-        ensures done { Does result self.new (deploy_outcome self.old number (λ site. command.RemoveDeploy site number)) }
+        ensures done { Does result self.new (deploy_outcome self.old number (λ site.
+            command.RemoveDeploy site number)) }
         ensures told { IfOk result (λ told. Outcomes.is_refusal told ≡ false) }
-        ensures stops { IsStopped result → deploy_refusal self.old number (λ site. command.RemoveDeploy site number) ≡ None }
+        ensures stops { IsStopped result
+            → deploy_refusal self.old number (λ site. command.RemoveDeploy site number) ≡ None }
         ensures journal { IsJournaled D.Disk result self.old journal.old self.new journal.new }
         ensures err { OnErr result (self.new ≡ self.old) }
         ensures grows { Grows self.old self.new }

@@ -27,8 +27,11 @@ pub(crate) fn site_of_deploy<H: HostView>(host: &H, number: u64) -> Option<&Site
 
 /// The same, as a command has it.
 pub(crate) fn owner<H: HostView>(host: &H, number: u64) -> Result<SiteName, ChangeRefusal>
-    ensures found { IfOk result (λ site. Outcomes.site_of_deploy (entry_at (H.host host.now).entries number) ≡ Some site) }
-    ensures refused { IfErr result (λ reason. (Outcomes.site_of_deploy (entry_at (H.host host.now).entries number) ≡ None) × (reason ≡ ChangeRefusal.NoSuchDeploy)) }
+    ensures found { IfOk result (λ site.
+        Outcomes.site_of_deploy (entry_at (H.host host.now).entries number) ≡ Some site) }
+    ensures refused { IfErr result (λ reason.
+        (Outcomes.site_of_deploy (entry_at (H.host host.now).entries number) ≡ None)
+        × (reason ≡ ChangeRefusal.NoSuchDeploy)) }
 {
     match site_of_deploy(host, number) {
         Some(site) => Ok(site.copied()),
@@ -44,7 +47,8 @@ fn state_of_deploy<H: HostView>(
     number: u64,
 ) -> Result<DeployState, Refusal>
     ensures stands { (result ≡ Err Refusal.OutOfMemory) ⊎ spec.StandsIn (H.host host.now) site.now number result }
-    ensures memory { IsErrOf result Refusal.OutOfMemory → IsSome (draft_at (state_of (H.host host.now)) site.now number) }
+    ensures memory { IsErrOf result Refusal.OutOfMemory
+        → IsSome (draft_at (state_of (H.host host.now)) site.now number) }
 {
     let state = host.state();
     if let Some(draft) = state.draft(site, number) {

@@ -45,7 +45,8 @@ impl Readiness {
         requires { place_of self.old.places number ≤ first_lacking_of (U.contents uploads.now) draft.now.files.1 }
         ensures complete { result ≡ is_none (least_missing_of (U.contents uploads.now) draft.now.files.1) }
         ensures kept { (n : ℕ) → (place_of self.new.places n ≡ place_of self.old.places n)
-            ⊎ ((n ≡ number) × (place_of self.new.places n ≡ first_lacking_of (U.contents uploads.now) draft.now.files.1)) }
+            ⊎ ((n ≡ number)
+            × (place_of self.new.places n ≡ first_lacking_of (U.contents uploads.now) draft.now.files.1)) }
     {
         let place = first_lacking(draft, uploads, self.place(number));
         let _ = self.places.insert(number, place);

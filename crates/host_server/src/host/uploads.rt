@@ -39,7 +39,8 @@ pub(crate) fn judge_upload<H: HostView>(
 ) -> Result<(SiteName, Digest), Refusal>
     ensures ok { IfOk result (λ at. Outcomes.judge_upload (H.host host.now) number path.now bytes.now ≡ Ok at) }
     ensures digest { IfOk result (λ at. at.1 ≡ digest_of bytes.now) }
-    ensures refused { IfErr result (λ reason. Outcomes.judge_upload (H.host host.now) number path.now bytes.now ≡ Err reason) }
+    ensures refused { IfErr result (λ reason.
+        Outcomes.judge_upload (H.host host.now) number path.now bytes.now ≡ Err reason) }
 {
     let Some(site) = site_of_deploy(host, number) else {
         return Err(Refusal::Change(ChangeRefusal::NoSuchDeploy));

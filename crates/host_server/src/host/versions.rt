@@ -18,8 +18,10 @@ fn kept_file<'a, H: HostView>(
     deploy: u64,
     path: &FilePath,
 ) -> Result<&'a File, Refusal>
-    ensures found { IfOk result (λ file. spec.kept_file (kept_at (state_of (H.host host.now)) site.now deploy) path.now ≡ Ok file.now) }
-    ensures refused { IfErr result (λ refusal. spec.kept_file (kept_at (state_of (H.host host.now)) site.now deploy) path.now ≡ Err refusal) }
+    ensures found { IfOk result (λ file.
+        spec.kept_file (kept_at (state_of (H.host host.now)) site.now deploy) path.now ≡ Ok file.now) }
+    ensures refused { IfErr result (λ refusal.
+        spec.kept_file (kept_at (state_of (H.host host.now)) site.now deploy) path.now ≡ Err refusal) }
     ensures plain { IfErr result (λ refusal. has_cell refusal ≡ false) }
 {
     let Some(tree) = host.state().kept(site, deploy) else {
@@ -36,8 +38,10 @@ pub(crate) fn file<'a, H: HostView>(
     version: &Version,
     path: &FilePath,
 ) -> Result<&'a File, Refusal>
-    ensures found { IfOk result (λ file. spec.file_of (state_of (H.host host.now)) site.now version.now path.now ≡ Ok file.now) }
-    ensures refused { IfErr result (λ refusal. spec.file_of (state_of (H.host host.now)) site.now version.now path.now ≡ Err refusal) }
+    ensures found { IfOk result (λ file.
+        spec.file_of (state_of (H.host host.now)) site.now version.now path.now ≡ Ok file.now) }
+    ensures refused { IfErr result (λ refusal.
+        spec.file_of (state_of (H.host host.now)) site.now version.now path.now ≡ Err refusal) }
     ensures plain { IfErr result (λ refusal. has_cell refusal ≡ false) }
 {
     match version {

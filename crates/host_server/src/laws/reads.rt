@@ -16,38 +16,60 @@ use blob_store::Shelf;
 /// A read never lowers the count of the failures of the shelf's device, and blames the device only where that grew.
 pub fn cached_reads_count_failures<S: Shelf>()
     ensures read { (old new : CachedShelf S) (file content_type : List ℕ) (plan : Choice) (body : SentFile)
-        → IsRead (GaveOfNode S.did S.failures) old file plan content_type body new → S.failures old.shelf ≤ S.failures new.shelf }
+        → IsRead (GaveOfNode S.did S.failures) old file plan content_type body new
+        → S.failures old.shelf ≤ S.failures new.shelf }
     ensures fault { (old new : CachedShelf S) (file : List ℕ) (plan : Choice) (fault : ReadFault)
-        → IsNotRead (GaveOfNode S.did S.failures) (FailedOfNode S.did S.failures) old file plan fault new → S.failures old.shelf ≤ S.failures new.shelf }
+        → IsNotRead (GaveOfNode S.did S.failures) (FailedOfNode S.did S.failures) old file plan fault new
+        → S.failures old.shelf ≤ S.failures new.shelf }
     ensures device { (old new : CachedShelf S) (file : List ℕ) (plan : Choice)
-        → IsNotRead (GaveOfNode S.did S.failures) (FailedOfNode S.did S.failures) old file plan Device new → S.failures old.shelf < S.failures new.shelf }
+        → IsNotRead (GaveOfNode S.did S.failures) (FailedOfNode S.did S.failures) old file plan Device new
+        → S.failures old.shelf < S.failures new.shelf }
 {}
 
 /// Over a shelf that keeps what is put there, and that has what is in the cache, what is read of a file that it has is of the file itself, and it is
 /// neither missing nor damaged. A read, also one that fails, changes nothing on the shelf, which then has what is in the cache, too.
 pub fn cached_files_are_sent<S: Shelf>()
-    ensures exact { (honest : S → Bool) (has : S → ShelfName → Option (List ℕ)) (old new : CachedShelf S) (file content_type : List ℕ) (plan : Choice) (body : SentFile) → Keeps S.did honest has → IsTrue (honest new.shelf)
-        → HasFile has old.shelf file → HasCached has old → IsRead (GaveOfNode S.did S.failures) old file plan content_type body new → IsExact file plan content_type body }
-    ensures fault { (honest : S → Bool) (has : S → ShelfName → Option (List ℕ)) (old new : CachedShelf S) (file : List ℕ) (plan : Choice) (fault : ReadFault) → Keeps S.did honest has → IsTrue (honest new.shelf)
-        → HasFile has old.shelf file → HasCached has old → IsNotRead (GaveOfNode S.did S.failures) (FailedOfNode S.did S.failures) old file plan fault new
+    ensures exact { (honest : S → Bool) (has : S → ShelfName → Option (List ℕ)) (old new : CachedShelf S)
+        (file content_type : List ℕ) (plan : Choice) (body : SentFile) → Keeps S.did honest has
+        → IsTrue (honest new.shelf) → HasFile has old.shelf file → HasCached has old
+        → IsRead (GaveOfNode S.did S.failures) old file plan content_type body new
+        → IsExact file plan content_type body }
+    ensures fault { (honest : S → Bool) (has : S → ShelfName → Option (List ℕ)) (old new : CachedShelf S)
+        (file : List ℕ) (plan : Choice) (fault : ReadFault) → Keeps S.did honest has → IsTrue (honest new.shelf)
+        → HasFile has old.shelf file → HasCached has old
+        → IsNotRead (GaveOfNode S.did S.failures) (FailedOfNode S.did S.failures) old file plan fault new
         → (fault ≡ Device) ⊎ (fault ≡ OutOfMemory) }
-    ensures stays { (honest : S → Bool) (has : S → ShelfName → Option (List ℕ)) (old new : CachedShelf S) (file content_type : List ℕ) (plan : Choice) (body : SentFile) (name : ShelfName) → Keeps S.did honest has → IsTrue (honest new.shelf)
-        → IsRead (GaveOfNode S.did S.failures) old file plan content_type body new → has new.shelf name ≡ has old.shelf name }
-    ensures stays_after_fault { (honest : S → Bool) (has : S → ShelfName → Option (List ℕ)) (old new : CachedShelf S) (file : List ℕ) (plan : Choice) (fault : ReadFault) (name : ShelfName) → Keeps S.did honest has → IsTrue (honest new.shelf)
-        → IsNotRead (GaveOfNode S.did S.failures) (FailedOfNode S.did S.failures) old file plan fault new → has new.shelf name ≡ has old.shelf name }
-    ensures cached { (honest : S → Bool) (has : S → ShelfName → Option (List ℕ)) (old new : CachedShelf S) (file content_type : List ℕ) (plan : Choice) (body : SentFile) → Keeps S.did honest has → IsTrue (honest new.shelf)
-        → HasFile has old.shelf file → HasCached has old → IsRead (GaveOfNode S.did S.failures) old file plan content_type body new → HasCached has new }
-    ensures cached_after_fault { (honest : S → Bool) (has : S → ShelfName → Option (List ℕ)) (old new : CachedShelf S) (file : List ℕ) (plan : Choice) (fault : ReadFault) → Keeps S.did honest has → IsTrue (honest new.shelf)
-        → HasFile has old.shelf file → HasCached has old → IsNotRead (GaveOfNode S.did S.failures) (FailedOfNode S.did S.failures) old file plan fault new → HasCached has new }
+    ensures stays { (honest : S → Bool) (has : S → ShelfName → Option (List ℕ)) (old new : CachedShelf S)
+        (file content_type : List ℕ) (plan : Choice) (body : SentFile) (name : ShelfName) → Keeps S.did honest has
+        → IsTrue (honest new.shelf) → IsRead (GaveOfNode S.did S.failures) old file plan content_type body new
+        → has new.shelf name ≡ has old.shelf name }
+    ensures stays_after_fault { (honest : S → Bool) (has : S → ShelfName → Option (List ℕ)) (old new : CachedShelf S)
+        (file : List ℕ) (plan : Choice) (fault : ReadFault) (name : ShelfName) → Keeps S.did honest has
+        → IsTrue (honest new.shelf)
+        → IsNotRead (GaveOfNode S.did S.failures) (FailedOfNode S.did S.failures) old file plan fault new
+        → has new.shelf name ≡ has old.shelf name }
+    ensures cached { (honest : S → Bool) (has : S → ShelfName → Option (List ℕ)) (old new : CachedShelf S)
+        (file content_type : List ℕ) (plan : Choice) (body : SentFile) → Keeps S.did honest has
+        → IsTrue (honest new.shelf) → HasFile has old.shelf file → HasCached has old
+        → IsRead (GaveOfNode S.did S.failures) old file plan content_type body new → HasCached has new }
+    ensures cached_after_fault { (honest : S → Bool) (has : S → ShelfName → Option (List ℕ)) (old new : CachedShelf S)
+        (file : List ℕ) (plan : Choice) (fault : ReadFault) → Keeps S.did honest has → IsTrue (honest new.shelf)
+        → HasFile has old.shelf file → HasCached has old
+        → IsNotRead (GaveOfNode S.did S.failures) (FailedOfNode S.did S.failures) old file plan fault new
+        → HasCached has new }
 {}
 
 /// Over such a shelf, and where the file read is on it: what is in the cache after a read, also after one that fails, was there before, or is a piece
 /// of that file.
 pub fn caches_have_pieces_of_files_read<S: Shelf>()
-    ensures read { (honest : S → Bool) (has : S → ShelfName → Option (List ℕ)) (old new : CachedShelf S) (file content_type : List ℕ) (plan : Choice) (body : SentFile) → Keeps S.did honest has → IsTrue (honest new.shelf)
-        → HasFile has old.shelf file → HasCached has old → IsRead (GaveOfNode S.did S.failures) old file plan content_type body new
+    ensures read { (honest : S → Bool) (has : S → ShelfName → Option (List ℕ)) (old new : CachedShelf S)
+        (file content_type : List ℕ) (plan : Choice) (body : SentFile) → Keeps S.did honest has
+        → IsTrue (honest new.shelf) → HasFile has old.shelf file → HasCached has old
+        → IsRead (GaveOfNode S.did S.failures) old file plan content_type body new
         → AllCached (λ chunk. IsCached old.cache chunk ⊎ Contains (cut file) chunk) new.cache }
-    ensures fault { (honest : S → Bool) (has : S → ShelfName → Option (List ℕ)) (old new : CachedShelf S) (file : List ℕ) (plan : Choice) (fault : ReadFault) → Keeps S.did honest has → IsTrue (honest new.shelf)
-        → HasFile has old.shelf file → HasCached has old → IsNotRead (GaveOfNode S.did S.failures) (FailedOfNode S.did S.failures) old file plan fault new
+    ensures fault { (honest : S → Bool) (has : S → ShelfName → Option (List ℕ)) (old new : CachedShelf S)
+        (file : List ℕ) (plan : Choice) (fault : ReadFault) → Keeps S.did honest has → IsTrue (honest new.shelf)
+        → HasFile has old.shelf file → HasCached has old
+        → IsNotRead (GaveOfNode S.did S.failures) (FailedOfNode S.did S.failures) old file plan fault new
         → AllCached (λ chunk. IsCached old.cache chunk ⊎ Contains (cut file) chunk) new.cache }
 {}

@@ -45,40 +45,57 @@ use http_wire::Duplex;
 /// Of these relations each is refuted of one wrong answer, so none of them holds of everything. `range` says that a
 /// head asks for one list of ranges. An answer that a file is missing or damaged is none by which it is read back (`IsReadBack`).
 pub fn wrong_answers_are_refused<S: Shelf, D: Disk>()
-    ensures missing { (parts : RequestParts) (path file : List ℕ) → ¬ (IsReadBack parts path file (refused_answer reason.Missing)) }
-    ensures damaged { (parts : RequestParts) (path file : List ℕ) → ¬ (IsReadBack parts path file (refused_answer reason.Damaged)) }
-    ensures range { (parts : RequestParts) (one another : Asked) → AsksRange parts one → AsksRange parts another → one ≡ another }
-    ensures refused { (old new : Server S D D.Disk) (parts : RequestParts) (body : List ℕ) (answer : Answer) (why : Refusal) → asked_for parts body ≡ Err why
-        → IsAnswer S.did S.failures old parts body answer new → new.house ≡ old.house }
-    ensures refusal { (old new : Server S D D.Disk) (parts : RequestParts) (body : List ℕ) (answer : Answer) (why : Refusal) → asked_for parts body ≡ Err why
-        → IsAnswer S.did S.failures old parts body answer new → (answer ≡ refused_answer why) ⊎ (answer ≡ refused_answer reason.OutOfMemory) }
-    ensures stored { (uploads : Contents) (old new : S) (bytes : List ℕ) → IsStored S.did uploads old bytes new → length bytes ≤ 16777216 }
+    ensures missing { (parts : RequestParts) (path file : List ℕ)
+        → ¬ (IsReadBack parts path file (refused_answer reason.Missing)) }
+    ensures damaged { (parts : RequestParts) (path file : List ℕ)
+        → ¬ (IsReadBack parts path file (refused_answer reason.Damaged)) }
+    ensures range { (parts : RequestParts) (one another : Asked) → AsksRange parts one → AsksRange parts another
+        → one ≡ another }
+    ensures refused { (old new : Server S D D.Disk) (parts : RequestParts) (body : List ℕ) (answer : Answer)
+        (why : Refusal) → asked_for parts body ≡ Err why → IsAnswer S.did S.failures old parts body answer new
+        → new.house ≡ old.house }
+    ensures refusal { (old new : Server S D D.Disk) (parts : RequestParts) (body : List ℕ) (answer : Answer)
+        (why : Refusal) → asked_for parts body ≡ Err why → IsAnswer S.did S.failures old parts body answer new
+        → (answer ≡ refused_answer why) ⊎ (answer ≡ refused_answer reason.OutOfMemory) }
+    ensures stored { (uploads : Contents) (old new : S) (bytes : List ℕ) → IsStored S.did uploads old bytes new
+        → length bytes ≤ 16777216 }
     ensures large { (uploads : Contents) (old new : S) (bytes : List ℕ) → length bytes ≤ 16777216
         → ¬ (IsNotStored S.did S.failures uploads old bytes upload_fault.TooLarge new) }
-    ensures device { (uploads : Contents) (old new : S) (bytes : List ℕ) → IsNotStored S.did S.failures uploads old bytes upload_fault.Device new
-        → S.failures old < S.failures new }
-    ensures upload { (old new : Server S D D.Disk) (n : ℕ) (path bytes : List ℕ) (published : Option ℕ) (digest : Digest) → 16777216 < length bytes
+    ensures device { (uploads : Contents) (old new : S) (bytes : List ℕ)
+        → IsNotStored S.did S.failures uploads old bytes upload_fault.Device new → S.failures old < S.failures new }
+    ensures upload { (old new : Server S D D.Disk) (n : ℕ) (path bytes : List ℕ) (published : Option ℕ)
+        (digest : Digest) → 16777216 < length bytes
         → ¬ (DoesUpload S.did S.failures old n path bytes (Ok (Uploaded published digest)) new) }
 {}
 
 /// The same of what a host and its journal do.
 pub fn wrong_changes_are_refused<D: Disk>()
-    ensures grows { (entry : Entry) → ¬ (Grows (record { limit = 1; entries = entry ∷ []; uploads = map.empty }) (record { limit = 1; entries = []; uploads = map.empty })) }
-    ensures journaled { (old new : Host) (journal : Keeps D) → ¬ (IsJournaled {A = ℕ} D.Disk (Ok 0) old None new (Some journal)) }
+    ensures grows { (entry : Entry)
+        → ¬ (Grows (record { limit = 1; entries = entry ∷ []; uploads = map.empty })
+        (record { limit = 1; entries = []; uploads = map.empty })) }
+    ensures journaled { (old new : Host) (journal : Keeps D)
+        → ¬ (IsJournaled {A = ℕ} D.Disk (Ok 0) old None new (Some journal)) }
     ensures broken { (old new : Host) → ¬ (IsJournaled {A = ℕ} D.Disk (Err reason.Device) old None new None) }
     ensures put { (old new : Keeps D) (entry : Entry) → old.broken ≡ true → ¬ (IsPut D.Disk old entry new) }
-    ensures put_in_vain { (old new : Keeps D) (entry : Entry) → new.broken ≡ false → ¬ (IsPutInVain D.Disk old entry new) }
-    ensures kept { (old new : Keeps D) (entry : Entry) → IsTrue D.is_modelled → ¬ (AllStored (D.may_leave new.disk) new.entries) → ¬ (IsPut D.Disk old entry new) }
+    ensures put_in_vain { (old new : Keeps D) (entry : Entry) → new.broken ≡ false
+        → ¬ (IsPutInVain D.Disk old entry new) }
+    ensures kept { (old new : Keeps D) (entry : Entry) → IsTrue D.is_modelled
+        → ¬ (AllStored (D.may_leave new.disk) new.entries) → ¬ (IsPut D.Disk old entry new) }
     ensures stopped { ¬ (IsStopped {A = ℕ} (Ok 0)) }
     ensures stops { (host next : Host) (site : SiteName) → ¬ (HostStops host (Ok (ask.Changes site)) next) }
-    ensures command { (command : Command) (next : Host) → ¬ (CommandRunsOut (record { limit = 0; entries = []; uploads = map.empty }) command next) }
-    ensures undo { (site : SiteName) (k : ℕ) (next : Host) → ¬ (UndoRunsOut (record { limit = 0; entries = []; uploads = map.empty }) site k next) }
+    ensures command { (command : Command) (next : Host)
+        → ¬ (CommandRunsOut (record { limit = 0; entries = []; uploads = map.empty }) command next) }
+    ensures undo { (site : SiteName) (k : ℕ) (next : Host)
+        → ¬ (UndoRunsOut (record { limit = 0; entries = []; uploads = map.empty }) site k next) }
     ensures text { (host : Host) → ¬ (TextRunsOut (refused host reason.BadName) host) }
-    ensures deploy { (command : SiteName → Command) (next : Host) → ¬ (DeployRunsOut (record { limit = 0; entries = []; uploads = map.empty }) 1 command next) }
+    ensures deploy { (command : SiteName → Command) (next : Host)
+        → ¬ (DeployRunsOut (record { limit = 0; entries = []; uploads = map.empty }) 1 command next) }
     ensures does { (host : Host) → ¬ (Does (Ok (Entered 1)) host (record { told = Entered 2; host = host })) }
-    ensures commits { (told : Told) (next : Host) (command : Command) → DoesCommit (Ok told) next (record { limit = 0; entries = []; uploads = map.empty }) command
+    ensures commits { (told : Told) (next : Host) (command : Command)
+        → DoesCommit (Ok told) next (record { limit = 0; entries = []; uploads = map.empty }) command
         → told ≡ Refused (reason.Change HistoryFull) }
-    ensures shown { (told : Told) → ShowsDeploy (record { limit = 0; entries = []; uploads = map.empty }) 1 told → told ≡ Refused (reason.Change NoSuchDeploy) }
+    ensures shown { (told : Told) → ShowsDeploy (record { limit = 0; entries = []; uploads = map.empty }) 1 told
+        → told ≡ Refused (reason.Change NoSuchDeploy) }
     ensures stands { (uploads : Contents) → ¬ (Stands uploads None None (Ok Kept)) }
 {}
 
@@ -88,12 +105,15 @@ pub fn wrong_runs_are_refused<S: Shelf, D: Disk, X: Duplex>()
         → ¬ (Serves (IsAnswer S.did S.failures) ⊥ ⊥ (Err fault.InputFault) host next stream held new_held) }
     ensures output { (host next : Server S D D.Disk) (stream held new_held : Stream)
         → ¬ (Serves (IsAnswer S.did S.failures) ⊥ ⊥ (Err fault.OutputFault) host next stream held new_held) }
-    ensures idle { (host next : Server S D D.Disk) → ¬ (Connects (IsAnswer S.did S.failures) (Err fault.OutOfMemory) host next (AtEnd ∷ [])) }
+    ensures idle { (host next : Server S D D.Disk)
+        → ¬ (Connects (IsAnswer S.did S.failures) (Err fault.OutOfMemory) host next (AtEnd ∷ [])) }
     ensures caught_up { (host : Server S D D.Disk) → ¬ (IsCaughtUp (IsAnswer S.did S.failures) host [] (0 ∷ [])) }
     ensures head { (stream : Stream) → ¬ (IsHeadBad CodingRefused stream) }
     ensures interim { (parts : RequestParts) → ¬ (IsInterim parts (0 ∷ [])) }
-    ensures opened { (old : D) (shelf : S) (limit : ℕ) (server : Server S D D.Disk) → server.journal ≡ None → ¬ (IsOpened S.did old shelf limit server) }
-    ensures open_fault { (old new : D) (shelf new_shelf : S) (limit : ℕ) → IsOpenFault D.Disk S.did old shelf limit open_fault.JournalDevice new new_shelf
+    ensures opened { (old : D) (shelf : S) (limit : ℕ) (server : Server S D D.Disk) → server.journal ≡ None
+        → ¬ (IsOpened S.did old shelf limit server) }
+    ensures open_fault { (old new : D) (shelf new_shelf : S) (limit : ℕ)
+        → IsOpenFault D.Disk S.did old shelf limit open_fault.JournalDevice new new_shelf
         → D.faults new ≡ min (D.faults old + 1) (2 ^ 64 - 1) }
     ensures record_fault { ¬ (IsNoRecordFault open_fault.BadHeader) }
     ensures folder_fault { ¬ (IsFolderFault open_fault.BadHeader) }
@@ -101,6 +121,7 @@ pub fn wrong_runs_are_refused<S: Shelf, D: Disk, X: Duplex>()
         → ¬ (RunsStore D.Disk S.did S.failures X.Duplex ⊥ first shelf 1 old new said new_said) }
     ensures run { (words : List (List ℕ)) (old new : X) (said new_said : Stream)
         → ¬ (Runs ⟦<MemDisk as Disk>⟧ D.Disk S.Shelf X.Duplex ⊥ words 5 old new said new_said) }
-    ensures held_back { (host : Server S D D.Disk) (old new : X) (said new_said : Stream) → IsServed (IsAnswer S.did S.failures) X.Duplex ⊥ host 0 old new said new_said
-        → (events : List Event) × Steps X.saw old events new × Timely (IsCaughtUp (IsAnswer S.did S.failures) host) events }
+    ensures held_back { (host : Server S D D.Disk) (old new : X) (said new_said : Stream)
+        → IsServed (IsAnswer S.did S.failures) X.Duplex ⊥ host 0 old new said new_said → (events : List Event)
+        × Steps X.saw old events new × Timely (IsCaughtUp (IsAnswer S.did S.failures) host) events }
 {}

@@ -28,29 +28,37 @@ use host_disk::Disk;
 /// told as missing or damaged. So it is over a connection, whose requests are answered one after
 /// another: a shelf that is honest after it was so before.
 pub fn uploads_are_read_back<S: Shelf, D: Disk>()
-    ensures empty { (has : S → ShelfName → Option (List ℕ)) (server : Server S D D.Disk) (limit : ℕ) → server.house.uploads ≡ map.empty → server.files.cache ≡ empty limit
-        → HasKnown has server }
-    ensures opened { (honest : S → Bool) (has : S → ShelfName → Option (List ℕ)) (old : D) (shelf : S) (limit : ℕ) (server : Server S D D.Disk) → Keeps S.did honest has
-        → IsTrue (honest server.files.shelf) → IsOpened S.did old shelf limit server → HasKnown has server }
-    ensures kept { (honest : S → Bool) (has : S → ShelfName → Option (List ℕ)) (old new : Server S D D.Disk) (parts : RequestParts) (body : List ℕ) (answer : Answer) → Keeps S.did honest has → IsTrue (honest new.files.shelf)
-        → UploadAgrees old.house.uploads parts body → HasKnown has old → IsAnswer S.did S.failures old parts body answer new → HasKnown has new }
-    ensures read { (honest : S → Bool) (has : S → ShelfName → Option (List ℕ)) (old new : Server S D D.Disk) (parts : RequestParts) (body : List ℕ) (answer : Answer) (site : Site) (version : Version)
-        (path file : List ℕ) → Keeps S.did honest has → IsTrue (honest new.files.shelf) → HasKnown has old
+    ensures empty { (has : S → ShelfName → Option (List ℕ)) (server : Server S D D.Disk) (limit : ℕ)
+        → server.house.uploads ≡ map.empty → server.files.cache ≡ empty limit → HasKnown has server }
+    ensures opened { (honest : S → Bool) (has : S → ShelfName → Option (List ℕ)) (old : D) (shelf : S) (limit : ℕ)
+        (server : Server S D D.Disk) → Keeps S.did honest has → IsTrue (honest server.files.shelf)
+        → IsOpened S.did old shelf limit server → HasKnown has server }
+    ensures kept { (honest : S → Bool) (has : S → ShelfName → Option (List ℕ)) (old new : Server S D D.Disk)
+        (parts : RequestParts) (body : List ℕ) (answer : Answer) → Keeps S.did honest has
+        → IsTrue (honest new.files.shelf) → UploadAgrees old.house.uploads parts body → HasKnown has old
+        → IsAnswer S.did S.failures old parts body answer new → HasKnown has new }
+    ensures read { (honest : S → Bool) (has : S → ShelfName → Option (List ℕ)) (old new : Server S D D.Disk)
+        (parts : RequestParts) (body : List ℕ) (answer : Answer) (site : Site) (version : Version) (path file : List ℕ)
+        → Keeps S.did honest has → IsTrue (honest new.files.shelf) → HasKnown has old
         → asked_for parts body ≡ Ok (Read site version path) → file_of (state_of old.house) site version path ≡ Ok file
         → IsAnswer S.did S.failures old parts body answer new → IsReadBack parts path file answer }
-    ensures there { (honest : S → Bool) (has : S → ShelfName → Option (List ℕ)) (old new : Server S D D.Disk) (parts : RequestParts) (body : List ℕ) (answer : Answer) (site : Site) (version : Version)
-        (path file : List ℕ) → Keeps S.did honest has → IsTrue (honest new.files.shelf) → HasKnown has old
+    ensures there { (honest : S → Bool) (has : S → ShelfName → Option (List ℕ)) (old new : Server S D D.Disk)
+        (parts : RequestParts) (body : List ℕ) (answer : Answer) (site : Site) (version : Version) (path file : List ℕ)
+        → Keeps S.did honest has → IsTrue (honest new.files.shelf) → HasKnown has old
         → asked_for parts body ≡ Ok (Read site version path) → file_of (state_of old.house) site version path ≡ Ok file
         → IsAnswer S.did S.failures old parts body answer new → answer ≢ refused_answer reason.Missing }
-    ensures whole { (honest : S → Bool) (has : S → ShelfName → Option (List ℕ)) (old new : Server S D D.Disk) (parts : RequestParts) (body : List ℕ) (answer : Answer) (site : Site) (version : Version)
-        (path file : List ℕ) → Keeps S.did honest has → IsTrue (honest new.files.shelf) → HasKnown has old
+    ensures whole { (honest : S → Bool) (has : S → ShelfName → Option (List ℕ)) (old new : Server S D D.Disk)
+        (parts : RequestParts) (body : List ℕ) (answer : Answer) (site : Site) (version : Version) (path file : List ℕ)
+        → Keeps S.did honest has → IsTrue (honest new.files.shelf) → HasKnown has old
         → asked_for parts body ≡ Ok (Read site version path) → file_of (state_of old.house) site version path ≡ Ok file
         → IsAnswer S.did S.failures old parts body answer new → answer ≢ refused_answer reason.Damaged }
-    ensures before { (honest : S → Bool) (has : S → ShelfName → Option (List ℕ)) (number : ℕ) (old new : Server S D D.Disk) (stream left : Stream) (replies : List (List ℕ))
-        → Keeps S.did honest has → IsTrue (honest new.files.shelf) → AreServed (IsAnswer S.did S.failures) number old stream replies new left
+    ensures before { (honest : S → Bool) (has : S → ShelfName → Option (List ℕ)) (number : ℕ)
+        (old new : Server S D D.Disk) (stream left : Stream) (replies : List (List ℕ)) → Keeps S.did honest has
+        → IsTrue (honest new.files.shelf) → AreServed (IsAnswer S.did S.failures) number old stream replies new left
         → IsTrue (honest old.files.shelf) }
-    ensures connection { (honest : S → Bool) (has : S → ShelfName → Option (List ℕ)) (number : ℕ) (old new : Server S D D.Disk) (stream left : Stream) (replies : List (List ℕ))
-        → Keeps S.did honest has → IsTrue (honest new.files.shelf) → HasKnown has old
+    ensures connection { (honest : S → Bool) (has : S → ShelfName → Option (List ℕ)) (number : ℕ)
+        (old new : Server S D D.Disk) (stream left : Stream) (replies : List (List ℕ)) → Keeps S.did honest has
+        → IsTrue (honest new.files.shelf) → HasKnown has old
         → AreServed (Agreeing (IsAnswer S.did S.failures)) number old stream replies new left
         → AreServed ReadsBack number old stream replies new left × HasKnown has new }
 {}
