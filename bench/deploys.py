@@ -115,8 +115,9 @@ def bytes_of(filehost, work, *given):
 class Costs:
     """The seconds and the bytes of a first deploy, of a second one, and of taking a change back, each way."""
 
-    def __init__(self, program):
-        self.program = program
+    def __init__(self, program, before):
+        # The program, and an earlier build of it, if there is one to compare it with.
+        self.program, self.before = program, before
         self.took, self.went = collections.defaultdict(list), {}
         self.first, self.changes, self.others = version_of_site(1), version_of_site(2, range(CHANGED)), version_of_site(3, range(CHANGED, 2 * CHANGED))
         self.second, self.third = self.first | self.changes, self.first | self.changes | self.others
@@ -127,6 +128,14 @@ class Costs:
     def add(self, name, seconds, count):
         self.took[name].append(seconds)
         self.went[name] = count
+
+    def list_before(self, room):
+        """The first deploy by the earlier build."""
+        if self.before:
+            with contextlib.ExitStack() as stack:
+                filehost = new_filehost(stack, self.before, room)
+                _, count, seconds = bytes_of(filehost, filehost.deploy, self.first)
+                self.add("first, filehost before", seconds, count)
 
     def list_whole(self, room):
         """Two deploys by filehost that list the whole site."""
@@ -177,6 +186,7 @@ class Costs:
         base = "first, copied and synced"
         for title, name in (
             ("first: filehost", "first, filehost"),
+            ("first: the earlier build of filehost", "first, filehost before"),
             ("first: copied to a new folder, link switched", "first, copied"),
             ("first: the same, each file synced", base),
             ("10 changed: filehost, listing of all 1,000", "second, filehost, whole listing"),
@@ -190,12 +200,12 @@ class Costs:
                 yield [title, f"{median[name] * 1000:,.1f} ms", f"{median[name] / median[base]:.2f}", f"{self.went[name]:,}"]
 
 
-def compare_costs(program, folder, times):
+def compare_costs(program, before, folder, times):
     """Prints the medians of so many times. The ways take turns."""
-    costs = Costs(program)
+    costs = Costs(program, before)
     for _ in range(times):
         room = pathlib.Path(tempfile.mkdtemp(dir=folder))
-        for way in (costs.list_whole, costs.patch_and_undo, costs.copy_and_link):
+        for way in (costs.list_before, costs.list_whole, costs.patch_and_undo, costs.copy_and_link):
             way(room)
     title = f"A deploy of {FILES:,} files of {FILE:,} bytes"
     say_table(title, ["What", "Time", "Against the synced copy", "Bytes sent and received"], costs.rows())
