@@ -1,0 +1,76 @@
+"""Runs programs over pipes for bench/run: how long they take, and how much memory."""
+
+import contextlib
+import os
+import pathlib
+import subprocess
+import sys
+import time
+
+from streams import MEBIBYTE, head
+
+
+class Output:
+    """Reads a pipe to its end, keeping only the length, the last bytes, and when so many bytes had come and when the end did."""
+
+    def __init__(self, mark):
+        self.buffer = bytearray(MEBIBYTE)
+        self.length = 0
+        self.last = b""
+        self.mark = mark
+        self.marked = self.ended = None
+
+    def read_all(self, pipe):
+        while count := os.readv(pipe.fileno(), [self.buffer]):
+            self.length += count
+            self.last = (self.last + bytes(self.buffer[max(0, count - 100):count]))[-100:]
+            if self.marked is None and self.length >= self.mark:
+                self.marked = time.perf_counter()
+        self.ended = time.perf_counter()
+
+
+def measure(command, fed=None, mark=0):
+    """Runs a command, fed by `cat` of a file where one is given, and reads what it prints through a pipe.
+
+    Returns its output, which tells when so many bytes of it had come, the seconds from its start to its end, and its peak memory in bytes.
+    """
+    with contextlib.ExitStack() as stack:
+        source = subprocess.DEVNULL
+        if fed:
+            feeder = stack.enter_context(subprocess.Popen(["cat", fed], stdout=subprocess.PIPE))
+            source = feeder.stdout
+        output = Output(mark)
+        begun = time.perf_counter()
+        program = subprocess.Popen(command, stdin=source, stdout=subprocess.PIPE)
+        output.read_all(program.stdout)
+        _, status, used = os.wait4(program.pid, 0)
+        seconds = time.perf_counter() - begun
+        program.returncode = os.waitstatus_to_exitcode(status)
+        program.stdout.close()
+        if program.returncode != 0:
+            sys.exit(f"{command[0]} ended with status {program.returncode}")
+    return output, seconds, used.ru_maxrss * 1024
+
+
+def require(holds, what):
+    if not holds:
+        sys.exit(f"the program answered otherwise than it should: {what}")
+
+
+def memory_of(program, field):
+    """The bytes that the kernel tells of a program that runs: what it has now (VmRSS), or the most that it had (VmHWM)."""
+    told = pathlib.Path(f"/proc/{program.pid}/status").read_text()
+    return 1024 * int(told.partition(f"{field}:")[2].split()[0])
+
+
+def ask(program, method, length):
+    """Has a program that runs answer this request for its file, and reads the reply, whose body has this length."""
+    program.stdin.write(head(method, "/s/one/file"))
+    program.stdin.flush()
+    reply = b""
+    while b"\r\n\r\n" not in reply:
+        reply += os.read(program.stdout.fileno(), MEBIBYTE)
+    require(reply.startswith(b"HTTP/1.1 200 "), reply[:100])
+    left = length - len(reply.partition(b"\r\n\r\n")[2])
+    while left > 0:
+        left -= len(os.read(program.stdout.fileno(), MEBIBYTE))
