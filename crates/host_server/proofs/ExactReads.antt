@@ -20,11 +20,12 @@ use Rattle.host_server.specs.Asks.{IsAnswer, IsReplyToAsk, asked_for, holds_up}
 use Rattle.host_server.specs.Journals.{is_broken}
 use Rattle.host_server.proofs.HoldingUp.{no_and}
 use Rattle.host_server.proofs.KnownFiles.{known_cached}
-use Rattle.host_server.specs.Files.{IsFileSent, IsFileTold, IsReadReply, plan_of, refusal_of_read}
+use Rattle.host_server.specs.Files.{IsFileSent, IsFileTold, IsReadReply}
+use Rattle.host_replies.specs.FileAsks.{plan_of, refusal_of_read}
 use Rattle.host_server.specs.Hosts.{state_of}
 use Rattle.host_server.specs.ReadBack.{HasKnown, IsReadBack, IsSentExactly}
 use Rattle.host_replies.specs.Replies.{Answer, is_head, refused_answer, unread_answer}
-use Rattle.host_server.specs.Versions.{file_of}
+use Rattle.host_replies.specs.Versions.{file_of}
 use Rattle.host_server.specs.declared.servers.Server.{Server}
 
 module _ {S : Type 0} (did : S → Call → S → Type 0) (failures : S → ℕ) (has : S → ShelfName → Option (List ℕ)) (keeps : AlwaysKeeps did has) where

@@ -22,12 +22,13 @@ use Rattle.host_api.specs.declared.refusals.Refusal.{Refusal}
 use Rattle.host_api.specs.declared.texts.Told.{Told}
 use Rattle.host_disk.specs.declared.disks.Disk.{Ghosts}
 use Rattle.host_server.specs.Asks.{AskRunsOut, AskStops, IsAnswer, IsReplyToAsk, asked_for}
-use Rattle.host_server.specs.Files.{IsFileSent, IsFileTold, IsReadReply, ReadRunsOut, plan_of}
+use Rattle.host_server.specs.Files.{IsFileSent, IsFileTold, IsReadReply, ReadRunsOut}
+use Rattle.host_replies.specs.FileAsks.{plan_of}
 use Rattle.host_server.specs.Hosts.{state_of}
 use Rattle.host_server.specs.Outcomes.{judge_upload}
 use Rattle.host_replies.specs.Replies.{Answer, is_head}
 use Rattle.host_server.specs.Storing.{IsNotStored, IsRefusedByStore, IsStored, IsStoredIf, IsUnpublished, IsUploaded, IsUploadReply, UploadRunsOut}
-use Rattle.host_server.specs.Versions.{file_of}
+use Rattle.host_replies.specs.Versions.{file_of}
 use Rattle.host_server.specs.declared.servers.Server.{Server}
 
 module _ {S : Type 0} (did : S → Call → S → Type 0) (failures : S → ℕ) (honest : S → Bool) (has : S → ShelfName → Option (List ℕ)) (keeps : Keeps did honest has) where

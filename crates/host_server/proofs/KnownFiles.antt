@@ -28,13 +28,14 @@ use Rattle.host_api.specs.declared.bodies.Ask.TheVariants as ask
 use Rattle.host_api.specs.declared.refusals.Refusal.{Refusal}
 use Rattle.host_disk.specs.declared.disks.Disk.{Ghosts}
 use Rattle.host_server.specs.Asks.{AskRunsOut, AskStops, IsAnswer, IsReplyToAsk, asked_for}
-use Rattle.host_server.specs.Files.{IsFileSent, IsFileTold, IsKnown, IsReadReply, ReadRunsOut, plan_of}
+use Rattle.host_server.specs.Files.{IsFileSent, IsFileTold, IsKnown, IsReadReply, ReadRunsOut}
+use Rattle.host_replies.specs.FileAsks.{plan_of}
 use Rattle.host_server.specs.Hosts.{Host, state_of, with_upload}
 use Rattle.host_server.specs.Outcomes.{judge_upload, uploaded}
 use Rattle.host_server.specs.ReadBack.{AgreesWith, HasKnown, IsKnownPiece, UploadAgrees}
 use Rattle.host_replies.specs.Replies.{Answer, is_head}
 use Rattle.host_server.specs.Storing.{IsRefusedByStore, IsStored, IsStoredIf, IsUploadReply, UploadRunsOut}
-use Rattle.host_server.specs.Versions.{file_of}
+use Rattle.host_replies.specs.Versions.{file_of}
 use Rattle.host_server.specs.declared.servers.Server.{Server}
 use Rattle.host_server.proofs.SameUploads.{host_same, published_same, runs_out_same, stops_same, uploads_of}
 

@@ -30,7 +30,8 @@ use Rattle.host_disk.specs.declared.disks.Disk.{Ghosts}
 use Rattle.host_server.specs.Answers.{ReadsFile}
 use Rattle.host_replies.specs.Bodies.{answer_of}
 use Rattle.host_replies.specs.PartsTypes.{IsOfEight}
-use Rattle.host_server.specs.Files.{AskedBy, AsksRange, IsFileSent, IsFileTold, IsKnown, is_read, plan_of, refusal_of_read}
+use Rattle.host_server.specs.Files.{IsFileSent, IsFileTold, IsKnown, is_read}
+use Rattle.host_replies.specs.FileAsks.{AskedBy, AsksRange, plan_of, refusal_of_read}
 use Rattle.host_replies.specs.SentFiles.{SendsParts, sent_answer}
 use Rattle.host_replies.specs.Replies.{Answer, is_head, refused_answer, unread_answer}
 use Rattle.host_replies.specs.declared.replies.Reply.{Reply}

@@ -31,7 +31,7 @@ use Rattle.host_replies.specs.Replies.{takes_text}
 use Rattle.host_server.specs.Outcomes.{Outcome, Does, DoesCommit, told_by}
 use Rattle.host_replies.specs.Replies.{Answer, refused_answer, told_answer}
 use Rattle.host_server.specs.Shown.{ShowsDeploy, is_open, shown_lines}
-use Rattle.host_server.specs.Versions.{file_of}
+use Rattle.host_replies.specs.Versions.{file_of}
 use Rattle.host_replies.specs.declared.replies.Reply.{Reply}
 use Rattle.host_server.proofs.Journaling.{journaled_as, keeps_same}
 use Rattle.host_server.proofs.Memory.{IsUnasked}

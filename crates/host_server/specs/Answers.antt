@@ -13,7 +13,7 @@ use Rattle.host_replies.specs.Bodies.{answer_of}
 use Rattle.host_server.specs.Files.{IsReadReply, ReadRunsOut}
 use Rattle.host_server.specs.Hosts.{state_of}
 use Rattle.host_replies.specs.Replies.{Answer, refused_answer}
-use Rattle.host_server.specs.Versions.{file_of}
+use Rattle.host_replies.specs.Versions.{file_of}
 
 -- the answer where a call gives this reply, or this reason to refuse
 abbrev pub answer_by : Result Reply Refusal → Answer

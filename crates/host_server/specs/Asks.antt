@@ -28,7 +28,7 @@ use Rattle.host_replies.specs.Replies.{Answer, refused_answer, told_answer}
 use Rattle.host_server.specs.Shown.{ShowsDeploy, is_open, shown_lines}
 use Rattle.host_server.specs.ServerJournals.{Breaks, GoesOn}
 use Rattle.host_server.specs.Storing.{IsUnpublished, IsUploadReply, UploadRunsOut}
-use Rattle.host_server.specs.Versions.{file_of}
+use Rattle.host_replies.specs.Versions.{file_of}
 use Rattle.host_server.specs.declared.servers.Server.{Server}
 
 -- what a request of these parts and this body asks for, or the first reason why it asks for nothing

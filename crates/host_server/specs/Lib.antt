@@ -8,7 +8,6 @@ pub mod Outcomes
 pub mod Memory
 pub mod HeldUp
 -- what is read of it
-pub mod Versions
 pub mod Shown
 -- what is answered, and what a connection and a run of the program do
 pub mod Files

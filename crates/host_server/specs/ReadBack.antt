@@ -23,12 +23,12 @@ use Rattle.host_api.specs.declared.refusals.Refusal.TheVariants as reason
 use Rattle.host_api.specs.declared.versions.Version.{Version}
 use Rattle.host_disk.specs.declared.disks.Disk.{Ghosts}
 use Rattle.host_server.specs.Asks.{asked_for}
-use Rattle.host_server.specs.Files.{AsksRange, plan_of}
+use Rattle.host_replies.specs.FileAsks.{AsksRange, plan_of}
 use Rattle.host_replies.specs.SentFiles.{sent_answer}
 use Rattle.host_server.specs.Hosts.{state_of}
 use Rattle.host_replies.specs.Replies.{Answer, is_head, refused_answer, unread_answer}
 use Rattle.host_connection.specs.Serving.{Answering}
-use Rattle.host_server.specs.Versions.{file_of}
+use Rattle.host_replies.specs.Versions.{file_of}
 use Rattle.host_server.specs.declared.servers.Server.{Server}
 
 -- the chunk is a piece of a file that is known

@@ -16,7 +16,7 @@ use Rattle.host_server.specs.Files.{IsFileTold, IsReadReply}
 use Rattle.host_replies.specs.SentFiles.{sent_as}
 use Rattle.host_server.specs.Hosts.{Host, state_of}
 use Rattle.host_replies.specs.Replies.{Answer, is_head}
-use Rattle.host_server.specs.Versions.{file_of}
+use Rattle.host_replies.specs.Versions.{file_of}
 use Rattle.host_server.specs.declared.servers.Server.{Server}
 
 -- not where it is an answer with its body

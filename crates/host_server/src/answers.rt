@@ -13,7 +13,7 @@ ghost use Rattle.host_replies.specs.Replies.{Tells};
 ghost use Rattle.host_server.specs.Memory.{asking_takes};
 ghost use Rattle.host_server.specs.Shown.{shown_lines};
 ghost use Rattle.host_server.specs.Outcomes.{told_by};
-ghost use Rattle.host_server.specs.Versions.{file_of};
+ghost use Rattle.host_replies.specs.Versions.{file_of};
 
 use crate::host::{HostView, list_changes, show_deploy};
 use crate::reads::read_file;

@@ -14,8 +14,9 @@ ghost use Rattle.host_api.specs.Types.{type_of};
 ghost use Rattle.host_api.specs.declared.refusals.Refusal.TheVariants.{NotSatisfiable, OutOfMemory};
 ghost use Rattle.host_server.specs.Answers.{Reads};
 ghost use Rattle.host_replies.specs.Bodies.{answer_of};
-ghost use Rattle.host_server.specs.Files as spec;
-ghost use Rattle.host_server.specs.Files.{AsksRange, is_read, plan_of};
+ghost use Rattle.host_server.specs.Files.{is_read};
+ghost use Rattle.host_replies.specs.FileAsks as spec;
+ghost use Rattle.host_replies.specs.FileAsks.{AsksRange, plan_of};
 ghost use Rattle.host_replies.specs.SentFiles.{sent_answer};
 
 use crate::host::file;

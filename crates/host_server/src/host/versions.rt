@@ -2,7 +2,7 @@
 ghost use Rattle.std.specs.Prelude.{◌≡◌, false, Ok, Err, IfOk, IfErr};
 ghost use Rattle.host_api.specs.Texts.{has_cell};
 ghost use Rattle.host_server.specs.Hosts.{state_of};
-ghost use Rattle.host_server.specs.Versions as spec;
+ghost use Rattle.host_replies.specs.Versions as spec;
 ghost use Rattle.site_state.specs.States.{kept_at};
 
 use super::views::HostView;

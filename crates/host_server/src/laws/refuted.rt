@@ -21,7 +21,7 @@ ghost use Rattle.host_api.specs.declared.texts.DeployState.TheVariants.{Kept};
 ghost use Rattle.host_api.specs.declared.texts.Told.{Told};
 ghost use Rattle.host_api.specs.declared.texts.Told.TheVariants.{Entered, Refused, Uploaded};
 ghost use Rattle.host_server.specs.Asks.{HostStops, IsAnswer, asked_for};
-ghost use Rattle.host_server.specs.Files.{AsksRange};
+ghost use Rattle.host_replies.specs.FileAsks.{AsksRange};
 ghost use Rattle.host_server.specs.Hosts.{Grows, Host};
 ghost use Rattle.host_server.specs.Journals.{IsJournaled, IsPut, IsPutInVain, IsStopped};
 ghost use Rattle.host_server.specs.Memory.{CommandRunsOut, DeployRunsOut, TextRunsOut, UndoRunsOut};

@@ -15,7 +15,7 @@ ghost use Rattle.host_server.specs.ReadBack.{Agreeing, HasKnown, IsReadBack, Rea
 ghost use Rattle.host_server.specs.Openings.{IsOpened};
 ghost use Rattle.host_replies.specs.Replies.{Answer, refused_answer};
 ghost use Rattle.host_connection.specs.Serving.{AreServed, Stream};
-ghost use Rattle.host_server.specs.Versions.{file_of};
+ghost use Rattle.host_replies.specs.Versions.{file_of};
 ghost use Rattle.host_server.specs.declared.servers.Server.{Server};
 
 use blob_store::Shelf;

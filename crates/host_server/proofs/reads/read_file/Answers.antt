@@ -8,7 +8,7 @@ use Rattle.host_server.specs.Files.{is_read}
 use Rattle.host_server.specs.Hosts.{state_of}
 use Rattle.host_api.specs.Types.{type_of}
 use Rattle.host_replies.specs.Replies.{unread_answer}
-use Rattle.host_server.specs.Versions.{file_of}
+use Rattle.host_replies.specs.Versions.{file_of}
 use Rattle.host_replies.specs.declared.replies.Reply.{Reply}
 use Rattle.host_server.specs.declared.servers.Server.{Server}
 use Rattle.host_server.proofs.FilesKnown.{file_known}

@@ -4,7 +4,7 @@ use Rattle.range_spec.specs.Understood.{IsUnderstoodAs}
 use Rattle.range_spec.specs.declared.grammar.Asked.{Asked}
 use Rattle.range_spec.specs.declared.grammar.Asked.TheVariants.{Ignore, Specs}
 use Rattle.http_wire.specs.Fields.{values_of}
-use Rattle.host_server.specs.Files.{AskedBy}
+use Rattle.host_replies.specs.FileAsks.{AskedBy}
 use Rattle.host_server.specs.Outcomes.{judge_upload}
 use Rattle.host_server.proofs.Refuted.{not_damaged, not_missing, not_uploaded, refusal_is}
 use Rattle.host_server.proofs.laws.refuted.wrong_answers_are_refused.Goals as goal
