@@ -1,7 +1,6 @@
 pub mod Journaling
 pub mod Committing
 pub mod HoldingUp
-pub mod InRange
 pub mod Telling
 mod KeptByReads
 mod StoredReads

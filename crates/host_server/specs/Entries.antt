@@ -8,6 +8,8 @@ use Rattle.change_undo.specs.declared.entries.Entry.{Entry}
 use Rattle.change_undo.specs.Histories.{may_take_memory}
 use Rattle.host_api.specs.declared.refusals.Refusal.{Refusal}
 use Rattle.host_api.specs.declared.refusals.Refusal.TheVariants as reason
+use Rattle.journaled_history.specs.declared.entry_faults.EntryFault.{EntryFault}
+use Rattle.journaled_history.specs.declared.entry_faults.EntryFault.TheVariants as entry_fault
 use Rattle.host_server.specs.declared.host.entry_errors.EntryError.{EntryError}
 use Rattle.host_server.specs.declared.host.entry_errors.EntryError.TheVariants.{Refused, OutOfMemory, Device}
 use Rattle.host_disk.specs.declared.disks.Disk.{Ghosts}
@@ -17,6 +19,11 @@ use Rattle.host_server.specs.Journals.{Puts, PutsInPart}
 abbrev pub of_change_error : ChangeError → EntryError
 of_change_error (change.Refused why) = Refused why
 of_change_error change.OutOfMemory = OutOfMemory
+
+-- the error where the entry isn't put
+abbrev pub of_entry_fault : EntryFault → EntryError
+of_entry_fault entry_fault.OutOfMemory = OutOfMemory
+of_entry_fault entry_fault.Device = Device
 
 -- an error, as it is told
 abbrev pub told_error : EntryError → Refusal

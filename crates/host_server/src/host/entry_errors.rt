@@ -1,8 +1,8 @@
 //! Why a host gets no entry.
 
 use host_api::Refusal;
+use journaled_history::EntryFault;
 use site_change::{ChangeError, ChangeRefusal};
-use std::alloc::AllocError;
 
 /// Why a change, or the undo of one, is not made the next entry.
 #[derive(Debug, Drop, PartialEq, Eq)]
@@ -15,14 +15,17 @@ pub(crate) enum EntryError {
     Device,
 }
 
-impl From<AllocError> for EntryError {
+impl From<EntryFault> for EntryError {
     ghost use Rattle.std.specs.Prelude.{◌≡◌};
-    ghost use Rattle.host_server.specs.declared.host.entry_errors.EntryError.TheVariants.{OutOfMemory};
+    ghost use Rattle.host_server.specs.Entries.{of_entry_fault};
 
-    ghost from_gives = { λ _ error. error ≡ OutOfMemory };
+    ghost from_gives = { λ fault error. error ≡ of_entry_fault fault };
 
-    fn from(_error: AllocError) -> EntryError {
-        EntryError::OutOfMemory
+    fn from(fault: EntryFault) -> EntryError {
+        match fault {
+            EntryFault::OutOfMemory => EntryError::OutOfMemory,
+            EntryFault::Device => EntryError::Device,
+        }
     }
 }
 

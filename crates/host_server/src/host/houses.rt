@@ -14,7 +14,6 @@ ghost use Rattle.host_server.specs.Outcomes;
 ghost use Rattle.host_server.specs.Reasons;
 ghost use Rattle.host_server.specs.Reasons.{commit_refusal};
 
-use super::copies::{put_last, with_change, with_undo};
 use super::entry_errors::EntryError;
 use super::readiness::Readiness;
 use blob_store::BlobIndex;
@@ -24,6 +23,7 @@ use change_undo::laws::deploys_were_opened_by_their_entries;
 use change_undo::{Entry, History};
 use host_disk::Disk;
 use host_names::SiteName;
+use journaled_history::{put_last, with_change, with_undo};
 use site_change::{ChangeError, Command};
 use site_state::State;
 use std::alloc::{AllocError, Global};

@@ -2,7 +2,6 @@
 
 mod change_lists;
 mod changes;
-mod copies;
 mod deploys;
 mod entry_errors;
 mod houses;

@@ -23,7 +23,8 @@ ghost use Rattle.host_api.specs.declared.texts.Told.TheVariants.{Entered, Refuse
 ghost use Rattle.host_server.specs.Asks.{HostStops, IsAnswer, asked_for};
 ghost use Rattle.host_replies.specs.FileAsks.{AsksRange};
 ghost use Rattle.host_server.specs.Hosts.{Grows, Host};
-ghost use Rattle.host_server.specs.Journals.{IsJournaled, IsPut, IsPutInVain, IsStopped};
+ghost use Rattle.host_server.specs.Journals.{IsJournaled, IsStopped};
+ghost use Rattle.journaled_history.specs.Puts.{IsPut, IsPutInVain};
 ghost use Rattle.host_server.specs.Memory.{CommandRunsOut, DeployRunsOut, TextRunsOut, UndoRunsOut};
 ghost use Rattle.host_server.specs.Openings.{IsNoRecordFault, IsOpenFault, IsOpened};
 ghost use Rattle.host_server.specs.Outcomes.{Does, DoesCommit, refused};

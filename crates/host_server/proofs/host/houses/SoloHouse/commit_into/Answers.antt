@@ -17,7 +17,7 @@ pub returns-in_err-put_last-clause-journal : goal.returns-in_err-put_last-clause
 returns-in_err-put_last-clause-journal g c =
     let longer = c.in_ok-next.ensures.entries ∙ ap (λ (es : List Entry). with_entry es (Change c.args.command)) (ap (λ (h : Host). h.entries) c.self.view_is ∙ sym c.requires.agrees) in
     put_missed g.D.Disk c.in_err-put_last.field-0.0 c.from_residual-in_err-put_last.result (Change c.args.command) c.in_ok-next.next.entries c.args.journal.now c.put_last.new.journal
-    longer c.in_err-put_last.ensures.error (search rules)
+    longer c.in_err-put_last.ensures.fault (search rules)
 
 pub returns-clause-journal : goal.returns-clause-journal
 returns-clause-journal g c =

@@ -1,6 +1,6 @@
 use Rattle.std.proofs.Common.{arith}
-use Rattle.host_server.proofs.InRange.{command_in_range, undo_in_range}
-use Rattle.host_server.proofs.host.copies.accepted_is_in_range.Goals as goal
+use Rattle.journaled_history.proofs.InRange.{command_in_range, undo_in_range}
+use Rattle.journaled_history.proofs.copies.accepted_is_in_range.Goals as goal
 
 pub returns-clause-commands : goal.returns-clause-commands
 returns-clause-commands c = λ uploads command ok.

@@ -1,9 +1,9 @@
 use Rattle.std.proofs.Common.{rules, ◌≡◌, Some, inr, refl, subst, ◌∙◌}
 use Rattle.change_undo.specs.Logs.{entry_at}
 use Rattle.change_undo.specs.declared.entries.Entry.{Entry as Line}
-use Rattle.host_server.specs.Journals.{IsPut, IsPutInVain}
-use Rattle.host_server.proofs.Committing.{last_of}
-use Rattle.host_server.proofs.host.copies.put_last.Goals as goal
+use Rattle.journaled_history.specs.Puts.{IsPut, IsPutInVain}
+use Rattle.journaled_history.proofs.LastEntries.{last_of}
+use Rattle.journaled_history.proofs.copies.put_last.Goals as goal
 
 pub returns-in-Ok-clause-put : goal.returns-in-Ok-clause-put
 returns-in-Ok-clause-put g c =
@@ -24,8 +24,8 @@ returns-in-Ok-clause-put g c =
       cause = c.in-Ok.ensures.cause;
     })
 
-pub returns-in-Err-clause-error : goal.returns-in-Err-clause-error
-returns-in-Err-clause-error g c =
+pub returns-in-Err-clause-fault : goal.returns-in-Err-clause-fault
+returns-in-Err-clause-fault g c =
     let old = c.args.journal.now in
     let new = c.put.new.self in
     let next = c.args.next.now in

@@ -11,11 +11,11 @@ ghost use Rattle.change_undo.specs.Logs.{with_entry};
 ghost use Rattle.change_undo.specs.Plans.{IsHistoryOver};
 ghost use Rattle.change_undo.specs.declared.entries.Entry.{Entry as Line};
 ghost use Rattle.change_undo.specs.declared.entries.Entry.TheVariants as entry;
-ghost use Rattle.host_server.specs.declared.host.entry_errors.EntryError.TheVariants.{Device, OutOfMemory};
-ghost use Rattle.host_server.specs.Journals.{IsPut, IsPutInVain};
+ghost use Rattle.journaled_history.specs.declared.entry_faults.EntryFault.TheVariants.{Device, OutOfMemory};
+ghost use Rattle.journaled_history.specs.Puts.{IsPut, IsPutInVain};
 
-use super::entry_errors::EntryError;
-use blob_store::BlobIndex;
+use crate::entry_faults::EntryFault;
+use byte_view::Uploads;
 use change_journal::{Journal, prepare};
 use change_undo::History;
 use change_undo::laws::deploys_were_opened_by_their_entries;
@@ -26,14 +26,14 @@ use std::alloc::Global;
 
 /// Why there is no copy of the history with this command as its next entry, where there was no memory for a copy: the
 /// first reason against the command, or else that.
-fn without_copy(
+fn without_copy<U: Uploads>(
     alloc: Global,
     history: &History,
-    uploads: &BlobIndex,
+    uploads: &U,
     command: &Command,
 ) -> ChangeError
-    requires { IsHistoryOver uploads.now history.now }
-    ensures { IsRefusedBy {A = ℕ} (Histories.commit_refusal uploads.now history.now.limit history.now.entries history.now.state command.now) (Err result) }
+    requires { IsHistoryOver (U.contents uploads.now) history.now }
+    ensures { IsRefusedBy {A = ℕ} (Histories.commit_refusal (U.contents uploads.now) history.now.limit history.now.entries history.now.state command.now) (Err result) }
 {
     if history.is_full() {
         return ChangeError::Refused(ChangeRefusal::HistoryFull);
@@ -71,17 +71,17 @@ fn accepted_is_in_range(history: &History)
 }
 
 /// A copy of the history with a command as its next entry.
-pub(super) fn with_change(
+pub fn with_change<U: Uploads>(
     alloc: Global,
     history: &History,
-    uploads: &BlobIndex,
+    uploads: &U,
     command: Command,
 ) -> Result<History, ChangeError>
-    requires { IsHistoryOver uploads.now history.now }
-    ensures refused { IsRefusedBy (Histories.commit_refusal uploads.now history.now.limit history.now.entries history.now.state command) result }
+    requires { IsHistoryOver (U.contents uploads.now) history.now }
+    ensures refused { IsRefusedBy (Histories.commit_refusal (U.contents uploads.now) history.now.limit history.now.entries history.now.state command) result }
     ensures entries { IfOk result (λ next. next.entries ≡ with_entry history.now.entries (entry.Change command)) }
     ensures in_range { OnOk result (IsInRange (entry.Change command)) }
-    ensures over { IfOk result (λ next. IsHistoryOver uploads.now next) }
+    ensures over { IfOk result (λ next. IsHistoryOver (U.contents uploads.now) next) }
     ensures limit { IfOk result (λ next. next.limit ≡ history.now.limit) }
 {
     accepted_is_in_range(history);
@@ -93,11 +93,7 @@ pub(super) fn with_change(
 }
 
 /// A copy of the history with the undo of a change of this site as its next entry.
-pub(super) fn with_undo(
-    history: &History,
-    site: &SiteName,
-    change: u64,
-) -> Result<History, ChangeError>
+pub fn with_undo(history: &History, site: &SiteName, change: u64) -> Result<History, ChangeError>
     ensures refused { (uploads : Contents) → IsHistoryOver uploads history.now
         → IsUndoRefusedBy (Histories.undo_refusal uploads history.now.limit history.now.entries site.now change) result }
     ensures entries { IfOk result (λ next. next.entries ≡ with_entry history.now.entries (entry.Undo site.now change)) }
@@ -114,23 +110,23 @@ pub(super) fn with_undo(
 }
 
 /// Puts the last entry of a history into the journal, which has those before it.
-pub(super) fn put_last<D: Disk>(
+pub fn put_last<D: Disk>(
     alloc: Global,
     journal: &mut Journal<D>,
     next: &History,
-) -> Result<(), EntryError>
+) -> Result<(), EntryFault>
     requires follows { (last : Line) × IsInRange last × (next.now.entries ≡ with_entry journal.old.entries last) }
     requires whole { journal.old.broken ≡ false }
     ensures put { OnOk result ((last : Line) → next.now.entries ≡ with_entry journal.old.entries last
         → IsPut D.Disk journal.old last journal.new) }
-    ensures error { IfErr result (λ error. ((error ≡ OutOfMemory) × (journal.new ≡ journal.old))
-        ⊎ ((error ≡ Device) × ((last : Line) → next.now.entries ≡ with_entry journal.old.entries last
+    ensures fault { IfErr result (λ fault. ((fault ≡ OutOfMemory) × (journal.new ≡ journal.old))
+        ⊎ ((fault ≡ Device) × ((last : Line) → next.now.entries ≡ with_entry journal.old.entries last
         → IsPutInVain D.Disk journal.old last journal.new))) }
 {
     let entry = next.entry(next.len()).unwrap();
     let prepared = prepare(alloc, entry)?;
     match journal.put(prepared) {
         Ok(()) => Ok(()),
-        Err(_) => Err(EntryError::Device),
+        Err(_) => Err(EntryFault::Device),
     }
 }

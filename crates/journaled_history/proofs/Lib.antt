@@ -1,0 +1,2 @@
+mod InRange
+mod LastEntries
