@@ -8,7 +8,7 @@ from lib.repository import TOP
 
 FOLDERS = ("tests", "tests/lib", "scripts", "bench", "examples")
 # The libraries that a host is made of; those below them have functions over which clauses are wider.
-HOSTS = ("host_replies", "host_connection", "host_server")
+HOSTS = ("journaled_history", "host_replies", "host_connection", "host_server")
 
 
 class Rattle(unittest.TestCase):

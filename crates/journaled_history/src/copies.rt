@@ -33,7 +33,9 @@ fn without_copy<U: Uploads>(
     command: &Command,
 ) -> ChangeError
     requires { IsHistoryOver (U.contents uploads.now) history.now }
-    ensures { IsRefusedBy {A = ℕ} (Histories.commit_refusal (U.contents uploads.now) history.now.limit history.now.entries history.now.state command.now) (Err result) }
+    ensures { IsRefusedBy {A = ℕ}
+        (Histories.commit_refusal (U.contents uploads.now) history.now.limit history.now.entries history.now.state
+        command.now) (Err result) }
 {
     if history.is_full() {
         return ChangeError::Refused(ChangeRefusal::HistoryFull);
@@ -49,7 +51,8 @@ fn without_copy<U: Uploads>(
 /// against the undo, or else that.
 fn why_not_undone(history: &History, site: &SiteName, change: u64) -> ChangeError
     ensures { (uploads : Contents) → IsHistoryOver uploads history.now
-        → IsUndoRefusedBy {A = ℕ} (Histories.undo_refusal uploads history.now.limit history.now.entries site.now change) (Err result) }
+        → IsUndoRefusedBy {A = ℕ} (Histories.undo_refusal uploads history.now.limit history.now.entries site.now change)
+        (Err result) }
 {
     match history.undo_refusal(site, change) {
         Ok(Some(reason)) => ChangeError::Refused(reason),
@@ -61,9 +64,11 @@ fn why_not_undone(history: &History, site: &SiteName, change: u64) -> ChangeErro
 /// What is accepted has a number from 1 to 1,000,000, and lists at most 10,000 paths. It does nothing.
 fn accepted_is_in_range(history: &History)
     ensures commands { (uploads : Contents) (command : Change)
-        → Histories.commit_refusal uploads history.now.limit history.now.entries history.now.state command ≡ None → IsInRange (entry.Change command) }
+        → Histories.commit_refusal uploads history.now.limit history.now.entries history.now.state command ≡ None
+        → IsInRange (entry.Change command) }
     ensures undos { (uploads : Contents) (site : Site) (change : ℕ)
-        → Histories.undo_refusal uploads history.now.limit history.now.entries site change ≡ None → IsInRange (entry.Undo site change) }
+        → Histories.undo_refusal uploads history.now.limit history.now.entries site change ≡ None
+        → IsInRange (entry.Undo site change) }
 {
     let _ = history.len();
     let _ = history.state();
@@ -78,7 +83,9 @@ pub fn with_change<U: Uploads>(
     command: Command,
 ) -> Result<History, ChangeError>
     requires { IsHistoryOver (U.contents uploads.now) history.now }
-    ensures refused { IsRefusedBy (Histories.commit_refusal (U.contents uploads.now) history.now.limit history.now.entries history.now.state command) result }
+    ensures refused { IsRefusedBy
+        (Histories.commit_refusal (U.contents uploads.now) history.now.limit history.now.entries history.now.state
+        command) result }
     ensures entries { IfOk result (λ next. next.entries ≡ with_entry history.now.entries (entry.Change command)) }
     ensures in_range { OnOk result (IsInRange (entry.Change command)) }
     ensures over { IfOk result (λ next. IsHistoryOver (U.contents uploads.now) next) }
@@ -95,10 +102,13 @@ pub fn with_change<U: Uploads>(
 /// A copy of the history with the undo of a change of this site as its next entry.
 pub fn with_undo(history: &History, site: &SiteName, change: u64) -> Result<History, ChangeError>
     ensures refused { (uploads : Contents) → IsHistoryOver uploads history.now
-        → IsUndoRefusedBy (Histories.undo_refusal uploads history.now.limit history.now.entries site.now change) result }
+        → IsUndoRefusedBy (Histories.undo_refusal uploads history.now.limit history.now.entries site.now change)
+        result }
     ensures entries { IfOk result (λ next. next.entries ≡ with_entry history.now.entries (entry.Undo site.now change)) }
-    ensures in_range { OnOk result ((uploads : Contents) → IsHistoryOver uploads history.now → IsInRange (entry.Undo site.now change)) }
-    ensures over { IfOk result (λ next. (uploads : Contents) → IsHistoryOver uploads history.now → IsHistoryOver uploads next) }
+    ensures in_range { OnOk result ((uploads : Contents) → IsHistoryOver uploads history.now
+        → IsInRange (entry.Undo site.now change)) }
+    ensures over { IfOk result (λ next. (uploads : Contents) → IsHistoryOver uploads history.now
+        → IsHistoryOver uploads next) }
     ensures limit { IfOk result (λ next. next.limit ≡ history.now.limit) }
 {
     accepted_is_in_range(history);
