@@ -1,0 +1,4 @@
+pub mod Beginnings
+pub mod Changing
+pub mod Lawful
+pub mod Undoing

@@ -1,0 +1,4 @@
+-- what public clauses say
+pub mod Visitors
+pub mod Desks
+pub mod Undoing

@@ -1,0 +1,54 @@
+//! Entries that a history is asked for.
+ghost use Rattle.std.specs.Prelude.{◌≡◌, nat_lt, ◌&&◌, OnErr, OnOk, if◌then◌else◌};
+ghost use Rattle.change_undo.specs.declared.entries.Entry.TheVariants as entry;
+ghost use Rattle.change_undo.specs.Histories.{is_allowed};
+ghost use Rattle.change_undo.specs.Logs.{last_number, with_entry};
+ghost use Rattle.change_undo.specs.Plans.{IsHistoryOver};
+
+use blob_store::BlobIndex;
+use change_undo::History;
+use host_names::SiteName;
+use site_change::{ChangeError, Command};
+use std::alloc::AllocError;
+
+/// Asks for a command. It becomes the next entry where it may be one. Without memory nothing changes.
+pub(crate) fn ask_commit(
+    history: &mut History,
+    uploads: &BlobIndex,
+    command: &Command,
+) -> Result<(), AllocError>
+    requires { IsHistoryOver uploads.now history.old }
+    ensures ok { OnOk result (history.new.entries ≡
+        (if nat_lt (last_number history.old.entries) history.old.limit && is_allowed uploads.now history.old.entries (entry.Change command.now)
+        then with_entry history.old.entries (entry.Change command.now) else history.old.entries)) }
+    ensures over { IsHistoryOver uploads.now history.new }
+    ensures limit { history.new.limit ≡ history.old.limit }
+    ensures err { OnErr result (history.new ≡ history.old) }
+{
+    let command = command.clone()?;
+    match history.commit(uploads, command) {
+        Err(ChangeError::OutOfMemory) => Err(AllocError),
+        Err(ChangeError::Refused(_)) | Ok(_) => Ok(()),
+    }
+}
+
+/// Asks for an undo. It becomes the next entry where it may be one. Without memory nothing changes.
+pub(crate) fn ask_undo(
+    history: &mut History,
+    uploads: &BlobIndex,
+    site: &SiteName,
+    change: u64,
+) -> Result<(), AllocError>
+    requires { IsHistoryOver uploads.now history.old }
+    ensures ok { OnOk result (history.new.entries ≡
+        (if nat_lt (last_number history.old.entries) history.old.limit && is_allowed uploads.now history.old.entries (entry.Undo site.now change)
+        then with_entry history.old.entries (entry.Undo site.now change) else history.old.entries)) }
+    ensures over { IsHistoryOver uploads.now history.new }
+    ensures limit { history.new.limit ≡ history.old.limit }
+    ensures err { OnErr result (history.new ≡ history.old) }
+{
+    match history.undo(site, change) {
+        Err(ChangeError::OutOfMemory) => Err(AllocError),
+        Err(ChangeError::Refused(_)) | Ok(_) => Ok(()),
+    }
+}

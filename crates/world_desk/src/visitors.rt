@@ -1,0 +1,103 @@
+//! What visitors have seen.
+ghost use Rattle.std.specs.Prelude.{◌≡◌, IfOk, OnErr, OnOk, replicate};
+ghost use Rattle.world_desk.specs.Desks.{change_at};
+ghost use Rattle.world_desk.specs.Visitors.{looked, taught, unseen};
+
+use change_undo::Log;
+use std::alloc::{AllocError, Global};
+use std::marker::Model;
+
+/// The logs of a visitor's looks, in order, and the logs that it was told of, each with how many looks it had then.
+#[derive(Drop)]
+pub(crate) struct Visitor {
+    pub(crate) looks: Vec<Log>,
+    pub(crate) told: Vec<(usize, Log)>,
+}
+
+impl Model for Visitor {
+    ghost use Rattle.std.specs.Coded.{coded_list};
+    ghost use Rattle.change_undo.specs.contracts.entries.Entry as entry;
+    ghost use Rattle.world_desk.specs.Visitors.{Watched, coded_watched};
+
+    ghost Value = { Watched };
+
+    ghost coded = { coded_watched (coded_list entry.the_row.coded) };
+
+    ghost view = { λ v. record { looks = v.looks.items; told = v.told.items } };
+}
+
+impl Visitor {
+    /// It has seen nothing yet.
+    fn new(alloc: Global) -> Visitor
+        ensures { result ≡ unseen }
+    {
+        Visitor {
+            looks: Vec::new(alloc),
+            told: Vec::new(alloc),
+        }
+    }
+
+    /// It looks, and sees this log.
+    fn look(&mut self, log: Log) -> Result<(), AllocError>
+        ensures ok { OnOk result (self.new ≡ looked log self.old) }
+        ensures err { OnErr result (self.new ≡ self.old) }
+    {
+        self.looks.push(log)?;
+        Ok(())
+    }
+
+    /// It is told of this log.
+    fn learn(&mut self, log: Log) -> Result<(), AllocError>
+        ensures ok { OnOk result (self.new ≡ taught log self.old) }
+        ensures err { OnErr result (self.new ≡ self.old) }
+    {
+        let looks = self.looks.len();
+        self.told.push((looks, log))?;
+        Ok(())
+    }
+}
+
+/// So many visitors, who have seen nothing yet.
+pub(crate) fn visitors_of(alloc: Global, count: usize) -> Result<Vec<Visitor>, AllocError>
+    ensures { IfOk result (λ visitors. visitors.items ≡ replicate count unseen) }
+{
+    let mut visitors = Vec::new(alloc);
+    for _ in 0..count {
+        visitors.push(Visitor::new(alloc))?;
+    }
+    Ok(visitors)
+}
+
+/// A visitor looks at what is shown, if there is one of this number. Without memory nothing changes.
+pub(crate) fn look_at(
+    visitors: &mut Vec<Visitor>,
+    visitor: usize,
+    shown: &Log,
+) -> Result<(), AllocError>
+    ensures ok { OnOk result (visitors.new.items ≡ change_at visitor (looked shown.now) visitors.old.items) }
+    ensures err { OnErr result (visitors.new.items ≡ visitors.old.items) }
+{
+    if visitor < visitors.len() {
+        let log = shown.copy()?;
+        let visitor = &mut visitors[visitor];
+        visitor.look(log)?;
+    }
+    Ok(())
+}
+
+/// A visitor is told of what is shown, if there is one of this number. Without memory nothing changes.
+pub(crate) fn tell(
+    visitors: &mut Vec<Visitor>,
+    visitor: usize,
+    shown: &Log,
+) -> Result<(), AllocError>
+    ensures ok { OnOk result (visitors.new.items ≡ change_at visitor (taught shown.now) visitors.old.items) }
+    ensures err { OnErr result (visitors.new.items ≡ visitors.old.items) }
+{
+    if visitor < visitors.len() {
+        let log = shown.copy()?;
+        let visitor = &mut visitors[visitor];
+        visitor.learn(log)?;
+    }
+    Ok(())
+}
