@@ -1,0 +1,5 @@
+-- what public clauses say
+pub mod Nodes
+pub mod Lawful
+-- ---- what private functions say
+pub mod Handlers
