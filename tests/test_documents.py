@@ -51,8 +51,8 @@ class OrderOfCrates(unittest.TestCase):
 
     def test_has_each_crate_below_a_heading_with_tests_and_measurements_last(self):
         self.assertEqual([name for names in groups().values() for name in names], list(crates()))
-        *_, host, tests, measurements = groups().values()
-        self.assertEqual(host[-1], "filehost")
+        *_, tests, measurements = groups().values()
+        self.assertEqual(groups()["Host"][-1], "filehost")
         for ending, names in (("_tests", tests), ("_bench", measurements)):
             self.assertEqual([name for name in crates() if name.endswith(ending)], names)
 

@@ -89,6 +89,13 @@ impl Desk {
         visitor.looks.as_slice()
     }
 
+    /// How many visitors there are. They are numbered from 0 on.
+    pub fn visitors(&self) -> usize
+        ensures { result ≡ length self.now.visitors }
+    {
+        self.visitors.len()
+    }
+
     /// How many looks a visitor has had; 0 where there is none of this number.
     pub fn look_count(&self, visitor: usize) -> usize
         ensures { result ≡ look_count self.now visitor }

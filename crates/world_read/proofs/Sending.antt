@@ -1,21 +1,27 @@
--- Several parts that are sent have a boundary.
-use Rattle.std.proofs.Common.{◌≡◌, ℕ, List, Option, Some, None, refl, sym, ◌∙◌}
-use Rattle.host_names.specs.declared.digests.Digest.{Digest}
+-- The bodies of answers are there to be sent.
+use Rattle.std.proofs.Common.{◌≡◌, ℕ, List, [], false, Option, Result, Ok, Err, refl, sym, ap, subst, ◌∙◌}
 use Rattle.range_spec.specs.declared.selection.Choice.{Choice}
 use Rattle.range_spec.specs.declared.selection.Choice.TheVariants.{Whole, One, Many, None416}
-use Rattle.range_reply.specs.Bodies.{text_in}
-use Rattle.range_reply.specs.Sending.{IsSent, SentFile}
 use Rattle.range_reply.specs.declared.boundaries.Boundary.{Boundary}
-use Rattle.host_replies.specs.PartsTypes.{IsOfEight}
-use Rattle.host_replies.specs.SentFiles.{SendsParts}
+use Rattle.host_api.specs.declared.refusals.Refusal.{Refusal}
+use Rattle.host_replies.specs.Replies.{Answer}
+use Rattle.host_replies.specs.SentFiles.{sent_as}
+use Rattle.world_read.specs.declared.requests.FileRequest.{FileRequest}
+use Rattle.world_read.specs.Reads.{Answered, Begins, Failed, FileReading, IsStage, ReadStage, Waits}
+use Rattle.world_read.specs.Stages.{IsSent, IsSentStage}
 
-parts_of : (texts : List (List ℕ)) (digest : Digest) (plan : Choice) (boundary : Option Boundary) (sent : Choice) → IsSent texts digest plan boundary sent
-    → (intervals : List (ℕ × ℕ)) → sent ≡ Many intervals → IsOfEight digest (text_in boundary) × ((found : Boundary) × (boundary ≡ Some found))
-parts_of texts digest (Many asked) (Some boundary) sent is intervals several = ((is.0.0, is.0.1, is.0.2), (boundary, refl))
-parts_of texts digest (Many asked) None sent is intervals several = absurd (cc (sym is.1 ∙ several))
-parts_of texts digest Whole boundary sent is intervals several = absurd (cc (sym is.1 ∙ several))
-parts_of texts digest (One first last) boundary sent is intervals several = absurd (cc (sym is.1 ∙ several))
-parts_of texts digest None416 boundary sent is intervals several = absurd (cc (sym is.1 ∙ several))
+sent_there : (path file : List ℕ) (plan : Choice) (boundary : Option Boundary) (bytes : List ℕ) → (sent_as path file plan boundary bytes).withheld ≡ false
+sent_there path file Whole boundary bytes = refl
+sent_there path file (One first last) boundary bytes = refl
+sent_there path file (Many intervals) boundary bytes = refl
+sent_there path file None416 boundary bytes = refl
 
-pub sends_parts : (texts : List (List ℕ)) (digest : Digest) (plan : Choice) (body : SentFile) → IsSent texts digest plan body.boundary body.plan → SendsParts digest body
-sends_parts texts digest plan body is intervals several = parts_of texts digest plan body.boundary body.plan is intervals several
+pub stage_sent : (request : FileRequest) (file : List ℕ) (chunks : List (List ℕ)) (stage : ReadStage) → IsStage request file chunks stage → IsSentStage stage
+stage_sent request file chunks (Answered answer) (body, left, read, is) = ap (λ (a : Answer). a.withheld) is ∙ sent_there request.path file body.plan body.boundary body.bytes
+stage_sent request file chunks (Waits name) is = tt
+stage_sent request file chunks Failed is = tt
+
+pub begins_sent : (request : FileRequest) (found : Result (List ℕ) Refusal) (content : Result FileReading Answer) → Begins request found content → IsSent content
+begins_sent request (Ok file) (Ok reading) (same, none, stage) = stage_sent request file [] reading.stage stage
+begins_sent request (Ok file) (Err answer) begins = absurd begins
+begins_sent request (Err reason) content is = subst IsSent (sym is) refl

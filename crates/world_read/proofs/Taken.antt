@@ -18,7 +18,7 @@ use Rattle.world_read.specs.Reads.{Answered, Begins, Failed, FileReading, GoesOn
 
 module _ (P : List ℕ → Type 0) where
   -- chunks that are taken were left before
-  taken : (old new : Taking) (chunks : List (List ℕ)) → ReadsInTurn Takes old chunks new → AllByRecursion P old.left → AllByRecursion P chunks × AllByRecursion P new.left
+  pub taken : (old new : Taking) (chunks : List (List ℕ)) → ReadsInTurn Takes old chunks new → AllByRecursion P old.left → AllByRecursion P chunks × AllByRecursion P new.left
   taken old new [] turns all = (tt, subst (λ (t : Taking). AllByRecursion P t.left) (sym turns) all)
   taken old new (chunk ∷ chunks) turns all =
       let here : AllByRecursion P (chunk ∷ turns.0.left) = subst (λ (t : Taking). AllByRecursion P t.left) turns.1 all in
@@ -26,7 +26,7 @@ module _ (P : List ℕ → Type 0) where
       ((here.0, more.0), more.1)
 
   -- so were those of holds that are given
-  held : (old new : Taking) (holds : List Held) → GivesHolds Gives old holds new → AllByRecursion P old.left → AllByRecursion (λ h. All P h.chunks) holds × AllByRecursion P new.left
+  pub held : (old new : Taking) (holds : List Held) → GivesHolds Gives old holds new → AllByRecursion P old.left → AllByRecursion (λ h. All P h.chunks) holds × AllByRecursion P new.left
   held old new [] given all = (tt, subst (λ (t : Taking). AllByRecursion P t.left) (sym given) all)
   held old new (hold ∷ holds) given all =
       let first = taken old given.0 hold.chunks given.1 all in

@@ -1,5 +1,5 @@
 //! Reads.
-ghost use Rattle.std.specs.Prelude.{◌≡◌, IfOk, Ok, map, option_map};
+ghost use Rattle.std.specs.Prelude.{◌≡◌, IfOk, IfSome, Ok, false, map, option_map};
 ghost use Rattle.host_replies.specs.Bodies.{answer_of};
 ghost use Rattle.world_read.specs.Reads.{Begins, GoesOnWith, IsBegun, IsNext, IsStage, answer_in, wanted, wanted_at};
 ghost use Rattle.world_read.specs.Requests.{file_asked};
@@ -39,11 +39,13 @@ pub struct Reading {
 impl Model for Reading {
     ghost use Rattle.std.specs.Prelude.{map};
     ghost use Rattle.world_read.specs.Reads.{FileReading};
-    ghost use Rattle.world_read.specs.Stages.{stage_of};
+    ghost use Rattle.world_read.specs.Stages.{IsSentStage, stage_of};
 
     ghost Value = { FileReading };
 
     ghost view = { λ r. record { file = r.info.value; chunks = map (λ chunk. chunk.value) r.chunks.items; stage = stage_of r.stage } };
+
+    ghost invariant = { λ r. IsSentStage (stage_of r.stage) };
 }
 
 /// A read: what was asked for, the place of its look among those of its visitor, and its file, or the reply where there is none.
@@ -56,11 +58,13 @@ pub struct FileRead {
 
 impl Model for FileRead {
     ghost use Rattle.world_read.specs.Reads.{ReadState};
-    ghost use Rattle.world_read.specs.Stages.{content_of};
+    ghost use Rattle.world_read.specs.Stages.{IsSent, content_of};
 
     ghost Value = { ReadState };
 
     ghost view = { λ r. record { request = r.request.value; look = r.look; content = content_of r.content } };
+
+    ghost invariant = { λ r. IsSent (content_of r.content) };
 }
 
 /// How far a read comes with these chunks.
@@ -209,9 +213,10 @@ impl FileRead {
         }
     }
 
-    /// Its reply, if it is answered.
+    /// Its reply, if it is answered. The body of that is there to be sent.
     pub fn reply(&self) -> Option<&Reply>
-        ensures { option_map (λ reply. answer_of reply.now) result ≡ answer_in self.now.content }
+        ensures value { option_map (λ reply. answer_of reply.now) result ≡ answer_in self.now.content }
+        ensures sent { IfSome result (λ reply. (answer_of reply.now).withheld ≡ false) }
     {
         match &self.content {
             Ok(reading) => match &reading.stage {

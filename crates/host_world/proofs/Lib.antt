@@ -1,0 +1,4 @@
+pub mod Lists
+pub mod Later
+pub mod Reached
+pub mod Changing
