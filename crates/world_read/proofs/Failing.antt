@@ -40,7 +40,7 @@ module _ (file : List ℕ) (new : Taking) (none : new.missed ≡ None) (why : Re
 
   chunks_read : (old : Taking) (names : List Digest) → AreNotRead Takes old names why new → ⊥
   chunks_read old names (inl (mid, name, left, some, inl (out, same))) = memory out
-  chunks_read old names (inl (mid, name, left, some, inr missed)) = not_missed mid.left name missed
+  chunks_read old names (inl (mid, name, left, some, inr (lacks, missed))) = not_missed mid.left name missed
   chunks_read old names (inr (out, some)) = memory out
 
   stretch_held : (old : Taking) (first last : ℕ) → AllByRecursion (IsPure file) old.left → GivesNot old file first last why new → ⊥

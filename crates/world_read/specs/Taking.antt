@@ -1,5 +1,6 @@
 -- Chunks that are taken in turn.
-use Rattle.std.specs.Prelude.{◌≡◌, ◌⊎◌, ℕ, List, ◌∷◌, Option, Some, None, Result, Ok, Err}
+use Rattle.std.specs.Prelude.{◌≡◌, ◌≢◌, ◌⊎◌, ℕ, List, [], ◌∷◌, Option, Some, None, Result, Ok, Err}
+use Rattle.host_names.specs.Digests.{digest_of}
 use Rattle.host_names.specs.declared.digests.Digest.{Digest}
 use Rattle.byte_view.specs.Holds.{Held}
 use Rattle.chunk_reads.specs.declared.faults.ReadFault.{ReadFault}
@@ -15,10 +16,15 @@ pub record Taking : Type 0 where
 abbrev pub taking : List (List ℕ) → Taking
 taking chunks = record { left = chunks; missed = None }
 
+-- the next of these chunks has another name, or there is none
+abbrev pub IsNotNext : Digest → List (List ℕ) → Type 0
+IsNotNext name [] = Unit {0}
+IsNotNext name (chunk ∷ chunks) = digest_of chunk ≢ name
+
 -- the next chunk is taken; or it has another name, or there is none: that name is missed; or there is no memory for it
 abbrev pub Takes : Taking → Digest → Result (List ℕ) ReadFault → Taking → Type 0
 Takes old name (Ok chunk) new = old ≡ record { left = chunk ∷ new.left; missed = new.missed }
-Takes old name (Err why) new = ((why ≡ OutOfMemory) × (new ≡ old)) ⊎ (new ≡ record { left = old.left; missed = Some name })
+Takes old name (Err why) new = ((why ≡ OutOfMemory) × (new ≡ old)) ⊎ (IsNotNext name old.left × (new ≡ record { left = old.left; missed = Some name }))
 
 -- a hold is given of the next chunks
 abbrev pub Gives : Taking → Held → Taking → Type 0

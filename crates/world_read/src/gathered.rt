@@ -31,15 +31,17 @@ impl<'a> ChunkReader for Gathered<'a> {
     ghost reads = { Takes };
 
     fn read(&mut self, name: &Digest) -> Result<Arc<Chunk>, ReadFault> {
-        if let Some((chunk, left)) = self.left.split_first() {
-            if chunk.name() == *name {
-                let share = Arc::try_clone(chunk).map_err(|_| ReadFault::OutOfMemory)?;
-                self.left = left;
-                return Ok(share);
-            }
+        let Some((chunk, left)) = self.left.split_first() else {
+            self.missed = Some(*name);
+            return Err(ReadFault::Missing);
+        };
+        if chunk.name() != *name {
+            self.missed = Some(*name);
+            return Err(ReadFault::Missing);
         }
-        self.missed = Some(*name);
-        Err(ReadFault::Missing)
+        let share = Arc::try_clone(chunk).map_err(|_| ReadFault::OutOfMemory)?;
+        self.left = left;
+        Ok(share)
     }
 }
 

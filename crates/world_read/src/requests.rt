@@ -4,7 +4,7 @@ ghost use Rattle.host_api.specs.Texts.{has_cell};
 ghost use Rattle.range_reply.specs.Conditions.{condition_of};
 ghost use Rattle.range_spec.specs.Chosen.{LiesWithin, intervals_in};
 ghost use Rattle.site_state.specs.States.{kept_at};
-ghost use Rattle.world_read.specs.Requests as spec;
+ghost use Rattle.host_replies.specs.Versions as spec;
 ghost use Rattle.world_read.specs.Requests.{file_asked, if_range_values, plan_of};
 
 use byte_view::BlobInfo;
