@@ -1,0 +1,6 @@
+pub mod Unasked
+pub mod Lines
+pub mod Reading
+pub mod FileReplies
+pub mod Withheld
+pub mod Seen

@@ -1,0 +1,42 @@
+-- The list of the changes of a site.
+use Rattle.std.specs.Prelude.{ℕ, ◌-◌, List, length, drop, not, Option, Some, None, option_and_then, if◌then◌else◌}
+use Rattle.std.specs.List.{filter_map}
+use Rattle.host_names.specs.declared.names.SiteName.{SiteName}
+use Rattle.change_undo.specs.declared.entries.Entry.{Entry}
+use Rattle.change_undo.specs.declared.entries.Entry.TheVariants as entry
+use Rattle.change_undo.specs.Histories.{entry_at, is_among, same_site, site_of_entry, undone}
+use Rattle.change_undo.specs.Logs.{Log, numbered}
+use Rattle.host_api.specs.ChangeLines.{word_of}
+use Rattle.host_api.specs.declared.change_lines.ChangeLine.{ChangeLine}
+use Rattle.host_api.specs.declared.change_lines.ChangeLine.TheVariants as line
+
+-- the line of an entry, where the changes of these numbers were undone
+abbrev pub line_of : List ℕ → ℕ → Entry → ChangeLine
+line_of gone n (entry.Change command) = line.Change n (word_of command) (not (is_among gone n))
+line_of gone n (entry.Undo site k) = line.Undo n k
+
+-- the same, if the entry is of the site
+abbrev pub line_in : SiteName → List ℕ → ℕ × Entry → Option ChangeLine
+line_in site gone e = if same_site (site_of_entry e.1) site then Some (line_of gone e.0 e.1) else None
+
+-- the lines of a site, the oldest first
+abbrev pub lines_of : Log → SiteName → List ChangeLine
+lines_of entries site = filter_map (line_in site (undone entries)) (numbered entries)
+
+-- so many at most, from the end
+abbrev pub last_of : {A : Type 0} → ℕ → List A → List A
+last_of n xs = drop (length xs - n) xs
+
+-- how many of them are shown
+abbrev pub most_lines : ℕ
+most_lines = 1000
+
+-- the last 1,000 lines of a site, the oldest first
+abbrev pub shown_lines : Log → SiteName → List ChangeLine
+shown_lines entries site = last_of most_lines (lines_of entries site)
+
+-- ---- what private functions say
+
+-- the line of the entry of a number, if it is of the site
+abbrev pub line_at : Log → SiteName → ℕ → Option ChangeLine
+line_at entries site n = option_and_then (λ (e : Entry). line_in site (undone entries) (n, e)) (entry_at entries n)

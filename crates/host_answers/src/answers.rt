@@ -1,0 +1,68 @@
+//! What a request is answered.
+ghost use Rattle.std.specs.Prelude.{◌≡◌, Ok};
+ghost use Rattle.host_replies.specs.Bodies.{answer_of};
+ghost use Rattle.host_answers.specs.Answers.{AnswersBy, CarriesOut, DoesBy};
+
+use crate::asking::asked_for;
+use crate::change_lists::show_changes;
+use crate::commands::{cancel, change, remove_deploy, undo};
+use crate::deploys::show;
+use crate::houses::House;
+use crate::reads::read;
+use crate::telling::refuse;
+use crate::uploads::upload;
+use host_api::Ask;
+use host_replies::Reply;
+use http_wire::Head;
+use std::alloc::Global;
+
+/// The reply to what a request asks for, over what the last look shows.
+fn carry_out<H: House>(alloc: Global, house: &mut H, head: &Head, body: &[u8], ask: Ask) -> Reply
+    ensures { DoesBy H.calls H.gave H.failed house.old head.now body.now ask (answer_of result) house.new }
+{
+    match ask {
+        Ask::Read {
+            site,
+            version,
+            path,
+        } => read(alloc, house, head, &site, &version, &path),
+        Ask::Command(command) => change(alloc, house, command),
+        Ask::Undo { site, change } => undo(alloc, house, &site, change),
+        Ask::Changes { site } => show_changes(alloc, house, &site),
+        Ask::Deploy { deploy } => show(alloc, house, deploy),
+        Ask::RemoveDeploy { deploy } => remove_deploy(alloc, house, deploy),
+        Ask::Cancel { deploy } => cancel(alloc, house, deploy),
+        Ask::Upload { deploy, path } => upload(alloc, house, deploy, &path, body),
+    }
+}
+
+/// A look, and the reply to what a request asks for.
+fn respond<H: House>(alloc: Global, house: &mut H, head: &Head, body: &[u8], ask: Ask) -> Reply
+    ensures { CarriesOut H.calls H.gave H.failed house.old head.now body.now (Ok ask) (answer_of result) house.new }
+{
+    match house.look() {
+        Ok(()) => carry_out(alloc, house, head, body, ask),
+        Err(_) => Reply::out_of_memory(),
+    }
+}
+
+/// The calls that are made for a request, and the reply that they give.
+fn answer_by<H: House>(alloc: Global, house: &mut H, head: &Head, body: &[u8]) -> Reply
+    ensures { AnswersBy H.calls H.gave H.failed house.old head.now body.now (answer_of result) house.new }
+{
+    match asked_for(alloc, head, body) {
+        Ok(ask) => respond(alloc, house, head, body, ask),
+        Err(why) => refuse(alloc, why),
+    }
+}
+
+/// The reply to a request, and what is done for it by calls of the house: one look, and what the request asks for over what the look shows. A
+/// request that asks for nothing is told why, and no call is made. Where there is no memory the reply says so; what was done before remains: an
+/// entry, an opening without its publishing, an upload. Each reason against a request is found before memory is taken for it.
+pub fn answer<H: House>(alloc: Global, house: &mut H, head: &Head, body: &[u8]) -> Reply
+    ensures by { AnswersBy H.calls H.gave H.failed house.old head.now body.now (answer_of result) house.new }
+    ensures replied { H.answers house.old head.now body.now (answer_of result) house.new }
+    ensures grows { H.grows house.old house.new }
+{
+    answer_by(alloc, house, head, body)
+}

@@ -1,0 +1,86 @@
+//! Houses: what requests are answered over.
+ghost use Rattle.std.specs.Prelude.{◌≡◌, ℕ, List, Some, IfOk, option_map, true};
+ghost use Rattle.http_wire.specs.Requests.{RequestParts};
+ghost use Rattle.change_undo.specs.Histories.{entry_at, marked_entry};
+ghost use Rattle.change_undo.specs.declared.entries.Entry.TheVariants as entry;
+ghost use Rattle.host_replies.specs.Replies.{Answer, is_head};
+ghost use Rattle.host_answers.specs.Answers.{AnswersBy};
+ghost use Rattle.host_answers.specs.Houses.{Calls};
+
+use crate::stops::Stop;
+use crate::uploads::Uploaded;
+use change_undo::{Entry, Log};
+use chunk_reads::Holder;
+use host_api::{Items, Refusal};
+use host_names::{Digest, FilePath, SiteName};
+use site_change::Command;
+use site_state::{Listing, State};
+use std::alloc::{AllocError, Global};
+
+/// What requests are answered over: a history that is looked at and changed, and files that are held. A look shows one state, which
+/// is lent until the next look or entry.
+pub trait House: Holder {
+    // What each of its calls does.
+    ghost calls: { Calls Self };
+
+    // What a request of these parts and this body is answered, and what the house is then.
+    ghost answers: { Self → RequestParts → List ℕ → Answer → Self → Type 0 };
+
+    // What stays of a house, whatever is asked of it.
+    ghost grows: { Self → Self → Type 0 };
+
+    /// Looks at the history: what is there is shown from then on. On an error nothing else may be done with it.
+    fn look(&mut self) -> Result<(), AllocError>
+        ensures { calls.looks self.old result self.new };
+
+    /// The state that is shown.
+    fn state(&self) -> &State
+        ensures { result.now ≡ (calls.seen self.now).state };
+
+    /// The entries that are shown.
+    fn log(&self) -> &Log
+        ensures { result.now ≡ (calls.seen self.now).entries };
+
+    /// The entry of a number, from 1 on, and whether an undo names it, as it is shown.
+    fn marked_entry(&self, number: u64) -> Option<(&Entry, bool)>
+        ensures { option_map (λ found. (found.0.now, found.1)) result ≡ marked_entry (calls.seen self.now).entries number };
+
+    /// The listed digests that aren't uploaded.
+    fn missing(&self, alloc: Global, files: &Listing) -> Result<Items<Digest>, AllocError>
+        ensures { calls.misses self.now files.now.1 result };
+
+    /// Makes a command the next entry, and answers its number. What is shown then has that entry.
+    fn commit(&mut self, command: Command) -> Result<u64, Stop>
+        ensures did { calls.commits self.old command result self.new }
+        ensures shown { IfOk result (λ number. entry_at (calls.seen self.new).entries number ≡ Some (entry.Change command)) };
+
+    /// Makes the undo of a change of a site the next entry, and answers its number.
+    fn undo(&mut self, site: &SiteName, change: u64) -> Result<u64, Stop>
+        ensures { calls.undoes self.old site.now change result self.new };
+
+    /// Takes bytes as the file at a path of a deploy of a site, and publishes the deploy if it is ready then.
+    fn upload(
+        &mut self,
+        site: &SiteName,
+        deploy: u64,
+        path: &FilePath,
+        bytes: &[u8],
+    ) -> Result<Uploaded, Refusal>
+        ensures { calls.uploads self.old site.now deploy path.now bytes.now result self.new };
+
+    // What is answered follows from the calls that are made for it, and so does what stays.
+    ghost told: { (old new : Self) (parts : RequestParts) (body : List ℕ) (answer : Answer)
+        → AnswersBy calls Self.gave Self.failed old parts body answer new → answers old parts body answer new };
+
+    ghost grew: { (old new : Self) (parts : RequestParts) (body : List ℕ) (answer : Answer)
+        → AnswersBy calls Self.gave Self.failed old parts body answer new → grows old new };
+
+    // Only to HEAD is a body told by its length alone.
+    ghost withheld: { (old : Self) (parts : RequestParts) (body : List ℕ) (answer : Answer) (new : Self)
+        → answers old parts body answer new → answer.withheld ≡ true → is_head parts ≡ true };
+
+    // What stays does so where nothing is answered, and from one answer to the next.
+    ghost stays: { (house : Self) → grows house house };
+
+    ghost goes_on: { (first mid last : Self) → grows first mid → grows mid last → grows first last };
+}

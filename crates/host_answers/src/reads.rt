@@ -1,0 +1,140 @@
+//! The reading of files.
+ghost use Rattle.std.specs.Prelude.{◌≡◌, ◌≢◌, ◌⊎◌, All, codes, IfErr, IfOk, OnOk, length};
+ghost use Rattle.range_spec.specs.Chosen.{LiesWithin, intervals_in};
+ghost use Rattle.range_spec.specs.declared.grammar.Asked.{Asked as Range};
+ghost use Rattle.range_spec.specs.declared.selection.Choice.TheVariants.{None416};
+ghost use Rattle.range_reply.specs.Conditions.{condition_of};
+ghost use Rattle.http_wire.specs.Fields.{values_of};
+ghost use Rattle.host_api.specs.Types.{type_of};
+ghost use Rattle.host_api.specs.declared.refusals.Refusal.TheVariants.{NotSatisfiable, OutOfMemory};
+ghost use Rattle.host_replies.specs.Bodies.{answer_of};
+ghost use Rattle.host_replies.specs.Replies.{refused_answer, unread_answer};
+ghost use Rattle.host_answers.specs.Reads as spec;
+ghost use Rattle.host_answers.specs.Reads.{AsksRange, ReadsBy, SendsBy, plan_of};
+ghost use Rattle.host_answers.specs.Versions as versions;
+
+use crate::houses::House;
+use crate::versions::file_of;
+use byte_view::BlobInfo;
+use chunk_reads::{Holder, ReadFault};
+use host_api::{Refusal, Version};
+use host_names::{Digest, FilePath, SiteName};
+use host_replies::{Reply, file_type, is_head_only};
+use http_wire::Head;
+use range_reply::{IfRange, ReplyPlan, plan, read_body};
+use range_spec::{Asked, Choice, parse};
+use std::alloc::Global;
+use std::sync::Arc;
+
+/// What a request asks for by its Range (RFC 9110, section 14.2): of a GET with one such field.
+fn range_asked(head: &Head) -> Asked
+    ensures { AsksRange head.now result }
+{
+    if head.method().as_str() != "GET" {
+        return Asked::Ignore;
+    }
+    let mut ranges = head.values("range");
+    match (ranges.next(), ranges.next()) {
+        (Some(value), None) => parse(value),
+        _ => Asked::Ignore,
+    }
+}
+
+/// What its If-Range fields say of the file with this digest (RFC 9110, section 13.1.5).
+fn condition(head: &Head, digest: Digest) -> IfRange
+    ensures { result ≡ condition_of digest (values_of (codes "if-range") head.now.fields) }
+{
+    let mut values = head.values("if-range");
+    match (values.next(), values.next()) {
+        (None, _) => IfRange::of(&[], digest),
+        (Some(value), None) => IfRange::of(&[value], digest),
+        (Some(value), Some(other)) => IfRange::of(&[value, other], digest),
+    }
+}
+
+/// What is to be sent of a file to a request.
+fn plan_asked(head: &Head, info: &BlobInfo) -> ReplyPlan
+    ensures asked { (range : Range) × AsksRange head.now range × (result ≡ plan_of head.now range info.now) }
+    ensures within { All (LiesWithin (length info.now)) (intervals_in result) }
+{
+    plan(info, &range_asked(head), condition(head, info.digest()))
+}
+
+/// What is kept of a file, where something of it is to be sent.
+fn wanted(info: &Arc<BlobInfo>, plan: &ReplyPlan) -> Result<Arc<BlobInfo>, Refusal>
+    ensures ok { IfOk result (λ wanted. wanted.value ≡ info.now.value) }
+    ensures some { OnOk result (plan.now ≢ None416) }
+    ensures refused { IfErr result (λ why. ((plan.now ≡ None416) × (why ≡ NotSatisfiable (length info.now.value)))
+        ⊎ ((plan.now ≢ None416) × (why ≡ OutOfMemory))) }
+{
+    match plan {
+        Choice::None416 => Err(Refusal::NotSatisfiable(info.len() as u64)),
+        _ => Ok(Arc::try_clone(info)?),
+    }
+}
+
+/// Why a file can't be read, as it is told.
+fn refusal_of_read(why: ReadFault) -> Refusal
+    ensures { result ≡ spec.refusal_of_read why }
+{
+    match why {
+        ReadFault::Missing => Refusal::Missing,
+        ReadFault::Damaged => Refusal::Damaged,
+        ReadFault::Device => Refusal::Device,
+        ReadFault::OutOfMemory => Refusal::OutOfMemory,
+    }
+}
+
+/// The reply with what a plan sends of a file.
+fn send<H: Holder>(
+    alloc: Global,
+    holder: &mut H,
+    info: &Arc<BlobInfo>,
+    plan: ReplyPlan,
+    path: &FilePath,
+) -> Reply
+    requires within { All (LiesWithin (length info.now.value)) (intervals_in plan) }
+    requires some { plan ≢ None416 }
+    ensures { SendsBy H.gave H.failed holder.old path.now info.now.value plan (answer_of result) holder.new }
+{
+    match read_body(alloc, holder, info, plan, file_type(path)) {
+        Ok(body) => Reply::of_file(path, info, body),
+        Err(why) => Reply::plain(refusal_of_read(why)),
+    }
+}
+
+/// The reply to HEAD, for which nothing of the file is held.
+fn unread(path: &FilePath, info: &Arc<BlobInfo>) -> Reply
+    ensures { (answer_of result ≡ unread_answer (type_of path.now) info.now.value) ⊎ (answer_of result ≡ refused_answer OutOfMemory) }
+{
+    match Arc::try_clone(info) {
+        Ok(info) => Reply::unread(path, info),
+        Err(_) => Reply::out_of_memory(),
+    }
+}
+
+/// The reply with the file that a version of the site has at a path, as the Range of the request asks, or that there is none.
+pub(crate) fn read<H: House>(
+    alloc: Global,
+    house: &mut H,
+    head: &Head,
+    site: &SiteName,
+    version: &Version,
+    path: &FilePath,
+) -> Reply
+    ensures { let found = versions.file_of (H.calls.seen house.old).state site.now version.now path.now in
+        ReadsBy H.gave H.failed house.old head.now path.now found (answer_of result) house.new }
+{
+    let file = match file_of(house.state(), site, version, path) {
+        Ok(file) => file,
+        Err(why) => return Reply::plain(why),
+    };
+    if is_head_only(head) {
+        return unread(path, file.info());
+    }
+    let plan = plan_asked(head, file.info());
+    match wanted(file.info(), &plan) {
+        Ok(info) => send(alloc, house, &info, plan, path),
+        Err(why) => Reply::plain(why),
+    }
+}
