@@ -38,10 +38,10 @@ pub record HoldsAs {G H : Type 0} (f : H → G) (gave : Gave H) (failed : Failed
   pub gave_is : (old : H) (hold : Held) (new : H) → gave old hold new → gives (f old) hold (f new)
   pub failed_is : (old : H) (file : List ℕ) (first last : ℕ) (why : ReadFault) (new : H) → failed old file first last why new → fails (f old) file first last why (f new)
 
-module _ {G H : Type 0} (f : H → G) (gave : Gave H) (failed : Failed H) (gives : Gave G) (fails : Failed G) (as : HoldsAs f gave failed gives fails) where
+module _ {G H : Type 0} (f : H → G) (gave : Gave H) (failed : Failed H) (gives : Gave G) (fails : Failed G) (same_as : HoldsAs f gave failed gives fails) where
   given : (old : H) (holds : List Held) (new : H) → GivesHolds gave old holds new → GivesHolds gives (f old) holds (f new)
   given old [] new is = ap f is
-  given old (hold ∷ holds) new (mid, first, more) = (f mid, as.gave_is old hold mid first, given mid holds new more)
+  given old (hold ∷ holds) new (mid, first, more) = (f mid, same_as.gave_is old hold mid first, given mid holds new more)
 
   are_held : (old : H) (file : List ℕ) (stretches : List (ℕ × ℕ)) (holds : List Held) (new : H) → AreHeld gave old file stretches holds new
       → AreHeld gives (f old) file stretches holds (f new)
@@ -51,7 +51,7 @@ module _ {G H : Type 0} (f : H → G) (gave : Gave H) (failed : Failed H) (gives
   are_not_held : (old : H) (file : List ℕ) (stretches : List (ℕ × ℕ)) (why : ReadFault) (new : H) → AreNotHeld gave failed old file stretches why new
       → AreNotHeld gives fails (f old) file stretches why (f new)
   are_not_held old file stretches why new (before, left, holds, mid, is, held, inl (stretch, more, first, failing)) =
-      (before, left, holds, f mid, is, are_held old file before holds mid held, inl (stretch, more, first, as.failed_is mid file stretch.0 stretch.1 why new failing))
+      (before, left, holds, f mid, is, are_held old file before holds mid held, inl (stretch, more, first, same_as.failed_is mid file stretch.0 stretch.1 why new failing))
   are_not_held old file stretches why new (before, left, holds, mid, is, held, inr (none, same)) =
       (before, left, holds, f mid, is, are_held old file before holds mid held, inr (none, ap f same))
 
@@ -106,10 +106,10 @@ pub record CallsAs {G H : Type 0} (f : H → G) (calls : Calls H) (coarse : Call
   pub uploads : (old : H) (site : SiteName) (n : ℕ) (path bytes : List ℕ) (done : Result Uploaded Refusal) (new : H) → calls.uploads old site n path bytes done new
       → coarse.uploads (f old) site n path bytes done (f new)
 
-module _ {G H : Type 0} (f : H → G) (calls : Calls H) (coarse : Calls G) (as : CallsAs f calls coarse) (answer : Answer) where
+module _ {G H : Type 0} (f : H → G) (calls : Calls H) (coarse : Calls G) (same_as : CallsAs f calls coarse) (answer : Answer) where
   publishes_as : (house : H) (site : SiteName) (id : ℕ) (auto : Bool) (required : List Digest) (next : H) → PublishesBy calls house site id auto required answer next
       → PublishesBy coarse (f house) site id auto required answer (f next)
-  publishes_as house site id true [] next (done, commits, is) = (done, as.commits house _ done next commits, is)
+  publishes_as house site id true [] next (done, commits, is) = (done, same_as.commits house _ done next commits, is)
   publishes_as house site id true (digest ∷ required) next (is, same) = (is, ap f same)
   publishes_as house site id false [] next (is, same) = (is, ap f same)
   publishes_as house site id false (digest ∷ required) next (is, same) = (is, ap f same)
@@ -122,23 +122,23 @@ module _ {G H : Type 0} (f : H → G) (calls : Calls H) (coarse : Calls G) (as :
   follows_as : (house : H) (site : SiteName) (files : Paths (Option Digest)) (auto : Bool) (opened : Result ℕ Stop) (next : H)
       → FollowsBy calls house site files auto opened answer next → FollowsBy coarse (f house) site files auto opened answer (f next)
   follows_as house site files auto (Err why) next (is, same) = (is, ap f same)
-  follows_as house site files auto (Ok id) next (required, misses, is) = (required, as.misses house files required misses, lacks_as house site id auto required next is)
+  follows_as house site files auto (Ok id) next (required, misses, is) = (required, same_as.misses house files required misses, lacks_as house site id auto required next is)
 
   changes_as : (house : H) (command : Command) (next : H) → ChangesBy calls house command answer next → ChangesBy coarse (f house) command answer (f next)
   changes_as house (command.Open site files auto) next (opened, mid, commits, is) =
-      (opened, f mid, as.commits house _ opened mid commits, follows_as mid site files.1 auto opened next is)
-  changes_as house (command.Publish site n) next (done, commits, is) = (done, as.commits house _ done next commits, is)
-  changes_as house (command.Cancel site n) next (done, commits, is) = (done, as.commits house _ done next commits, is)
-  changes_as house (command.Remove site path) next (done, commits, is) = (done, as.commits house _ done next commits, is)
-  changes_as house (command.Rename site source target) next (done, commits, is) = (done, as.commits house _ done next commits, is)
-  changes_as house (command.MoveAlias site name n) next (done, commits, is) = (done, as.commits house _ done next commits, is)
-  changes_as house (command.RemoveAlias site name) next (done, commits, is) = (done, as.commits house _ done next commits, is)
-  changes_as house (command.Restore site n) next (done, commits, is) = (done, as.commits house _ done next commits, is)
-  changes_as house (command.RemoveDeploy site n) next (done, commits, is) = (done, as.commits house _ done next commits, is)
+      (opened, f mid, same_as.commits house _ opened mid commits, follows_as mid site files.1 auto opened next is)
+  changes_as house (command.Publish site n) next (done, commits, is) = (done, same_as.commits house _ done next commits, is)
+  changes_as house (command.Cancel site n) next (done, commits, is) = (done, same_as.commits house _ done next commits, is)
+  changes_as house (command.Remove site path) next (done, commits, is) = (done, same_as.commits house _ done next commits, is)
+  changes_as house (command.Rename site source target) next (done, commits, is) = (done, same_as.commits house _ done next commits, is)
+  changes_as house (command.MoveAlias site name n) next (done, commits, is) = (done, same_as.commits house _ done next commits, is)
+  changes_as house (command.RemoveAlias site name) next (done, commits, is) = (done, same_as.commits house _ done next commits, is)
+  changes_as house (command.Restore site n) next (done, commits, is) = (done, same_as.commits house _ done next commits, is)
+  changes_as house (command.RemoveDeploy site n) next (done, commits, is) = (done, same_as.commits house _ done next commits, is)
 
   shows_as : (house : H) (site : SiteName) (n : ℕ) (draft : Option Draft) (tree : Option (Paths (List ℕ))) (next : H) → ShowsBy calls house site n draft tree answer next
       → ShowsBy coarse (f house) site n draft tree answer (f next)
-  shows_as house site n (Some draft) tree next (required, misses, is, same) = (required, as.misses house _ required misses, is, ap f same)
+  shows_as house site n (Some draft) tree next (required, misses, only) = (required, same_as.misses house _ required misses, (only.0, ap f only.1))
   shows_as house site n None (Some tree) next (is, same) = (is, ap f same)
   shows_as house site n None None next (is, same) = (is, ap f same)
 
@@ -151,7 +151,7 @@ module _ {G H : Type 0} (f : H → G) (calls : Calls H) (coarse : Calls G) (as :
 -- ---- what is done for what is asked for, where both show the same
 
 module _ {G H : Type 0} (f : H → G) (calls : Calls H) (gave : Gave H) (failed : Failed H) (coarse : Calls G) (gives : Gave G) (fails : Failed G)
-    (as : CallsAs f calls coarse) (holds : HoldsAs f gave failed gives fails) (parts : RequestParts) (body : List ℕ) (answer : Answer) (house next : H)
+    (same_as : CallsAs f calls coarse) (holds : HoldsAs f gave failed gives fails) (parts : RequestParts) (body : List ℕ) (answer : Answer) (house next : H)
     (same : coarse.seen (f house) ≡ calls.seen house) where
   of_deploy_as : (n : ℕ) (does : Seen → SiteName → Answer → H → Type 0) (coarsely : Seen → SiteName → Answer → G → Type 0)
       → ((owner : SiteName) → does (calls.seen house) owner answer next → coarsely (calls.seen house) owner answer (f next))
@@ -159,26 +159,26 @@ module _ {G H : Type 0} (f : H → G) (calls : Calls H) (gave : Gave H) (failed 
       → InSite coarse (f house) (site_of_deploy (entry_at (coarse.seen (f house)).entries n)) (coarsely (coarse.seen (f house))) answer (f next)
   of_deploy_as n does coarsely each is =
       subst (λ (s : Seen). InSite coarse (f house) (site_of_deploy (entry_at s.entries n)) (coarsely s) answer (f next)) (sym same)
-      (in_site_as f calls coarse as answer house (site_of_deploy (entry_at (calls.seen house).entries n)) next (does (calls.seen house)) (coarsely (calls.seen house)) each is)
+      (in_site_as f calls coarse same_as answer house (site_of_deploy (entry_at (calls.seen house).entries n)) next (does (calls.seen house)) (coarsely (calls.seen house)) each is)
 
   pub does_as : (asked : Ask) → DoesBy calls gave failed house parts body asked answer next → DoesBy coarse gives fails (f house) parts body asked answer (f next)
   does_as (ask.Read site version path) is =
       subst (λ (s : Seen). ReadsBy gives fails (f house) parts path (file_of s.state site version path) answer (f next)) (sym same)
       (reads_as f gave failed gives fails holds house parts path (file_of (calls.seen house).state site version path) answer next is)
-  does_as (ask.Command command) is = changes_as f calls coarse as answer house command next is
-  does_as (ask.Undo site change) (done, undoes, is) = (done, as.undoes house site change done next undoes, is)
+  does_as (ask.Command command) is = changes_as f calls coarse same_as answer house command next is
+  does_as (ask.Undo site change) (done, undoes, is) = (done, same_as.undoes house site change done next undoes, is)
   does_as (ask.Changes site) (is, unchanged) =
       subst (λ (s : Seen). OnlyTells (f house) (told.Changes (shown_lines s.entries site)) answer (f next)) (sym same) (is, ap f unchanged)
   does_as (ask.Deploy n) is =
       of_deploy_as n (λ s site. ShowsBy calls house site n (draft_at s.state site n) (kept_at s.state site n))
       (λ s site. ShowsBy coarse (f house) site n (draft_at s.state site n) (kept_at s.state site n))
-      (λ site shows. shows_as f calls coarse as answer house site n _ _ next shows) is
+      (λ site shows. shows_as f calls coarse same_as answer house site n _ _ next shows) is
   does_as (ask.RemoveDeploy n) is =
       of_deploy_as n (λ s site. CommitsBy calls house (command.RemoveDeploy site n)) (λ s site. CommitsBy coarse (f house) (command.RemoveDeploy site n))
-      (λ site commits. (commits.0, as.commits house _ commits.0 next commits.1, commits.2)) is
+      (λ site commits. (commits.0, same_as.commits house _ commits.0 next commits.1, commits.2)) is
   does_as (ask.Cancel n) is =
       of_deploy_as n (λ s site. CommitsBy calls house (command.Cancel site n)) (λ s site. CommitsBy coarse (f house) (command.Cancel site n))
-      (λ site commits. (commits.0, as.commits house _ commits.0 next commits.1, commits.2)) is
+      (λ site commits. (commits.0, same_as.commits house _ commits.0 next commits.1, commits.2)) is
   does_as (ask.Upload n path) is =
       of_deploy_as n (λ s site. UploadsBy calls house site n path body) (λ s site. UploadsBy coarse (f house) site n path body)
-      (λ site uploads. (uploads.0, as.uploads house site n path body uploads.0 next uploads.1, uploads.2)) is
+      (λ site uploads. (uploads.0, same_as.uploads house site n path body uploads.0 next uploads.1, uploads.2)) is

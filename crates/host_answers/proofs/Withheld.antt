@@ -8,6 +8,7 @@ use Rattle.site_state.specs.States.{draft_at, kept_at}
 use Rattle.site_state.specs.declared.values.Draft.{Draft}
 use Rattle.site_change.specs.declared.commands.Command.{Command}
 use Rattle.site_change.specs.declared.commands.Command.TheVariants as command
+use Rattle.site_change.specs.declared.refusals.ChangeRefusal.TheVariants.{NoSuchDeploy}
 use Rattle.change_undo.specs.Logs.{entry_at}
 use Rattle.range_reply.specs.declared.boundaries.Boundary.{Boundary}
 use Rattle.range_spec.specs.declared.selection.Choice.{Choice}
@@ -16,10 +17,14 @@ use Rattle.http_wire.specs.Requests.{RequestParts}
 use Rattle.host_api.specs.declared.bodies.Ask.{Ask}
 use Rattle.host_api.specs.declared.bodies.Ask.TheVariants as ask
 use Rattle.host_api.specs.declared.refusals.Refusal.{Refusal}
+use Rattle.host_api.specs.declared.refusals.Refusal.TheVariants as reason
+use Rattle.host_api.specs.declared.texts.DeployState.TheVariants as state
 use Rattle.host_api.specs.declared.texts.Told.{Told}
+use Rattle.host_api.specs.declared.texts.Told.TheVariants as told
 use Rattle.host_replies.specs.Replies.{Answer, Tells, is_head}
 use Rattle.host_replies.specs.SentFiles.{sent_as}
-use Rattle.host_answers.specs.Answers.{AnswersBy, CarriesOut, ChangesBy, CommitsBy, DoesBy, FollowsBy, InSite, LacksBy, OfDeploy, OnlyTells, PublishesBy, ShowsBy}
+use Rattle.host_answers.specs.Answers.{AnswersBy, CarriesOut, ChangesBy, CommitsBy, DoesBy, FollowsBy, InSite, LacksBy, OfDeploy, OnlyTells, PublishesBy, ShowsBy, told_entry, told_open, told_publishing, told_stop, told_upload}
+use Rattle.host_answers.specs.ChangeLists.{shown_lines}
 use Rattle.host_answers.specs.Asking.{asked_for}
 use Rattle.host_answers.specs.Deploys.{site_of_deploy}
 use Rattle.host_answers.specs.Houses.{Calls, Failed, Gave}
@@ -69,62 +74,62 @@ module _ (answer : Answer) (withheld : answer.withheld ≡ true) where
 
   module _ {H : Type 0} (calls : Calls H) (next : H) where
     publishes : (house : H) (site : SiteName) (id : ℕ) (auto : Bool) (required : List Digest) → PublishesBy calls house site id auto required answer next → ⊥
-    publishes house site id true [] (done, commits, is) = tells _ is
-    publishes house site id true (digest ∷ required) (is, same) = tells _ is
-    publishes house site id false [] (is, same) = tells _ is
-    publishes house site id false (digest ∷ required) (is, same) = tells _ is
+    publishes house site id true [] (done, commits, is) = tells (told_publishing id done) is
+    publishes house site id true (digest ∷ required) (is, same) = tells (told.Opened id None (digest ∷ required)) is
+    publishes house site id false [] (is, same) = tells (told.Opened id None []) is
+    publishes house site id false (digest ∷ required) (is, same) = tells (told.Opened id None (digest ∷ required)) is
 
     lacks : (house : H) (site : SiteName) (id : ℕ) (auto : Bool) (required : Result (List Digest) AllocError) → LacksBy calls house site id auto required answer next → ⊥
-    lacks house site id auto (Err why) (is, same) = tells _ is
+    lacks house site id auto (Err why) (is, same) = tells (told.Refused reason.OutOfMemory) is
     lacks house site id auto (Ok required) is = publishes house site id auto required is
 
     follows : (house : H) (site : SiteName) (files : Paths (Option Digest)) (auto : Bool) (opened : Result ℕ Stop) → FollowsBy calls house site files auto opened answer next → ⊥
-    follows house site files auto (Err why) (is, same) = tells _ is
+    follows house site files auto (Err why) (is, same) = tells (told.Refused (told_stop why)) is
     follows house site files auto (Ok id) (required, misses, is) = lacks house site id auto required is
 
     changes : (house : H) (command : Command) → ChangesBy calls house command answer next → ⊥
     changes house (command.Open site files auto) (opened, mid, commits, is) = follows mid site files.1 auto opened is
-    changes house (command.Publish site n) (done, commits, is) = tells _ is
-    changes house (command.Cancel site n) (done, commits, is) = tells _ is
-    changes house (command.Remove site path) (done, commits, is) = tells _ is
-    changes house (command.Rename site source target) (done, commits, is) = tells _ is
-    changes house (command.MoveAlias site name n) (done, commits, is) = tells _ is
-    changes house (command.RemoveAlias site name) (done, commits, is) = tells _ is
-    changes house (command.Restore site n) (done, commits, is) = tells _ is
-    changes house (command.RemoveDeploy site n) (done, commits, is) = tells _ is
+    changes house (command.Publish site n) (done, commits, is) = tells (told_entry done) is
+    changes house (command.Cancel site n) (done, commits, is) = tells (told_entry done) is
+    changes house (command.Remove site path) (done, commits, is) = tells (told_entry done) is
+    changes house (command.Rename site source target) (done, commits, is) = tells (told_entry done) is
+    changes house (command.MoveAlias site name n) (done, commits, is) = tells (told_entry done) is
+    changes house (command.RemoveAlias site name) (done, commits, is) = tells (told_entry done) is
+    changes house (command.Restore site n) (done, commits, is) = tells (told_entry done) is
+    changes house (command.RemoveDeploy site n) (done, commits, is) = tells (told_entry done) is
 
     shows : (house : H) (site : SiteName) (n : ℕ) (draft : Option Draft) (tree : Option (Paths (List ℕ))) → ShowsBy calls house site n draft tree answer next → ⊥
-    shows house site n (Some draft) tree (required, misses, is, same) = tells _ is
-    shows house site n None (Some tree) (is, same) = tells _ is
-    shows house site n None None (is, same) = tells _ is
+    shows house site n (Some draft) tree (required, misses, only) = tells (told_open n site required) only.0
+    shows house site n None (Some tree) (is, same) = tells (told.Deploy n site state.Kept) is
+    shows house site n None None (is, same) = tells (told.Refused (reason.Change NoSuchDeploy)) is
 
     in_site : (house : H) (site : Option SiteName) (does : SiteName → Answer → H → Type 0) → ((owner : SiteName) → does owner answer next → ⊥)
         → InSite calls house site does answer next → ⊥
-    in_site house None does not (is, same) = tells _ is
+    in_site house None does not (is, same) = tells (told.Refused (reason.Change NoSuchDeploy)) is
     in_site house (Some site) does not is = not site is
 
   module _ {H : Type 0} (calls : Calls H) (gave : Gave H) (failed : Failed H) (parts : RequestParts) (body : List ℕ) (next : H) where
     does : (house : H) (asked : Ask) → DoesBy calls gave failed house parts body asked answer next → is_head parts ≡ true
     does house (ask.Read site version path) is = reads gave failed house next parts path _ is
     does house (ask.Command command) is = absurd (changes calls next house command is)
-    does house (ask.Undo site change) (done, undoes, is) = absurd (tells _ is)
-    does house (ask.Changes site) (is, same) = absurd (tells _ is)
+    does house (ask.Undo site change) (done, undoes, is) = absurd (tells (told_entry done) is)
+    does house (ask.Changes site) (is, same) = absurd (tells (told.Changes (shown_lines (calls.seen house).entries site)) is)
     does house (ask.Deploy n) is =
-        let state = (calls.seen house).state in
-        absurd (in_site calls next house (site_of_deploy (entry_at (calls.seen house).entries n)) _ (λ site. shows calls next house site n (draft_at state site n) (kept_at state site n)) is)
+        let cells = (calls.seen house).state in
+        absurd (in_site calls next house (site_of_deploy (entry_at (calls.seen house).entries n)) _ (λ site. shows calls next house site n (draft_at cells site n) (kept_at cells site n)) is)
     does house (ask.RemoveDeploy n) is =
-        absurd (in_site calls next house (site_of_deploy (entry_at (calls.seen house).entries n)) _ (λ site commits. tells _ commits.2) is)
+        absurd (in_site calls next house (site_of_deploy (entry_at (calls.seen house).entries n)) _ (λ site commits. tells (told_entry commits.0) commits.2) is)
     does house (ask.Cancel n) is =
-        absurd (in_site calls next house (site_of_deploy (entry_at (calls.seen house).entries n)) _ (λ site commits. tells _ commits.2) is)
+        absurd (in_site calls next house (site_of_deploy (entry_at (calls.seen house).entries n)) _ (λ site commits. tells (told_entry commits.0) commits.2) is)
     does house (ask.Upload n path) is =
-        absurd (in_site calls next house (site_of_deploy (entry_at (calls.seen house).entries n)) _ (λ site uploads. tells _ uploads.2) is)
+        absurd (in_site calls next house (site_of_deploy (entry_at (calls.seen house).entries n)) _ (λ site uploads. tells (told_upload uploads.0) uploads.2) is)
 
     carries_out : (house : H) (asking : Result Ask Refusal) → CarriesOut calls gave failed house parts body asking answer next → is_head parts ≡ true
-    carries_out house (Err why) (is, same) = absurd (tells _ is)
+    carries_out house (Err why) (is, same) = absurd (tells (told.Refused why) is)
     carries_out house (Ok asked) (inl (mid, looks, is)) = does mid asked is
     carries_out house (Ok asked) (inr (why, looks, is)) = absurd (whole _ is refl)
 
 pub withheld_to_head : {H : Type 0} (calls : Calls H) (gave : Gave H) (failed : Failed H) (old : H) (parts : RequestParts) (body : List ℕ) (answer : Answer) (new : H)
     → AnswersBy calls gave failed old parts body answer new → answer.withheld ≡ true → is_head parts ≡ true
 withheld_to_head calls gave failed old parts body answer new (inl is) withheld = carries_out answer withheld calls gave failed parts body new old (asked_for parts body) is
-withheld_to_head calls gave failed old parts body answer new (inr (takes, is, same)) withheld = absurd (tells answer withheld _ is)
+withheld_to_head calls gave failed old parts body answer new (inr (takes, only)) withheld = absurd (tells answer withheld (told.Refused reason.OutOfMemory) only.0)

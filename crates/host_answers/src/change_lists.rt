@@ -42,7 +42,7 @@ fn list_changes<H: House>(
     house: &H,
     site: &SiteName,
 ) -> Result<Items<ChangeLine>, AllocError>
-    ensures shown { IfOk result (λ lines. lines ≡ spec.shown_lines (H.calls.seen house.now).entries site.now) }
+    ensures { IfOk result (λ lines. lines ≡ spec.shown_lines (H.calls.seen house.now).entries site.now) }
 {
     let mut lines = Vec::new(alloc);
     let mut number = house.log().len();

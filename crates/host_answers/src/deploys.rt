@@ -1,16 +1,17 @@
 //! Deploys: whose they are, and what is told of them.
-ghost use Rattle.std.specs.Prelude.{◌≡◌, None, Some};
+ghost use Rattle.std.specs.Prelude.{◌≡◌};
 ghost use Rattle.change_undo.specs.Logs.{entry_at};
 ghost use Rattle.site_state.specs.States.{draft_at, kept_at};
 ghost use Rattle.host_replies.specs.Bodies.{answer_of};
+ghost use Rattle.host_replies.specs.Replies.{Tells};
 ghost use Rattle.host_answers.specs.Answers as answers;
-ghost use Rattle.host_answers.specs.Answers.{InSite, ShowsBy};
+ghost use Rattle.host_answers.specs.Answers.{OfDeploy, ShowsBy};
 ghost use Rattle.host_answers.specs.Deploys as spec;
 
 use crate::houses::House;
-use crate::telling::{no_such_deploy, refuse};
+use crate::telling::no_such_deploy;
 use change_undo::{Entry, Log};
-use host_api::{DeployState, Items, Refusal, Told};
+use host_api::{DeployState, Items, Told};
 use host_names::{Digest, SiteName};
 use host_replies::Reply;
 use site_change::Command;

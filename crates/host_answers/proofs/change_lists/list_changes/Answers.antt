@@ -1,4 +1,5 @@
 use Rattle.std.proofs.Common.{rules, ◌<◌, inl, inr, ◌-◌, Vec, Global, length, sym, ap, subst, ◌∙◌}
+use Rattle.change_undo.specs.Logs.{last_number}
 use Rattle.host_api.specs.declared.change_lines.ChangeLine.{ChangeLine}
 use Rattle.host_answers.specs.ChangeLists.{most_lines}
 use Rattle.host_answers.proofs.Lines.{AreFound, none_found, line_found, no_line_found, all_shown}
@@ -6,7 +7,7 @@ use Rattle.host_answers.proofs.change_lists.list_changes.Goals.{in-Some+in_ok-pu
 use Rattle.host_answers.proofs.change_lists.list_changes.Goals as goal
 
 pub entries-init : goal.entries-init
-entries-init g c = none_found (g.H.House.calls.seen c.args.house.now).entries c.args.site.now c.new-lines.result.items c.len-number.result c.new-lines.ensures.items c.len-number.ensures
+entries-init g c = none_found (g.H.House.calls.seen c.args.house.now).entries c.args.site.now c.new-lines.result.items c.len-number.result c.new-lines.ensures.items (c.len-number.ensures ∙ ap last_number c.log.ensures)
 
 pub entries-preserved : goal.entries-preserved
 entries-preserved g c =
@@ -21,8 +22,8 @@ entries-preserved g c =
           (sym c.line.ensures ∙ w.in_default.is))
     ]
 
-pub returns-clause-shown : goal.returns-clause-shown
-returns-clause-shown g c =
+pub returns : goal.returns
+returns g c =
     let log = (g.H.House.calls.seen c.args.house.now).entries in
     let site = c.args.site.now in
     c.from.ensures ∙ c.reverse.ensures.items ∙ all_shown log site c.entries.lines.items c.entries.number c.entries.invariant (elim c.entries-test.branch [
