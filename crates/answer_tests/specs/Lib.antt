@@ -1,3 +1,4 @@
 pub mod Visits
 pub mod Shared
+pub mod Receipts
 pub mod SharedHouses

@@ -3,4 +3,5 @@ pub mod Lines
 pub mod Reading
 pub mod FileReplies
 pub mod Withheld
+pub mod Growing
 pub mod Seen

@@ -35,10 +35,10 @@ use Rattle.host_answers.proofs.Reading.{Sends}
 
 module _ (answer : Answer) (withheld : answer.withheld ≡ true) where
   -- not where it is an answer with its body
-  whole : (other : Answer) → answer ≡ other → other.withheld ≡ false → ⊥
+  pub whole : (other : Answer) → answer ≡ other → other.withheld ≡ false → ⊥
   whole other is not = cc (sym (ap (λ (a : Answer). a.withheld) is ∙ not) ∙ withheld)
 
-  tells : (told : Told) → Tells told answer → ⊥
+  pub tells : (told : Told) → Tells told answer → ⊥
   tells told (inl is) = whole _ is refl
   tells told (inr (is, takes)) = whole _ is refl
 
@@ -109,7 +109,7 @@ module _ (answer : Answer) (withheld : answer.withheld ≡ true) where
     in_site house (Some site) does not is = not site is
 
   module _ {H : Type 0} (calls : Calls H) (gave : Gave H) (failed : Failed H) (parts : RequestParts) (body : List ℕ) (next : H) where
-    does : (house : H) (asked : Ask) → DoesBy calls gave failed house parts body asked answer next → is_head parts ≡ true
+    pub does : (house : H) (asked : Ask) → DoesBy calls gave failed house parts body asked answer next → is_head parts ≡ true
     does house (ask.Read site version path) is = reads gave failed house next parts path _ is
     does house (ask.Command command) is = absurd (changes calls next house command is)
     does house (ask.Undo site change) (done, undoes, is) = absurd (tells (told_entry done) is)
