@@ -2,3 +2,4 @@ pub mod Visits
 pub mod Shared
 pub mod Receipts
 pub mod SharedHouses
+pub mod SharedLaws

@@ -1,4 +1,4 @@
-//! A house whose history others change, by which `answer` is proved to be generic, and a house of one thread by which it is run.
+//! A house whose history others change: `answer` is proved over it, too.
 #![tactic(auto)]
 
 mod shared;

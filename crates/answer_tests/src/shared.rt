@@ -12,7 +12,7 @@ ghost use Rattle.host_api.specs.declared.versions.Version.{Version as Served};
 ghost use Rattle.host_replies.specs.Bodies.{answer_of};
 ghost use Rattle.answer_tests.specs.Shared.{IsSharedAnswer, IsSharedFileReply, LacksAs, RefusesCommand, RefusesUndo};
 ghost use Rattle.answer_tests.specs.Receipts.{NotTakenAs, StopsAs};
-ghost use Rattle.answer_tests.specs.SharedHouses as laws;
+ghost use Rattle.answer_tests.specs.SharedLaws as laws;
 ghost use Rattle.answer_tests.specs.SharedHouses.{calls_of, failed_at, gave_at};
 ghost use Rattle.answer_tests.specs.Visits.{Looks, LooksInVain, Remembers, Visit, learns};
 
@@ -249,7 +249,7 @@ impl<V: Visits, D: Desk, G: Files> House for SharedHouse<V, D, G> {
 
     ghost grew = { λ old new parts body answer by. laws.grew _ _ V.visit old new parts body answer by };
 
-    ghost withheld = { λ old parts body answer new is withheld. laws.withheld (V.visit old.visitor) parts body answer (V.visit new.visitor) is withheld };
+    ghost withheld = { λ old parts body answer new is withheld. laws.withheld_to_head (V.visit old.visitor) parts body answer (V.visit new.visitor) is withheld };
 
     ghost stays = { λ house. laws.stays (V.visit house.visitor) };
 
@@ -266,7 +266,7 @@ impl<V: Visits, D: Desk, G: Files> Service for SharedHouse<V, D, G> {
         answer(alloc, self, &request.head, request.body.as_slice())
     }
 
-    ghost withheld = { λ old parts body answer new is withheld. laws.withheld (V.visit old.visitor) parts body answer (V.visit new.visitor) is withheld };
+    ghost withheld = { λ old parts body answer new is withheld. laws.withheld_to_head (V.visit old.visitor) parts body answer (V.visit new.visitor) is withheld };
 
     ghost stays = { λ house. laws.stays (V.visit house.visitor) };
 

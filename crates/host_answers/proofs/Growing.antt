@@ -78,7 +78,7 @@ module _ {H : Type 0} (grows : H → H → Type 0) (calls : Calls H) (gave : Gav
     gives true old parts path file new (is, unchanged) = same old new unchanged
     gives false old parts path file new (range, asks, is) = sends old path file _ new is
 
-    reads : (old : H) (parts : RequestParts) (path : List ℕ) (found : Result (List ℕ) Refusal) (new : H) → ReadsBy gave failed old parts path found answer new → grows old new
+    pub reads : (old : H) (parts : RequestParts) (path : List ℕ) (found : Result (List ℕ) Refusal) (new : H) → ReadsBy gave failed old parts path found answer new → grows old new
     reads old parts path (Err why) new (is, unchanged) = same old new unchanged
     reads old parts path (Ok file) new is = gives (is_head parts) old parts path file new is
 
