@@ -1,5 +1,5 @@
 -- What is learnt where a desk makes an entry, or doesn't.
-use Rattle.std.proofs.Common.{◌≡◌, ℕ, ◌+◌, ◌-◌, ◌<◌, ◌==◌, List, [], ◌∷◌, ◌++◌, length, slice_get, true, false, cond, Option, Some, None, Err, refl, sym, ap, subst, ◌∙◌, arith}
+use Rattle.std.proofs.Common.{◌≡◌, ℕ, ◌+◌, ◌-◌, ◌<◌, ◌==◌, List, [], ◌∷◌, ◌++◌, length, slice_get, true, false, cond, Some, None, Err, refl, sym, ap, subst, ◌∙◌, arith}
 use Rattle.std.proofs.lemmas.Bool.{eqb-true}
 use Rattle.std.proofs.lemmas.List.{length-append}
 use Rattle.change_undo.specs.Logs.{Log, entry_at, last_number, with_entry}
@@ -9,9 +9,9 @@ use Rattle.host_answers.specs.declared.stops.Stop.{Stop}
 use Rattle.answer_tests.specs.Receipts.{StopsAs}
 use Rattle.answer_tests.specs.Shared.{EntersAs}
 use Rattle.answer_tests.specs.Visits.{Visit}
-use Rattle.answer_tests.specs.declared.shared.Receipt.{Receipt}
-use Rattle.answer_tests.specs.declared.shared.Refused.{Refused}
-use Rattle.answer_tests.specs.declared.shared.Refused.TheVariants as refused
+use Rattle.answer_tests.specs.declared.desks.Receipt.{Receipt}
+use Rattle.answer_tests.specs.declared.desks.Refused.{Refused}
+use Rattle.answer_tests.specs.declared.desks.Refused.TheVariants as refused
 
 -- ---- an entry is shown under its number
 

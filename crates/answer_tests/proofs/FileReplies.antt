@@ -1,5 +1,5 @@
 -- The answer to the reading of a file is over the state of the last look.
-use Rattle.std.proofs.Common.{◌≡◌, inl, inr, List, ℕ, Result, Ok, Err, sym, subst, ◌∙◌, refl}
+use Rattle.std.proofs.Common.{◌≡◌, inl, inr, List, ℕ, Result, Ok, sym, subst, ◌∙◌, refl}
 use Rattle.http_wire.specs.Requests.{RequestParts}
 use Rattle.host_names.specs.declared.names.SiteName.{SiteName}
 use Rattle.host_api.specs.declared.bodies.Ask.{Ask}
@@ -11,7 +11,6 @@ use Rattle.host_api.specs.declared.versions.Version.{Version}
 use Rattle.host_replies.specs.Replies.{Answer, Tells, refused_answer}
 use Rattle.host_answers.specs.Asking.{asked_for}
 use Rattle.host_answers.specs.Houses.{Calls, Seen}
-use Rattle.host_answers.specs.Reads.{ReadsBy}
 use Rattle.host_answers.specs.Versions.{file_of}
 use Rattle.host_answers.proofs.FileReplies.{reads_of}
 use Rattle.host_answers.proofs.Growing.{StaysBy, reads}

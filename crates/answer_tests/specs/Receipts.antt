@@ -1,14 +1,14 @@
 -- What is learnt of what a desk answers.
-use Rattle.std.specs.Prelude.{◌≡◌, ◌⊎◌}
+use Rattle.std.specs.Prelude.{◌≡◌}
 use Rattle.host_api.specs.declared.refusals.Refusal.{Refusal}
 use Rattle.host_answers.specs.Answers.{told_stop}
 use Rattle.host_answers.specs.declared.stops.Stop.{Stop}
 use Rattle.host_answers.specs.declared.stops.Stop.TheVariants as stop
 use Rattle.answer_tests.specs.Visits.{Visit, learns}
-use Rattle.answer_tests.specs.declared.shared.NotTaken.{NotTaken}
-use Rattle.answer_tests.specs.declared.shared.NotTaken.TheVariants as untaken
-use Rattle.answer_tests.specs.declared.shared.Refused.{Refused}
-use Rattle.answer_tests.specs.declared.shared.Refused.TheVariants as refused
+use Rattle.answer_tests.specs.declared.desks.NotTaken.{NotTaken}
+use Rattle.answer_tests.specs.declared.desks.NotTaken.TheVariants as untaken
+use Rattle.answer_tests.specs.declared.desks.Refused.{Refused}
+use Rattle.answer_tests.specs.declared.desks.Refused.TheVariants as refused
 
 -- why there is no entry: a refusal is learnt
 abbrev pub StopsAs : Visit → Refused → Stop → Visit → Type 0

@@ -1,4 +1,5 @@
--- What a house answers whose history others change: what its last look shows, and what its own receipts and refusals say.
+-- What a house answers whose history others change: what its last look shows, and what its own receipts and refusals
+-- say.
 use Rattle.std.specs.Prelude.{◌≡◌, ◌⊎◌, ℕ, List, Option, Some, None, Result, Ok, Err, IsSome, IsTrue}
 use Rattle.std.specs.declared.alloc.AllocError.{AllocError}
 use Rattle.host_names.specs.Digests.{digest_of}
@@ -41,16 +42,19 @@ IsRun seen = (uploads : Contents) × (run uploads seen.entries ≡ Some seen.sta
 -- over this log, and over some uploads, this is the first reason against the command
 abbrev pub RefusesCommand : Command → Log → ChangeRefusal → Type 0
 RefusesCommand command log why =
-    (uploads : Contents) × (state : State) × (run uploads log ≡ Some state) × (commit_refusal uploads 1000000 log state command ≡ Some why)
+    (uploads : Contents) × (state : State) × (run uploads log ≡ Some state)
+    × (commit_refusal uploads 1000000 log state command ≡ Some why)
 
 -- the same of the undo of a change
 abbrev pub RefusesUndo : SiteName → ℕ → Log → ChangeRefusal → Type 0
-RefusesUndo site change log why = (uploads : Contents) × (undo_refusal uploads 1000000 log site change ≡ Some why)
+RefusesUndo site change log why =
+    (uploads : Contents) × (undo_refusal uploads 1000000 log site change ≡ Some why)
 
--- what comes of an entry: its receipt is learnt, whose log ends with it, and that log's number is told; or a log is learnt over which it is refused
--- for that reason; or nothing is learnt
+-- what comes of an entry: its receipt is learnt, whose log ends with it, and its number there is told; or a log is learnt
+-- over which it is refused for that reason; or nothing is learnt
 abbrev pub EntersAs : Entry → (refuses : Log → ChangeRefusal → Type 0) → Visit → Result ℕ Stop → Visit → Type 0
-EntersAs entry refuses old (Ok number) new = (before : Log) × (number ≡ next_number before) × (new ≡ learns old (with_entry before entry))
+EntersAs entry refuses old (Ok number) new =
+    (before : Log) × (number ≡ next_number before) × (new ≡ learns old (with_entry before entry))
 EntersAs entry refuses old (Err (stop.Refused why)) new = (log : Log) × refuses log why × (new ≡ learns old log)
 EntersAs entry refuses old (Err why) new = new ≡ old
 
@@ -102,19 +106,21 @@ fails old file first last why new = new ≡ old
 abbrev pub RespondsAs : Visit → RequestParts → (body : List ℕ) → Result Ask Refusal → Answer → Visit → Type 0
 RespondsAs old parts body (Err why) answer new = OnlyTells old (Refused why) answer new
 RespondsAs old parts body (Ok asked) answer new =
-    ((seen : Seen) × (mid : Visit) × Looks old seen.entries mid × IsRun seen × DoesBy (calls_over seen) gives fails mid parts body asked answer new)
+    ((seen : Seen) × (mid : Visit) × Looks old seen.entries mid × IsRun seen
+    × DoesBy (calls_over seen) gives fails mid parts body asked answer new)
     ⊎ ((answer ≡ refused_answer OutOfMemory) × LooksInVain old new)
 
--- The answer to a request. It comes after a look, whose log begins with those of all earlier looks, receipts and refusals, and whose state is what
--- that log gives.
+-- The answer to a request. It comes after a look, whose log begins with those of all earlier looks, receipts and refusals,
+-- and whose state is what that log gives.
 abbrev pub IsSharedAnswer : Visit → RequestParts → (body : List ℕ) → Answer → Visit → Type 0
 IsSharedAnswer old parts body answer new =
     RespondsAs old parts body (asked_for parts body) answer new
     ⊎ (IsTrue (asking_takes parts body) × OnlyTells old (Refused OutOfMemory) answer new)
 
--- The answer to the reading of a file: over the state of one look, whose log begins with those of all earlier looks, receipts and refusals. Or there is
--- no memory.
+-- The answer to the reading of a file: over the state of one look, whose log begins with those of all earlier looks,
+-- receipts and refusals. Or there is no memory.
 abbrev pub IsSharedFileReply : Visit → RequestParts → SiteName → Version → (path : List ℕ) → Answer → Visit → Type 0
 IsSharedFileReply old parts site version path answer new =
-    ((seen : Seen) × Looks old seen.entries new × IsRun seen × IsFileReply parts path (file_of seen.state site version path) answer)
+    ((seen : Seen) × Looks old seen.entries new × IsRun seen
+    × IsFileReply parts path (file_of seen.state site version path) answer)
     ⊎ ((answer ≡ refused_answer OutOfMemory) × LooksInVain old new)

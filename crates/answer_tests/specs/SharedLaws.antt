@@ -1,39 +1,31 @@
 -- What the calls of a house answer together whose history others change.
-use Rattle.std.proofs.Common.{◌≡◌, ◌⊎◌, inl, inr, ℕ, List, [], ◌∷◌, ◌++◌, true, Option, Some, None, Result, Ok, Err, refl, sym, ap, subst, ◌∙◌, append-nil}
+use Rattle.std.proofs.Common.{◌≡◌, inl, inr, ℕ, List, [], ◌∷◌, ◌++◌, true, Option, Some, None, Result, Ok, Err, refl, sym, ap, subst, ◌∙◌, append-nil}
 use Rattle.std.proofs.lemmas.List.{append_assoc}
 use Rattle.std.specs.declared.alloc.AllocError.{AllocError}
-use Rattle.byte_view.specs.Holds.{Held}
-use Rattle.chunk_reads.specs.declared.faults.ReadFault.{ReadFault}
 use Rattle.change_undo.specs.Logs.{Log, with_entry}
 use Rattle.change_undo.specs.declared.entries.Entry.{Entry}
 use Rattle.change_undo.specs.declared.entries.Entry.TheVariants.{Change, Undo}
-use Rattle.site_change.specs.declared.commands.Command.{Command}
 use Rattle.site_change.specs.declared.commands.Command.TheVariants.{Publish}
 use Rattle.site_change.specs.declared.refusals.ChangeRefusal.{ChangeRefusal}
 use Rattle.http_wire.specs.Requests.{RequestParts}
 use Rattle.host_names.specs.declared.names.SiteName.{SiteName}
 use Rattle.host_api.specs.declared.bodies.Ask.{Ask}
-use Rattle.host_api.specs.declared.bodies.Ask.TheVariants.{Read}
 use Rattle.host_api.specs.declared.refusals.Refusal.{Refusal}
 use Rattle.host_api.specs.declared.refusals.Refusal.TheVariants.{OutOfMemory}
 use Rattle.host_api.specs.declared.texts.Told.TheVariants.{Refused}
-use Rattle.host_api.specs.declared.versions.Version.{Version}
-use Rattle.host_replies.specs.Replies.{Answer, Tells, is_head, refused_answer}
+use Rattle.host_replies.specs.Replies.{Answer, is_head}
 use Rattle.host_answers.specs.Answers.{AnswersBy, CarriesOut, DoesBy}
 use Rattle.host_answers.specs.Asking.{asked_for}
-use Rattle.host_answers.specs.Houses.{Calls, Failed, Gave, Seen}
-use Rattle.host_answers.specs.Versions.{file_of}
 use Rattle.host_answers.specs.declared.stops.Stop.{Stop}
 use Rattle.host_answers.specs.declared.stops.Stop.TheVariants as stop
 use Rattle.host_answers.specs.declared.uploads.Uploaded.{Uploaded}
-use Rattle.host_answers.proofs.FileReplies.{reads_of}
 use Rattle.host_answers.proofs.Growing as growing
 use Rattle.host_answers.proofs.Growing.{StaysBy}
-use Rattle.host_answers.proofs.Seen.{CallsAs, HoldsAs, does_as}
+use Rattle.host_answers.proofs.Seen.{does_as}
 use Rattle.host_answers.proofs.Withheld as withheld
-use Rattle.answer_tests.specs.Shared.{CommitsAs, EntersAs, IsSharedAnswer, IsSharedFileReply, PublishesAs, RespondsAs, TakesAs, calls_over, fails, gives}
+use Rattle.answer_tests.specs.Shared.{EntersAs, IsSharedAnswer, PublishesAs, RespondsAs, TakesAs, calls_over, fails, gives}
 use Rattle.answer_tests.specs.SharedHouses.{calls_of, failed_at, gave_at, shown}
-use Rattle.answer_tests.specs.Visits.{Looks, LooksInVain, Remembers, Visit, learns, looked}
+use Rattle.answer_tests.specs.Visits.{Looks, LooksInVain, Remembers, Visit, learns}
 use Rattle.answer_tests.specs.declared.shared.SharedHouse.{SharedHouse}
 
 -- ---- what is answered

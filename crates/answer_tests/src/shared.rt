@@ -16,6 +16,7 @@ ghost use Rattle.answer_tests.specs.SharedLaws as laws;
 ghost use Rattle.answer_tests.specs.SharedHouses.{calls_of, failed_at, gave_at};
 ghost use Rattle.answer_tests.specs.Visits.{Looks, LooksInVain, Remembers, Visit, learns};
 
+use crate::desks::{Desk, Files, NotTaken, Receipt, Refused, Taken, Visits};
 use byte_view::{BlobInfo, Hold};
 use change_undo::{Entry, History, Log};
 use chunk_reads::{Holder, ReadFault};
@@ -29,92 +30,6 @@ use site_change::{ChangeRefusal, Command};
 use site_state::{Listing, State};
 use std::alloc::{AllocError, Global};
 use std::sync::Arc;
-
-/// What shows an entry, or a refusal.
-#[derive(Drop)]
-pub struct Receipt {
-    pub snap: Arc<History>,
-}
-
-/// Why a desk makes no entry.
-#[derive(Drop)]
-pub enum Refused {
-    Broken,
-    /// The reason, and a history that shows it.
-    Refused { why: ChangeRefusal, seen: Receipt },
-    OutOfMemory,
-    Device,
-}
-
-/// What was uploaded, and the receipt of the entry that published its deploy, if that was ready then.
-#[derive(Drop)]
-pub struct Taken {
-    pub published: Option<Receipt>,
-    pub digest: Digest,
-}
-
-/// Why an upload isn't taken, or its deploy isn't published.
-#[derive(Drop)]
-pub enum NotTaken {
-    Refused(Refusal),
-    NotPublished(Refused),
-}
-
-/// A reader's place: it looks at what a desk shows, which others change meanwhile.
-pub trait Visits {
-    // What it has seen and was told.
-    ghost visit: { Self → Visit };
-
-    /// What is shown now: any history whose log begins with all that was seen and told.
-    fn look(&mut self) -> Result<Arc<History>, AllocError>
-        ensures looks { IfOk result (λ snap. Looks (visit self.old) snap.value.entries (visit self.new)) }
-        ensures in_vain { OnErr result (LooksInVain (visit self.old) (visit self.new)) };
-
-    /// Learns of a receipt.
-    fn learn(&mut self, receipt: &Receipt)
-        ensures { visit self.new ≡ learns (visit self.old) receipt.now.snap.value.entries };
-}
-
-/// Where entries are made and files are kept.
-pub trait Desk {
-    /// Makes a command the next entry of whatever the log is by then.
-    fn commit(&self, command: Command) -> Result<Receipt, Refused>
-        ensures entered { IfOk result (λ receipt. (before : Entries) × (receipt.snap.value.entries ≡ with_entry before (entry.Change command))) }
-        ensures refused { IfErr result (λ why. (reason : Reason) (seen : Receipt) → why ≡ Refused.Refused reason seen
-            → RefusesCommand command seen.snap.value.entries reason) };
-
-    /// So it does with the undo of a change.
-    fn undo(&self, site: &SiteName, change: u64) -> Result<Receipt, Refused>
-        ensures entered { IfOk result (λ receipt. (before : Entries) × (receipt.snap.value.entries ≡ with_entry before (entry.Undo site.now change))) }
-        ensures refused { IfErr result (λ why. (reason : Reason) (seen : Receipt) → why ≡ Refused.Refused reason seen
-            → RefusesUndo site.now change seen.snap.value.entries reason) };
-
-    /// Takes bytes as a file of a deploy, and publishes the deploy if it is ready then.
-    fn upload(
-        &self,
-        site: &SiteName,
-        deploy: u64,
-        path: &FilePath,
-        bytes: &[u8],
-    ) -> Result<Taken, NotTaken>
-        ensures digest { IfOk result (λ taken. taken.digest ≡ digest_of bytes.now) }
-        ensures published { IfOk result (λ taken. IfSome taken.published (λ receipt. (before : Entries)
-            × (receipt.snap.value.entries ≡ with_entry before (entry.Change (command.Publish site.now deploy))))) }
-        ensures refused { IfErr result (λ why. (reason : Reason) (seen : Receipt) → why ≡ NotTaken.NotPublished (Refused.Refused reason seen)
-            → RefusesCommand (command.Publish site.now deploy) seen.snap.value.entries reason) };
-
-    /// The listed digests that aren't uploaded by now.
-    fn missing(&self, alloc: Global, files: &Listing) -> Result<Items<Digest>, AllocError>
-        ensures { LacksAs files.now.1 result };
-}
-
-/// What files are held by.
-pub trait Files {
-    fn hold(&self, info: Arc<BlobInfo>, first: usize, last: usize) -> Result<Hold, ReadFault>
-        requires ordered { first ≤ last }
-        requires within { last < length info.value }
-        ensures stretch { IfOk result (λ hold. (hold.file ≡ info.value) × (hold.first ≡ first) × (hold.last ≡ last)) };
-}
 
 /// A visitor, a desk, and files. It shows the history of the last look or receipt.
 pub struct SharedHouse<V, D, G> {
@@ -188,7 +103,8 @@ impl<V: Visits, D: Desk, G: Files> SharedHouse<V, D, G> {
 impl<V: Visits, D: Desk, G: Files> House for SharedHouse<V, D, G> {
     ghost calls = { calls_of V.visit };
 
-    ghost answers = { λ old parts body answer new. IsSharedAnswer (V.visit old.visitor) parts body answer (V.visit new.visitor) };
+    ghost answers = { λ old parts body answer new.
+        IsSharedAnswer (V.visit old.visitor) parts body answer (V.visit new.visitor) };
 
     ghost grows = { λ old new. Remembers (V.visit old.visitor) (V.visit new.visitor) };
 
@@ -249,16 +165,19 @@ impl<V: Visits, D: Desk, G: Files> House for SharedHouse<V, D, G> {
 
     ghost grew = { λ old new parts body answer by. laws.grew _ _ V.visit old new parts body answer by };
 
-    ghost withheld = { λ old parts body answer new is withheld. laws.withheld_to_head (V.visit old.visitor) parts body answer (V.visit new.visitor) is withheld };
+    ghost withheld = { λ old parts body answer new.
+        laws.withheld_to_head (V.visit old.visitor) parts body answer (V.visit new.visitor) };
 
     ghost stays = { λ house. laws.stays (V.visit house.visitor) };
 
-    ghost goes_on = { λ first mid last one other. laws.goes_on (V.visit first.visitor) (V.visit mid.visitor) (V.visit last.visitor) one other };
+    ghost goes_on = { λ first mid last.
+        laws.goes_on (V.visit first.visitor) (V.visit mid.visitor) (V.visit last.visitor) };
 }
 
 /// A shared house answers the requests of a connection.
 impl<V: Visits, D: Desk, G: Files> Service for SharedHouse<V, D, G> {
-    ghost answers = { λ old parts body answer new. IsSharedAnswer (V.visit old.visitor) parts body answer (V.visit new.visitor) };
+    ghost answers = { λ old parts body answer new.
+        IsSharedAnswer (V.visit old.visitor) parts body answer (V.visit new.visitor) };
 
     ghost grows = { λ old new. Remembers (V.visit old.visitor) (V.visit new.visitor) };
 
@@ -266,24 +185,29 @@ impl<V: Visits, D: Desk, G: Files> Service for SharedHouse<V, D, G> {
         answer(alloc, self, &request.head, request.body.as_slice())
     }
 
-    ghost withheld = { λ old parts body answer new is withheld. laws.withheld_to_head (V.visit old.visitor) parts body answer (V.visit new.visitor) is withheld };
+    ghost withheld = { λ old parts body answer new.
+        laws.withheld_to_head (V.visit old.visitor) parts body answer (V.visit new.visitor) };
 
     ghost stays = { λ house. laws.stays (V.visit house.visitor) };
 
-    ghost goes_on = { λ first mid last one other. laws.goes_on (V.visit first.visitor) (V.visit mid.visitor) (V.visit last.visitor) one other };
+    ghost goes_on = { λ first mid last.
+        laws.goes_on (V.visit first.visitor) (V.visit mid.visitor) (V.visit last.visitor) };
 }
 
-/// The reply of a shared house to a request. Where that reads a file, it is over the state of one look, which comes after all that the house has
-/// seen and was told.
+/// The reply of a shared house to a request. Where that reads a file, it is over the state of one look, which comes after
+/// all that the house has seen and was told.
 pub fn answer_shared<V: Visits, D: Desk, G: Files>(
     alloc: Global,
     house: &mut SharedHouse<V, D, G>,
     head: &Head,
     body: &[u8],
 ) -> Reply
-    ensures replied { IsSharedAnswer (V.visit house.old.visitor) head.now body.now (answer_of result) (V.visit house.new.visitor) }
-    ensures file { (site : Site) (version : Served) (path : List ℕ) → asked_for head.now body.now ≡ Ok (Read site version path)
-        → IsSharedFileReply (V.visit house.old.visitor) head.now site version path (answer_of result) (V.visit house.new.visitor) }
+    ensures replied { IsSharedAnswer (V.visit house.old.visitor) head.now body.now (answer_of result)
+        (V.visit house.new.visitor) }
+    ensures file { (site : Site) (version : Served) (path : List ℕ)
+        → asked_for head.now body.now ≡ Ok (Read site version path)
+        → IsSharedFileReply (V.visit house.old.visitor) head.now site version path (answer_of result)
+        (V.visit house.new.visitor) }
     ensures remembered { Remembers (V.visit house.old.visitor) (V.visit house.new.visitor) }
 {
     answer(alloc, house, head, body)

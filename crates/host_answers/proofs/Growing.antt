@@ -1,5 +1,5 @@
 -- What stays of a house by each of its calls stays by all that is done for an answer.
-use Rattle.std.proofs.Common.{◌≡◌, ◌⊎◌, inl, inr, ℕ, List, [], ◌∷◌, Bool, true, false, Option, Some, None, Result, Ok, Err, sym, subst}
+use Rattle.std.proofs.Common.{◌≡◌, inl, inr, ℕ, List, [], ◌∷◌, Bool, true, false, Option, Some, None, Result, Ok, Err, sym, subst}
 use Rattle.std.specs.declared.alloc.AllocError.{AllocError}
 use Rattle.host_names.specs.declared.digests.Digest.{Digest}
 use Rattle.host_names.specs.declared.names.SiteName.{SiteName}
@@ -20,8 +20,8 @@ use Rattle.host_api.specs.declared.bodies.Ask.{Ask}
 use Rattle.host_api.specs.declared.bodies.Ask.TheVariants as ask
 use Rattle.host_api.specs.declared.refusals.Refusal.{Refusal}
 use Rattle.host_replies.specs.Replies.{Answer, is_head}
-use Rattle.host_answers.specs.Answers.{AnswersBy, CarriesOut, ChangesBy, CommitsBy, DoesBy, FollowsBy, InSite, LacksBy, PublishesBy, ShowsBy, UploadsBy}
-use Rattle.host_answers.specs.Deploys.{site_of_deploy}
+use Rattle.host_answers.specs.Answers.{AnswersBy, CarriesOut, ChangesBy, DoesBy, FollowsBy, InSite, LacksBy, PublishesBy, ShowsBy, UploadsBy}
+use Rattle.host_answers.specs.Deploys.{Opening, opened_by, site_of_deploy}
 use Rattle.host_answers.specs.Asking.{asked_for}
 use Rattle.host_answers.specs.Houses.{Calls, Failed, Gave}
 use Rattle.host_answers.specs.Reads.{GivesBy, ReadsBy, SendsBy}
@@ -90,27 +90,20 @@ module _ {H : Type 0} (grows : H → H → Type 0) (calls : Calls H) (gave : Gav
     publishes house site id false [] next (is, unchanged) = same house next unchanged
     publishes house site id false (digest ∷ required) next (is, unchanged) = same house next unchanged
 
-    lacks : (house : H) (site : SiteName) (id : ℕ) (auto : Bool) (required : Result (List Digest) AllocError) (next : H) → LacksBy calls house site id auto required answer next
+    lacks : (house : H) (opening : Opening) (id : ℕ) (required : Result (List Digest) AllocError) (next : H) → LacksBy calls house opening id required answer next
         → grows house next
-    lacks house site id auto (Err why) next (is, unchanged) = same house next unchanged
-    lacks house site id auto (Ok required) next is = publishes house site id auto required next is
+    lacks house opening id (Err why) next (is, unchanged) = same house next unchanged
+    lacks house opening id (Ok required) next is = publishes house opening.site id opening.auto required next is
 
-    follows : (house : H) (site : SiteName) (files : Paths (Option Digest)) (auto : Bool) (opened : Result ℕ Stop) (next : H)
-        → FollowsBy calls house site files auto opened answer next → grows house next
-    follows house site files auto (Err why) next (is, unchanged) = same house next unchanged
-    follows house site files auto (Ok id) next (required, misses, is) = lacks house site id auto required next is
+    follows : (house : H) (opening : Option Opening) (done : Result ℕ Stop) (next : H) → FollowsBy calls house opening done answer next → grows house next
+    follows house (Some opening) (Ok id) next (required, misses, is) = lacks house opening id required next is
+    follows house (Some opening) (Err why) next (is, unchanged) = same house next unchanged
+    follows house None (Ok id) next (is, unchanged) = same house next unchanged
+    follows house None (Err why) next (is, unchanged) = same house next unchanged
 
     changes : (house : H) (command : Command) (next : H) → ChangesBy calls house command answer next → grows house next
-    changes house (command.Open site files auto) next (opened, mid, commits, is) =
-        by.goes_on house mid next (by.commits house _ opened mid commits) (follows mid site files.1 auto opened next is)
-    changes house (command.Publish site n) next (done, commits, is) = by.commits house _ done next commits
-    changes house (command.Cancel site n) next (done, commits, is) = by.commits house _ done next commits
-    changes house (command.Remove site path) next (done, commits, is) = by.commits house _ done next commits
-    changes house (command.Rename site source target) next (done, commits, is) = by.commits house _ done next commits
-    changes house (command.MoveAlias site name n) next (done, commits, is) = by.commits house _ done next commits
-    changes house (command.RemoveAlias site name) next (done, commits, is) = by.commits house _ done next commits
-    changes house (command.Restore site n) next (done, commits, is) = by.commits house _ done next commits
-    changes house (command.RemoveDeploy site n) next (done, commits, is) = by.commits house _ done next commits
+    changes house command next (done, mid, commits, is) =
+        by.goes_on house mid next (by.commits house command done mid commits) (follows mid (opened_by command) done next is)
 
     shows : (house : H) (site : SiteName) (n : ℕ) (draft : Option Draft) (tree : Option (Paths (List ℕ))) (next : H) → ShowsBy calls house site n draft tree answer next
         → grows house next
@@ -135,11 +128,11 @@ module _ {H : Type 0} (grows : H → H → Type 0) (calls : Calls H) (gave : Gav
         in_site house (site_of_deploy (entry_at (calls.seen house).entries n)) (λ site. ShowsBy calls house site n (draft_at cells site n) (kept_at cells site n)) next
         (λ site shown. shows house site n (draft_at cells site n) (kept_at cells site n) next shown) is
     does parts body house (ask.RemoveDeploy n) next is =
-        in_site house (site_of_deploy (entry_at (calls.seen house).entries n)) (λ site. CommitsBy calls house (command.RemoveDeploy site n)) next
-        (λ site commits. by.commits house _ commits.0 next commits.1) is
+        in_site house (site_of_deploy (entry_at (calls.seen house).entries n)) (λ site. ChangesBy calls house (command.RemoveDeploy site n)) next
+        (λ site. changes house (command.RemoveDeploy site n) next) is
     does parts body house (ask.Cancel n) next is =
-        in_site house (site_of_deploy (entry_at (calls.seen house).entries n)) (λ site. CommitsBy calls house (command.Cancel site n)) next
-        (λ site commits. by.commits house _ commits.0 next commits.1) is
+        in_site house (site_of_deploy (entry_at (calls.seen house).entries n)) (λ site. ChangesBy calls house (command.Cancel site n)) next
+        (λ site. changes house (command.Cancel site n) next) is
     does parts body house (ask.Upload n path) next is =
         in_site house (site_of_deploy (entry_at (calls.seen house).entries n)) (λ site. UploadsBy calls house site n path body) next
         (λ site uploads. by.uploads house site n path body uploads.0 next uploads.1) is

@@ -1,5 +1,5 @@
 -- What is done by calls of a house is done by those of what it is taken for, if that is so of each call.
-use Rattle.std.proofs.Common.{◌≡◌, ◌⊎◌, inl, inr, ℕ, List, [], ◌∷◌, Bool, true, false, Option, Some, None, Result, Ok, Err, refl, sym, ap, subst}
+use Rattle.std.proofs.Common.{◌≡◌, inl, inr, ℕ, List, [], ◌∷◌, Bool, true, false, Option, Some, None, Result, Ok, Err, sym, ap, subst}
 use Rattle.std.specs.declared.alloc.AllocError.{AllocError}
 use Rattle.host_names.specs.declared.digests.Digest.{Digest}
 use Rattle.host_names.specs.declared.names.SiteName.{SiteName}
@@ -21,9 +21,9 @@ use Rattle.host_api.specs.declared.bodies.Ask.TheVariants as ask
 use Rattle.host_api.specs.declared.refusals.Refusal.{Refusal}
 use Rattle.host_api.specs.declared.texts.Told.TheVariants as told
 use Rattle.host_replies.specs.Replies.{Answer, is_head}
-use Rattle.host_answers.specs.Answers.{ChangesBy, CommitsBy, DoesBy, FollowsBy, InSite, LacksBy, OnlyTells, PublishesBy, ShowsBy, UploadsBy}
+use Rattle.host_answers.specs.Answers.{ChangesBy, DoesBy, FollowsBy, InSite, LacksBy, OnlyTells, PublishesBy, ShowsBy, UploadsBy}
 use Rattle.host_answers.specs.ChangeLists.{shown_lines}
-use Rattle.host_answers.specs.Deploys.{site_of_deploy}
+use Rattle.host_answers.specs.Deploys.{Opening, opened_by, site_of_deploy}
 use Rattle.host_answers.specs.Houses.{Calls, Failed, Gave, Seen}
 use Rattle.host_answers.specs.Reads.{GivesBy, ReadsBy, SendsBy}
 use Rattle.host_answers.specs.Versions.{file_of}
@@ -114,27 +114,21 @@ module _ {G H : Type 0} (f : H → G) (calls : Calls H) (coarse : Calls G) (same
   publishes_as house site id false [] next (is, same) = (is, ap f same)
   publishes_as house site id false (digest ∷ required) next (is, same) = (is, ap f same)
 
-  lacks_as : (house : H) (site : SiteName) (id : ℕ) (auto : Bool) (required : Result (List Digest) AllocError) (next : H) → LacksBy calls house site id auto required answer next
-      → LacksBy coarse (f house) site id auto required answer (f next)
-  lacks_as house site id auto (Err why) next (is, same) = (is, ap f same)
-  lacks_as house site id auto (Ok required) next is = publishes_as house site id auto required next is
+  lacks_as : (house : H) (opening : Opening) (id : ℕ) (required : Result (List Digest) AllocError) (next : H) → LacksBy calls house opening id required answer next
+      → LacksBy coarse (f house) opening id required answer (f next)
+  lacks_as house opening id (Err why) next (is, same) = (is, ap f same)
+  lacks_as house opening id (Ok required) next is = publishes_as house opening.site id opening.auto required next is
 
-  follows_as : (house : H) (site : SiteName) (files : Paths (Option Digest)) (auto : Bool) (opened : Result ℕ Stop) (next : H)
-      → FollowsBy calls house site files auto opened answer next → FollowsBy coarse (f house) site files auto opened answer (f next)
-  follows_as house site files auto (Err why) next (is, same) = (is, ap f same)
-  follows_as house site files auto (Ok id) next (required, misses, is) = (required, same_as.misses house files required misses, lacks_as house site id auto required next is)
+  follows_as : (house : H) (opening : Option Opening) (done : Result ℕ Stop) (next : H) → FollowsBy calls house opening done answer next
+      → FollowsBy coarse (f house) opening done answer (f next)
+  follows_as house (Some opening) (Ok id) next (required, misses, is) = (required, same_as.misses house opening.files required misses, lacks_as house opening id required next is)
+  follows_as house (Some opening) (Err why) next (is, same) = (is, ap f same)
+  follows_as house None (Ok id) next (is, same) = (is, ap f same)
+  follows_as house None (Err why) next (is, same) = (is, ap f same)
 
   changes_as : (house : H) (command : Command) (next : H) → ChangesBy calls house command answer next → ChangesBy coarse (f house) command answer (f next)
-  changes_as house (command.Open site files auto) next (opened, mid, commits, is) =
-      (opened, f mid, same_as.commits house _ opened mid commits, follows_as mid site files.1 auto opened next is)
-  changes_as house (command.Publish site n) next (done, commits, is) = (done, same_as.commits house _ done next commits, is)
-  changes_as house (command.Cancel site n) next (done, commits, is) = (done, same_as.commits house _ done next commits, is)
-  changes_as house (command.Remove site path) next (done, commits, is) = (done, same_as.commits house _ done next commits, is)
-  changes_as house (command.Rename site source target) next (done, commits, is) = (done, same_as.commits house _ done next commits, is)
-  changes_as house (command.MoveAlias site name n) next (done, commits, is) = (done, same_as.commits house _ done next commits, is)
-  changes_as house (command.RemoveAlias site name) next (done, commits, is) = (done, same_as.commits house _ done next commits, is)
-  changes_as house (command.Restore site n) next (done, commits, is) = (done, same_as.commits house _ done next commits, is)
-  changes_as house (command.RemoveDeploy site n) next (done, commits, is) = (done, same_as.commits house _ done next commits, is)
+  changes_as house command next (done, mid, commits, is) =
+      (done, f mid, same_as.commits house command done mid commits, follows_as mid (opened_by command) done next is)
 
   shows_as : (house : H) (site : SiteName) (n : ℕ) (draft : Option Draft) (tree : Option (Paths (List ℕ))) (next : H) → ShowsBy calls house site n draft tree answer next
       → ShowsBy coarse (f house) site n draft tree answer (f next)
@@ -174,11 +168,11 @@ module _ {G H : Type 0} (f : H → G) (calls : Calls H) (gave : Gave H) (failed 
       (λ s site. ShowsBy coarse (f house) site n (draft_at s.state site n) (kept_at s.state site n))
       (λ site shows. shows_as f calls coarse same_as answer house site n _ _ next shows) is
   does_as (ask.RemoveDeploy n) is =
-      of_deploy_as n (λ s site. CommitsBy calls house (command.RemoveDeploy site n)) (λ s site. CommitsBy coarse (f house) (command.RemoveDeploy site n))
-      (λ site commits. (commits.0, same_as.commits house _ commits.0 next commits.1, commits.2)) is
+      of_deploy_as n (λ s site. ChangesBy calls house (command.RemoveDeploy site n)) (λ s site. ChangesBy coarse (f house) (command.RemoveDeploy site n))
+      (λ site. changes_as f calls coarse same_as answer house (command.RemoveDeploy site n) next) is
   does_as (ask.Cancel n) is =
-      of_deploy_as n (λ s site. CommitsBy calls house (command.Cancel site n)) (λ s site. CommitsBy coarse (f house) (command.Cancel site n))
-      (λ site commits. (commits.0, same_as.commits house _ commits.0 next commits.1, commits.2)) is
+      of_deploy_as n (λ s site. ChangesBy calls house (command.Cancel site n)) (λ s site. ChangesBy coarse (f house) (command.Cancel site n))
+      (λ site. changes_as f calls coarse same_as answer house (command.Cancel site n) next) is
   does_as (ask.Upload n path) is =
       of_deploy_as n (λ s site. UploadsBy calls house site n path body) (λ s site. UploadsBy coarse (f house) site n path body)
       (λ site uploads. (uploads.0, same_as.uploads house site n path body uploads.0 next uploads.1, uploads.2)) is

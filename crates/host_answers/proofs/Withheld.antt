@@ -1,5 +1,5 @@
 -- A body is told by its length alone only to HEAD.
-use Rattle.std.proofs.Common.{◌≡◌, ◌⊎◌, inl, inr, ℕ, List, [], ◌∷◌, Bool, true, false, Option, Some, None, Result, Ok, Err, refl, sym, ap, ◌∙◌}
+use Rattle.std.proofs.Common.{◌≡◌, inl, inr, ℕ, List, [], ◌∷◌, Bool, true, false, Option, Some, None, Result, Ok, Err, refl, sym, ap, ◌∙◌}
 use Rattle.std.specs.declared.alloc.AllocError.{AllocError}
 use Rattle.host_names.specs.declared.digests.Digest.{Digest}
 use Rattle.host_names.specs.declared.names.SiteName.{SiteName}
@@ -23,13 +23,12 @@ use Rattle.host_api.specs.declared.texts.Told.{Told}
 use Rattle.host_api.specs.declared.texts.Told.TheVariants as told
 use Rattle.host_replies.specs.Replies.{Answer, Tells, is_head}
 use Rattle.host_replies.specs.SentFiles.{sent_as}
-use Rattle.host_answers.specs.Answers.{AnswersBy, CarriesOut, ChangesBy, CommitsBy, DoesBy, FollowsBy, InSite, LacksBy, OfDeploy, OnlyTells, PublishesBy, ShowsBy, told_entry, told_open, told_publishing, told_stop, told_upload}
+use Rattle.host_answers.specs.Answers.{AnswersBy, CarriesOut, ChangesBy, DoesBy, FollowsBy, InSite, LacksBy, PublishesBy, ShowsBy, told_entry, told_open, told_publishing, told_stop, told_upload}
 use Rattle.host_answers.specs.ChangeLists.{shown_lines}
 use Rattle.host_answers.specs.Asking.{asked_for}
-use Rattle.host_answers.specs.Deploys.{site_of_deploy}
+use Rattle.host_answers.specs.Deploys.{Opening, opened_by, site_of_deploy}
 use Rattle.host_answers.specs.Houses.{Calls, Failed, Gave}
 use Rattle.host_answers.specs.Reads.{GivesBy, ReadsBy, SendsBy}
-use Rattle.host_answers.specs.Versions.{file_of}
 use Rattle.host_answers.specs.declared.stops.Stop.{Stop}
 use Rattle.host_answers.proofs.Reading.{Sends}
 
@@ -79,24 +78,18 @@ module _ (answer : Answer) (withheld : answer.withheld ≡ true) where
     publishes house site id false [] (is, same) = tells (told.Opened id None []) is
     publishes house site id false (digest ∷ required) (is, same) = tells (told.Opened id None (digest ∷ required)) is
 
-    lacks : (house : H) (site : SiteName) (id : ℕ) (auto : Bool) (required : Result (List Digest) AllocError) → LacksBy calls house site id auto required answer next → ⊥
-    lacks house site id auto (Err why) (is, same) = tells (told.Refused reason.OutOfMemory) is
-    lacks house site id auto (Ok required) is = publishes house site id auto required is
+    lacks : (house : H) (opening : Opening) (id : ℕ) (required : Result (List Digest) AllocError) → LacksBy calls house opening id required answer next → ⊥
+    lacks house opening id (Err why) (is, same) = tells (told.Refused reason.OutOfMemory) is
+    lacks house opening id (Ok required) is = publishes house opening.site id opening.auto required is
 
-    follows : (house : H) (site : SiteName) (files : Paths (Option Digest)) (auto : Bool) (opened : Result ℕ Stop) → FollowsBy calls house site files auto opened answer next → ⊥
-    follows house site files auto (Err why) (is, same) = tells (told.Refused (told_stop why)) is
-    follows house site files auto (Ok id) (required, misses, is) = lacks house site id auto required is
+    follows : (house : H) (opening : Option Opening) (done : Result ℕ Stop) → FollowsBy calls house opening done answer next → ⊥
+    follows house (Some opening) (Ok id) (required, misses, is) = lacks house opening id required is
+    follows house (Some opening) (Err why) (is, same) = tells (told_entry (Err why)) is
+    follows house None (Ok id) (is, same) = tells (told_entry (Ok id)) is
+    follows house None (Err why) (is, same) = tells (told_entry (Err why)) is
 
     changes : (house : H) (command : Command) → ChangesBy calls house command answer next → ⊥
-    changes house (command.Open site files auto) (opened, mid, commits, is) = follows mid site files.1 auto opened is
-    changes house (command.Publish site n) (done, commits, is) = tells (told_entry done) is
-    changes house (command.Cancel site n) (done, commits, is) = tells (told_entry done) is
-    changes house (command.Remove site path) (done, commits, is) = tells (told_entry done) is
-    changes house (command.Rename site source target) (done, commits, is) = tells (told_entry done) is
-    changes house (command.MoveAlias site name n) (done, commits, is) = tells (told_entry done) is
-    changes house (command.RemoveAlias site name) (done, commits, is) = tells (told_entry done) is
-    changes house (command.Restore site n) (done, commits, is) = tells (told_entry done) is
-    changes house (command.RemoveDeploy site n) (done, commits, is) = tells (told_entry done) is
+    changes house command (done, mid, commits, is) = follows mid (opened_by command) done is
 
     shows : (house : H) (site : SiteName) (n : ℕ) (draft : Option Draft) (tree : Option (Paths (List ℕ))) → ShowsBy calls house site n draft tree answer next → ⊥
     shows house site n (Some draft) tree (required, misses, only) = tells (told_open n site required) only.0
@@ -118,9 +111,9 @@ module _ (answer : Answer) (withheld : answer.withheld ≡ true) where
         let cells = (calls.seen house).state in
         absurd (in_site calls next house (site_of_deploy (entry_at (calls.seen house).entries n)) _ (λ site. shows calls next house site n (draft_at cells site n) (kept_at cells site n)) is)
     does house (ask.RemoveDeploy n) is =
-        absurd (in_site calls next house (site_of_deploy (entry_at (calls.seen house).entries n)) _ (λ site commits. tells (told_entry commits.0) commits.2) is)
+        absurd (in_site calls next house (site_of_deploy (entry_at (calls.seen house).entries n)) _ (λ site. changes calls next house (command.RemoveDeploy site n)) is)
     does house (ask.Cancel n) is =
-        absurd (in_site calls next house (site_of_deploy (entry_at (calls.seen house).entries n)) _ (λ site commits. tells (told_entry commits.0) commits.2) is)
+        absurd (in_site calls next house (site_of_deploy (entry_at (calls.seen house).entries n)) _ (λ site. changes calls next house (command.Cancel site n)) is)
     does house (ask.Upload n path) is =
         absurd (in_site calls next house (site_of_deploy (entry_at (calls.seen house).entries n)) _ (λ site uploads. tells (told_upload uploads.0) uploads.2) is)
 

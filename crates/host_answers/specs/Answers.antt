@@ -1,4 +1,4 @@
--- What a request is answered, by calls of a house: one branch for each thing that it may ask for.
+-- What a request is answered by calls of a house: one branch for each thing that it may ask for (`DoesBy`).
 --
 -- `Tells told answer` is: that is told, or there is no memory for the text that tells it, where this takes memory.
 use Rattle.std.specs.Prelude.{◌≡◌, ◌⊎◌, ℕ, List, [], Bool, true, Option, Some, None, Result, Ok, Err, IsTrue}
@@ -23,7 +23,7 @@ use Rattle.host_api.specs.declared.texts.Told.TheVariants as told
 use Rattle.host_replies.specs.Replies.{Answer, Tells, refused_answer}
 use Rattle.host_answers.specs.Asking.{asked_for, asking_takes}
 use Rattle.host_answers.specs.ChangeLists.{shown_lines}
-use Rattle.host_answers.specs.Deploys.{site_of_deploy}
+use Rattle.host_answers.specs.Deploys.{Opening, opened_by, site_of_deploy}
 use Rattle.host_answers.specs.Houses.{Calls, Failed, Gave}
 use Rattle.host_answers.specs.Reads.{ReadsBy}
 use Rattle.host_answers.specs.Versions.{file_of}
@@ -67,47 +67,48 @@ abbrev pub OnlyTells : {H : Type 0} → H → Told → Answer → H → Type 0
 OnlyTells house told answer next = Tells told answer × (next ≡ house)
 
 module _ {H : Type 0} (calls : Calls H) where
-  -- a command becomes the next entry, and its number is told
-  abbrev pub CommitsBy : H → Command → Answer → H → Type 0
-  CommitsBy house command answer next = (done : Result ℕ Stop) × calls.commits house command done next × Tells (told_entry done) answer
-
-  -- a deploy that was opened is published, where it is to publish itself and lacks nothing; else it is told what it lacks
+  -- a deploy that was opened by the entry of this number: it is published, where it is to publish itself and lacks
+  -- nothing; else it is told what it lacks
   abbrev pub PublishesBy : H → SiteName → (id : ℕ) → (auto : Bool) → (required : List Digest) → Answer → H → Type 0
   PublishesBy house site id true [] answer next =
-      (done : Result ℕ Stop) × calls.commits house (command.Publish site id) done next × Tells (told_publishing id done) answer
+      (done : Result ℕ Stop) × calls.commits house (command.Publish site id) done next
+      × Tells (told_publishing id done) answer
   PublishesBy house site id auto required answer next = OnlyTells house (told.Opened id None required) answer next
 
-  -- what it lacks is asked for, once it is opened
-  abbrev pub LacksBy : H → SiteName → (id : ℕ) → (auto : Bool) → Result (List Digest) AllocError → Answer → H → Type 0
-  LacksBy house site id auto (Err why) answer next = OnlyTells house (told.Refused reason.OutOfMemory) answer next
-  LacksBy house site id auto (Ok required) answer next = PublishesBy house site id auto required answer next
+  -- where there is memory to tell what it lacks
+  abbrev pub LacksBy : H → Opening → (id : ℕ) → Result (List Digest) AllocError → Answer → H → Type 0
+  LacksBy house opening id (Err why) answer next = OnlyTells house (told.Refused reason.OutOfMemory) answer next
+  LacksBy house opening id (Ok required) answer next = PublishesBy house opening.site id opening.auto required answer next
 
-  -- what comes after the entry that opens it, or after the reason against that
-  abbrev pub FollowsBy : H → SiteName → Paths (Option Digest) → (auto : Bool) → Result ℕ Stop → Answer → H → Type 0
-  FollowsBy house site files auto (Err why) answer next = OnlyTells house (told.Refused (told_stop why)) answer next
-  FollowsBy house site files auto (Ok id) answer next =
-      (required : Result (List Digest) AllocError) × calls.misses house files required × LacksBy house site id auto required answer next
+  -- after the entry of an opening the deploy is asked what it lacks; after any other the entry is told, or why there is none
+  abbrev pub FollowsBy : H → Option Opening → Result ℕ Stop → Answer → H → Type 0
+  FollowsBy house (Some opening) (Ok id) answer next =
+      (required : Result (List Digest) AllocError) × calls.misses house opening.files required
+      × LacksBy house opening id required answer next
+  FollowsBy house opening done answer next = OnlyTells house (told_entry done) answer next
 
-  -- a command; after an opening more may follow
+  -- a command becomes the next entry, and what follows that is done
   abbrev pub ChangesBy : H → Command → Answer → H → Type 0
-  ChangesBy house (command.Open site files auto) answer next =
-      (opened : Result ℕ Stop) × (mid : H) × calls.commits house (command.Open site files auto) opened mid
-      × FollowsBy mid site files.1 auto opened answer next
-  ChangesBy house command answer next = CommitsBy house command answer next
+  ChangesBy house command answer next =
+      (done : Result ℕ Stop) × (mid : H) × calls.commits house command done mid
+      × FollowsBy mid (opened_by command) done answer next
 
-  -- the undo of a change becomes the next entry, and its number is told
+  -- the undo of a change becomes the next entry
   abbrev pub UndoesBy : H → SiteName → (change : ℕ) → Answer → H → Type 0
-  UndoesBy house site change answer next = (done : Result ℕ Stop) × calls.undoes house site change done next × Tells (told_entry done) answer
+  UndoesBy house site change answer next =
+      (done : Result ℕ Stop) × calls.undoes house site change done next × Tells (told_entry done) answer
 
   -- the bytes are taken as a file of a deploy
   abbrev pub UploadsBy : H → SiteName → (n : ℕ) → (path bytes : List ℕ) → Answer → H → Type 0
   UploadsBy house site n path bytes answer next =
-      (done : Result Uploaded Refusal) × calls.uploads house site n path bytes done next × Tells (told_upload done) answer
+      (done : Result Uploaded Refusal) × calls.uploads house site n path bytes done next
+      × Tells (told_upload done) answer
 
   -- it is told of a deploy that it is open, and what it lacks, or that it is kept, or that it is neither
   abbrev pub ShowsBy : H → SiteName → (n : ℕ) → Option Draft → Option (Paths (List ℕ)) → Answer → H → Type 0
   ShowsBy house site n (Some draft) tree answer next =
-      (required : Result (List Digest) AllocError) × calls.misses house draft.files.1 required × OnlyTells house (told_open n site required) answer next
+      (required : Result (List Digest) AllocError) × calls.misses house draft.files.1 required
+      × OnlyTells house (told_open n site required) answer next
   ShowsBy house site n None (Some tree) answer next = OnlyTells house (told.Deploy n site state.Kept) answer next
   ShowsBy house site n None None answer next = OnlyTells house (told.Refused (reason.Change NoSuchDeploy)) answer next
 
@@ -117,7 +118,8 @@ module _ {H : Type 0} (calls : Calls H) where
   InSite house (Some site) does answer next = does site answer next
 
   abbrev pub OfDeploy : H → (n : ℕ) → (SiteName → Answer → H → Type 0) → Answer → H → Type 0
-  OfDeploy house n does answer next = InSite house (site_of_deploy (entry_at (calls.seen house).entries n)) does answer next
+  OfDeploy house n does answer next =
+      InSite house (site_of_deploy (entry_at (calls.seen house).entries n)) does answer next
 
 module _ {H : Type 0} (calls : Calls H) (gave : Gave H) (failed : Failed H) where
   -- what is done for what is asked for, after a look
@@ -129,17 +131,17 @@ module _ {H : Type 0} (calls : Calls H) (gave : Gave H) (failed : Failed H) wher
   DoesBy house parts body (ask.Changes site) answer next =
       OnlyTells house (told.Changes (shown_lines (calls.seen house).entries site)) answer next
   DoesBy house parts body (ask.Deploy n) answer next =
-      OfDeploy calls house n
-      (λ site. ShowsBy calls house site n (draft_at (calls.seen house).state site n) (kept_at (calls.seen house).state site n)) answer next
+      let cells = (calls.seen house).state in
+      OfDeploy calls house n (λ site. ShowsBy calls house site n (draft_at cells site n) (kept_at cells site n)) answer next
   DoesBy house parts body (ask.RemoveDeploy n) answer next =
-      OfDeploy calls house n (λ site. CommitsBy calls house (command.RemoveDeploy site n)) answer next
+      OfDeploy calls house n (λ site. ChangesBy calls house (command.RemoveDeploy site n)) answer next
   DoesBy house parts body (ask.Cancel n) answer next =
-      OfDeploy calls house n (λ site. CommitsBy calls house (command.Cancel site n)) answer next
+      OfDeploy calls house n (λ site. ChangesBy calls house (command.Cancel site n)) answer next
   DoesBy house parts body (ask.Upload n path) answer next =
       OfDeploy calls house n (λ site. UploadsBy calls house site n path body) answer next
 
-  -- One look, and what is asked for is done over what it shows; there may be no memory for the look. Where a request asks for nothing, it is told
-  -- why, and the house doesn't look.
+  -- One look, and what is asked for is done over what it shows; there may be no memory for the look. Where a request
+  -- asks for nothing it is told why, and the house doesn't look.
   abbrev pub CarriesOut : H → RequestParts → (body : List ℕ) → Result Ask Refusal → Answer → H → Type 0
   CarriesOut house parts body (Err why) answer next = OnlyTells house (told.Refused why) answer next
   CarriesOut house parts body (Ok asked) answer next =

@@ -11,7 +11,8 @@ use Rattle.host_api.specs.declared.routes.Route.{Route}
 abbrev pub asked_for : RequestParts → List ℕ → Result Ask Refusal
 asked_for parts body = then_with (routed parts.method parts.target) (λ route. asked route body)
 
--- whether it takes memory to find what a request on this route asks for: to keep the path of a file, or to parse the body
+-- whether it takes memory to find what a request on this route asks for: to keep the path of a file, or to parse the
+-- body
 abbrev pub route_takes : List ℕ → Result Route Refusal → Bool
 route_takes body (Err refusal) = false
 route_takes body (Ok route) = has_path (Ok route) || is_parsed route body

@@ -1,11 +1,24 @@
--- Whose a deploy is.
+-- What opens a deploy, and whose it is.
 use Rattle.std.specs.Prelude.{◌≡◌, Bool, Option, Some, None}
+use Rattle.host_names.specs.declared.digests.Digest.{Digest}
 use Rattle.host_names.specs.declared.names.SiteName.{SiteName}
+use Rattle.site_state.specs.Files.{Paths}
 use Rattle.site_state.specs.Listings.{Listed}
 use Rattle.site_change.specs.declared.commands.Command.{Command}
 use Rattle.site_change.specs.declared.commands.Command.TheVariants.{Open}
 use Rattle.change_undo.specs.declared.entries.Entry.{Entry}
 use Rattle.change_undo.specs.declared.entries.Entry.TheVariants.{Change}
+
+-- the opening of a deploy: its site, what it lists, and whether it is to publish itself
+pub record Opening : Type 0 where
+  pub site : SiteName
+  pub files : Paths (Option Digest)
+  pub auto : Bool
+
+-- what a command opens, if it is an opening
+abbrev pub opened_by : Command → Option Opening
+opened_by (Open site files auto) = Some (record { site = site; files = files.1; auto = auto })
+opened_by command = None
 
 -- the site of a deploy is that of the entry which opened it
 abbrev pub site_of_deploy : Option Entry → Option SiteName

@@ -15,9 +15,11 @@ use Rattle.host_replies.specs.Replies.{Answer, is_head, refused_answer, unread_a
 use Rattle.host_replies.specs.SentFiles.{sent_answer}
 use Rattle.host_answers.specs.Reads.{AsksRange, plan_of, refusal_of_read}
 
--- what is sent of a file for a plan is of the file itself, unless a chunk that was held differs from a piece of it that has the same digest
+-- what is sent of a file for a plan is of the file itself, unless a chunk that was held differs from a piece of it that
+-- has the same digest
 abbrev pub IsOfFile : (file : List ℕ) → Choice → (content_type : List ℕ) → SentFile → Type 0
-IsOfFile file plan content_type body = (holds : List Held) × (All (λ h. All (IsPure file) h.chunks) holds → IsExact file plan content_type body)
+IsOfFile file plan content_type body =
+    (holds : List Held) × (All (λ h. All (IsPure file) h.chunks) holds → IsExact file plan content_type body)
 
 -- the answer to such a plan of the file at a path: that the file has no byte of it, or what is sent of the file
 abbrev pub IsPlanCarriedOut : (path file : List ℕ) → Choice → Answer → Type 0
@@ -28,10 +30,13 @@ IsPlanCarriedOut path file plan answer =
 -- the answer to GET, or to HEAD, which is told the file's length and its tag
 abbrev pub IsFileGiven : (by_head : Bool) → RequestParts → (path file : List ℕ) → Answer → Type 0
 IsFileGiven true parts path file answer = answer ≡ unread_answer (type_of path) file
-IsFileGiven false parts path file answer = (range : Asked) × AsksRange parts range × IsPlanCarriedOut path file (plan_of parts range file) answer
+IsFileGiven false parts path file answer =
+    (range : Asked) × AsksRange parts range × IsPlanCarriedOut path file (plan_of parts range file) answer
 
--- the answer to the reading of this file at the path, or of none for this reason: what is asked for of the file, or that it can't be read
+-- the answer to the reading of this file at the path, or of none for this reason: what is asked for of the file, or that
+-- it can't be read
 abbrev pub IsFileReply : RequestParts → (path : List ℕ) → Result (List ℕ) Refusal → Answer → Type 0
 IsFileReply parts path (Err why) answer = answer ≡ refused_answer why
 IsFileReply parts path (Ok file) answer =
-    IsFileGiven (is_head parts) parts path file answer ⊎ ((why : ReadFault) × (answer ≡ refused_answer (refusal_of_read why)))
+    IsFileGiven (is_head parts) parts path file answer
+    ⊎ ((why : ReadFault) × (answer ≡ refused_answer (refusal_of_read why)))

@@ -18,7 +18,8 @@ pub record Seen : Type 0 where
   pub entries : Log
   pub state : State
 
--- What the calls of a house do. A relation leads from the house before a call, by what it is given and what it answers, to the house after it.
+-- What the calls of a house do. A relation leads from the house before a call, by what the call is given and what it
+-- answers, to the house after it.
 pub record Calls (H : Type 0) : Type 1 where
   -- what it shows
   pub seen : H → Seen
@@ -30,7 +31,8 @@ pub record Calls (H : Type 0) : Type 1 where
   pub commits : H → Command → Result ℕ Stop → H → Type 0
   -- so it does with the undo of the change of a number, which is of the site
   pub undoes : H → SiteName → ℕ → Result ℕ Stop → H → Type 0
-  -- it takes bytes as the file at a path of the deploy of a number, which is of the site, and publishes a deploy that is then ready
+  -- it takes bytes as the file at a path of the deploy of a number, which is of the site, and publishes a deploy that is
+  -- ready then
   pub uploads : H → SiteName → ℕ → (path bytes : List ℕ) → Result Uploaded Refusal → H → Type 0
 
 -- it holds a stretch of a file, or fails to, from its first to its last byte (`Holder`)

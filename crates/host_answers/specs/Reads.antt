@@ -34,9 +34,11 @@ AskedBy false values range = range ≡ Ignore
 abbrev pub AsksRange : RequestParts → Asked → Type 0
 AsksRange parts range = AskedBy (bytes_eq parts.method (codes "GET")) (values_of (codes "range") parts.fields) range
 
--- what is to be sent of a file where a request of these parts asks for that: its If-Range may let the range be ignored (section 13.1.5)
+-- what is to be sent of a file where a request of these parts asks for that: its If-Range may let the range be ignored
+-- (section 13.1.5)
 abbrev pub plan_of : RequestParts → Asked → List ℕ → Choice
-plan_of parts range file = planned range (condition_of (digest_of file) (values_of (codes "if-range") parts.fields)) (length file)
+plan_of parts range file =
+    planned range (condition_of (digest_of file) (values_of (codes "if-range") parts.fields)) (length file)
 
 -- ---- the reply
 
@@ -48,20 +50,23 @@ refusal_of_read fault.Device = reason.Device
 refusal_of_read fault.OutOfMemory = reason.OutOfMemory
 
 module _ {H : Type 0} (gave : Gave H) (failed : Failed H) where
-  -- What a plan asks for of the file at a path is held and sent, or it is told why it can't be held. Where the file has no byte of it, that is told
-  -- and nothing is held. There may be no memory before it is.
+  -- What a plan asks for of the file at a path is held and sent, or it is told why it can't be held; before that there may
+  -- be no memory. Where the file has no byte of it, that is told, and nothing is held.
   abbrev pub SendsBy : H → (path file : List ℕ) → Choice → Answer → H → Type 0
-  SendsBy house path file None416 answer next = (answer ≡ refused_answer (reason.NotSatisfiable (length file))) × (next ≡ house)
+  SendsBy house path file None416 answer next =
+      (answer ≡ refused_answer (reason.NotSatisfiable (length file))) × (next ≡ house)
   SendsBy house path file plan answer next =
       ((body : SentFile) × IsRead gave house file plan (type_of path) body next × (answer ≡ sent_answer path file body))
-      ⊎ ((why : ReadFault) × IsNotRead gave failed house file plan why next × (answer ≡ refused_answer (refusal_of_read why)))
+      ⊎ ((why : ReadFault) × IsNotRead gave failed house file plan why next
+      × (answer ≡ refused_answer (refusal_of_read why)))
       ⊎ ((answer ≡ refused_answer reason.OutOfMemory) × (next ≡ house))
 
   -- the reply to GET, or to HEAD, to which nothing of a file is held, since no byte of it is sent
   abbrev pub GivesBy : (by_head : Bool) → H → RequestParts → (path file : List ℕ) → Answer → H → Type 0
   GivesBy true house parts path file answer next =
       ((answer ≡ unread_answer (type_of path) file) ⊎ (answer ≡ refused_answer reason.OutOfMemory)) × (next ≡ house)
-  GivesBy false house parts path file answer next = (range : Asked) × AsksRange parts range × SendsBy house path file (plan_of parts range file) answer next
+  GivesBy false house parts path file answer next =
+      (range : Asked) × AsksRange parts range × SendsBy house path file (plan_of parts range file) answer next
 
   -- the reply with this file at the path, or that there is none for this reason
   abbrev pub ReadsBy : H → RequestParts → (path : List ℕ) → Result (List ℕ) Refusal → Answer → H → Type 0

@@ -1,7 +1,7 @@
 //! Commands and undos: what is made an entry, and what is told of it.
-ghost use Rattle.std.specs.Prelude.{◌≡◌, Bool, Some, Ok};
+ghost use Rattle.std.specs.Prelude.{◌≡◌, Bool, None, Some, Ok};
 ghost use Rattle.site_state.specs.Listings.{Listed};
-ghost use Rattle.host_answers.specs.Deploys.{IsOpening};
+ghost use Rattle.host_answers.specs.Deploys.{IsOpening, opened_by};
 ghost use Rattle.change_undo.specs.Logs.{entry_at};
 ghost use Rattle.change_undo.specs.declared.entries.Entry.TheVariants as entry;
 ghost use Rattle.site_change.specs.declared.commands.Command.{Command as Change};
@@ -10,7 +10,7 @@ ghost use Rattle.host_names.specs.declared.names.SiteName.{SiteName as Site};
 ghost use Rattle.host_replies.specs.Bodies.{answer_of};
 ghost use Rattle.host_replies.specs.Replies.{Tells};
 ghost use Rattle.host_answers.specs.Answers as spec;
-ghost use Rattle.host_answers.specs.Answers.{ChangesBy, CommitsBy, FollowsBy, OfDeploy, PublishesBy, UndoesBy};
+ghost use Rattle.host_answers.specs.Answers.{ChangesBy, FollowsBy, OfDeploy, PublishesBy, UndoesBy};
 
 use crate::deploys::site_of_deploy;
 use crate::houses::House;
@@ -32,9 +32,10 @@ pub(crate) fn undo<H: House>(alloc: Global, house: &mut H, site: &SiteName, chan
     tell_entry(alloc, done)
 }
 
-/// The reply to a command, which becomes an entry. No more follows.
+/// The reply to a command that opens nothing, which becomes an entry. No more follows.
 fn commit<H: House>(alloc: Global, house: &mut H, command: Command) -> Reply
-    ensures { CommitsBy H.calls house.old command (answer_of result) house.new }
+    requires { opened_by command ≡ None }
+    ensures { ChangesBy H.calls house.old command (answer_of result) house.new }
 {
     let done = house.commit(command);
     tell_entry(alloc, done)
@@ -84,7 +85,8 @@ fn publish<H: House>(
 
 /// What a deploy lacks that the entry of this number opened.
 fn lacking<H: House>(alloc: Global, house: &H, id: u64) -> Result<Items<Digest>, AllocError>
-    requires { (command : Change) × IsOpening command × (entry_at (H.calls.seen house.now).entries id ≡ Some (entry.Change command)) }
+    requires { (command : Change) × IsOpening command
+        × (entry_at (H.calls.seen house.now).entries id ≡ Some (entry.Change command)) }
     ensures { (site : Site) (files : Listed) (auto : Bool)
         → entry_at (H.calls.seen house.now).entries id ≡ Some (entry.Change (command.Open site files auto))
         → H.calls.misses house.now files.1 result }
@@ -97,10 +99,12 @@ fn lacking<H: House>(alloc: Global, house: &H, id: u64) -> Result<Items<Digest>,
 
 /// The reply where an entry opened a deploy of a site.
 fn follow<H: House>(alloc: Global, house: &mut H, site: SiteName, id: u64, auto: bool) -> Reply
-    requires { (command : Change) × IsOpening command × (entry_at (H.calls.seen house.old).entries id ≡ Some (entry.Change command)) }
+    requires { (command : Change) × IsOpening command
+        × (entry_at (H.calls.seen house.old).entries id ≡ Some (entry.Change command)) }
     ensures { (owner : Site) (files : Listed) (listed : Bool)
         → entry_at (H.calls.seen house.old).entries id ≡ Some (entry.Change (command.Open owner files listed))
-        → FollowsBy H.calls house.old site files.1 auto (Ok id) (answer_of result) house.new }
+        → FollowsBy H.calls house.old (Some (record { site = site; files = files.1; auto = auto })) (Ok id)
+        (answer_of result) house.new }
 {
     match lacking(alloc, house, id) {
         Ok(required) => publish(alloc, house, site, id, auto, required),
@@ -137,7 +141,8 @@ pub(crate) fn change<H: House>(alloc: Global, house: &mut H, command: Command) -
 
 /// The reply to the cancelling of a deploy, in its site.
 pub(crate) fn cancel<H: House>(alloc: Global, house: &mut H, number: u64) -> Reply
-    ensures { OfDeploy H.calls house.old number (λ site. CommitsBy H.calls house.old (command.Cancel site number)) (answer_of result) house.new }
+    ensures { OfDeploy H.calls house.old number
+        (λ site. ChangesBy H.calls house.old (command.Cancel site number)) (answer_of result) house.new }
 {
     match site_of_deploy(house.log(), number) {
         Some(site) => commit(alloc, house, Command::Cancel { site, number }),
@@ -147,7 +152,8 @@ pub(crate) fn cancel<H: House>(alloc: Global, house: &mut H, number: u64) -> Rep
 
 /// The reply to the removal of a deploy, in its site.
 pub(crate) fn remove_deploy<H: House>(alloc: Global, house: &mut H, number: u64) -> Reply
-    ensures { OfDeploy H.calls house.old number (λ site. CommitsBy H.calls house.old (command.RemoveDeploy site number)) (answer_of result) house.new }
+    ensures { OfDeploy H.calls house.old number
+        (λ site. ChangesBy H.calls house.old (command.RemoveDeploy site number)) (answer_of result) house.new }
 {
     match site_of_deploy(house.log(), number) {
         Some(site) => commit(alloc, house, Command::RemoveDeploy { site, number }),

@@ -51,8 +51,9 @@ fn tell_open(
 
 /// The reply that tells of a deploy of the site.
 fn show_in<H: House>(alloc: Global, house: &H, site: SiteName, number: u64) -> Reply
-    ensures { let state = (H.calls.seen house.now).state in
-        ShowsBy H.calls house.now site number (draft_at state site number) (kept_at state site number) (answer_of result) house.now }
+    ensures { let cells = (H.calls.seen house.now).state in
+        ShowsBy H.calls house.now site number (draft_at cells site number) (kept_at cells site number)
+        (answer_of result) house.now }
 {
     let state = house.state();
     if let Some(draft) = state.draft(&site, number) {
@@ -74,9 +75,10 @@ fn show_in<H: House>(alloc: Global, house: &H, site: SiteName, number: u64) -> R
 
 /// The reply that tells of a deploy.
 pub(crate) fn show<H: House>(alloc: Global, house: &H, number: u64) -> Reply
-    ensures { let state = (H.calls.seen house.now).state in
+    ensures { let cells = (H.calls.seen house.now).state in
         OfDeploy H.calls house.now number
-        (λ site. ShowsBy H.calls house.now site number (draft_at state site number) (kept_at state site number)) (answer_of result) house.now }
+        (λ site. ShowsBy H.calls house.now site number (draft_at cells site number) (kept_at cells site number))
+        (answer_of result) house.now }
 {
     match site_of_deploy(house.log(), number) {
         Some(site) => show_in(alloc, house, site, number),

@@ -17,8 +17,8 @@ use site_change::Command;
 use site_state::{Listing, State};
 use std::alloc::{AllocError, Global};
 
-/// What requests are answered over: a history that is looked at and changed, and files that are held. A look shows one state, which
-/// is lent until the next look or entry.
+/// What requests are answered over: a history that is looked at and changed, and files that are held. A look shows one
+/// state and its entries, which are lent until the next look or entry.
 pub trait House: Holder {
     // What each of its calls does.
     ghost calls: { Calls Self };
@@ -29,7 +29,7 @@ pub trait House: Holder {
     // What stays of a house, whatever is asked of it.
     ghost grows: { Self → Self → Type 0 };
 
-    /// Looks at the history: what is there is shown from then on. On an error nothing else may be done with it.
+    /// Looks at the history: what is there is shown from then on. On an error it may have looked or not.
     fn look(&mut self) -> Result<(), AllocError>
         ensures { calls.looks self.old result self.new };
 
@@ -43,7 +43,8 @@ pub trait House: Holder {
 
     /// The entry of a number, from 1 on, and whether an undo names it, as it is shown.
     fn marked_entry(&self, number: u64) -> Option<(&Entry, bool)>
-        ensures { option_map (λ found. (found.0.now, found.1)) result ≡ marked_entry (calls.seen self.now).entries number };
+        ensures { option_map (λ found. (found.0.now, found.1)) result
+            ≡ marked_entry (calls.seen self.now).entries number };
 
     /// The listed digests that aren't uploaded.
     fn missing(&self, alloc: Global, files: &Listing) -> Result<Items<Digest>, AllocError>
@@ -52,7 +53,8 @@ pub trait House: Holder {
     /// Makes a command the next entry, and answers its number. What is shown then has that entry.
     fn commit(&mut self, command: Command) -> Result<u64, Stop>
         ensures did { calls.commits self.old command result self.new }
-        ensures shown { IfOk result (λ number. entry_at (calls.seen self.new).entries number ≡ Some (entry.Change command)) };
+        ensures shown { IfOk result (λ number.
+            entry_at (calls.seen self.new).entries number ≡ Some (entry.Change command)) };
 
     /// Makes the undo of a change of a site the next entry, and answers its number.
     fn undo(&mut self, site: &SiteName, change: u64) -> Result<u64, Stop>

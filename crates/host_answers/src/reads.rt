@@ -105,7 +105,8 @@ fn send<H: Holder>(
 
 /// The reply to HEAD, for which nothing of the file is held.
 fn unread(path: &FilePath, info: &Arc<BlobInfo>) -> Reply
-    ensures { (answer_of result ≡ unread_answer (type_of path.now) info.now.value) ⊎ (answer_of result ≡ refused_answer OutOfMemory) }
+    ensures { (answer_of result ≡ unread_answer (type_of path.now) info.now.value)
+        ⊎ (answer_of result ≡ refused_answer OutOfMemory) }
 {
     match Arc::try_clone(info) {
         Ok(info) => Reply::unread(path, info),
@@ -113,7 +114,8 @@ fn unread(path: &FilePath, info: &Arc<BlobInfo>) -> Reply
     }
 }
 
-/// The reply with the file that a version of the site has at a path, as the Range of the request asks, or that there is none.
+/// The reply with the file that a version of the site has at a path, as the Range of the request asks, or that there is
+/// none.
 pub(crate) fn read<H: House>(
     alloc: Global,
     house: &mut H,

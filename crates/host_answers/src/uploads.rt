@@ -42,7 +42,8 @@ pub(crate) fn upload<H: House>(
     path: &FilePath,
     bytes: &[u8],
 ) -> Reply
-    ensures { OfDeploy H.calls house.old number (λ site. UploadsBy H.calls house.old site number path.now bytes.now) (answer_of result) house.new }
+    ensures { OfDeploy H.calls house.old number
+        (λ site. UploadsBy H.calls house.old site number path.now bytes.now) (answer_of result) house.new }
 {
     let Some(site) = site_of_deploy(house.log(), number) else {
         return no_such_deploy();

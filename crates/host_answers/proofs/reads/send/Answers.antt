@@ -16,4 +16,7 @@ returns-in-Ok g c =
 pub returns-in-Err : goal.returns-in-Err
 returns-in-Err g c =
     sends_by g.H.Holder.gave g.H.Holder.failed c.args.holder.now c.read_body.new.holder c.args.path.now c.args.info.now.value c.args.plan _ c.requires.some (inr (inl (
-      c.in-Err.why, c.in-Err.ensures.fault, c.plain.ensures ∙ ap refused_answer c.refusal_of_read.ensures)))
+      c.in-Err.why,
+      c.in-Err.ensures.fault,
+      c.plain.ensures ∙ ap refused_answer c.refusal_of_read.ensures,
+    )))

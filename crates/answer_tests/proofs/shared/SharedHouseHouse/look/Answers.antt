@@ -1,5 +1,5 @@
-use Rattle.std.proofs.Common.{Some, subst, ap, ◌≡◌, ◌∙◌}
-use Rattle.change_undo.specs.Histories.{Past, run}
+use Rattle.std.proofs.Common.{subst}
+use Rattle.change_undo.specs.Histories.{Past}
 use Rattle.answer_tests.specs.Shared.{IsRun}
 use Rattle.answer_tests.proofs.shared.SharedHouseHouse.look.Goals as goal
 
