@@ -11,7 +11,7 @@ use Rattle.host_api.specs.declared.versions.Version.{Version}
 use Rattle.host_replies.specs.Replies.{Answer, Tells, refused_answer}
 use Rattle.host_answers.specs.Asking.{asked_for}
 use Rattle.host_answers.specs.Houses.{Calls, Seen}
-use Rattle.host_answers.specs.Versions.{file_of}
+use Rattle.host_replies.specs.Versions.{file_of}
 use Rattle.host_answers.proofs.FileReplies.{reads_of}
 use Rattle.host_answers.proofs.Growing.{StaysBy, reads}
 use Rattle.answer_tests.specs.Shared.{IsSharedAnswer, IsSharedFileReply, RespondsAs, fails, gives}

@@ -27,7 +27,7 @@ use Rattle.host_answers.specs.Answers.{DoesBy, OnlyTells, told_stop}
 use Rattle.host_answers.specs.Asking.{asked_for, asking_takes}
 use Rattle.host_answers.specs.FileReplies.{IsFileReply}
 use Rattle.host_answers.specs.Houses.{Calls, Failed, Gave, Seen}
-use Rattle.host_answers.specs.Versions.{file_of}
+use Rattle.host_replies.specs.Versions.{file_of}
 use Rattle.host_answers.specs.declared.stops.Stop.{Stop}
 use Rattle.host_answers.specs.declared.stops.Stop.TheVariants as stop
 use Rattle.host_answers.specs.declared.uploads.Uploaded.{Uploaded}

@@ -9,7 +9,8 @@ use Rattle.host_replies.specs.Replies.{Answer, is_head, refused_answer}
 use Rattle.chunk_reads.specs.declared.faults.ReadFault.{ReadFault}
 use Rattle.host_answers.specs.FileReplies.{IsFileGiven, IsFileReply, IsPlanCarriedOut}
 use Rattle.host_answers.specs.Houses.{Failed, Gave}
-use Rattle.host_answers.specs.Reads.{GivesBy, ReadsBy, SendsBy, refusal_of_read}
+use Rattle.host_answers.specs.Reads.{GivesBy, ReadsBy, SendsBy}
+use Rattle.host_replies.specs.FileAsks.{refusal_of_read}
 use Rattle.host_answers.proofs.Reading.{Sends}
 
 module _ {H : Type 0} (gave : Gave H) (failed : Failed H) (house next : H) where

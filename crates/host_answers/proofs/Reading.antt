@@ -16,7 +16,8 @@ use Rattle.host_replies.specs.PartsTypes.{IsOfEight}
 use Rattle.host_replies.specs.SentFiles.{SendsParts, sent_answer}
 use Rattle.host_replies.specs.Replies.{Answer, is_head, refused_answer, unread_answer}
 use Rattle.host_answers.specs.Houses.{Failed, Gave}
-use Rattle.host_answers.specs.Reads.{AsksRange, GivesBy, ReadsBy, SendsBy, plan_of, refusal_of_read}
+use Rattle.host_answers.specs.Reads.{GivesBy, ReadsBy, SendsBy}
+use Rattle.host_replies.specs.FileAsks.{AsksRange, plan_of, refusal_of_read}
 
 -- ---- several parts have a boundary
 

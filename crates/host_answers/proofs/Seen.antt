@@ -26,7 +26,7 @@ use Rattle.host_answers.specs.ChangeLists.{shown_lines}
 use Rattle.host_answers.specs.Deploys.{Opening, opened_by, site_of_deploy}
 use Rattle.host_answers.specs.Houses.{Calls, Failed, Gave, Seen}
 use Rattle.host_answers.specs.Reads.{GivesBy, ReadsBy, SendsBy}
-use Rattle.host_answers.specs.Versions.{file_of}
+use Rattle.host_replies.specs.Versions.{file_of}
 use Rattle.host_answers.specs.declared.stops.Stop.{Stop}
 use Rattle.host_answers.specs.declared.uploads.Uploaded.{Uploaded}
 use Rattle.host_answers.proofs.Reading.{Sends}

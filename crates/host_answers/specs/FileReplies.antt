@@ -13,7 +13,7 @@ use Rattle.host_api.specs.declared.refusals.Refusal.{Refusal}
 use Rattle.host_api.specs.declared.refusals.Refusal.TheVariants as reason
 use Rattle.host_replies.specs.Replies.{Answer, is_head, refused_answer, unread_answer}
 use Rattle.host_replies.specs.SentFiles.{sent_answer}
-use Rattle.host_answers.specs.Reads.{AsksRange, plan_of, refusal_of_read}
+use Rattle.host_replies.specs.FileAsks.{AsksRange, plan_of, refusal_of_read}
 
 -- what is sent of a file for a plan is of the file itself, unless a chunk that was held differs from a piece of it that
 -- has the same digest

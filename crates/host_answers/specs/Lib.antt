@@ -4,7 +4,6 @@ pub mod Answers
 -- what is read of a house
 pub mod Asking
 pub mod Deploys
-pub mod Versions
 pub mod ChangeLists
 pub mod Reads
 -- what the reply to the reading of a file says of the file itself

@@ -1,53 +1,20 @@
 -- What is answered to the reading of a file, by what is held of it.
-use Rattle.std.specs.Prelude.{◌≡◌, ◌⊎◌, ℕ, List, [], ◌∷◌, Bool, true, false, Result, Ok, Err, length, codes}
-use Rattle.std.specs.Str.{bytes_eq}
-use Rattle.host_names.specs.Digests.{digest_of}
+use Rattle.std.specs.Prelude.{◌≡◌, ◌⊎◌, ℕ, List, Bool, true, false, Result, Ok, Err, length}
 use Rattle.chunk_reads.specs.declared.faults.ReadFault.{ReadFault}
-use Rattle.chunk_reads.specs.declared.faults.ReadFault.TheVariants as fault
 use Rattle.range_spec.specs.declared.grammar.Asked.{Asked}
-use Rattle.range_spec.specs.declared.grammar.Asked.TheVariants.{Ignore}
 use Rattle.range_spec.specs.declared.selection.Choice.{Choice}
 use Rattle.range_spec.specs.declared.selection.Choice.TheVariants.{None416}
-use Rattle.range_spec.specs.Understood.{IsUnderstoodAs}
-use Rattle.range_reply.specs.Conditions.{condition_of}
-use Rattle.range_reply.specs.Plans.{planned}
 use Rattle.range_reply.specs.Sending.{IsNotRead, IsRead, SentFile}
-use Rattle.http_wire.specs.Fields.{values_of}
 use Rattle.http_wire.specs.Requests.{RequestParts}
 use Rattle.host_api.specs.Types.{type_of}
 use Rattle.host_api.specs.declared.refusals.Refusal.{Refusal}
 use Rattle.host_api.specs.declared.refusals.Refusal.TheVariants as reason
+use Rattle.host_replies.specs.FileAsks.{AsksRange, plan_of, refusal_of_read}
 use Rattle.host_replies.specs.Replies.{Answer, is_head, refused_answer, unread_answer}
 use Rattle.host_replies.specs.SentFiles.{sent_answer}
 use Rattle.host_answers.specs.Houses.{Failed, Gave}
 
--- ---- what is asked for
-
--- what these values of Range ask for (RFC 9110, section 14.2): a lone one of a GET
-abbrev pub AskedBy : Bool → List (List ℕ) → Asked → Type 0
-AskedBy true (value ∷ []) range = IsUnderstoodAs value range
-AskedBy true (value ∷ other ∷ values) range = range ≡ Ignore
-AskedBy true [] range = range ≡ Ignore
-AskedBy false values range = range ≡ Ignore
-
--- what a request of these parts asks for by its Range
-abbrev pub AsksRange : RequestParts → Asked → Type 0
-AsksRange parts range = AskedBy (bytes_eq parts.method (codes "GET")) (values_of (codes "range") parts.fields) range
-
--- what is to be sent of a file where a request of these parts asks for that: its If-Range may let the range be ignored
--- (section 13.1.5)
-abbrev pub plan_of : RequestParts → Asked → List ℕ → Choice
-plan_of parts range file =
-    planned range (condition_of (digest_of file) (values_of (codes "if-range") parts.fields)) (length file)
-
 -- ---- the reply
-
--- why a file can't be read, as it is told
-abbrev pub refusal_of_read : ReadFault → Refusal
-refusal_of_read fault.Missing = reason.Missing
-refusal_of_read fault.Damaged = reason.Damaged
-refusal_of_read fault.Device = reason.Device
-refusal_of_read fault.OutOfMemory = reason.OutOfMemory
 
 module _ {H : Type 0} (gave : Gave H) (failed : Failed H) where
   -- What a plan asks for of the file at a path is held and sent, or it is told why it can't be held; before that there may

@@ -9,9 +9,10 @@ ghost use Rattle.host_api.specs.Types.{type_of};
 ghost use Rattle.host_api.specs.declared.refusals.Refusal.TheVariants.{NotSatisfiable, OutOfMemory};
 ghost use Rattle.host_replies.specs.Bodies.{answer_of};
 ghost use Rattle.host_replies.specs.Replies.{refused_answer, unread_answer};
-ghost use Rattle.host_answers.specs.Reads as spec;
-ghost use Rattle.host_answers.specs.Reads.{AsksRange, ReadsBy, SendsBy, plan_of};
-ghost use Rattle.host_answers.specs.Versions as versions;
+ghost use Rattle.host_replies.specs.FileAsks as spec;
+ghost use Rattle.host_answers.specs.Reads.{ReadsBy, SendsBy};
+ghost use Rattle.host_replies.specs.FileAsks.{AsksRange, plan_of};
+ghost use Rattle.host_replies.specs.Versions as versions;
 
 use crate::houses::House;
 use crate::versions::file_of;

@@ -2,7 +2,7 @@
 ghost use Rattle.std.specs.Prelude.{◌≡◌, false, Ok, Err, IfOk, IfErr};
 ghost use Rattle.site_state.specs.States.{kept_at};
 ghost use Rattle.host_api.specs.Texts.{has_cell};
-ghost use Rattle.host_answers.specs.Versions as spec;
+ghost use Rattle.host_replies.specs.Versions as spec;
 
 use host_api::{Refusal, Version};
 use host_names::{FilePath, SiteName};

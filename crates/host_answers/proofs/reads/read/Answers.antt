@@ -1,7 +1,7 @@
 use Rattle.std.proofs.Common.{◌≡◌, ◌≢◌, ◌⊎◌, List, Ok, ℕ, length, refl, sym, subst, ◌∙◌}
 use Rattle.range_spec.specs.declared.selection.Choice.TheVariants.{None416}
 use Rattle.host_api.specs.declared.refusals.Refusal.TheVariants.{NotSatisfiable, OutOfMemory}
-use Rattle.host_answers.specs.Versions.{file_of}
+use Rattle.host_replies.specs.Versions.{file_of}
 use Rattle.host_answers.proofs.Reading.{IsAsked, not_wanted}
 use Rattle.host_answers.proofs.reads.read.Goals as goal
 
