@@ -1,9 +1,10 @@
-// Measures three packages of groupcache, as crates/group_bench measures ours: a run makes one measurement and prints the
+// Measures three packages of groupcache and its nodes, as crates/group_bench measures ours: a run makes one measurement and prints the
 // nanoseconds of all its calls and the sum of their answers.
 package main
 
 import (
 	"crypto/sha1"
+	"errors"
 	"fmt"
 	"os"
 	"strconv"
@@ -100,17 +101,41 @@ func hits(_ []string, rounds int) (time.Duration, int) {
 	return time.Since(begun), sum
 }
 
-func main() {
-	measurements := map[string]func([]string, int) (time.Duration, int){"hit": hits, "owner": owners, "run": runs}
-	if len(os.Args) != 3 || measurements[os.Args[1]] == nil {
-		fmt.Fprintln(os.Stderr, "a measurement, hit, owner or run, and its rounds are wanted")
-		os.Exit(2)
-	}
-	rounds, err := strconv.Atoi(os.Args[2])
+// number is that of a word.
+func number(word string) int {
+	number, err := strconv.Atoi(word)
 	if err != nil {
-		fmt.Fprintln(os.Stderr, "the rounds have to be a number")
-		os.Exit(2)
+		fail(err)
 	}
-	took, sum := measurements[os.Args[1]](keys(), rounds)
-	fmt.Println(took.Nanoseconds(), sum)
+	return number
+}
+
+// measure makes the measurement of this name: over so many rounds, or by nodes at this port and the next two.
+func measure(name string, count int) (time.Duration, int) {
+	switch name {
+	case "far":
+		return far(count)
+	case "fill":
+		return fills(count)
+	case "hit":
+		return hits(keys(), count)
+	case "owner":
+		return owners(keys(), count)
+	case "run":
+		return runs(keys(), count)
+	}
+	fail(errors.New("no such measurement"))
+	return 0, 0
+}
+
+func main() {
+	switch words := os.Args[1:]; {
+	case len(words) == 3 && words[0] == "serve":
+		serve(number(words[1]), number(words[2]))
+	case len(words) == 2:
+		took, sum := measure(words[0], number(words[1]))
+		fmt.Println(took.Nanoseconds(), sum)
+	default:
+		fail(errors.New("a measurement is wanted: hit, owner or run, and its rounds; or far or fill, and a port"))
+	}
 }

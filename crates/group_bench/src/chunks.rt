@@ -67,7 +67,8 @@ impl Source for ChunkMaker<'_> {
     fn load(&mut self, key: &Digest) -> Result<Chunk, ReadFault> {
         self.loads.fetch_add(1, Ordering::SeqCst);
         let number = number_of(self.names, key).ok_or(ReadFault::Missing)?;
-        chunk_of(self.alloc, number)
+        let bytes = bytes_of(self.alloc, number).map_err(|_| ReadFault::OutOfMemory)?;
+        Chunk::check(*key, bytes).map_err(|_| ReadFault::Damaged)
     }
 }
 

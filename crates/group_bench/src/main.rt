@@ -1,4 +1,4 @@
-//! Measures calls of a ring, of flights and of a cache, as bench/groupcache.go measures groupcache's, and reads through a node: a run
+//! Measures calls of a ring, of flights and of a cache, as bench/groupcache.go measures groupcache's, and reads through nodes: a run
 //! makes one measurement, and prints the nanoseconds of all its calls and the sum of their answers.
 #![tactic(auto)]
 
@@ -6,7 +6,10 @@ ghost use Rattle.std.specs.Prelude.{◌≡◌};
 
 mod caches;
 mod chunks;
+mod costs;
 mod flights;
+mod loopback;
+mod peer_reads;
 mod reads;
 mod rings;
 mod thread_reads;
@@ -16,6 +19,7 @@ use host_names::Digest;
 use std::alloc::{AllocError, Global};
 use std::env;
 use std::io::Print;
+use std::net::{Net, TcpListener, TcpStream};
 use std::sync::Wait;
 use std::thread::Threads;
 use std::time::{Clock, Duration};
@@ -29,7 +33,11 @@ owner ROUNDS     the owners of 1024 keys in a ring of 8 peers, so many times
 run ROUNDS       as many flights, which nobody joins
 hot ROUNDS       so many reads of each of 1024 chunks of 64 KiB that a node has in its cache
 share ROUNDS     as many times a second owner of each of 1024 chunks, which a read makes at least
-threads THREADS  200 reads of each of 64 such chunks by each of so many threads, which copy them";
+threads THREADS  200 reads of each of 64 such chunks by each of so many threads, which copy them
+fill PORT        a read of each of 3000 such chunks by 8 threads, through the first of three nodes, which are at PORT and the next two
+far PORT         5000 reads of each of 64 such chunks that the first of these nodes keeps and another owns
+digest COUNT     so many digests of such a chunk
+connect COUNT    so many connections over loopback, one after another";
 
 /// What some calls took, and the sum of their answers.
 #[derive(Drop)]
@@ -49,7 +57,7 @@ fn keys(alloc: Global) -> Result<Vec<Digest>, AllocError> {
 }
 
 /// Makes the measurement of this name: over so many rounds of these keys or of chunks, or by so many threads.
-fn measure<R: Threads + Wait + Clock + Sync>(
+fn measure<R: Net<Listener = TcpListener, Stream = TcpStream> + Threads + Wait + Clock + Sync>(
     rt: &R,
     alloc: Global,
     keys: &[Digest],
@@ -63,6 +71,10 @@ fn measure<R: Threads + Wait + Clock + Sync>(
         "hot" => reads::time_reads(rt, alloc, count),
         "share" => reads::time_shares(rt, alloc, count),
         "threads" => thread_reads::time_threads(rt, alloc, count),
+        "fill" => peer_reads::time_fill(rt, alloc, count),
+        "far" => peer_reads::time_hits(rt, alloc, count),
+        "digest" => costs::time_digests(rt, alloc, count),
+        "connect" => costs::time_connections(rt, count),
         _ => Err(anyhow!("no such measurement")),
     }
 }
@@ -72,23 +84,18 @@ fn say<R: Print>(rt: &R, measured: &Measured) -> Result<()> {
 }
 
 /// Prints what this measurement gives.
-fn measure_and_say<R: Threads + Wait + Clock + Print + Sync>(
-    rt: &R,
-    alloc: Global,
-    name: &str,
-    count: &str,
-) -> Result<()> {
+fn measure_and_say<
+    R: Net<Listener = TcpListener, Stream = TcpStream> + Threads + Wait + Clock + Print + Sync,
+>(rt: &R, alloc: Global, name: &str, count: &str) -> Result<()> {
     let count = count.parse::<u64>().ok().ok_or(anyhow!("no such number"))?;
     let keys = keys(alloc)?;
     say(rt, &measure(rt, alloc, keys.as_slice(), name, count)?)
 }
 
 /// Prints what these words ask for.
-fn answer<R: Threads + Wait + Clock + Print + Sync>(
-    rt: &R,
-    alloc: Global,
-    words: &[String],
-) -> Result<()> {
+fn answer<
+    R: Net<Listener = TcpListener, Stream = TcpStream> + Threads + Wait + Clock + Print + Sync,
+>(rt: &R, alloc: Global, words: &[String]) -> Result<()> {
     match words {
         [word] if word.as_str() == "list" => Ok(println!(rt; "{LIST}")?),
         [name, count] => measure_and_say(rt, alloc, name.as_str(), count.as_str()),
