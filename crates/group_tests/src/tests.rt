@@ -1,4 +1,5 @@
 //! One file of tests for each library, and what several need.
+mod failing_streams;
 mod fixtures;
 mod flights;
 mod gated_nodes;
@@ -11,10 +12,14 @@ mod lying_peers;
 mod node_fixtures;
 mod nodes_with_peers;
 mod peer_answers;
+mod peer_behaviors;
 mod peer_gifts;
+mod peer_memory;
 mod peer_requests;
 mod plain_nodes;
 mod plain_reads;
+mod refused_answers;
+mod refused_fetches;
 mod rings;
 mod shared_nodes;
 mod shared_shelves;

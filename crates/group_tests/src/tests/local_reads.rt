@@ -1,6 +1,6 @@
 //! What a node gives by itself.
 
-use super::fixtures::{Giver, is_chunk_of, names};
+use super::fixtures::{Gift, Giver, is_chunk_of, names};
 use super::nodes_with_peers::{Asked, SharedNode, shared_node};
 use chunk_reads::ReadFault;
 use host_names::Digest;
@@ -63,4 +63,53 @@ fn a_node_gives_by_itself_what_its_source_has(rt: HostRuntime) -> Result<(), Fai
     let names = names(rt.alloc(), CHUNKS + 1)?;
     let (missing, known) = names.as_slice().split_last().ok_or("no name")?;
     assert_local(&rt, rt.alloc(), known, missing)
+}
+
+/// What a source may give at first. Then it gives the chunk.
+const FAILURES: [[Gift; 2]; 3] = [
+    [Gift::Nothing, Gift::Right],
+    [Gift::Short, Gift::Right],
+    [Gift::Other, Gift::Right],
+];
+
+/// Whether a node gives the chunk of a number by itself; none where it gives nothing.
+pub(super) fn is_given<R: Wait>(
+    rt: &R,
+    alloc: Global,
+    node: &SharedNode<'_>,
+    names: &[Digest],
+    number: usize,
+) -> Result<Option<bool>, Fail> {
+    let name = names.get(number).ok_or("no such chunk")?;
+    let Some(chunk) = node.local(rt, name) else {
+        return Ok(None);
+    };
+    Ok(Some(is_chunk_of(alloc, &Ok(chunk), number)?))
+}
+
+/// Asserts that a node gives nothing of a chunk where its source fails, and the chunk once that gives it.
+fn assert_failure<R: Abort + Wait>(
+    rt: &R,
+    alloc: Global,
+    names: &[Digest],
+    gifts: &[Gift],
+) -> Result<(), Fail> {
+    let asked = Asked::new();
+    let source = Giver::new(alloc, names, gifts, &asked.source);
+    let link = Giver::new(alloc, names, &[], &asked.peers);
+    let node = shared_node(alloc, 100_000, source, link)?;
+    for (loads, wanted) in [(1, None), (2, Some(true)), (2, Some(true))] {
+        assert_eq!(rt; is_given(rt, alloc, &node, names, 1)?, wanted);
+        asked.assert(rt, 0, loads);
+    }
+    Ok(())
+}
+
+#[test]
+fn a_node_whose_source_fails_gives_nothing_and_then_the_chunk(rt: HostRuntime) -> Result<(), Fail> {
+    let names = names(rt.alloc(), CHUNKS)?;
+    for gifts in &FAILURES {
+        assert_failure(&rt, rt.alloc(), names.as_slice(), gifts)?;
+    }
+    Ok(())
 }

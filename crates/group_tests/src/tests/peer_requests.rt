@@ -10,7 +10,7 @@ use std::test::Fail;
 
 /// A node that has one chunk.
 #[derive(Drop)]
-struct OneChunk {
+pub(super) struct OneChunk {
     chunk: Arc<Chunk>,
 }
 
@@ -24,7 +24,7 @@ impl LocalChunks for OneChunk {
 }
 
 /// A node that has the chunk `hello`.
-fn hello(alloc: Global) -> Result<OneChunk, Fail> {
+pub(super) fn hello(alloc: Global) -> Result<OneChunk, Fail> {
     let bytes = Vec::from_slice(alloc, b"hello")?;
     let name = Digest::of_bytes(bytes.as_slice());
     let chunk = Chunk::check(name, bytes)?;
@@ -33,9 +33,9 @@ fn hello(alloc: Global) -> Result<OneChunk, Fail> {
     })
 }
 
-const FOUND: &str = "HTTP/1.1 200 OK\r\nContent-Length: 5\r\n\r\nhello";
+pub(super) const FOUND: &str = "HTTP/1.1 200 OK\r\nContent-Length: 5\r\n\r\nhello";
 
-const NOT_FOUND: &str = "HTTP/1.1 404 Not Found\r\nContent-Length: 0\r\n\r\n";
+pub(super) const NOT_FOUND: &str = "HTTP/1.1 404 Not Found\r\nContent-Length: 0\r\n\r\n";
 
 /// First lines of requests, and what they are answered. The node goes on after each.
 const LINES: [(&str, &str); 9] = [
