@@ -44,7 +44,7 @@ def public_functions(crate):
         code = file.read_text()
         is_open = re.search(rf"(?m)^pub mod {file.stem};", lib)
         for found in re.finditer(r"(?m)^( *)pub fn (\w+)", code):
-            owner = re.findall(r"(?m)^impl\b(?:<.*?>(?= ))? &?(\w+)", code[:found.start()])[-1] if found[1] else ""
+            owner = re.findall(r"(?m)^impl\b(?:<[^{]*?>(?= ))? &?(\w+)", code[:found.start()])[-1] if found[1] else ""
             if is_open or (owner or found[2]) in told:
                 yield owner, found[2], contract_at(code, found.start())
 

@@ -7,7 +7,7 @@ use crate::names::ListName;
 use crate::receipts::{Listed, Receipt};
 use crate::shows::publish;
 use left_right::{Absorb, WriteHandle};
-use std::alloc::{AllocError, Global};
+use std::alloc::AllocError;
 use std::marker::{Model, PhantomData};
 use std::sync::{Arc, Wait};
 
@@ -31,17 +31,14 @@ impl<E, S: Listed<E> + Drop> Model for Owners<E, S> {
 }
 
 impl<E, S: Listed<E> + Drop> Owners<E, S> {
-    /// The owners of a new snapshot.
-    pub fn of(alloc: Global, snap: S) -> Result<Owners<E, S>, AllocError>
-        ensures { IfOk result (λ owners. owners ≡ S.items snap) }
+    /// Three more owners of a snapshot.
+    pub fn of(snap: &Arc<S>) -> Result<Owners<E, S>, AllocError>
+        ensures { IfOk result (λ owners. owners ≡ S.items snap.now.value) }
     {
-        let kept = Arc::new(alloc, snap)?;
-        let shown = Arc::try_clone(&kept)?;
-        let told = Arc::try_clone(&kept)?;
         Ok(Owners {
-            kept,
-            shown,
-            told,
+            kept: Arc::try_clone(snap)?,
+            shown: Arc::try_clone(snap)?,
+            told: Arc::try_clone(snap)?,
             of: PhantomData,
         })
     }

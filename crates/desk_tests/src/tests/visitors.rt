@@ -59,7 +59,7 @@ fn owners(alloc: Global, items: &[u64]) -> Result<Owners<u64, Items>, AllocError
     let items = Items {
         items: Vec::from_slice(alloc, items)?,
     };
-    Owners::of(alloc, items)
+    Owners::of(&Arc::new(alloc, items)?)
 }
 
 /// What a visitor sees.

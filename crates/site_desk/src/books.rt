@@ -1,0 +1,203 @@
+//! A book: the history of a desk, its journal, and what is published of it.
+ghost use Rattle.std.specs.Prelude.{◌≡◌, ◌+◌, ◌≤◌, IfOk, MatchOption, MatchResult, None, Some, true};
+ghost use Rattle.change_undo.specs.Histories.{may_take_memory};
+ghost use Rattle.change_undo.specs.Logs.{last_number, with_entry};
+ghost use Rattle.change_undo.specs.Plans.{IsHistoryOver};
+ghost use Rattle.change_undo.specs.declared.entries.Entry.TheVariants as entry;
+ghost use Rattle.site_change.specs.Changes.{IsWithin};
+ghost use Rattle.site_desk.specs.Answers.{IsAnswer, IsToldAs};
+ghost use Rattle.site_desk.specs.Books.{IsEntered, Kept, commit_refusal, undo_refusal, with_known};
+
+use crate::errors::DeskError;
+use crate::names::DeskName;
+use crate::published::{Notice, Published};
+use crate::seats::Seat;
+use crate::snaps::HostSnap;
+use crate::stocks::{Stock, Tie};
+use byte_view::{BlobInfo, Uploads};
+use change_journal::Journal;
+use change_undo::{Entry, History};
+use host_disk::Disk;
+use host_names::SiteName;
+use journaled_history::{with_change, with_undo};
+use left_right::Absorb;
+use seen_lists::ListName;
+use site_change::{ChangeError, Command};
+use std::alloc::Global;
+use std::marker::Model;
+use std::sync::{Arc, Wait};
+
+/// The history of a desk, its journal, what is published of it, and what is known of the uploads. Contracts see these uploads and the journal. The
+/// journal's entries are those of the history, of what is shown and of the last receipt; there are as many as were there when the desk was opened and
+/// as were made from its seats. The history is what these entries give over the uploads.
+#[derive(Drop)]
+pub struct Book<
+    J: DeskName,
+    K: ListName<BlobInfo>,
+    D: Disk,
+    T: Absorb<Notice<J>, State = [Entry; 0]> + Drop,
+    R: Wait + Drop,
+> {
+    pub(crate) alloc: Global,
+    pub(crate) latest: Arc<HostSnap>,
+    pub(crate) journal: Journal<D>,
+    pub(crate) published: Published<J, T, R>,
+    tie: Tie<K>,
+}
+
+impl<
+    J: DeskName,
+    K: ListName<BlobInfo>,
+    D: Disk,
+    T: Absorb<Notice<J>, State = [Entry; 0]> + Drop,
+    R: Wait + Drop,
+> Model for Book<J, K, D, T, R> {
+    ghost use Rattle.std.specs.Coded.{coded_list};
+    ghost use Rattle.change_undo.specs.contracts.entries.Entry as entry;
+    ghost use Rattle.blob_store.specs.contracts.blob_indexes.BlobIndex as known;
+    ghost use Rattle.site_desk.specs.Books.{IsBook, Kept, coded_kept};
+
+    ghost Value = { Kept D };
+
+    ghost coded = { coded_kept known.the_row.coded (coded_list entry.the_row.coded) D.code };
+
+    ghost view = { λ b. record { known = b.tie; journal = b.journal } };
+
+    ghost invariant = { λ b. IsBook b.latest.value b.tie b.journal.entries b.published };
+}
+
+impl<
+    J: DeskName,
+    K: ListName<BlobInfo>,
+    D: Disk,
+    T: Absorb<Notice<J>, State = [Entry; 0]> + Drop,
+    R: Wait + Drop,
+> Book<J, K, D, T, R> {
+    /// The book of the snapshot of a history, which has the entries that were there when the desk was opened. It takes the other parts out of options,
+    /// since a caller that is generic in J can't pass them by value: the bound of T is made of J.
+    pub fn of(
+        alloc: Global,
+        latest: Arc<HostSnap>,
+        journal: &mut Option<Journal<D>>,
+        published: &mut Option<Published<J, T, R>>,
+        tie: &mut Option<Tie<K>>,
+    ) -> Book<J, K, D, T, R>
+        requires limit { latest.value.limit ≡ 1000000 }
+        requires journal { MatchOption journal.old ⊥ (λ journal. journal.entries ≡ latest.value.entries) }
+        requires published { published.old ≡ Some latest.value.entries }
+        requires tie { MatchOption tie.old ⊥ (λ known. IsHistoryOver known latest.value) }
+        ensures known { tie.old ≡ Some result.known }
+        ensures journal { journal.old ≡ Some result.journal }
+    {
+        Book {
+            alloc,
+            latest,
+            journal: journal.take().unwrap(),
+            published: published.take().unwrap(),
+            tie: tie.take().unwrap(),
+        }
+    }
+
+    /// The snapshot of all entries.
+    pub fn latest(&self) -> &HostSnap
+        ensures entries { result.now.entries ≡ self.now.journal.entries }
+        ensures limit { result.now.limit ≡ 1000000 }
+        ensures over { IsHistoryOver self.now.known result.now }
+    {
+        &self.latest
+    }
+
+    /// The history.
+    fn history(&self) -> &History
+        ensures entries { result.now.entries ≡ self.now.journal.entries }
+        ensures limit { result.now.limit ≡ 1000000 }
+        ensures over { IsHistoryOver self.now.known result.now }
+    {
+        self.latest.history()
+    }
+
+    /// What is told where the history answers so.
+    fn told(&self, error: ChangeError) -> DeskError<Notice<J>>
+        ensures { IsToldAs self.now.journal.entries error result }
+    {
+        match error {
+            ChangeError::OutOfMemory => DeskError::OutOfMemory,
+            ChangeError::Refused(reason) => match self.published.last().again() {
+                Ok(seen) => DeskError::Refused { reason, seen },
+                Err(_) => DeskError::NoReceipt(reason),
+            },
+        }
+    }
+
+    /// Learns of all uploads so far.
+    pub fn learn(&mut self, stock: &mut Stock<K>)
+        ensures known { self.new ≡ with_known self.old stock.old }
+        ensures more { IsWithin self.old.known stock.old }
+        ensures same { stock.new ≡ stock.old }
+    {
+        stock.tell(&mut self.tie);
+    }
+
+    /// The entries that were there at the opening, and those that were made from this seat, are no more than there are. Nothing is changed.
+    pub fn audit(&mut self, mine: &mut Seat<J>)
+        ensures same { self.new ≡ self.old }
+        ensures made { mine.new ≡ mine.old }
+        ensures floor { last_number J.found + mine.old ≤ last_number self.old.journal.entries }
+    {
+        self.published.audit(mine);
+    }
+
+    /// Commits a command as the next entry, over the uploads that are known, from a seat: the entry is put into the journal, and then shown. Gives the
+    /// receipt of it.
+    pub fn commit<U: Uploads>(
+        &mut self,
+        rt: &impl Wait,
+        uploads: &U,
+        mine: &mut Seat<J>,
+        command: Command,
+    ) -> Result<Notice<J>, DeskError<Notice<J>>>
+        requires known { U.contents uploads.now ≡ self.old.known }
+        ensures answer { let why = commit_refusal self.old command in IsAnswer self.old.journal.broken self.old.journal.entries why (why ≡ None) result }
+        ensures entered { IsEntered D.Disk result (entry.Change command) self.old self.new }
+        ensures receipt { IfOk result (λ receipt. receipt ≡ with_entry self.old.journal.entries (entry.Change command)) }
+        ensures made { MatchResult result (λ _. mine.new ≡ mine.old + 1) (λ _. mine.new ≡ mine.old) }
+    {
+        if self.journal.is_broken() {
+            return Err(DeskError::Broken);
+        }
+        match with_change(self.alloc, self.history(), uploads, command) {
+            Ok(next) => self.enter(rt, mine, next),
+            Err(error) => Err(self.told(error)),
+        }
+    }
+
+    /// Undoes a change of this site by the next entry, from a seat: the entry is put into the journal, and then shown. Gives the receipt of it.
+    pub fn undo(
+        &mut self,
+        rt: &impl Wait,
+        mine: &mut Seat<J>,
+        site: &SiteName,
+        change: u64,
+    ) -> Result<Notice<J>, DeskError<Notice<J>>>
+        ensures answer { let why = undo_refusal self.old site.now change in
+            IsAnswer self.old.journal.broken self.old.journal.entries why (may_take_memory why ≡ true) result }
+        ensures entered { IsEntered D.Disk result (entry.Undo site.now change) self.old self.new }
+        ensures receipt { IfOk result (λ receipt. receipt ≡ with_entry self.old.journal.entries (entry.Undo site.now change)) }
+        ensures made { MatchResult result (λ _. mine.new ≡ mine.old + 1) (λ _. mine.new ≡ mine.old) }
+    {
+        if self.journal.is_broken() {
+            return Err(DeskError::Broken);
+        }
+        match with_undo(self.history(), site, change) {
+            Ok(undone) => self.enter(rt, mine, undone),
+            Err(why) => Err(self.told(why)),
+        }
+    }
+
+    /// Hands out the journal.
+    pub fn into_journal(self) -> Journal<D>
+        ensures { result ≡ self.journal }
+    {
+        self.journal
+    }
+}

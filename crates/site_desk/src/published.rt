@@ -1,0 +1,96 @@
+//! What is published of a desk: the list of its entries, with what is shown, and how many each seat made.
+ghost use Rattle.std.specs.Prelude.{◌≡◌, ◌+◌, ◌≤◌, MatchOption, Some};
+ghost use Rattle.change_undo.specs.Logs.{last_number, with_entry};
+
+use crate::names::DeskName;
+use crate::seats::Seat;
+use crate::snaps::HostSnap;
+use change_undo::Entry;
+use left_right::Absorb;
+use seen_lists::{Owners, Publisher, Receipt};
+use std::marker::Model;
+use std::sync::{Wait, ledger};
+
+/// A receipt of a desk's log: the snapshot that has these entries.
+pub type Notice<J> = Receipt<Entry, J, HostSnap>;
+
+/// The entries of a desk, what is shown of them, and how many were made from its seats. Contracts see the entries.
+#[derive(Drop)]
+pub struct Published<J: DeskName, T: Absorb<Notice<J>, State = [Entry; 0]> + Drop, R: Wait + Drop> {
+    opening: u64,
+    count: ledger::Book<J>,
+    publisher: Publisher<Entry, J, HostSnap, T, R>,
+}
+
+impl<J: DeskName, T: Absorb<Notice<J>, State = [Entry; 0]> + Drop, R: Wait + Drop> Model
+    for Published<J, T, R> {
+    ghost use Rattle.std.specs.Prelude.{◌≡◌, ◌+◌, ◌≤◌};
+    ghost use Rattle.change_undo.specs.Logs.{Log, last_number};
+    ghost use Rattle.site_desk.specs.Books.{IsCounted};
+
+    ghost Value = { Log };
+
+    ghost view = { λ p. p.publisher };
+
+    ghost invariant = { λ p. IsCounted (last_number J.found) p.opening p.count.total p.publisher };
+}
+
+impl<J: DeskName, T: Absorb<Notice<J>, State = [Entry; 0]> + Drop, R: Wait + Drop> Published<
+    J,
+    T,
+    R,
+> {
+    /// The entries that were there at the opening, with a ledger in which nothing is counted yet. It takes both out of options, since a caller that is
+    /// generic in J can't pass them by value: the bound of T is made of J.
+    pub fn of(
+        opening: u64,
+        count: &mut Option<ledger::Book<J>>,
+        publisher: &mut Option<Publisher<Entry, J, HostSnap, T, R>>,
+    ) -> Published<J, T, R>
+        requires opening { opening ≡ last_number J.found }
+        requires count { MatchOption count.old ⊥ (λ book. book.total ≡ 0) }
+        requires found { publisher.old ≡ Some J.found }
+        requires few { last_number J.found ≤ 1000000 }
+        ensures { result ≡ J.found }
+    {
+        Published {
+            opening,
+            count: count.take().unwrap(),
+            publisher: publisher.take().unwrap(),
+        }
+    }
+
+    /// The receipt of all entries.
+    pub(crate) fn last(&self) -> &Notice<J>
+        ensures { result.now ≡ self.now }
+    {
+        self.publisher.last()
+    }
+
+    /// Shows the snapshot that has one entry more, which was made from this seat, and gives its receipt.
+    pub(crate) fn show(
+        &mut self,
+        rt: &impl Wait,
+        mine: &mut Seat<J>,
+        entry: &Entry,
+        owners: Owners<Entry, HostSnap>,
+    ) -> Notice<J>
+        requires room { last_number (with_entry self.old entry.now) ≤ 1000000 }
+        requires next { owners ≡ with_entry self.old entry.now }
+        ensures shown { self.new ≡ with_entry self.old entry.now }
+        ensures receipt { result ≡ with_entry self.old entry.now }
+        ensures made { mine.new ≡ mine.old + 1 }
+    {
+        mine.count_one(&mut self.count);
+        self.publisher.push(rt, entry, owners)
+    }
+
+    /// The entries that were there at the opening, and those that were made from this seat, are no more than there are. Nothing is changed.
+    pub(crate) fn audit(&mut self, mine: &mut Seat<J>)
+        ensures same { self.new ≡ self.old }
+        ensures made { mine.new ≡ mine.old }
+        ensures floor { last_number J.found + mine.old ≤ last_number self.old }
+    {
+        mine.audit(&mut self.count);
+    }
+}

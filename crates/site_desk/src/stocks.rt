@@ -1,0 +1,110 @@
+//! Uploads that are known, and what a book knows of them.
+ghost use Rattle.std.specs.Prelude.{◌≡◌, None, OnErr, OnOk};
+ghost use Rattle.std.specs.FinMap as map;
+ghost use Rattle.host_names.specs.Digests.{digest_of};
+ghost use Rattle.byte_view.specs.Contents.{with_file};
+ghost use Rattle.site_change.specs.Changes.{IsWithin};
+ghost use Rattle.site_desk.specs.Stocks.{contents_of};
+
+use blob_store::BlobIndex;
+use byte_view::BlobInfo;
+use seen_lists::{Front, ListName, SeenList};
+use std::alloc::AllocError;
+use std::marker::Model;
+use std::sync::Arc;
+
+/// More files than there is memory for.
+const MOST: u64 = 1 << 61;
+
+/// Files that are known, each in a list that only grows. The list is in clauses alone: whoever has seen a front of it knows some of these files.
+/// Contracts see the bytes of each.
+#[derive(Drop)]
+pub struct Stock<K: ListName<BlobInfo>> {
+    index: BlobIndex,
+    list: SeenList<BlobInfo, K>,
+}
+
+impl<K: ListName<BlobInfo>> Model for Stock<K> {
+    ghost use Rattle.std.specs.Prelude.{◌≡◌};
+    ghost use Rattle.byte_view.specs.Contents.{Contents};
+    ghost use Rattle.blob_store.specs.contracts.blob_indexes.BlobIndex as known;
+    ghost use Rattle.site_desk.specs.Stocks.{contents_of};
+
+    ghost Value = { Contents };
+
+    ghost coded = { known.the_row.coded };
+
+    ghost view = { λ s. s.index };
+
+    ghost invariant = { λ s. s.index ≡ contents_of s.list };
+}
+
+/// What is known of a stock's files by somebody who learns of them from time to time. Contracts see the bytes of each file that is known.
+#[derive(Drop)]
+pub struct Tie<K: ListName<BlobInfo>> {
+    front: Front<BlobInfo, K>,
+}
+
+impl<K: ListName<BlobInfo>> Model for Tie<K> {
+    ghost use Rattle.byte_view.specs.Contents.{Contents};
+    ghost use Rattle.blob_store.specs.contracts.blob_indexes.BlobIndex as known;
+    ghost use Rattle.site_desk.specs.Stocks.{contents_of};
+
+    ghost Value = { Contents };
+
+    ghost coded = { known.the_row.coded };
+
+    ghost view = { λ t. contents_of t.front };
+}
+
+impl<K: ListName<BlobInfo>> Stock<K> {
+    /// The files that an index knows, which are those of the list.
+    pub fn of(index: BlobIndex, list: SeenList<BlobInfo, K>) -> Stock<K>
+        requires { index ≡ contents_of list }
+        ensures { result ≡ index }
+    {
+        Stock { index, list }
+    }
+
+    /// The index.
+    pub fn index(&self) -> &BlobIndex
+        ensures { result.now ≡ self.now }
+    {
+        &self.index
+    }
+
+    /// Adds a file. A digest that is known keeps its file, and takes no memory. Without memory nothing changes.
+    pub fn keep(&mut self, file: Arc<BlobInfo>) -> Result<(), AllocError>
+        ensures ok { OnOk result (self.new ≡ with_file self.old file.value) }
+        ensures err { OnErr result (self.new ≡ self.old) }
+        ensures memory { OnErr result (map.get self.old (digest_of file.value) ≡ None) }
+    {
+        if self.index.find(&file.digest()).is_some() {
+            return Ok(());
+        }
+        if self.list.len() >= MOST {
+            return Err(AllocError);
+        }
+        self.index.keep(Arc::try_clone(&file)?)?;
+        self.list.push(&file);
+        Ok(())
+    }
+
+    /// What is known to somebody who knows all files so far.
+    pub fn tie(&self) -> Tie<K>
+        ensures { result ≡ self.now }
+    {
+        Tie {
+            front: self.list.front(),
+        }
+    }
+
+    /// Tells somebody of all files so far. What was known is among them.
+    pub fn tell(&mut self, tie: &mut Tie<K>)
+        ensures same { self.new ≡ self.old }
+        ensures told { tie.new ≡ self.old }
+        ensures more { IsWithin tie.old tie.new }
+    {
+        self.list.tell(&mut tie.front);
+    }
+}
