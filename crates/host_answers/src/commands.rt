@@ -113,13 +113,7 @@ fn follow<H: House>(alloc: Global, house: &mut H, site: SiteName, id: u64, auto:
 }
 
 /// The reply to an opening: it becomes an entry first, and is asked then what it lacks.
-fn open<H: House>(
-    alloc: Global,
-    house: &mut H,
-    site: SiteName,
-    files: Listing,
-    auto: bool,
-) -> Reply
+fn open<H: House>(alloc: Global, house: &mut H, site: SiteName, files: Listing, auto: bool) -> Reply
     ensures { ChangesBy H.calls house.old (command.Open site files auto) (answer_of result) house.new }
 {
     let owner = site.copied();
