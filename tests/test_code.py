@@ -8,7 +8,7 @@ from lib.repository import TOP
 
 FOLDERS = ("tests", "tests/lib", "scripts", "bench", "examples")
 # The libraries that a host is made of; those below them have functions over which clauses are wider.
-HOSTS = ("journaled_history", "host_replies", "host_connection", "host_server")
+HOSTS = ("journaled_history", "host_replies", "host_answers", "host_connection", "host_server")
 
 
 class Rattle(unittest.TestCase):
@@ -30,12 +30,12 @@ class Rattle(unittest.TestCase):
         self.assertEqual(longer, set())
 
     def test_has_crates_that_can_be_told_apart(self):
-        """The libraries that a host is made of have at most 110 functions each, and no line of their clauses has to be scrolled."""
+        """The libraries that a host is made of have at most 110 functions each, beside their laws, and no line of their clauses has to be scrolled."""
         for name in HOSTS:
             counted, wide = 0, []
             for file in (file for file in self.files if file.parts[len(TOP.parts) + 1] == name):
                 text = file.read_text()
-                counted += len(re.findall(r"\bfn \w+", text))
+                counted += 0 if "laws" in file.parts or file.name == "laws.rt" else len(re.findall(r"\bfn \w+", text))
                 wide += [f"{file.name}: {line}" for line in lines_of_clauses(text) if len(line) > 120]
             with self.subTest(name):
                 self.assertGreater(counted, 0)
