@@ -171,7 +171,7 @@ class Refusals(Interface):
         for name, (status, given) in of_heads.items():
             self.assert_answers(given, told(status, {"error": name}, "Connection: close"), name)
         # A connection is too short for HistoryFull, which test_limits.py meets, and its bodies for TooLarge; test_memory.py meets OutOfMemory,
-        # and test_store_damage.py and test_store_devices.py what damage leads to, and a journal whose device fails.
+        # and test_store_files_lost.py and test_store_disk_full.py what damage leads to, and a journal whose device fails.
         others = {*of_heads, "HistoryFull", "TooLarge", "OutOfMemory", "Missing", "Damaged", "Device", "Broken"}
         self.assertEqual({name for name, _ in met if name} | others, set(STATUS_OF))
 
