@@ -161,13 +161,12 @@ class Pages(unittest.TestCase):
     """Every page."""
 
     def test_are_short_enough_to_be_read(self):
-        """Those of docs/ and the promises of the crates: 400 lines, and 160 columns but in tables."""
+        """Each has at most 400 lines, and 160 columns but in tables."""
         for page in PAGES:
-            if page.parent == TOP / "docs" or page.name == "PROMISES.md":
-                lines = page.read_text().splitlines()
-                with self.subTest(page=str(page.relative_to(TOP))):
-                    self.assertLessEqual(len(lines), 400)
-                    self.assertEqual([line for line in lines if len(line) > 160 and not line.startswith("|")], [])
+            lines = page.read_text().splitlines()
+            with self.subTest(page=str(page.relative_to(TOP))):
+                self.assertLessEqual(len(lines), 400)
+                self.assertEqual([line for line in lines if len(line) > 160 and not line.startswith("|")], [])
 
     def test_name_files_of_the_repository_that_are_there(self):
         for page in PAGES:
