@@ -1,4 +1,4 @@
-"""The documents against what they speak of: names of functions, files and crates, the first run, and the limits of pages."""
+"""The documents against what they speak of: names of functions, files and crates, clauses that are shown, the first run, and the limits of pages."""
 
 import re
 import unittest
@@ -37,6 +37,20 @@ class Architecture(unittest.TestCase):
 
     def test_names_files_of_crates_that_are_there(self):
         assert_files_are_there(self, self.text, 5)
+
+
+class Contracts(unittest.TestCase):
+    """docs/CONTRACTS.md."""
+
+    def test_shows_clauses_and_definitions_as_they_are(self):
+        """But for the ends of their lines."""
+        shown = re.findall(r"(?m)(?:^    .*\n)+", read("docs", "CONTRACTS.md"))
+        self.assertEqual(len(shown), 3)
+        folders = [folder for crate in crates() for folder in (TOP / "crates" / crate / "src", TOP / "crates" / crate / "specs")]
+        there = [" ".join(file.read_text().split()) for folder in folders for file in folder.rglob("*.*")]
+        for text in shown:
+            with self.subTest(text):
+                self.assertTrue(any(" ".join(text.split()) in words for words in there))
 
 
 class OrderOfCrates(unittest.TestCase):
