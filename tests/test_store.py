@@ -283,7 +283,7 @@ class Examples(Stored):
         ], ""))
         self.assertEqual(self.all_files(), before)
         (self.folder / "journal").write_bytes(b"none")
-        self.assertEqual(self.show(), (1, [], "show-store: the file `journal` is no journal\n"))
+        self.assertEqual(self.show(), (1, [], "show-store: `journal` is not a filehost journal\n"))
 
 
 if __name__ == "__main__":
