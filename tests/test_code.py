@@ -4,11 +4,17 @@ import ast
 import re
 import unittest
 
-from lib.repository import TOP
+from lib.repository import TOP, crates
 
 FOLDERS = ("tests", "tests/lib", "scripts", "bench", "examples")
-# The libraries that a host is made of; those below them have functions over which clauses are wider.
-HOSTS = ("journaled_history", "host_replies", "host_answers", "host_connection", "host_server")
+# The crates in which some lines of clauses are still over 120 columns.
+WIDE = (
+    "byte_view", "chunk_reads", "blob_store", "http_wire", "range_reply", "shared_blocks", "site_state", "site_change", "touch_index", "change_undo",
+    "host_disk", "change_journal", "host_opening", "chunk_lru", "single_flight", "peer_ring", "peer_link", "chunk_group", "seen_lists", "site_desk",
+    "host_api", "command_line", "world_desk", "world_node", "world_read", "host_world", "core_tests",
+)
+# The libraries with more than 110 functions: the layers of the journal are folders of one crate.
+LARGE = ("change_journal",)
 
 
 class Rattle(unittest.TestCase):
@@ -29,17 +35,23 @@ class Rattle(unittest.TestCase):
                     longer.add(f"{file.relative_to(TOP)}: {found[2]}")
         self.assertEqual(longer, set())
 
-    def test_has_crates_that_can_be_told_apart(self):
-        """The libraries that a host is made of have at most 110 functions each, beside their laws, and no line of their clauses has to be scrolled."""
-        for name in HOSTS:
-            counted, wide = 0, []
-            for file in (file for file in self.files if file.parts[len(TOP.parts) + 1] == name):
-                text = file.read_text()
-                counted += 0 if "laws" in file.parts or file.name == "laws.rt" else len(re.findall(r"\bfn \w+", text))
-                wide += [f"{file.name}: {line}" for line in lines_of_clauses(text) if len(line) > 120]
+    def files_of(self, crate):
+        return [file for file in self.files if file.parts[len(TOP.parts) + 1] == crate]
+
+    def test_has_libraries_that_can_be_read_at_once(self):
+        """Each has at most 110 functions, not counting its laws."""
+        for name in crates():
+            texts = [file.read_text() for file in self.files_of(name) if "laws" not in file.parts and file.name != "laws.rt"]
+            counted = sum(len(re.findall(r"\bfn \w+", text)) for text in texts)
             with self.subTest(name):
                 self.assertGreater(counted, 0)
-                self.assertLessEqual(counted, 110)
+                if name not in LARGE and not name.endswith(("_tests", "_bench")):
+                    self.assertLessEqual(counted, 110)
+
+    def test_has_clauses_that_need_no_scrolling(self):
+        for name in crates().keys() - WIDE:
+            wide = [f"{file.name}: {line}" for file in self.files_of(name) for line in lines_of_clauses(file.read_text()) if len(line) > 120]
+            with self.subTest(name):
                 self.assertEqual(wide, [])
 
     def test_looks_at_each_line_of_a_clause(self):
