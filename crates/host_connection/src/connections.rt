@@ -11,7 +11,9 @@ use crate::requests::Request;
 use crate::services::Service;
 use host_api::{HeadRefusal, body_limit};
 use host_replies::{Reply, is_head_only};
-use http_wire::{BodyFault, Duplex, Head, HeadFault, LengthFault, Wire, check_body, write_interim};
+use http_wire::{
+    BodyFault, Duplex, Head, HeadFault, LengthFault, Outgoing, Wire, check_body, write_interim,
+};
 use std::alloc::Global;
 use thiserror::Error;
 
@@ -160,6 +162,7 @@ fn read_request<D: Duplex>(wire: &mut Wire, duplex: &mut D, is_last: bool) -> Re
 /// Sends a reply.
 fn send<D: Duplex>(
     duplex: &mut D,
+    out: &mut Outgoing,
     reply: Reply,
     close: bool,
     head_only: bool,
@@ -167,22 +170,26 @@ fn send<D: Duplex>(
     requires { (answer_of reply).withheld ≡ true → head_only ≡ true }
     ensures { Ran D.saw NoRead duplex.old duplex.new (SendsAs result (sent_text close head_only (answer_of reply))) }
 {
-    match reply.send(duplex, close, head_only) {
+    match reply.send(duplex, out, close, head_only) {
         Ok(()) => Ok(()),
         Err(_) => Err(ConnectionFault::OutputFault),
     }
 }
 
 /// Sends the reply where no request was read, if one is sent. The connection ends after it.
-fn refuse<D: Duplex>(duplex: &mut D, stop: Stop) -> Result<(), ConnectionFault>
+fn refuse<D: Duplex>(duplex: &mut D, out: &mut Outgoing, stop: Stop) -> Result<(), ConnectionFault>
     ensures { Ran D.saw NoRead duplex.old duplex.new (RefusesAs result stop) }
 {
     match stop {
         Stop::Ended => Ok(()),
         Stop::ReadFault => Err(ConnectionFault::InputFault),
         Stop::WriteFault => Err(ConnectionFault::OutputFault),
-        Stop::Refused { why, head_only } => send(duplex, Reply::refusing(why), true, head_only),
-        Stop::OutOfMemory { head_only } => send(duplex, Reply::out_of_memory(), true, head_only),
+        Stop::Refused { why, head_only } => {
+            send(duplex, out, Reply::refusing(why), true, head_only)
+        }
+        Stop::OutOfMemory { head_only } => {
+            send(duplex, out, Reply::out_of_memory(), true, head_only)
+        }
     }
 }
 
@@ -190,6 +197,7 @@ fn refuse<D: Duplex>(duplex: &mut D, stop: Stop) -> Result<(), ConnectionFault>
 fn exchange<D: Duplex, S: Service>(
     alloc: Global,
     duplex: &mut D,
+    out: &mut Outgoing,
     service: &mut S,
     request: Request,
 ) -> Result<Next, ConnectionFault>
@@ -201,7 +209,7 @@ fn exchange<D: Duplex, S: Service>(
     let head_only = is_head_only(&request.head);
     let close = request.closes();
     let reply = service.answer(alloc, request);
-    send(duplex, reply, close, head_only)?;
+    send(duplex, out, reply, close, head_only)?;
     if close {
         Ok(Next::End)
     } else {
@@ -214,6 +222,7 @@ fn serve_next<D: Duplex, S: Service>(
     alloc: Global,
     wire: &mut Wire,
     duplex: &mut D,
+    out: &mut Outgoing,
     service: &mut S,
     is_last: bool,
 ) -> Result<Next, ConnectionFault>
@@ -222,9 +231,9 @@ fn serve_next<D: Duplex, S: Service>(
     ensures grows { S.grows service.old service.new }
 {
     match read_request(wire, duplex, is_last) {
-        Ok(request) => exchange(alloc, duplex, service, request),
+        Ok(request) => exchange(alloc, duplex, out, service, request),
         Err(stop) => {
-            refuse(duplex, stop)?;
+            refuse(duplex, out, stop)?;
             Ok(Next::End)
         }
     }
@@ -235,6 +244,7 @@ fn serve_requests<D: Duplex, S: Service>(
     alloc: Global,
     wire: &mut Wire,
     duplex: &mut D,
+    out: &mut Outgoing,
     service: &mut S,
 ) -> Result<(), ConnectionFault>
     requires { wire.old ≡ [] }
@@ -243,7 +253,8 @@ fn serve_requests<D: Duplex, S: Service>(
     ensures grows { S.grows service.old service.new }
 {
     'requests: for number in 1..=MOST_REQUESTS {
-        match serve_next(alloc, wire, duplex, service, number == MOST_REQUESTS)? {
+        let is_last = number == MOST_REQUESTS;
+        match serve_next(alloc, wire, duplex, out, service, is_last)? {
             Next::Exchange => {}
             Next::End => return Ok(()),
         }
@@ -270,8 +281,8 @@ pub fn serve_connection<D: Duplex, S: Service>(
         (Connects S.answers result service.old service.new) }
     ensures grows { S.grows service.old service.new }
 {
-    let Ok(mut wire) = Wire::new(alloc) else {
+    let (Ok(mut wire), Ok(mut out)) = (Wire::new(alloc), Outgoing::new(alloc)) else {
         return Err(ConnectionFault::OutOfMemory);
     };
-    serve_requests(alloc, &mut wire, duplex, service)
+    serve_requests(alloc, &mut wire, duplex, &mut out, service)
 }

@@ -26,7 +26,8 @@ use host_api::{HeadRefusal, Refusal, Told, short_text, text};
 use host_names::{Digest, FilePath};
 use http::StatusCode;
 use http_wire::{
-    ContentRange, Duplex, EntityTag, FieldText, Head, ReplyBody, ReplyHead, WriteFault, write_reply,
+    ContentRange, Duplex, EntityTag, FieldText, Head, Outgoing, ReplyBody, ReplyHead, WriteFault,
+    write_reply,
 };
 use range_reply::{Boundary, FileBody, FileForm, Parts};
 use std::alloc::{AllocError, Global};
@@ -256,6 +257,7 @@ impl Reply {
     fn send_with<D: Duplex>(
         &self,
         duplex: &mut D,
+        out: &mut Outgoing,
         etag: Option<EntityTag<'_>>,
         close: bool,
         head_only: bool,
@@ -269,11 +271,12 @@ impl Reply {
         if head_only {
             return write_reply(
                 duplex,
+                out,
                 &head,
                 ReplyBody::<Parts<'_>>::Withheld(self.body.length()),
             );
         }
-        write_reply(duplex, &head, ReplyBody::Sent(self.parts()))
+        write_reply(duplex, out, &head, ReplyBody::Sent(self.parts()))
     }
 
     /// Writes it, without its body where only the head is wanted (RFC 9110, section 9.3.2); its head says whether the
@@ -281,6 +284,7 @@ impl Reply {
     pub fn send<D: Duplex>(
         &self,
         duplex: &mut D,
+        out: &mut Outgoing,
         close: bool,
         head_only: bool,
     ) -> Result<(), WriteFault>
@@ -289,9 +293,10 @@ impl Reply {
             (WritesText result (sent_text close head_only (answer_of self.now))) }
     {
         let Some(digest) = self.etag else {
-            return self.send_with(duplex, None, close, head_only);
+            return self.send_with(duplex, out, None, close, head_only);
         };
         let hex = digest.to_hex();
-        self.send_with(duplex, Some(EntityTag::new(hex.as_str())), close, head_only)
+        let etag = Some(EntityTag::new(hex.as_str()));
+        self.send_with(duplex, out, etag, close, head_only)
     }
 }

@@ -237,6 +237,13 @@ flushed_last saw old mid new result text count between after rest mid_rest s ran
     subst (λ t. Ran saw NoRead old new (WritesText result t)) (append-nil text)
     (all_of saw old new result (text ++ []) count after rest s (and_then saw old mid new result text [] count between after rest mid_rest [] ran last))
 
+-- a whole text is written at once, and nothing is gathered of it
+pub sent_at_once : {S : Type 0} (saw : S → Event → S → Type 0) (old new : S) (result : Result (Unit {0}) WriteFault) (text : List ℕ) (after : ℕ)
+    → Ran saw NoRead old new (WritesOn result [] 0 after text []) → Ran saw NoRead old new (WritesText result text)
+sent_at_once saw old new result text after ran =
+    let none : Written [] [] 0 [] = record { gone = []; text_is = refl; count_is = refl; appended = refl } in
+    all_of saw old new result text 0 after [] none (flushed_then saw old old new result text 0 0 after [] [] (none_more saw old 0 []) ran)
+
 -- ---- what a sink holds then
 
 pub held_whole : (result : Result (Unit {0}) WriteFault) (text : List ℕ) (events : List Event) (held new_held : Option (List ℕ)) → WritesText result text events

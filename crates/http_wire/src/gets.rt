@@ -10,12 +10,16 @@ use crate::faults::WriteFault;
 use crate::sends::{Outgoing, put_pieces};
 
 // Writes the pieces of a request.
-fn write_pieces<D: Duplex>(duplex: &mut D, path: &[u8]) -> Result<(), WriteFault>
+fn write_pieces<D: Duplex>(
+    duplex: &mut D,
+    out: &mut Outgoing,
+    path: &[u8],
+) -> Result<(), WriteFault>
     ensures { Ran D.saw NoRead duplex.old duplex.new (WritesText result (get_text path.now)) }
 {
-    let mut out = Outgoing::new();
+    out.begin();
     let pieces: [&[u8]; 3] = [b"GET ", path, b" HTTP/1.1\r\nHost: peer\r\n\r\n"];
-    put_pieces(duplex, &mut out, &pieces)?;
+    put_pieces(duplex, out, &pieces)?;
     out.flush(duplex)
 }
 
@@ -23,12 +27,16 @@ fn write_pieces<D: Duplex>(duplex: &mut D, path: &[u8]) -> Result<(), WriteFault
 /// 3.2). Reads nothing.
 ///
 /// It takes no memory, and fails as `write_reply` does.
-pub fn write_get<D: Duplex>(duplex: &mut D, path: &str) -> Result<(), WriteFault>
+pub fn write_get<D: Duplex>(
+    duplex: &mut D,
+    out: &mut Outgoing,
+    path: &str,
+) -> Result<(), WriteFault>
     ensures ok { OnOk result (Appends (D.held duplex.old) (D.held duplex.new) (get_text path.now)) }
     ensures fault { IfErr result
         (λ fault. SentFront (D.held duplex.old) (D.held duplex.new) (get_text path.now) fault.0) }
     ensures cause { OnErr result D.write_fails }
     ensures ran { Ran D.saw NoRead duplex.old duplex.new (WritesText result (get_text path.now)) }
 {
-    write_pieces(duplex, path.as_bytes())
+    write_pieces(duplex, out, path.as_bytes())
 }

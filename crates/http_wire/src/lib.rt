@@ -35,6 +35,7 @@ pub use lengths::check_body;
 pub use replies::{
     ContentRange, ReplyBody, ReplyHead, decimal_text, range_value, write_interim, write_reply,
 };
+pub use sends::Outgoing;
 pub use sinks::{Sink, WriteFailed, Writing, write_all};
 pub use sources::{ReadFailed, Reading, Source};
 pub use wires::Wire;

@@ -13,7 +13,7 @@ use crate::duplexes::Duplex;
 use crate::entity_tags::EntityTag;
 use crate::faults::WriteFault;
 use crate::field_texts::FieldText;
-use crate::sends::{Outgoing, put_parts, put_pieces};
+use crate::sends::{Outgoing, put_parts, put_pieces, send_rest};
 use arrayvec::{ArrayString, ArrayVec};
 use byte_view::BodyParts;
 use http::StatusCode;
@@ -218,14 +218,15 @@ fn put_body<D: Duplex, P: BodyParts<Item: Drop> + Drop>(
 // Writes a head, and then the body.
 fn write_both<D: Duplex, P: BodyParts<Item: Drop> + Drop>(
     duplex: &mut D,
+    out: &mut Outgoing,
     head: &ReplyHead<'_>,
     body: ReplyBody<P>,
 ) -> Result<(), WriteFault>
     ensures { Ran D.saw NoRead duplex.old duplex.new (WritesText result (sent_reply P.texts head.now body)) }
 {
-    let mut out = Outgoing::new();
-    put_head(duplex, &mut out, head, body.size())?;
-    put_body(duplex, &mut out, body)?;
+    out.begin();
+    put_head(duplex, out, head, body.size())?;
+    put_body(duplex, out, body)?;
     out.flush(duplex)
 }
 
@@ -237,6 +238,7 @@ fn write_both<D: Duplex, P: BodyParts<Item: Drop> + Drop>(
 /// after it.
 pub fn write_reply<D: Duplex, P: BodyParts<Item: Drop> + Drop>(
     duplex: &mut D,
+    out: &mut Outgoing,
     head: &ReplyHead<'_>,
     body: ReplyBody<P>,
 ) -> Result<(), WriteFault>
@@ -248,16 +250,15 @@ pub fn write_reply<D: Duplex, P: BodyParts<Item: Drop> + Drop>(
     ensures cause { OnErr result D.write_fails }
     ensures ran { Ran D.saw NoRead duplex.old duplex.new (WritesText result (sent_reply P.texts head.now body)) }
 {
-    write_both(duplex, head, body)
+    write_both(duplex, out, head, body)
 }
 
 // Writes a text.
 fn write_text<D: Duplex>(duplex: &mut D, text: &[u8]) -> Result<(), WriteFault>
     ensures { Ran D.saw NoRead duplex.old duplex.new (WritesText result text.now) }
 {
-    let mut out = Outgoing::new();
-    out.put(duplex, text)?;
-    out.flush(duplex)
+    let mut sent = 0;
+    send_rest(duplex, &mut sent, text)
 }
 
 /// Writes the interim reply after which the client sends the body (RFC 9110, section 15.2.1). Reads nothing.

@@ -6,16 +6,19 @@ ghost use Rattle.http_wire.specs.Timing.{NoRead, Ran};
 
 use crate::duplexes::Duplex;
 use crate::faults::WriteFault;
-use arrayvec::ArrayVec;
 use byte_view::BodyParts;
+use std::alloc::{AllocError, Global};
 
 // How many bytes are gathered before they are written: a small reply is one write.
 const ROOM: usize = 8192;
 
-/// What was put and not yet written, and how many bytes were written before it.
+/// Room in which a text is gathered before it is written. A connection takes it once, and lends it to each call that writes; what
+/// one call leaves in it means nothing to the next.
 #[derive(Drop)]
 pub struct Outgoing {
-    pending: ArrayVec<u8, ROOM>,
+    // What was put and not yet written.
+    pending: Vec<u8>,
+    // How many bytes of the text were written before it.
     sent: u64,
 }
 
@@ -34,7 +37,7 @@ fn send<D: Duplex>(duplex: &mut D, bytes: &[u8]) -> Result<(), usize>
 }
 
 // Writes the rest of what was put.
-fn send_rest<D: Duplex>(duplex: &mut D, sent: &mut u64, rest: &[u8]) -> Result<(), WriteFault>
+pub fn send_rest<D: Duplex>(duplex: &mut D, sent: &mut u64, rest: &[u8]) -> Result<(), WriteFault>
     ensures { Ran D.saw NoRead duplex.old duplex.new (WritesOn result [] sent.old sent.new rest.now []) }
 {
     match send(duplex, rest) {
@@ -47,18 +50,24 @@ fn send_rest<D: Duplex>(duplex: &mut D, sent: &mut u64, rest: &[u8]) -> Result<(
 }
 
 impl Outgoing {
-    /// Nothing yet.
-    pub fn new() -> Outgoing
-        ensures { (held : Option (List ℕ)) → Sent held held [] result.sent result.pending.items }
-    {
-        Outgoing {
-            pending: ArrayVec::new(),
+    /// Takes the memory for 8,192 bytes.
+    pub fn new(alloc: Global) -> Result<Outgoing, AllocError> {
+        Ok(Outgoing {
+            pending: Vec::with_capacity(alloc, ROOM)?,
             sent: 0,
-        }
+        })
     }
 
-    /// Writes all that was put.
-    pub fn flush<D: Duplex>(&mut self, duplex: &mut D) -> Result<(), WriteFault>
+    // Begins another text.
+    pub(crate) fn begin(&mut self)
+        ensures { (held : Option (List ℕ)) → Sent held held [] self.new.sent self.new.pending.items }
+    {
+        self.pending.clear();
+        self.sent = 0;
+    }
+
+    // Writes all that was put.
+    pub(crate) fn flush<D: Duplex>(&mut self, duplex: &mut D) -> Result<(), WriteFault>
         ensures ran { Ran D.saw NoRead duplex.old duplex.new (WritesOn result [] self.old.sent self.new.sent self.old.pending.items []) }
         ensures empty { OnOk result (self.new.pending.items ≡ []) }
     {
@@ -72,11 +81,15 @@ impl Outgoing {
         ensures { MatchBool result ((self.new.pending.items ≡ self.old.pending.items ++ piece.now) × (self.new.sent ≡ self.old.sent))
             (self.new ≡ self.old) }
     {
-        self.pending.try_extend_from_slice(piece).is_ok()
+        let room = self.pending.capacity() - self.pending.len();
+        if room < piece.len() {
+            return false;
+        }
+        self.pending.extend_from_slice(piece).is_ok()
     }
 
-    /// Puts one more piece, and writes as much as it takes to make room for it.
-    pub fn put<D: Duplex>(&mut self, duplex: &mut D, piece: &[u8]) -> Result<(), WriteFault>
+    // Puts one more piece, and writes as much as it takes to make room for it.
+    pub(crate) fn put<D: Duplex>(&mut self, duplex: &mut D, piece: &[u8]) -> Result<(), WriteFault>
         ensures { Ran D.saw NoRead duplex.old duplex.new
             (WritesOn result piece.now self.old.sent self.new.sent self.old.pending.items self.new.pending.items) }
     {

@@ -7,7 +7,7 @@ ghost use Rattle.peer_link.specs.Paths as spec;
 use crate::links::PeerFault;
 use crate::paths::chunk_path;
 use host_names::Digest;
-use http_wire::{Duplex, read_answer, write_get};
+use http_wire::{Duplex, Outgoing, read_answer, write_get};
 use std::alloc::Global;
 
 /// How many bytes a peer's answer has at most: those of the longest chunk.
@@ -22,7 +22,10 @@ pub fn ask<D: Duplex>(alloc: Global, duplex: &mut D, key: &Digest) -> Result<Vec
         IfSome (D.left duplex.old) (IsAnswer D.read_fails (Ok bytes) CHUNK_LIMIT)) }
     ensures within { IfOk result (λ bytes. vec_len bytes ≤ CHUNK_LIMIT) }
 {
-    let Ok(()) = write_get(duplex, chunk_path(key).as_str()) else {
+    let Ok(mut out) = Outgoing::new(alloc) else {
+        return Err(PeerFault);
+    };
+    let Ok(()) = write_get(duplex, &mut out, chunk_path(key).as_str()) else {
         return Err(PeerFault);
     };
     match read_answer(alloc, duplex, CHUNK_LIMIT) {

@@ -12,7 +12,8 @@ use byte_view::Chunk;
 use host_names::Digest;
 use http::{StatusCode, Version};
 use http_wire::{
-    Duplex, Head, HeadFault, ReplyBody, ReplyHead, Wire, WriteFault, check_body, write_reply,
+    Duplex, Head, HeadFault, Outgoing, ReplyBody, ReplyHead, Wire, WriteFault, check_body,
+    write_reply,
 };
 use std::alloc::{AllocError, Global};
 use std::sync::{Arc, Wait};
@@ -71,22 +72,27 @@ fn head_of(status: StatusCode) -> ReplyHead<'static>
 }
 
 // Answers with the bytes of a chunk, which go out as they lie.
-fn write_chunk<D: Duplex>(duplex: &mut D, bytes: &[u8]) -> Result<(), WriteFault>
+fn write_chunk<D: Duplex>(
+    duplex: &mut D,
+    out: &mut Outgoing,
+    bytes: &[u8],
+) -> Result<(), WriteFault>
     ensures ok { OnOk result (Appends (D.held duplex.old) (D.held duplex.new) (answer_text (Some bytes.now))) }
     ensures cause { OnErr result D.write_fails }
 {
     let body = LentBody::new(Some(bytes));
-    write_reply(duplex, &head_of(StatusCode::OK), ReplyBody::Sent(body))
+    write_reply(duplex, out, &head_of(StatusCode::OK), ReplyBody::Sent(body))
 }
 
 // Answers that there is no such chunk.
-fn write_no_chunk<D: Duplex>(duplex: &mut D) -> Result<(), WriteFault>
+fn write_no_chunk<D: Duplex>(duplex: &mut D, out: &mut Outgoing) -> Result<(), WriteFault>
     ensures ok { OnOk result (Appends (D.held duplex.old) (D.held duplex.new) (answer_text None)) }
     ensures cause { OnErr result D.write_fails }
 {
     let body = LentBody::new(None);
     write_reply(
         duplex,
+        out,
         &head_of(StatusCode::NOT_FOUND),
         ReplyBody::Sent(body),
     )
@@ -108,6 +114,7 @@ fn asked_key(head: &Head) -> Option<Digest>
 pub fn answer_peer<R: Wait, D: Duplex, C: LocalChunks>(
     rt: &R,
     duplex: &mut D,
+    out: &mut Outgoing,
     chunks: &C,
     head: &Head,
 ) -> Result<(), WriteFault>
@@ -116,11 +123,11 @@ pub fn answer_peer<R: Wait, D: Duplex, C: LocalChunks>(
     ensures cause { OnErr result D.write_fails }
 {
     let Some(key) = asked_key(head) else {
-        return write_no_chunk(duplex);
+        return write_no_chunk(duplex, out);
     };
     match chunks.local(rt, &key) {
-        Some(chunk) => write_chunk(duplex, chunk.view().bytes()),
-        None => write_no_chunk(duplex),
+        Some(chunk) => write_chunk(duplex, out, chunk.view().bytes()),
+        None => write_no_chunk(duplex, out),
     }
 }
 
@@ -167,12 +174,13 @@ pub fn serve_peer<R: Wait, D: Duplex, C: LocalChunks>(
     ensures write { IsErrOf result ServeFault.WriteFault → D.write_fails }
 {
     let mut wire = Wire::new(alloc)?;
+    let mut out = Outgoing::new(alloc)?;
     'requests: for _ in 0..MOST_REQUESTS {
         let read = read_head(&mut wire, duplex);
         let Some(head) = request(read)? else {
             return Ok(());
         };
-        let Ok(()) = answer_peer(rt, duplex, chunks, &head) else {
+        let Ok(()) = answer_peer(rt, duplex, &mut out, chunks, &head) else {
             return Err(ServeFault::WriteFault);
         };
         if is_last(&head) {

@@ -13,7 +13,7 @@ returns-in-Ok-read_answer-clause-asked g c =
     let told = all_told d.saw d.left d.held d.read_fails d.write_fails g.met.D.Duplex.told c.write_get.new.duplex c.read_answer.new.duplex ran.events ran.steps in
     let text = get_text (spec.chunk_path c.args.key.now) in
     let path = c.as_str.ensures.value ∙ c.chunk_path.ensures in
-    let wrote = subst (λ (p : List ℕ). Appends (d.held c.args.duplex.now) (d.held c.write_get.new.duplex) (get_text p)) path c.in-Ok.ensures.ok in
+    let wrote = subst (λ (p : List ℕ). Appends (d.held c.args.duplex.now) (d.held c.write_get.new.duplex) (get_text p)) path c.in-Ok-write_get.ensures.ok in
     held_after (d.held c.args.duplex.now) (d.held c.write_get.new.duplex) (d.held c.read_answer.new.duplex) text ran.events wrote told.taken ran.claimed.nothing_put
 
 pub returns-in-Ok-read_answer-clause-answered : goal.returns-in-Ok-read_answer-clause-answered
