@@ -1,4 +1,4 @@
-"""What a client has in the end whose download was cut, for bench/compare."""
+"""What a client has at the end if its download was cut, for bench/compare."""
 
 import contextlib
 import http.client

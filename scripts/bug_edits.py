@@ -1,4 +1,4 @@
-"""A bug as an edit: each text is one line, and the old one stands once in the file."""
+"""A bug as an edit: each text is one line, and the old one is in the file once."""
 
 import dataclasses
 

@@ -1,4 +1,4 @@
-"""The definitions in the crates' specs/, and which of them a contract stands on."""
+"""The definitions in the crates' specs/, and which of them a contract rests on."""
 
 import functools
 import re
@@ -131,7 +131,7 @@ def clauses_at(text, start):
 
 
 def chain_of(top, clauses, modules, imports):
-    """The definitions that these clauses stand on, in the order in which a reader meets them: module, name, lines."""
+    """The definitions that these clauses rest on, in the order in which a reader meets them: module, name, lines."""
     chain, seen = [], set()
     waiting = list(named_in(top, clauses, modules, imports))[::-1]
     while waiting:
