@@ -59,9 +59,8 @@ head_is h =
     (line_then (codes "Allow: ") h.allow [] _ _
     (ap (λ u. u ++ crlf) (line_is (codes "Connection: ") (then_some h.close (codes "close")) []))))))))
 
--- lines put one behind another
-pub lines_joined : (s a b c d e f g end x0 x1 x2 x3 x4 x5 x6 x7 x8 : List ℕ) → x0 ≡ s → x1 ≡ x0 ++ a → x2 ≡ x1 ++ b → x3 ≡ x2 ++ c
-    → x4 ≡ x3 ++ d → x5 ≡ x4 ++ e → x6 ≡ x5 ++ f → x7 ≡ x6 ++ g → x8 ≡ x7 ++ end
-    → x8 ≡ s ++ (a ++ (b ++ (c ++ (d ++ (e ++ (f ++ (g ++ end)))))))
-lines_joined s a b c d e f g end x0 x1 x2 x3 x4 x5 x6 x7 x8 p0 p1 p2 p3 p4 p5 p6 p7 p8 =
-    rw (p8, p7, p6, p5, p4, p3, p2, p1, p0) (simp append_assoc)
+-- lines one behind another, between the first one and the end
+pub lines_joined : (s end a b c d e f g u v w x y z t : List ℕ) → t ≡ a → u ≡ b → v ≡ c → w ≡ d → x ≡ e → y ≡ f → z ≡ g
+    → s ++ ((t ++ (u ++ (v ++ (w ++ (x ++ (y ++ (z ++ []))))))) ++ end) ≡ s ++ (a ++ (b ++ (c ++ (d ++ (e ++ (f ++ (g ++ end)))))))
+lines_joined s end a b c d e f g u v w x y z t p0 p1 p2 p3 p4 p5 p6 =
+    rw (p0, p1, p2, p3, p4, p5, p6) (simp (append_assoc, append-nil))

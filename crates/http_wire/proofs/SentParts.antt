@@ -1,5 +1,5 @@
 -- Lemmas on how much of a text went out.
-use Rattle.std.proofs.Common.{◌≡◌, ℕ, ◌+◌, ◌-◌, ◌^◌, ◌<◌, ◌≤◌, min, List, [], ◌++◌, length, length-append, take, drop, get_or, Option, Bor, slice_range, sym, ap, ◌∙◌, subst, append_assoc, append-nil, arith}
+use Rattle.std.proofs.Common.{◌≡◌, ℕ, ◌+◌, ◌-◌, ◌^◌, ◌<◌, ◌≤◌, min, List, [], ◌++◌, length, length-append, take, drop, get_or, Option, slice_range, sym, ap, ◌∙◌, subst, append_assoc, append-nil, arith}
 use Rattle.std.specs.Io.KnownBytes.{Appends}
 use Rattle.std.specs.List.{flat_map}
 use Rattle.std.proofs.lemmas.List.Concat.{flat_map-append}
@@ -63,13 +63,11 @@ sent_all start held new text count rest h more = record {
 pub sent_whole : (start held : Option (List ℕ)) (text : List ℕ) (count : ℕ) → Sent start held text count [] → Appends start held text
 sent_whole start held text count h = subst (Appends start held) (sym (h.text_is ∙ append-nil h.gone)) h.appended
 
--- the pieces up to one, that one, and the pieces behind it
-pub pieces_split : (pieces : List (Bor (List ℕ))) (i : ℕ) (d : Bor (List ℕ)) → i < length pieces
-    → flat_map (λ (p : Bor (List ℕ)). p.now) pieces
-    ≡ (flat_map (λ (p : Bor (List ℕ)). p.now) (take i pieces) ++ (get_or pieces i d).now) ++ flat_map (λ (p : Bor (List ℕ)). p.now) (drop (i + 1) pieces)
-pieces_split pieces i d h =
-    let now : Bor (List ℕ) → List ℕ = λ p. p.now in
-    ap (flat_map now) (sym (take-append-drop i pieces))
-    ∙ flat_map-append now (take i pieces) (drop i pieces)
-    ∙ ap (λ u. flat_map now (take i pieces) ++ flat_map now u) (drop_more pieces i d h)
-    ∙ sym (append_assoc (flat_map now (take i pieces)) (now (get_or pieces i d)) (flat_map now (drop (i + 1) pieces)))
+-- the texts of the items up to one, of that one, and of those behind it
+pub texts_split : {A : Type 0} (text : A → List ℕ) (items : List A) (i : ℕ) (d : A) → i < length items
+    → flat_map text items ≡ (flat_map text (take i items) ++ text (get_or items i d)) ++ flat_map text (drop (i + 1) items)
+texts_split text items i d h =
+    ap (flat_map text) (sym (take-append-drop i items))
+    ∙ flat_map-append text (take i items) (drop i items)
+    ∙ ap (λ u. flat_map text (take i items) ++ flat_map text u) (drop_more items i d h)
+    ∙ sym (append_assoc (flat_map text (take i items)) (text (get_or items i d)) (flat_map text (drop (i + 1) items)))

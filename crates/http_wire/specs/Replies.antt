@@ -6,6 +6,7 @@ use Rattle.std.specs.Bool.{then_some}
 use Rattle.http.specs.StatusCode.{code_digits, reason_phrase}
 use Rattle.http_wire.specs.declared.replies.ContentRange.{ContentRange}
 use Rattle.http_wire.specs.declared.replies.ContentRange.TheVariants.{Of, Unsatisfied}
+use Rattle.http_wire.specs.declared.reply_heads.Line.{Line}
 use Rattle.http_wire.specs.declared.replies.ReplyBody.{ReplyBody}
 use Rattle.http_wire.specs.declared.replies.ReplyBody.TheVariants.{Sent, Withheld}
 use Rattle.http_wire.specs.declared.replies.ReplyHead.{ReplyHead}
@@ -112,3 +113,6 @@ pub record HasLines (text : List ℕ) (lines : List (List ℕ)) : Type 0 where
 abbrev pub line_of : List ℕ → Option (List ℕ) → List ℕ → List ℕ
 line_of before None behind = []
 line_of before (Some value) behind = before ++ (value ++ behind)
+
+abbrev pub text_of_line : Line → List ℕ
+text_of_line l = line_of l.before.now (option_map (λ v. v.now) l.value) l.behind.now

@@ -2,6 +2,7 @@
 use Rattle.std.specs.Prelude.{◌≡◌, ℕ, ◌-◌, ◌^◌, ◌<◌, min, List, [], ◌++◌, Option, Some, Result, Ok, Err, length, take}
 use Rattle.std.specs.Io.KnownBytes.{Appends}
 use Rattle.http_wire.specs.declared.faults.WriteFault.{WriteFault}
+use Rattle.http_wire.specs.declared.sends.Outgoing.{Outgoing}
 use Rattle.http_wire.specs.Timing.{Event, WriteFails, all_put, IsLatest, GoesOn}
 
 -- since the sink held start, the front of the text was appended, rest is what was not, and count is the front's
@@ -52,3 +53,7 @@ pub record WritesOn (result : Result (Unit {0}) WriteFault) (more : List ℕ) (c
     : Type 0 where
   pub ends : WritesEnd result events
   pub text : (written text : List ℕ) → Written written text count rest → WrittenNow result (written ++ all_put events) (text ++ more) new_count new_rest
+
+-- the same, of what is gathered before and after them
+abbrev pub Puts : Result (Unit {0}) WriteFault → (more : List ℕ) → (old new : Outgoing) → List Event → Type 0
+Puts result more old new = WritesOn result more old.sent new.sent old.pending.items new.pending.items

@@ -17,6 +17,7 @@ mod heads;
 pub mod laws;
 mod lengths;
 mod replies;
+mod reply_heads;
 mod scans;
 mod sends;
 mod sinks;

@@ -1,20 +1,18 @@
 //! Replies.
-ghost use Rattle.std.specs.Prelude.{◌≡◌, ℕ, ◌≤◌, ◌<◌, length, codes, decimal, IfErr, OnOk, OnErr, [], ◌++◌, ◌+◌};
-ghost use Rattle.std.specs.Option.{option_map};
-ghost use Rattle.std.specs.List.{flat_map};
-ghost use Rattle.arrayvec.specs.ArrayVec.{array_vec_len};
+ghost use Rattle.std.specs.Prelude.{◌≡◌, ◌≤◌, length, decimal, IfErr, OnOk, OnErr};
 ghost use Rattle.http_wire.specs.Expectations.{continue_text};
-ghost use Rattle.http_wire.specs.Replies.{crlf, fields_of, head_text, line_of, range_text, sent_of, sent_reply};
+ghost use Rattle.http_wire.specs.Replies.{range_text, sent_of, sent_reply};
 ghost use Rattle.std.specs.Io.KnownBytes.{Appends};
-ghost use Rattle.http_wire.specs.Sending.{SentFront, WritesOn, WritesText};
+ghost use Rattle.http_wire.specs.Sending.{Puts, SentFront, WritesText};
 ghost use Rattle.http_wire.specs.Timing.{NoRead, Ran};
 
 use crate::duplexes::Duplex;
 use crate::entity_tags::EntityTag;
 use crate::faults::WriteFault;
 use crate::field_texts::FieldText;
-use crate::sends::{Outgoing, put_parts, put_pieces, send_rest};
-use arrayvec::{ArrayString, ArrayVec};
+use crate::reply_heads::put_head;
+use crate::sends::{Outgoing, put_parts, send_rest};
+use arrayvec::ArrayString;
 use byte_view::BodyParts;
 use http::StatusCode;
 
@@ -103,111 +101,13 @@ pub fn range_value(range: ContentRange) -> ArrayString<72>
     text
 }
 
-// The pieces of a head, in order.
-type Pieces<'a> = ArrayVec<&'a [u8], PIECE_ROOM>;
-
-// Five pieces of the status line, three of each of seven fields, and the empty line.
-const PIECE_ROOM: usize = 27;
-
-// A line of the head, where its value is there.
-fn push_line<'a>(pieces: &mut Pieces<'a>, before: &'a str, value: Option<&'a str>, behind: &'a str)
-    requires { array_vec_len pieces.old + 3 ≤ PIECE_ROOM }
-    ensures text { flat_map (λ p. p.now) pieces.new.items
-        ≡ flat_map (λ p. p.now) pieces.old.items ++ line_of before.now (option_map (λ v. v.now) value.entry) behind.now }
-    ensures len { array_vec_len pieces.new ≤ array_vec_len pieces.old + 3 }
-{
-    if let Some(value) = value {
-        pieces.push(before.as_bytes());
-        pieces.push(value.as_bytes());
-        pieces.push(behind.as_bytes());
-    }
-}
-
-// The pieces of a head, whose numbers are written out: that of the body's bytes, and those of its range.
-fn push_head<'a>(
-    pieces: &mut Pieces<'a>,
-    head: &'a ReplyHead<'a>,
-    digits: &'a str,
-    range: Option<&'a str>,
-)
-    requires first { pieces.old.items ≡ [] }
-    requires range_is { option_map (λ v. v.now) range ≡ option_map range_text head.now.content_range }
-    ensures { (size : ℕ) → digits.now ≡ decimal size
-        → flat_map (λ p. p.now) pieces.new.items ≡ head_text (fields_of head.now size) }
-{
-    let code: &'a str = head.status.as_str();
-    let phrase: &'a str = head.status.canonical_reason().unwrap_or("");
-    let content_type = head.content_type.map(|text| text.as_str());
-    let etag = head.etag.map(|text| text.as_str());
-    let allow = head.allow.map(|text| text.as_str());
-    let ranges: Option<&'a str> = head.accept_ranges.then_some("bytes");
-    let connection: Option<&'a str> = head.close.then_some("close");
-    push_status(pieces, code, phrase);
-    push_line(pieces, "Content-Type: ", content_type, "\r\n");
-    push_line(pieces, "Content-Length: ", Some(digits), "\r\n");
-    push_line(pieces, "ETag: \"", etag, "\"\r\n");
-    push_line(pieces, "Accept-Ranges: ", ranges, "\r\n");
-    push_line(pieces, "Content-Range: ", range, "\r\n");
-    push_line(pieces, "Allow: ", allow, "\r\n");
-    push_line(pieces, "Connection: ", connection, "\r\n");
-    pieces.push(b"\r\n");
-}
-
-// The pieces of the status line.
-fn push_status<'a>(pieces: &mut Pieces<'a>, code: &'a str, phrase: &'a str)
-    requires { pieces.old.items ≡ [] }
-    ensures text { flat_map (λ p. p.now) pieces.new.items
-        ≡ codes "HTTP/1.1 " ++ (code.now ++ (codes " " ++ (phrase.now ++ crlf))) }
-    ensures len { array_vec_len pieces.new ≡ 5 }
-{
-    pieces.push(b"HTTP/1.1 ");
-    pieces.push(code.as_bytes());
-    pieces.push(b" ");
-    pieces.push(phrase.as_bytes());
-    pieces.push(b"\r\n");
-}
-
-// Puts a head whose numbers are written out.
-fn put_texts<'a, D: Duplex>(
-    duplex: &mut D,
-    out: &mut Outgoing,
-    head: &'a ReplyHead<'a>,
-    digits: &'a str,
-    range: Option<&'a str>,
-) -> Result<(), WriteFault>
-    requires { option_map (λ v. v.now) range ≡ option_map range_text head.now.content_range }
-    ensures { (size : ℕ) → digits.now ≡ decimal size → Ran D.saw NoRead duplex.old duplex.new
-        (WritesOn result (head_text (fields_of head.now size)) out.old.sent out.new.sent out.old.pending.items out.new.pending.items) }
-{
-    let mut pieces = ArrayVec::new();
-    push_head(&mut pieces, head, digits, range);
-    put_pieces(duplex, out, pieces.as_slice())
-}
-
-// Puts the head before a body of this many bytes.
-fn put_head<D: Duplex>(
-    duplex: &mut D,
-    out: &mut Outgoing,
-    head: &ReplyHead<'_>,
-    size: u64,
-) -> Result<(), WriteFault>
-    ensures { Ran D.saw NoRead duplex.old duplex.new
-        (WritesOn result (head_text (fields_of head.now size)) out.old.sent out.new.sent out.old.pending.items out.new.pending.items) }
-{
-    let digits = decimal_text(size);
-    let range = head.content_range.map(range_value);
-    let range = range.as_ref().map(|text| text.as_str());
-    put_texts(duplex, out, head, digits.as_str(), range)
-}
-
 // Puts a body, where it is sent.
 fn put_body<D: Duplex, P: BodyParts<Item: Drop> + Drop>(
     duplex: &mut D,
     out: &mut Outgoing,
     body: ReplyBody<P>,
 ) -> Result<(), WriteFault>
-    ensures { Ran D.saw NoRead duplex.old duplex.new
-        (WritesOn result (sent_of P.texts body) out.old.sent out.new.sent out.old.pending.items out.new.pending.items) }
+    ensures { Ran D.saw NoRead duplex.old duplex.new (Puts result (sent_of P.texts body) out.old out.new) }
 {
     match body {
         ReplyBody::Sent(parts) => put_parts(duplex, out, parts),

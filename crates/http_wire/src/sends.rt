@@ -1,7 +1,7 @@
 //! Texts on their way out.
 ghost use Rattle.std.specs.Prelude.{◌≡◌, ℕ, List, Option, [], ◌++◌, OnOk, MatchBool};
 ghost use Rattle.std.specs.List.{concat, flat_map};
-ghost use Rattle.http_wire.specs.Sending.{Sent, WritesText, WritesAll, WritesOn};
+ghost use Rattle.http_wire.specs.Sending.{Puts, Sent, WritesAll, WritesOn};
 ghost use Rattle.http_wire.specs.Timing.{NoRead, Ran};
 
 use crate::duplexes::Duplex;
@@ -36,7 +36,7 @@ fn send<D: Duplex>(duplex: &mut D, bytes: &[u8]) -> Result<(), usize>
     Ok(())
 }
 
-// Writes the rest of what was put.
+/// Writes the rest of a text, and counts its bytes to those that were written before.
 pub fn send_rest<D: Duplex>(duplex: &mut D, sent: &mut u64, rest: &[u8]) -> Result<(), WriteFault>
     ensures { Ran D.saw NoRead duplex.old duplex.new (WritesOn result [] sent.old sent.new rest.now []) }
 {
@@ -68,7 +68,8 @@ impl Outgoing {
 
     // Writes all that was put.
     pub(crate) fn flush<D: Duplex>(&mut self, duplex: &mut D) -> Result<(), WriteFault>
-        ensures ran { Ran D.saw NoRead duplex.old duplex.new (WritesOn result [] self.old.sent self.new.sent self.old.pending.items []) }
+        ensures ran { Ran D.saw NoRead duplex.old duplex.new
+            (WritesOn result [] self.old.sent self.new.sent self.old.pending.items []) }
         ensures empty { OnOk result (self.new.pending.items ≡ []) }
     {
         send_rest(duplex, &mut self.sent, self.pending.as_slice())?;
@@ -90,8 +91,7 @@ impl Outgoing {
 
     // Puts one more piece, and writes as much as it takes to make room for it.
     pub(crate) fn put<D: Duplex>(&mut self, duplex: &mut D, piece: &[u8]) -> Result<(), WriteFault>
-        ensures { Ran D.saw NoRead duplex.old duplex.new
-            (WritesOn result piece.now self.old.sent self.new.sent self.old.pending.items self.new.pending.items) }
+        ensures { Ran D.saw NoRead duplex.old duplex.new (Puts result piece.now self.old self.new) }
     {
         if self.gather(piece) {
             return Ok(());
@@ -111,7 +111,7 @@ pub fn put_pieces<D: Duplex>(
     pieces: &[&[u8]],
 ) -> Result<(), WriteFault>
     ensures { Ran D.saw NoRead duplex.old duplex.new
-        (WritesOn result (flat_map (λ p. p.now) pieces.now) out.old.sent out.new.sent out.old.pending.items out.new.pending.items) }
+        (Puts result (flat_map (λ p. p.now) pieces.now) out.old out.new) }
 {
     for piece in pieces {
         out.put(duplex, piece)?;
@@ -125,8 +125,7 @@ pub fn put_parts<D: Duplex, P: BodyParts<Item: Drop> + Drop>(
     out: &mut Outgoing,
     parts: P,
 ) -> Result<(), WriteFault>
-    ensures { Ran D.saw NoRead duplex.old duplex.new
-        (WritesOn result (concat (P.texts parts)) out.old.sent out.new.sent out.old.pending.items out.new.pending.items) }
+    ensures { Ran D.saw NoRead duplex.old duplex.new (Puts result (concat (P.texts parts)) out.old out.new) }
 {
     for part in parts {
         out.put(duplex, P::bytes(&part))?;

@@ -5,7 +5,7 @@ use Rattle.std.proofs.lemmas.List.Concat.{flat_map-append}
 use Rattle.http_wire.specs.declared.faults.WriteFault.{WriteFault}
 use Rattle.http_wire.specs.Sending.{WritesOn}
 use Rattle.http_wire.specs.Timing.{NoRead, Ran}
-use Rattle.http_wire.proofs.SentParts.{pieces_split}
+use Rattle.http_wire.proofs.SentParts.{texts_split}
 use Rattle.http_wire.proofs.Writes.{and_then, cut_before, none_more}
 use Rattle.http_wire.proofs.sends.put_pieces.Goals as goal
 
@@ -26,7 +26,7 @@ returns-in_err-put g c =
     let is : c.from_residual.result ≡ Err fault = search rules in
     let cut = and_then saw c.args.duplex.now c.loop-piece.duplex c.put.new.duplex (Err fault) (flat_map now (take i pieces)) _ start.sent c.loop-piece.out.sent after.sent
     start.pending.items c.loop-piece.out.pending.items after.pending.items c.loop-piece.invariant c.in_err-put.ensures in
-    subst (λ r. P r (flat_map now pieces)) (sym is) (subst (P (Err fault)) (sym (pieces_split pieces i _ c.loop-piece-test.true))
+    subst (λ r. P r (flat_map now pieces)) (sym is) (subst (P (Err fault)) (sym (texts_split now pieces i _ c.loop-piece-test.true))
     (cut_before saw c.args.duplex.now c.put.new.duplex fault _ (flat_map now (drop (i + 1) pieces)) start.sent after.sent after.sent start.pending.items after.pending.items after.pending.items cut))
 
 pub loop-piece-preserved : goal.loop-piece-preserved

@@ -1,0 +1,147 @@
+//! Heads of replies, on their way out.
+ghost use Rattle.std.specs.Prelude.{◌≡◌, ℕ, ◌++◌, decimal};
+ghost use Rattle.std.specs.Option.{option_map};
+ghost use Rattle.std.specs.List.{flat_map};
+ghost use Rattle.http_wire.specs.Replies.{crlf, ended_line, fields_of, head_text, line_of, range_text, status_line, text_of_line};
+ghost use Rattle.http_wire.specs.Sending.{Puts};
+ghost use Rattle.http_wire.specs.Timing.{NoRead, Ran};
+
+use crate::duplexes::Duplex;
+use crate::faults::WriteFault;
+use crate::replies::{ReplyHead, decimal_text, range_value};
+use crate::sends::{Outgoing, put_pieces};
+use http::StatusCode;
+
+// A line of a head, where its value is there. What is behind the value ends the line.
+#[derive(Clone, Copy)]
+struct Line<'a> {
+    before: &'a str,
+    value: Option<&'a str>,
+    behind: &'a str,
+}
+
+impl<'a> Line<'a> {
+    fn new(before: &'a str, value: Option<&'a str>, behind: &'a str) -> Line<'a>
+        ensures { text_of_line result ≡ line_of before.now (option_map (λ v. v.now) value.entry) behind.now }
+    {
+        Line {
+            before,
+            value,
+            behind,
+        }
+    }
+}
+
+// The lines of the fields that are there.
+fn field_lines<'a>(
+    head: &'a ReplyHead<'a>,
+    digits: &'a str,
+    range: Option<&'a str>,
+) -> [Line<'a>; 7]
+    requires { option_map (λ v. v.now) range ≡ option_map range_text head.now.content_range }
+    ensures { (size : ℕ) → digits.now ≡ decimal size
+        → ended_line (status_line head.now.status) ++ (flat_map text_of_line result ++ crlf)
+        ≡ head_text (fields_of head.now size) }
+{
+    let content_type = head.content_type.map(|text| text.as_str());
+    let etag = head.etag.map(|text| text.as_str());
+    let allow = head.allow.map(|text| text.as_str());
+    let ranges: Option<&'a str> = head.accept_ranges.then_some("bytes");
+    let connection: Option<&'a str> = head.close.then_some("close");
+    [
+        Line::new("Content-Type: ", content_type, "\r\n"),
+        Line::new("Content-Length: ", Some(digits), "\r\n"),
+        Line::new("ETag: \"", etag, "\"\r\n"),
+        Line::new("Accept-Ranges: ", ranges, "\r\n"),
+        Line::new("Content-Range: ", range, "\r\n"),
+        Line::new("Allow: ", allow, "\r\n"),
+        Line::new("Connection: ", connection, "\r\n"),
+    ]
+}
+
+// Puts a line, where its value is there.
+fn put_line<D: Duplex>(
+    duplex: &mut D,
+    out: &mut Outgoing,
+    line: &Line<'_>,
+) -> Result<(), WriteFault>
+    ensures { Ran D.saw NoRead duplex.old duplex.new (Puts result (text_of_line line.now) out.old out.new) }
+{
+    let Some(value) = line.value else {
+        return Ok(());
+    };
+    let pieces: [&[u8]; 3] = [
+        line.before.as_bytes(),
+        value.as_bytes(),
+        line.behind.as_bytes(),
+    ];
+    put_pieces(duplex, out, &pieces)
+}
+
+// Puts the lines, one after another.
+fn put_lines<D: Duplex>(
+    duplex: &mut D,
+    out: &mut Outgoing,
+    lines: &[Line<'_>],
+) -> Result<(), WriteFault>
+    ensures { Ran D.saw NoRead duplex.old duplex.new (Puts result (flat_map text_of_line lines.now) out.old out.new) }
+{
+    for line in lines {
+        put_line(duplex, out, line)?;
+    }
+    Ok(())
+}
+
+// Puts the status line.
+fn put_status<D: Duplex>(
+    duplex: &mut D,
+    out: &mut Outgoing,
+    status: StatusCode,
+) -> Result<(), WriteFault>
+    ensures { Ran D.saw NoRead duplex.old duplex.new (Puts result (ended_line (status_line status)) out.old out.new) }
+{
+    let code = status.as_str();
+    let phrase = status.canonical_reason().unwrap_or("");
+    let pieces: [&[u8]; 5] = [
+        b"HTTP/1.1 ",
+        code.as_bytes(),
+        b" ",
+        phrase.as_bytes(),
+        b"\r\n",
+    ];
+    put_pieces(duplex, out, &pieces)
+}
+
+// Puts a head whose numbers are written out.
+fn put_texts<'a, D: Duplex>(
+    duplex: &mut D,
+    out: &mut Outgoing,
+    head: &'a ReplyHead<'a>,
+    digits: &'a str,
+    range: Option<&'a str>,
+) -> Result<(), WriteFault>
+    requires { option_map (λ v. v.now) range ≡ option_map range_text head.now.content_range }
+    ensures { (size : ℕ) → digits.now ≡ decimal size → Ran D.saw NoRead duplex.old duplex.new
+        (Puts result (head_text (fields_of head.now size)) out.old out.new) }
+{
+    let fields = field_lines(head, digits, range);
+    put_status(duplex, out, head.status)?;
+    put_lines(duplex, out, &fields)?;
+    out.put(duplex, b"\r\n")
+}
+
+/// Puts the head before a body of this many bytes.
+pub fn put_head<D: Duplex>(
+    duplex: &mut D,
+    out: &mut Outgoing,
+    head: &ReplyHead<'_>,
+    size: u64,
+) -> Result<(), WriteFault>
+    ensures { Ran D.saw NoRead duplex.old duplex.new
+        (Puts result (head_text (fields_of head.now size)) out.old out.new) }
+{
+    let digits = decimal_text(size);
+    let range = head.content_range.map(range_value);
+    let range = range.as_ref().map(|text| text.as_str());
+    put_texts(duplex, out, head, digits.as_str(), range)
+}
