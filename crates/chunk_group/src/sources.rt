@@ -20,7 +20,7 @@ pub trait Source {
     ghost use Rattle.host_names.specs.declared.digests.Digest.{Digest};
     ghost use Rattle.chunk_reads.specs.declared.faults.ReadFault.{ReadFault};
 
-    /// Which faults a source of this type may answer for a key, want of memory left out.
+    /// Which faults a source of this type may answer for a key, besides that memory ran out.
     ghost allows: { Digest → ReadFault → Bool };
 
     /// What a load of a key, with its answer, leads from and to.

@@ -35,18 +35,23 @@ const ABOUT_SOLO: &str =
     "Serves one connection: HTTP/1.1 requests on standard input, replies on standard output";
 
 const ABOUT_STORE: &str =
-    "The folder in which the host is kept. It has to be there, and to be the program's own";
+    "An existing folder in which the host is kept, and which nothing else uses";
 
 const MORE_ON_SOLO: &str =
-    "Without --store the host is empty at first, and what it holds ends with the connection.
+    "To type a request at a terminal, end each line with the return key and the head with an empty line,
+as in `GET /s/one/ HTTP/1.1` and an empty line. Ctrl-D ends the input.
 
-With it the host is what it was when it was last served from DIR, and empty where DIR has nothing
-of it yet. Let nothing else write into DIR: files there of the program's own names are read and
-written over.
+Without --store the host starts empty, and all it holds is gone when the connection ends.
 
-Exit status: 0 where the input has ended or a reply has closed the connection, 1 for arguments
-that are not taken, 2 where input, output or memory failed, 3 where the journal in DIR can't be
-opened, 4 where a file in DIR is missing or damaged, or can't be read.";
+With it the host continues where it last stopped, or starts empty where DIR holds no host yet. Let
+nothing else write into DIR: files there with the program's own names are read and written over.
+
+Exit status: 0 if the input has ended or a reply has closed the connection, 1 for arguments that
+are not taken, 2 if input, output or memory failed, 3 if the journal in DIR can't be opened, 4 if a
+file in DIR is missing or damaged, or can't be read.
+
+`journal: Device` means that DIR is not an existing folder, that another program has its journal
+open, or that the journal can't be made, read or written.";
 
 const NOT_TAKEN: &str = "filehost: these arguments are not taken\n";
 

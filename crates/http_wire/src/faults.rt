@@ -72,7 +72,7 @@ impl From<AllocError> for BodyFault {
     }
 }
 
-/// A write failed: of what was to be sent exactly the first so many bytes went out, and not all.
+/// A write failed: exactly the first so many bytes of the text went out, and not all of it.
 #[derive(Clone, Copy, Debug, PartialEq, Eq, Error)]
 #[error("a write failed after {0} bytes of the reply")]
 pub struct WriteFault(pub u64);

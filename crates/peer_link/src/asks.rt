@@ -13,8 +13,8 @@ use std::alloc::Global;
 /// How many bytes a peer's answer has at most: those of the longest chunk.
 pub const CHUNK_LIMIT: u64 = 65536;
 
-/// Asks the peer at the other end of a stream for a chunk, by one request, and gives what it answers: any bytes, of which there are no more
-/// than a chunk has.
+/// Asks the peer at the other end of a stream for a chunk, by one request, and gives the bytes that it answers, whatever they are: at most
+/// as many as a chunk has.
 pub fn ask<D: Duplex>(alloc: Global, duplex: &mut D, key: &Digest) -> Result<Vec<u8>, PeerFault>
     ensures asked { OnOk result
         (Appends (D.held duplex.old) (D.held duplex.new) (get_text (spec.chunk_path key.now))) }

@@ -154,7 +154,7 @@ fn request(read: Result<Head, HeadFault>) -> Result<Option<Head>, ServeFault>
     }
 }
 
-// Whether the connection ends after this request: it asks for that, or is of HTTP/1.0.
+// Whether the connection ends after this request: the request asks for that, or is of HTTP/1.0.
 fn is_last(head: &Head) -> bool {
     head.asks_close() || head.version() != Version::HTTP_11
 }
