@@ -269,12 +269,8 @@ impl Reply {
     {
         let head = self.head(etag, close);
         if head_only {
-            return write_reply(
-                duplex,
-                out,
-                &head,
-                ReplyBody::<Parts<'_>>::Withheld(self.body.length()),
-            );
+            let body = ReplyBody::<Parts<'_>>::Withheld(self.body.length());
+            return write_reply(duplex, out, &head, body);
         }
         write_reply(duplex, out, &head, ReplyBody::Sent(self.parts()))
     }
