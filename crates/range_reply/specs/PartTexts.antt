@@ -1,14 +1,15 @@
 -- The texts of the parts of which a body is made.
-use Rattle.std.specs.Prelude.{◌≡◌, ℕ, List, [], ◌∷◌, ◌++◌, All, Option, Some, None, codes, length}
+use Rattle.std.specs.Prelude.{◌≡◌, ℕ, Bool, List, [], ◌∷◌, ◌++◌, All, Option, Some, None, codes, if◌then◌else◌, length, option_map}
 use Rattle.std.specs.List.{concat, flat_map}
-use Rattle.byte_view.specs.BodyParts.{text_of}
 use Rattle.byte_view.specs.Holds.{Held, lent}
-use Rattle.byte_view.specs.declared.body_parts.Part.{Part}
 use Rattle.http_wire.specs.Replies.{range_text}
 use Rattle.http_wire.specs.declared.replies.ContentRange.TheVariants.{Of}
 use Rattle.range_reply.specs.Bodies.{text_in}
 use Rattle.range_reply.specs.Multipart.{last_line}
-use Rattle.range_reply.specs.declared.parts.Opened.{Opened}
+use Rattle.range_reply.specs.declared.opened.Heading.{Heading}
+use Rattle.range_reply.specs.declared.opened.Heading.TheVariants.{Whole, FromType, FromRange, Done}
+use Rattle.range_reply.specs.declared.opened.Heads.{Heads}
+use Rattle.range_reply.specs.declared.opened.Opened.{Opened}
 use Rattle.range_reply.specs.declared.parts.Queue.{Queue}
 
 -- what comes before the type in the head of a part, and what comes behind it
@@ -37,21 +38,42 @@ length_of texts = length (concat texts)
 
 -- ---- what private functions say
 
--- the texts of a part, or of pieces, if they are there
-abbrev pub texts_in : Option Part → List (List ℕ)
-texts_in None = []
-texts_in (Some part) = text_of part ∷ []
+-- the text that may be there, and pieces, if they are there
+abbrev pub text_at : Option (List ℕ) → List (List ℕ)
+text_at None = []
+text_at (Some text) = text ∷ []
 
 abbrev pub pieces_in : Option (List (List ℕ)) → List (List ℕ)
 pieces_in None = []
 pieces_in (Some pieces) = pieces
 
--- what is left of one part, and of a body
-abbrev pub opened_texts : Opened → List (List ℕ)
-opened_texts o = texts_in o.line ++ (texts_in o.media ++ (texts_in o.range ++ (pieces_in o.pieces ++ texts_in o.end)))
+-- what is left of the head of a part, with this line of its range
+abbrev pub heading_texts : Heads → List ℕ → Heading → List (List ℕ)
+heading_texts h range Whole = boundary_line (text_in h.boundary) ∷ h.content_type.now ∷ range ∷ []
+heading_texts h range FromType = h.content_type.now ∷ range ∷ []
+heading_texts h range FromRange = range ∷ []
+heading_texts h range Done = []
+
+abbrev pub range_of : Opened → List ℕ
+range_of o = range_line (o.first, o.last) o.size
+
+abbrev pub heading_of : Heads → Opened → List (List ℕ)
+heading_of h o = heading_texts h (range_of o) o.heading
+
+-- what is left behind the head of one part, of the part, and of a body
+abbrev pub rest_texts : Opened → List (List ℕ)
+rest_texts o = pieces_in o.pieces ++ text_at (option_map (λ end. end.now) o.end)
+
+abbrev pub opened_texts : Heads → Opened → List (List ℕ)
+opened_texts h o = heading_of h o ++ rest_texts o
+
+abbrev pub last_texts : Bool → List ℕ → List (List ℕ)
+last_texts ends boundary = if ends then last_line boundary ∷ [] else []
 
 abbrev pub queue_texts : Queue → List (List ℕ)
-queue_texts q = opened_texts q.opened ++ (flat_map (hold_texts (text_in q.boundary) q.content_type.now) q.holds.now ++ texts_in q.last)
+queue_texts q =
+    opened_texts q.heads q.opened
+    ++ (flat_map (hold_texts (text_in q.heads.boundary) q.heads.content_type.now) q.holds.now ++ last_texts q.ends (text_in q.heads.boundary))
 
 -- the file of the holds has so many bytes
 abbrev pub IsOfSize : Queue → Type 0

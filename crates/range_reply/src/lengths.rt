@@ -73,5 +73,5 @@ pub(crate) fn multipart_length(
         (length (multipart_text (text_of boundary.now) content_type.entry.text.now info.now intervals.now)) }
 {
     let parts = with_parts(0, info, boundary, content_type, intervals.as_slice())?;
-    with_texts(parts, &[last_line(boundary).as_str()])
+    with_texts(parts, &[last_line(boundary.as_str()).as_str()])
 }

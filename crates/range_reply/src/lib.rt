@@ -8,6 +8,7 @@ mod file_bodies;
 mod holds;
 pub mod laws;
 mod lengths;
+mod opened;
 mod parts;
 mod plans;
 mod searches;

@@ -1,159 +1,66 @@
 //! The parts of a body, in order, each as it lies.
-ghost use Rattle.std.specs.Prelude.{◌≡◌, ℕ, List, [], ◌∷◌, ◌++◌, ◌≤◌, All, MatchOption, Some, None, codes, length, option_map};
+ghost use Rattle.std.specs.Prelude.{◌≡◌, ℕ, List, [], ◌∷◌, All, MatchOption, Some, None, true, false, length, option_map};
 ghost use Rattle.std.specs.Iterator.{YieldsFirstBy, at_most};
-ghost use Rattle.std.specs.List.{concat};
 ghost use Rattle.byte_view.specs.BodyParts.{text_of as part_text};
-ghost use Rattle.byte_view.specs.Holds.{Held, IsHeld, lent};
+ghost use Rattle.byte_view.specs.Holds.{Held};
 ghost use Rattle.range_reply.specs.Bodies as spec;
-ghost use Rattle.range_reply.specs.Multipart.{text_of};
-ghost use Rattle.range_reply.specs.PartTexts.{hold_texts, length_of, opened_texts, pieces_in, several_texts, stretch_texts};
+ghost use Rattle.range_reply.specs.Multipart.{last_line, text_of};
+ghost use Rattle.range_reply.specs.PartTexts.{length_of, several_texts, stretch_texts};
 
 use crate::boundaries::Boundary;
-use crate::texts::{last_line, line_before_type, line_behind_type, text_in};
-use byte_view::{BodyParts, Hold, Part, Pieces};
+use crate::opened::{Heads, Opened};
+use crate::texts::{last_line, text_in};
+use byte_view::{BodyParts, Hold, Part};
 use http_wire::FieldText;
 use std::iter::Iterator;
 use std::marker::Model;
-
-/// What is still to be given of one of several parts, or of a stretch alone.
-#[derive(Drop)]
-struct Opened<'a> {
-    /// What comes before the bytes: two texts, and between them the type of the file.
-    line: Option<Part<'a>>,
-    media: Option<Part<'a>>,
-    range: Option<Part<'a>>,
-    /// The bytes of the stretch, and what comes behind them.
-    pieces: Option<Pieces<'a>>,
-    end: Option<Part<'a>>,
-}
-
-impl<'a> Opened<'a> {
-    ghost use Rattle.range_reply.specs.PartTexts.{opened_texts};
-
-    /// Nothing.
-    fn none() -> Opened<'a>
-        ensures { opened_texts result ≡ [] }
-    {
-        Opened {
-            line: None,
-            media: None,
-            range: None,
-            pieces: None,
-            end: None,
-        }
-    }
-
-    /// This text alone.
-    fn text(bytes: &'a [u8]) -> Opened<'a>
-        ensures { opened_texts result ≡ bytes.now ∷ [] }
-    {
-        Opened {
-            line: None,
-            media: None,
-            range: None,
-            pieces: None,
-            end: Some(Part::Lent(bytes)),
-        }
-    }
-
-    /// What a hold shows of its stretch.
-    fn stretch(hold: &'a Hold) -> Opened<'a>
-        ensures { opened_texts result ≡ lent hold.now hold.now.first hold.now.last }
-    {
-        let (first, last) = hold.stretch();
-        Opened {
-            line: None,
-            media: None,
-            range: None,
-            pieces: Some(hold.pieces(first, last)),
-            end: None,
-        }
-    }
-
-    /// The part for the stretch of a hold, where its file has so many bytes.
-    fn part(
-        boundary: &Option<Boundary>,
-        content_type: &'a str,
-        size: u64,
-        hold: &'a Hold,
-    ) -> Opened<'a>
-        requires { length hold.now.file ≡ size }
-        ensures { opened_texts result ≡ hold_texts (spec.text_in boundary.now) content_type.now hold.now }
-    {
-        let (first, last) = hold.stretch();
-        Opened {
-            line: Some(Part::Text(line_before_type(text_in(boundary)))),
-            media: Some(Part::Lent(content_type.as_bytes())),
-            range: Some(Part::Text(line_behind_type(first as u64, last as u64, size))),
-            pieces: Some(hold.pieces(first, last)),
-            end: Some(Part::Lent(b"\r\n")),
-        }
-    }
-
-    /// The next piece of the stretch.
-    fn next_piece(&mut self) -> Option<&'a [u8]>
-        ensures piece { MatchOption result
-            ((pieces_in self.old.pieces ≡ []) × (pieces_in self.new.pieces ≡ []))
-            (λ piece. pieces_in self.old.pieces ≡ piece.now ∷ pieces_in self.new.pieces) }
-        ensures others { (self.new.line ≡ self.old.line) × (self.new.media ≡ self.old.media)
-            × (self.new.range ≡ self.old.range) × (self.new.end ≡ self.old.end) }
-    {
-        match &mut self.pieces {
-            Some(pieces) => pieces.next(),
-            None => None,
-        }
-    }
-
-    /// The first part that is left.
-    fn take(&mut self) -> Option<Part<'a>>
-        ensures { YieldsFirstBy part_text opened_texts self.old result self.new }
-    {
-        if let Some(part) = self.line.take() {
-            return Some(part);
-        }
-        if let Some(part) = self.media.take() {
-            return Some(part);
-        }
-        if let Some(part) = self.range.take() {
-            return Some(part);
-        }
-        if let Some(piece) = self.next_piece() {
-            return Some(Part::Lent(piece));
-        }
-        self.end.take()
-    }
-}
 
 /// What is left to be given of a body.
 #[derive(Drop)]
 struct Queue<'a> {
     /// What comes first.
     opened: Opened<'a>,
-    /// The holds whose parts come then, with this boundary before each and this type. Their file has so many bytes.
+    /// The holds whose parts come then, and what their heads say. Their file has so many bytes.
     holds: &'a [Hold],
-    boundary: Option<Boundary>,
-    content_type: &'a str,
+    heads: Heads<'a>,
     size: u64,
-    /// What comes last.
-    last: Option<Part<'a>>,
+    /// Whether the last boundary's line comes last.
+    ends: bool,
 }
 
 impl<'a> Queue<'a> {
-    ghost use Rattle.range_reply.specs.PartTexts.{IsOfSize, queue_texts};
+    ghost use Rattle.range_reply.specs.PartTexts.{IsOfSize, queue_texts, rest_texts};
+    ghost use Rattle.range_reply.specs.declared.opened.Heading.TheVariants.{Done};
 
-    /// This and nothing more.
+    /// This, which has no head, and nothing more.
     fn only(opened: Opened<'a>) -> Queue<'a>
-        ensures texts { queue_texts result ≡ opened_texts opened.entry }
+        requires { opened.heading ≡ Done }
+        ensures texts { queue_texts result ≡ rest_texts opened.entry }
         ensures sized { IsOfSize result }
     {
         Queue {
             opened,
             holds: &[],
-            boundary: None,
-            content_type: "",
+            heads: Heads {
+                boundary: None,
+                content_type: "",
+            },
             size: 0,
-            last: None,
+            ends: false,
         }
+    }
+
+    /// The last boundary's line, if it is left.
+    fn take_end(&mut self) -> Option<Part<'a>>
+        ensures end { MatchOption result (self.old.ends ≡ false)
+            (λ part. (self.old.ends ≡ true) × (part_text part ≡ last_line (spec.text_in self.old.heads.boundary))) }
+        ensures others { self.new ≡ record self.old { ends = false } }
+    {
+        if !self.ends {
+            return None;
+        }
+        self.ends = false;
+        Some(Part::Text(last_line(text_in(&self.heads.boundary))))
     }
 
     /// The first part that is left.
@@ -162,15 +69,15 @@ impl<'a> Queue<'a> {
         ensures first { YieldsFirstBy part_text queue_texts self.old result self.new }
         ensures sized { IsOfSize self.new }
     {
-        if let Some(part) = self.opened.take() {
+        if let Some(part) = self.opened.take(&self.heads) {
             return Some(part);
         }
         if let Some((hold, rest)) = self.holds.split_first() {
-            self.opened = Opened::part(&self.boundary, self.content_type, self.size, hold);
+            self.opened = Opened::part(hold, self.size);
             self.holds = rest;
-            return self.opened.take();
+            return self.opened.take(&self.heads);
         }
-        self.last.take()
+        self.take_end()
     }
 }
 
@@ -209,12 +116,8 @@ impl<'a> Parts<'a> {
         requires { total ≡ length_of (stretch_texts (option_map (λ h. h.now) hold)) }
         ensures { result ≡ stretch_texts (option_map (λ h. h.now) hold.entry) }
     {
-        let opened = match hold {
-            Some(hold) => Opened::stretch(hold),
-            None => Opened::none(),
-        };
         Parts {
-            queue: Queue::only(opened),
+            queue: Queue::only(Opened::of_stretch(hold)),
             length: total,
         }
     }
@@ -235,10 +138,12 @@ impl<'a> Parts<'a> {
             queue: Queue {
                 opened: Opened::none(),
                 holds,
-                boundary: Some(*boundary),
-                content_type: content_type.as_str(),
+                heads: Heads {
+                    boundary: Some(*boundary),
+                    content_type: content_type.as_str(),
+                },
                 size,
-                last: Some(Part::Text(last_line(boundary))),
+                ends: true,
             },
             length: total,
         }

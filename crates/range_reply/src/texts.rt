@@ -48,12 +48,13 @@ pub(crate) fn line_behind_type(first: u64, last: u64, length: u64) -> ArrayStrin
 }
 
 /// The last boundary's line.
-pub(crate) fn last_line(boundary: &Boundary) -> ArrayString<256>
-    ensures { result.bytes ≡ multipart.last_line (multipart.text_of boundary.now) }
+pub(crate) fn last_line(boundary: &str) -> ArrayString<256>
+    requires { length boundary.now ≤ 64 }
+    ensures { result.bytes ≡ multipart.last_line boundary.now }
 {
     let mut line = ArrayString::new();
     line.push_str("--");
-    line.push_str(boundary.as_str());
+    line.push_str(boundary);
     line.push_str("--\r\n");
     line
 }
