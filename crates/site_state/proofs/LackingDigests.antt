@@ -20,18 +20,18 @@ use Rattle.site_state.specs.SameValues.{digest_eq-decides, digest_eq-equiv}
 use Rattle.site_state.specs.Values.{digest_eq}
 
 module _ {X : Type 0} where
-  contains_cases : (x y : X) (xs : List X) → Contains (x ∷ xs) y → (x ≡ y) ⊎ Contains xs y
+  pub contains_cases : (x y : X) (xs : List X) → Contains (x ∷ xs) y → (x ≡ y) ⊎ Contains xs y
   contains_cases x y xs (zero, lt, at) = inl at
   contains_cases x y xs (suc k, lt, at) = inr (k, omega (arith, lt), at)
 
-  contains_later : (x y : X) (xs : List X) → Contains xs y → Contains (x ∷ xs) y
+  pub contains_later : (x y : X) (xs : List X) → Contains xs y → Contains (x ∷ xs) y
   contains_later x y xs (k, lt, at) = (suc k, omega (arith, lt), at)
 
-  contains_here : (x y : X) (xs : List X) → x ≡ y → Contains (x ∷ xs) y
+  pub contains_here : (x y : X) (xs : List X) → x ≡ y → Contains (x ∷ xs) y
   contains_here x y xs e = (zero, omega arith, e)
 
   -- what a filter keeps is in the list, and passes
-  Contains-from_filter : (p : X → Bool) (xs : List X) (y : X) → Contains (filter p xs) y → Contains xs y × (p y ≡ true)
+  pub Contains-from_filter : (p : X → Bool) (xs : List X) (y : X) → Contains (filter p xs) y → Contains xs y × (p y ≡ true)
   Contains-from_filter p [] y h = absurd (omega (arith, h.1))
   Contains-from_filter p (x ∷ xs) y h = elim (p x) as (λ b. p x ≡ b → Contains (cond b (x ∷ filter p xs) (filter p xs)) y → Contains (x ∷ xs) y × (p y ≡ true)) [
     | true ↦ λ e h. ⊎_elim
@@ -42,7 +42,7 @@ module _ {X : Type 0} where
   ] refl h
 
   -- and what is in the list and passes is kept
-  Contains-filter : (p : X → Bool) (xs : List X) (y : X) → Contains xs y → p y ≡ true → Contains (filter p xs) y
+  pub Contains-filter : (p : X → Bool) (xs : List X) (y : X) → Contains xs y → p y ≡ true → Contains (filter p xs) y
   Contains-filter p [] y h pass = absurd (omega (arith, h.1))
   Contains-filter p (x ∷ xs) y h pass = ⊎_elim
       (λ same. let test : p x ≡ true = ap p same ∙ pass in subst (λ b. Contains (cond b (x ∷ filter p xs) (filter p xs)) y) (sym test) (contains_here x y (filter p xs) same))

@@ -3,6 +3,7 @@ pub mod Items
 pub mod Sides
 pub mod Written
 pub mod LackingDigests
+pub mod MissingLists
 pub mod FirstLacking
 pub mod LeastAlias
 pub mod Named
