@@ -10,7 +10,8 @@ use std::alloc::Global;
 /// What a request asks for, or the first reason why it asks for nothing.
 pub(crate) fn asked_for(alloc: Global, head: &Head, body: &[u8]) -> Result<Ask, Refusal>
     ensures ok { IfOk result (λ ask. spec.asked_for head.now body.now ≡ Ok ask) }
-    ensures refused { IfErr result (λ reason. ((reason ≡ Refusal.OutOfMemory) × IsTrue (asking_takes head.now body.now))
+    ensures refused { IfErr result (λ reason.
+        ((reason ≡ Refusal.OutOfMemory) × IsTrue (asking_takes head.now body.now))
         ⊎ (spec.asked_for head.now body.now ≡ Err reason)) }
 {
     let route = route_of(alloc, head.method().as_str(), head.target())?;

@@ -13,12 +13,14 @@ use chunk_reads::Holder;
 /// Only to HEAD is a body told by its length alone.
 pub fn bodies_are_withheld_from_heads_alone<H: House>()
     ensures { (old new : H) (parts : RequestParts) (body : List ℕ) (answer : Answer)
-        → AnswersBy H.calls H.gave H.failed old parts body answer new → answer.withheld ≡ true → is_head parts ≡ true }
+        → AnswersBy H.calls H.gave H.failed old parts body answer new → answer.withheld ≡ true
+        → is_head parts ≡ true }
 {}
 
 /// The reply to the reading of a file is of the file itself, or says that it can't be read; unless a chunk that was held
 /// differs from a piece of the file that has the same digest.
 pub fn replies_to_reads_are_of_their_files<H: Holder>()
-    ensures { (old new : H) (parts : RequestParts) (path : List ℕ) (found : Result (List ℕ) Refusal) (answer : Answer)
-        → ReadsBy H.gave H.failed old parts path found answer new → IsFileReply parts path found answer }
+    ensures { (old new : H) (parts : RequestParts) (path : List ℕ) (found : Result (List ℕ) Refusal)
+        (answer : Answer) → ReadsBy H.gave H.failed old parts path found answer new
+        → IsFileReply parts path found answer }
 {}

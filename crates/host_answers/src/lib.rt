@@ -12,7 +12,6 @@ mod reads;
 mod stops;
 mod telling;
 mod uploads;
-mod versions;
 
 pub use answers::answer;
 pub use houses::House;

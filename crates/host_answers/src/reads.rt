@@ -15,12 +15,11 @@ ghost use Rattle.host_replies.specs.FileAsks.{AsksRange, plan_of};
 ghost use Rattle.host_replies.specs.Versions as versions;
 
 use crate::houses::House;
-use crate::versions::file_of;
 use byte_view::BlobInfo;
 use chunk_reads::{Holder, ReadFault};
 use host_api::{Refusal, Version};
 use host_names::{Digest, FilePath, SiteName};
-use host_replies::{Reply, file_type, is_head_only};
+use host_replies::{Reply, file_of, file_type, is_head_only};
 use http_wire::Head;
 use range_reply::{IfRange, ReplyPlan, plan, read_body};
 use range_spec::{Asked, Choice, parse};
@@ -65,7 +64,8 @@ fn plan_asked(head: &Head, info: &BlobInfo) -> ReplyPlan
 fn wanted(info: &Arc<BlobInfo>, plan: &ReplyPlan) -> Result<Arc<BlobInfo>, Refusal>
     ensures ok { IfOk result (λ wanted. wanted.value ≡ info.now.value) }
     ensures some { OnOk result (plan.now ≢ None416) }
-    ensures refused { IfErr result (λ why. ((plan.now ≡ None416) × (why ≡ NotSatisfiable (length info.now.value)))
+    ensures refused { IfErr result (λ why.
+        ((plan.now ≡ None416) × (why ≡ NotSatisfiable (length info.now.value)))
         ⊎ ((plan.now ≢ None416) × (why ≡ OutOfMemory))) }
 {
     match plan {

@@ -2,10 +2,11 @@
 ghost use Rattle.std.specs.Prelude.{◌≡◌};
 
 use crate::files::{Contents, content, listing, one_file, path};
-use anyhow::{Result, anyhow};
+use anyhow::{Error, Result, anyhow};
 use blob_store::MemShelf;
-use change_undo::GREATEST_LIMIT;
-use host_api::{Refusal, Told};
+use change_undo::{Entry, GREATEST_LIMIT};
+use host_answers::House;
+use host_api::Refusal;
 use host_disk::MemDisk;
 use host_names::{AliasName, Digest, FilePath, SiteName};
 use host_server::Server;
@@ -27,17 +28,16 @@ pub(crate) fn empty_server(alloc: Global) -> Result<Server<MemShelf, MemDisk>> {
     Ok(Server::new(alloc, MemShelf::new(alloc), GREATEST_LIMIT)?)
 }
 
-/// What a call told, which no measurement expects to be refused.
-fn expected(told: Result<Told, Refusal>) -> Result<Told> {
-    told.map_err(|refusal| anyhow!("the host refused it: {}", refusal.name()))
+/// What a refusal ends a measurement with; none expects one.
+fn unexpected(refusal: Refusal) -> Error {
+    anyhow!("the host refused it: {}", refusal.name())
 }
 
-/// Puts a command to the host.
-fn change(server: &mut Server<MemShelf, MemDisk>, command: Command) -> Result<Told> {
-    if server.is_broken() {
-        return Err(anyhow!("the journal is broken"));
-    }
-    expected(server.change(command))
+/// Makes a command the next entry, and answers its number.
+fn change(server: &mut Server<MemShelf, MemDisk>, command: Command) -> Result<u64> {
+    server
+        .commit(command)
+        .map_err(|why| unexpected(why.into()))
 }
 
 /// Uploads the bytes as the file at a path of a deploy.
@@ -45,25 +45,42 @@ fn upload_one(
     server: &mut Server<MemShelf, MemDisk>,
     deploy: u64,
     path: &FilePath,
-    bytes: Vec<u8>,
-) -> Result<Told> {
-    if server.is_broken() {
-        return Err(anyhow!("the journal is broken"));
-    }
-    expected(server.upload(deploy, path, bytes))
+    bytes: &[u8],
+) -> Result<()> {
+    let site = SiteName::new("one")?;
+    let _ = server
+        .upload(&site, deploy, path, bytes)
+        .map_err(unexpected)?;
+    Ok(())
 }
 
-/// Opens a deploy of what is listed, and answers its number.
-fn open_listing(server: &mut Server<MemShelf, MemDisk>, files: Listing) -> Result<u64> {
+/// Whether the deploy that an entry opened lacks nothing. It lists what is lacking, as the reply to an opening does.
+fn lacks_nothing(alloc: Global, server: &Server<MemShelf, MemDisk>, number: u64) -> Result<bool> {
+    match server.log().entry(number) {
+        Some(Entry::Change(Command::Open { files, .. })) => {
+            Ok(server.missing(alloc, files)?.as_slice().is_empty())
+        }
+        _ => Err(anyhow!("an opening opened nothing")),
+    }
+}
+
+/// Opens a deploy of what is listed, and publishes it if it lacks nothing. It answers the deploy's number.
+fn open_listing(
+    alloc: Global,
+    server: &mut Server<MemShelf, MemDisk>,
+    files: Listing,
+) -> Result<u64> {
     let opening = Command::Open {
         site: SiteName::new("one")?,
         files,
         auto: true,
     };
-    match change(server, opening)? {
-        Told::Opened { id, .. } => Ok(id),
-        _ => Err(anyhow!("an opening told something else")),
+    let number = change(server, opening)?;
+    if lacks_nothing(alloc, server, number)? {
+        let site = SiteName::new("one")?;
+        let _ = change(server, Command::Publish { site, number })?;
     }
+    Ok(number)
 }
 
 /// Opens a deploy that adds these files to the site, and answers its number.
@@ -73,7 +90,7 @@ pub(crate) fn open(
     files: Range<u64>,
     contents: Contents,
 ) -> Result<u64> {
-    open_listing(server, listing(alloc, true, files, contents)?)
+    open_listing(alloc, server, listing(alloc, true, files, contents)?)
 }
 
 /// Keeps a deploy of one file, which is uploaded, and answers its number.
@@ -83,7 +100,7 @@ pub(crate) fn keep(
     file: u64,
 ) -> Result<u64> {
     let end = file.saturating_add(1);
-    let deploy = open_listing(server, listing(alloc, false, file..end, Contents::Own)?)?;
+    let deploy = open_listing(alloc, server, listing(alloc, false, file..end, Contents::Own)?)?;
     let mut planned = Vec::new(alloc);
     plan(alloc, &mut planned, deploy, file..end)?;
     upload_all(server, planned)?;
@@ -98,9 +115,8 @@ pub(crate) fn add_file(
     bytes: Vec<u8>,
 ) -> Result<()> {
     let listing = one_file(alloc, number, Digest::of_bytes(bytes.as_slice()))?;
-    let deploy = open_listing(server, listing)?;
-    let _ = upload_one(server, deploy, &path(alloc, number)?, bytes)?;
-    Ok(())
+    let deploy = open_listing(alloc, server, listing)?;
+    upload_one(server, deploy, &path(alloc, number)?, bytes.as_slice())
 }
 
 /// Makes the site serve a file of these bytes, the first.
@@ -148,7 +164,7 @@ pub(crate) fn upload_all(
             path,
             bytes,
         } = planned;
-        let _ = upload_one(server, deploy, &path, bytes)?;
+        upload_one(server, deploy, &path, bytes.as_slice())?;
     }
     Ok(())
 }

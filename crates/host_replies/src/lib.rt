@@ -5,6 +5,8 @@ mod bodies;
 mod media_types;
 mod parts_types;
 mod replies;
+mod versions;
 
 pub use media_types::file_type;
 pub use replies::{Reply, is_head_only};
+pub use versions::file_of;

@@ -16,9 +16,10 @@ use Rattle.host_api.specs.declared.refusals.Refusal.{Refusal}
 use Rattle.host_api.specs.declared.refusals.Refusal.TheVariants as reason
 use Rattle.host_api.specs.declared.versions.Version.{Version}
 use Rattle.host_disk.specs.declared.disks.Disk.{Ghosts}
-use Rattle.host_server.specs.Asks.{IsAnswer, IsReplyToAsk, asked_for, holds_up}
+use Rattle.host_server.specs.Asks.{IsAnswer, IsReplyToAsk, holds_up}
+use Rattle.host_answers.specs.Asking.{asked_for}
 use Rattle.host_server.specs.Journals.{is_broken}
-use Rattle.host_server.proofs.HoldingUp.{no_and}
+use Rattle.host_server.proofs.EntryAnswers.{and_false}
 use Rattle.host_server.proofs.KnownFiles.{known_cached}
 use Rattle.host_server.specs.Files.{IsFileSent, IsFileTold, IsReadReply}
 use Rattle.host_replies.specs.FileAsks.{plan_of, refusal_of_read}
@@ -65,7 +66,7 @@ module _ {S D : Type 0} {disk : Ghosts D} (did : S → Call → S → Type 0) (f
       → HasKnown has server → asked_for parts body ≡ Ok (ask.Read site version path)
       → file_of (state_of server.house) site version path ≡ Ok file → IsAnswer did failures server parts body answer next → IsReadBack parts path file answer
   answered_back server next parts body answer site version path file known asks is (inl (inl (held, says, same), kept)) =
-      absurd (cc (sym (no_and (is_broken server.journal)) ∙ ap (λ (a : Result Ask Refusal). holds_up server a) (sym asks) ∙ held))
+      absurd (cc (sym (and_false (is_broken server.journal)) ∙ ap (λ (a : Result Ask Refusal). holds_up server a) (sym asks) ∙ held))
   answered_back server next parts body answer site version path file known asks is (inl (inr (free, reply), kept)) =
       reply_back server next parts path (file_of (state_of server.house) site version path) file answer is known
       (subst (λ (a : Result Ask Refusal). IsReplyToAsk did failures server parts body a answer next) asks reply)

@@ -9,20 +9,9 @@ use Rattle.change_undo.specs.declared.entries.Entry.{Entry}
 use Rattle.change_undo.specs.declared.entries.Entry.TheVariants.{Change, Undo}
 use Rattle.change_undo.specs.Histories.{Past, run, IsLegal, IsLegalAfter, is_allowed}
 use Rattle.change_undo.proofs.Runs.{history-grows, is_accepted, run-undone_at_once}
-use Rattle.site_change.proofs.MoreUploads.{IsWithin-itself, kept-with_file}
-use Rattle.host_server.specs.Hosts.{Grows, Host, host_of, state_of, with_log, with_entry, with_upload}
-use Rattle.host_server.specs.Growth.{itself}
-
-pub grows_same : (old new : Host) → new ≡ old → Grows old new
-grows_same old new is = subst (Grows old) (sym is) (itself old)
-
-pub grows_entry : (old new : Host) (entry : Entry) → new ≡ with_entry old entry → Grows old new
-grows_entry old new entry is =
-    subst (Grows old) (sym is) (record { same_limit = refl; more = entry ∷ []; longer = refl; uploads = IsWithin-itself old.uploads })
-
-pub grows_upload : (old new : Host) (bytes : List ℕ) → new ≡ with_upload old bytes → Grows old new
-grows_upload old new bytes is =
-    subst (Grows old) (sym is) (record { same_limit = refl; more = []; longer = sym (append-nil old.entries); uploads = kept-with_file old.uploads bytes })
+use Rattle.site_change.proofs.MoreUploads.{IsWithin-itself}
+use Rattle.host_server.specs.Hosts.{Grows, Host, host_of, state_of, with_log}
+use Rattle.host_server.specs.Growth.{grows_same, grows_upload}
 
 -- a history with one entry more, or with none
 pub grows_past : {A E : Type 0} (r : Result A E) (old new : Past) (uploads : Contents) (entry : Entry) → new.limit ≡ old.limit
@@ -34,10 +23,6 @@ grows_past (Err e) old new uploads entry limit ok err =
 pub same_entries : {A E : Type 0} (r : Result A E) (old new : Past) → OnErr r (new ≡ old) → OnErr r (new.entries ≡ old.entries)
 same_entries (Ok x) old new err = tt
 same_entries (Err e) old new err = ap (λ (p : Past). p.entries) err
-
-pub first_of_both : {A E : Type 0} (P Q : Type 0) (r : Result A E) → OnErr r (P × Q) → OnErr r P
-first_of_both P Q (Ok x) err = tt
-first_of_both P Q (Err e) err = err.0
 
 -- one upload more, or none
 pub grows_uploads : {A E : Type 0} (r : Result A E) (past : Past) (old new : Contents) (bytes : List ℕ) → OnOk r (new ≡ with_file old bytes) → OnErr r (new ≡ old)

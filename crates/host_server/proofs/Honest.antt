@@ -21,7 +21,8 @@ use Rattle.host_api.specs.declared.bodies.Ask.TheVariants as ask
 use Rattle.host_api.specs.declared.refusals.Refusal.{Refusal}
 use Rattle.host_api.specs.declared.texts.Told.{Told}
 use Rattle.host_disk.specs.declared.disks.Disk.{Ghosts}
-use Rattle.host_server.specs.Asks.{AskRunsOut, AskStops, IsAnswer, IsReplyToAsk, asked_for}
+use Rattle.host_server.specs.Asks.{AskRunsOut, AskStops, IsAnswer, IsReplyToAsk}
+use Rattle.host_answers.specs.Asking.{asked_for}
 use Rattle.host_server.specs.Files.{IsFileSent, IsFileTold, IsReadReply, ReadRunsOut}
 use Rattle.host_replies.specs.FileAsks.{plan_of}
 use Rattle.host_server.specs.Hosts.{state_of}
@@ -89,23 +90,26 @@ module _ {S D : Type 0} {disk : Ghosts D} (did : S → Call → S → Type 0) (f
     stored_if (Err why) uploads bytes is = (subst (λ (s : S). IsTrue (honest s)) is so, is)
 
     module _ (n : ℕ) (path bytes : List ℕ) where
-      uploaded : (told : Told) → IsUploaded did server n path bytes told next → IsTrue (honest server.files.shelf) × IsUploaded (Where honest did) server n path bytes told next
+      abbrev judged : Result (SiteName × Digest) Refusal
+      judged = judge_upload server.house n path bytes
+
+      uploaded : (told : Told) → IsUploaded did server judged n bytes told next → IsTrue (honest server.files.shelf) × IsUploaded (Where honest did) server judged n bytes told next
       uploaded told is =
-          let all = stored_if (judge_upload server.house n path bytes) server.house.uploads bytes is.stored in
+          let all = stored_if judged server.house.uploads bytes is.stored in
           (all.0, record { stored = all.1; cache = is.cache; told_is = is.told_is; host_is = is.host_is })
 
-      refused : (why : UploadFault) → IsRefusedByStore did failures server n path bytes why next → IsTrue (honest server.files.shelf) × IsRefusedByStore (Where honest did) failures server n path bytes why next
+      refused : (why : UploadFault) → IsRefusedByStore did failures server judged bytes why next → IsTrue (honest server.files.shelf) × IsRefusedByStore (Where honest did) failures server judged bytes why next
       refused why is =
           let none = is.not_stored in
           let all = put_some did honest has keeps server.house.uploads server.files.shelf next.files.shelf bytes why so none.put in
           let not_stored : IsNotStored (Where honest did) failures server.house.uploads server.files.shelf bytes why next.files.shelf =
           record { large = none.large; unknown = none.unknown; failed = none.failed; put = all.1 } in
-          (all.0, record { at = is.at; judged = is.judged; not_stored = not_stored; cache = is.cache; same = is.same })
+          (all.0, record { at = is.at; allowed = is.allowed; not_stored = not_stored; cache = is.cache; same = is.same })
 
-      unpublished : IsUnpublished did server n path bytes next → IsTrue (honest server.files.shelf) × IsUnpublished (Where honest did) server n path bytes next
+      unpublished : IsUnpublished did server judged n bytes next → IsTrue (honest server.files.shelf) × IsUnpublished (Where honest did) server judged n bytes next
       unpublished is =
           let all = stored server.house.uploads bytes is.stored in
-          (all.0, record { at = is.at; judged = is.judged; stored = all.1; cache = is.cache; known = is.known; published = is.published })
+          (all.0, record { at = is.at; allowed = is.allowed; stored = all.1; cache = is.cache; known = is.known; published = is.published })
 
       upload_reply : (answer : Answer) → IsUploadReply did failures server n path bytes answer next → IsTrue (honest server.files.shelf) × IsUploadReply (Where honest did) failures server n path bytes answer next
       upload_reply answer (inl (told, done, says)) =

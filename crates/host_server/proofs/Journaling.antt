@@ -5,12 +5,13 @@ use Rattle.change_journal.specs.entries.Held.{Keeps}
 use Rattle.change_undo.specs.declared.entries.Entry.{Entry}
 use Rattle.host_api.specs.declared.refusals.Refusal.{Refusal}
 use Rattle.host_api.specs.declared.refusals.Refusal.TheVariants as reason
+use Rattle.host_answers.specs.Answers.{told_stop}
 use Rattle.host_server.specs.declared.host.entry_errors.EntryError.{EntryError}
 use Rattle.host_server.specs.declared.host.entry_errors.EntryError.TheVariants as error
-use Rattle.host_server.specs.Entries.{IsEntered, told_error}
+use Rattle.host_server.specs.Entries.{IsEntered, stop_of}
 use Rattle.host_server.specs.Hosts.{Host, with_entry}
 use Rattle.host_disk.specs.declared.disks.Disk.{Ghosts}
-use Rattle.host_server.specs.Journals.{Agrees, BreaksOff, IsJournaled, KeepsUp, Puts, is_broken}
+use Rattle.host_server.specs.Journals.{Agrees, BreaksOff, IsJournaled, KeepsUp, Puts, PutsInPart, is_broken}
 
 pub no_entries : (entries : List Entry) → length entries ≡ 0 → entries ≡ []
 no_entries [] none = refl
@@ -84,17 +85,6 @@ module _ {D : Type 0} (disk : Ghosts D) where
   journaled_then (Err reason.Device) a b c j k l ab bc = breaks_then a b c j k l ab bc
   journaled_then (Err other) a b c j k l ab bc = keeps_then a b c j k l ab bc
 
-  same_error : (A B : Type 0) (why : Refusal) (old new : Host) (journal next : Option (Keeps D)) → IsJournaled {A = A} disk (Err why) old journal new next
-      → IsJournaled {A = B} disk (Err why) old journal new next
-  same_error A B reason.Device old new journal next is = is
-  same_error A B other old new journal next is = is
-
-  pub journaled_err : {A B : Type 0} (result : Result A Refusal) (told : Result B Refusal) (why : Refusal) (old new : Host) (journal next : Option (Keeps D))
-      → IsJournaled disk result old journal new next → result ≡ Err why → told ≡ Err why → IsJournaled disk told old journal new next
-  journaled_err {A = A} {B = B} result told why old new journal next journaled is tells =
-      subst (λ (r : Result B Refusal). IsJournaled disk r old journal new next) (sym tells)
-      (same_error A B why old new journal next (subst (λ (r : Result A Refusal). IsJournaled disk r old journal new next) is journaled))
-
   -- it has the host's entries
 
   pub agrees_after : (old new : Host) (journal next : Option (Keeps D)) → Agrees journal old.entries → KeepsUp disk old journal new next → Agrees next new.entries
@@ -118,14 +108,19 @@ module _ {D : Type 0} (disk : Ghosts D) where
       → KeepsUp disk old journal new next
   entered_ok entry old new journal next put is = record { more = entry ∷ []; longer = ap (λ (h : Host). h.entries) is; put = put }
 
+  -- the device failed in the first put
+  pub breaks_at : (entry : Entry) (old new : Host) (journal next : Option (Keeps D)) → new ≡ old → PutsInPart disk journal [] entry next → BreaksOff disk old journal new next
+  breaks_at entry old new journal next same put =
+      record { more = []; longer = ap (λ (h : Host). h.entries) same ∙ sym (append-nil old.entries); missed = entry; put = put }
+
   of_error : (A B : Type 0) (e : EntryError) (entry : Entry) (old new : Host) (journal next : Option (Keeps D)) → new ≡ old → IsEntered {A = A} disk (Err e) entry journal next
-      → IsJournaled {A = B} disk (Err (told_error e)) old journal new next
+      → IsJournaled {A = B} disk (Err (told_stop (stop_of e))) old journal new next
   of_error A B (error.Refused why) entry old new journal next same put = keeps_same old new journal next same put
   of_error A B error.OutOfMemory entry old new journal next same put = keeps_same old new journal next same put
-  of_error A B error.Device entry old new journal next same put = record { more = []; longer = ap (λ (h : Host). h.entries) same ∙ sym (append-nil old.entries); missed = entry; put = put }
+  of_error A B error.Device entry old new journal next same put = breaks_at entry old new journal next same put
 
   pub entered_err : {A B : Type 0} (result : Result A EntryError) (told : Result B Refusal) (why : EntryError) (entry : Entry) (old new : Host) (journal next : Option (Keeps D))
-      → IsEntered disk result entry journal next → result ≡ Err why → told ≡ Err (told_error why) → new ≡ old → IsJournaled disk told old journal new next
+      → IsEntered disk result entry journal next → result ≡ Err why → told ≡ Err (told_stop (stop_of why)) → new ≡ old → IsJournaled disk told old journal new next
   entered_err {A = A} {B = B} result told why entry old new journal next put is tells same =
       let there : IsEntered {A = A} disk (Err why) entry journal next = subst (λ (r : Result A EntryError). IsEntered disk r entry journal next) is put in
       subst (λ (r : Result B Refusal). IsJournaled disk r old journal new next) (sym tells) (of_error A B why entry old new journal next same there)

@@ -1,17 +1,19 @@
 -- The bytes of an upload are stored, known and published.
-use Rattle.std.proofs.Common.{◌≡◌, ◌≢◌, ◌⊎◌, inl, inr, ℕ, List, Option, Result, Ok, Err, IsTrue, OnErr, refl, sym, ap, subst, ◌∙◌}
+use Rattle.std.proofs.Common.{◌≡◌, ◌≢◌, ◌⊎◌, inl, inr, ℕ, List, Option, Some, Result, Ok, Err, IsTrue, OnErr, refl, sym, ap, subst, ◌∙◌}
 use Rattle.host_names.specs.declared.digests.Digest.{Digest}
 use Rattle.host_names.specs.declared.names.SiteName.{SiteName}
 use Rattle.blob_store.specs.Calls.{Call}
+use Rattle.site_state.specs.States.{State, draft_at, kept_at}
 use Rattle.host_api.specs.declared.refusals.Refusal.{Refusal}
 use Rattle.host_api.specs.declared.refusals.Refusal.TheVariants as reason
-use Rattle.host_api.specs.declared.texts.Told.{Told}
-use Rattle.host_api.specs.declared.texts.Told.TheVariants.{Uploaded}
+use Rattle.host_api.specs.declared.texts.Told.TheVariants as told
+use Rattle.host_answers.specs.Answers.{told_upload}
+use Rattle.host_answers.specs.declared.uploads.Uploaded.{Uploaded}
 use Rattle.host_disk.specs.declared.disks.Disk.{Ghosts}
-use Rattle.host_server.specs.Hosts.{Host, with_upload}
+use Rattle.host_server.specs.Hosts.{Host, state_of, with_upload}
 use Rattle.host_server.specs.Journals.{IsJournaled, IsStopped, KeepsUp}
 use Rattle.host_server.specs.Memory.{is_published}
-use Rattle.host_server.specs.Outcomes.{Publishes, judge_upload, published_if_ready, told_by, told_of, uploaded}
+use Rattle.host_server.specs.Outcomes.{Publishes, judge_at, judge_listed, listed_at, published_if_ready, told_of, uploaded, with_site}
 use Rattle.host_server.specs.ServerJournals.{Breaks, GoesOn}
 use Rattle.host_server.specs.Storing.{DoesUpload, IsStored, IsStoredIf, IsUnpublished}
 use Rattle.host_server.specs.declared.servers.Server.{Server}
@@ -23,10 +25,20 @@ left_at : {A E : Type 0} (L : Type 0) (r : Result A E) (why : E) → r ≡ Err w
 left_at L (Ok x) why is left = absurd (cc is)
 left_at L (Err e) why is left = left
 
+-- the deploy's site and the digest that it lists, or the first reason against the bytes
+abbrev Judged : Type 0
+Judged = Result (SiteName × Digest) Refusal
+
+-- the state that a host lends is its own
+pub judged_by : (host : Host) (lent : State) (site : SiteName) (n : ℕ) (path bytes : List ℕ) (digest : Digest) → lent ≡ state_of host
+    → judge_listed (listed_at (draft_at lent site n) (kept_at lent site n) path) bytes ≡ Ok digest → judge_at host (Some site) n path bytes ≡ Ok (site, digest)
+judged_by host lent site n path bytes digest same is =
+    ap (with_site site) (subst (λ (s : State). judge_listed (listed_at (draft_at s site n) (kept_at s site n) path) bytes ≡ Ok digest) same is)
+
 module _ {S D : Type 0} {disk : Ghosts D} (did : S → Call → S → Type 0) (failures : S → ℕ) where
-  pub not_judged : (server : Server S D disk) (n : ℕ) (path bytes : List ℕ) (why : Refusal) → judge_upload server.house n path bytes ≡ Err why
-      → DoesUpload did failures server n path bytes (Err why) server
-  not_judged server n path bytes why is = inl (
+  pub not_judged : (server : Server S D disk) (judged : Judged) (n : ℕ) (bytes : List ℕ) (why : Refusal) → judged ≡ Err why
+      → DoesUpload did failures server judged n bytes (Err why) server
+  not_judged server judged n bytes why is = inl (
     record {
       stored = subst (λ j. IsStoredIf did j server.house.uploads server.files.shelf bytes server.files.shelf) (sym is) refl;
       cache = refl;
@@ -37,53 +49,53 @@ module _ {S D : Type 0} {disk : Ghosts D} (did : S → Call → S → Type 0) (f
   )
 
   -- the entry that would publish the deploy isn't made, for this reason
-  unpublished : (server next : Server S D disk) (mid : Host) (n : ℕ) (path bytes : List ℕ) (at : SiteName × Digest) (entry : Result (Option ℕ) Refusal) (why : Refusal)
-      → judge_upload server.house n path bytes ≡ Ok at → mid ≡ with_upload server.house bytes
+  unpublished : (server next : Server S D disk) (mid : Host) (judged : Judged) (n : ℕ) (bytes : List ℕ) (at : SiteName × Digest) (entry : Result (Option ℕ) Refusal) (why : Refusal)
+      → judged ≡ Ok at → mid ≡ with_upload server.house bytes
       → IsStored did server.house.uploads server.files.shelf bytes next.files.shelf → next.files.cache ≡ server.files.cache
       → IsTrue (is_published mid at.0 n) → OnErr entry (next.house ≡ mid) → entry ≡ Err why
-      → IsUnpublished did server n path bytes next
-  unpublished server next mid n path bytes at entry why judged known stored cache published left is = record {
+      → IsUnpublished did server judged n bytes next
+  unpublished server next mid judged n bytes at entry why allowed known stored cache published left is = record {
     at = at;
-    judged = judged;
+    allowed = allowed;
     stored = stored;
     cache = cache;
     known = left_at (next.house ≡ mid) entry why is left ∙ known;
     published = subst (λ h. IsTrue (is_published h at.0 n)) known published;
   }
 
-  done_so : (server next : Server S D disk) (mid : Host) (n : ℕ) (path bytes : List ℕ) (at : SiteName × Digest) (entry : Result (Option ℕ) Refusal) (told : Result Told Refusal)
-      → judge_upload server.house n path bytes ≡ Ok at → mid ≡ with_upload server.house bytes
+  done_so : (server next : Server S D disk) (mid : Host) (judged : Judged) (n : ℕ) (bytes : List ℕ) (at : SiteName × Digest) (entry : Result (Option ℕ) Refusal) (result : Result Uploaded Refusal)
+      → judged ≡ Ok at → mid ≡ with_upload server.house bytes
       → IsStored did server.house.uploads server.files.shelf bytes next.files.shelf → next.files.cache ≡ server.files.cache
       → Publishes entry next.house (published_if_ready mid at.0 n) → (IsStopped entry → IsTrue (is_published mid at.0 n)) → OnErr entry (next.house ≡ mid)
       → ((entry ≡ Err reason.Device) × Breaks server next) ⊎ ((entry ≢ Err reason.Device) × GoesOn server next)
-      → told_by told ≡ told_of entry (λ published. Uploaded published at.1) → ((why : Refusal) → entry ≡ Err why → told ≡ Err why)
-      → DoesUpload did failures server n path bytes told next
-  done_so server next mid n path bytes at entry told judged known stored cache done stops left (inl (is, broken)) says fails =
-      inr (inr (unpublished server next mid n path bytes at entry reason.Device judged known stored cache (stops (inr is)) left is, inr (fails reason.Device is, broken)))
-  done_so server next mid n path bytes at entry told judged known stored cache (inl (inl none)) stops left (inr (other, kept)) says fails =
-      inr (inr (unpublished server next mid n path bytes at entry reason.OutOfMemory judged known stored cache (stops (inl none)) left none, inl (fails reason.OutOfMemory none, kept)))
-  done_so server next mid n path bytes at entry told judged known stored cache (inl (inr is)) stops left (inr (other, kept)) says fails = absurd (other is)
-  done_so server next mid n path bytes at entry told judged known stored cache (inr done) stops left (inr (other, kept)) says fails = inl (
+      → told_upload result ≡ told_of entry (λ published. told.Uploaded published at.1) → ((why : Refusal) → entry ≡ Err why → result ≡ Err why)
+      → DoesUpload did failures server judged n bytes result next
+  done_so server next mid judged n bytes at entry result allowed known stored cache done stops left (inl (is, broken)) says fails =
+      inr (inr (unpublished server next mid judged n bytes at entry reason.Device allowed known stored cache (stops (inr is)) left is, inr (fails reason.Device is, broken)))
+  done_so server next mid judged n bytes at entry result allowed known stored cache (inl (inl none)) stops left (inr (other, kept)) says fails =
+      inr (inr (unpublished server next mid judged n bytes at entry reason.OutOfMemory allowed known stored cache (stops (inl none)) left none, inl (fails reason.OutOfMemory none, kept)))
+  done_so server next mid judged n bytes at entry result allowed known stored cache (inl (inr is)) stops left (inr (other, kept)) says fails = absurd (other is)
+  done_so server next mid judged n bytes at entry result allowed known stored cache (inr done) stops left (inr (other, kept)) says fails = inl (
     record {
-      stored = subst (λ j. IsStoredIf did j server.house.uploads server.files.shelf bytes next.files.shelf) (sym judged) stored;
+      stored = subst (λ j. IsStoredIf did j server.house.uploads server.files.shelf bytes next.files.shelf) (sym allowed) stored;
       cache = cache;
-      told_is = says ∙ ap (λ e. told_of e (λ published. Uploaded published at.1)) done.0
-          ∙ ap (λ h. told_of (published_if_ready h at.0 n).entry (λ published. Uploaded published at.1)) known
-          ∙ ap (λ j. (uploaded server.house n bytes j).told) (sym judged);
-      host_is = done.1 ∙ ap (λ h. (published_if_ready h at.0 n).host) known ∙ ap (λ j. (uploaded server.house n bytes j).host) (sym judged);
+      told_is = says ∙ ap (λ e. told_of e (λ published. told.Uploaded published at.1)) done.0
+          ∙ ap (λ h. told_of (published_if_ready h at.0 n).entry (λ published. told.Uploaded published at.1)) known
+          ∙ ap (λ j. (uploaded server.house n bytes j).told) (sym allowed);
+      host_is = done.1 ∙ ap (λ h. (published_if_ready h at.0 n).host) known ∙ ap (λ j. (uploaded server.house n bytes j).host) (sym allowed);
     },
     kept,
   )
 
-  pub upload_done : (server next : Server S D disk) (mid : Host) (n : ℕ) (path bytes : List ℕ) (at : SiteName × Digest) (entry : Result (Option ℕ) Refusal) (told : Result Told Refusal)
-      → judge_upload server.house n path bytes ≡ Ok at → mid ≡ with_upload server.house bytes
+  pub upload_done : (server next : Server S D disk) (mid : Host) (judged : Judged) (n : ℕ) (bytes : List ℕ) (at : SiteName × Digest) (entry : Result (Option ℕ) Refusal) (result : Result Uploaded Refusal)
+      → judged ≡ Ok at → mid ≡ with_upload server.house bytes
       → IsStored did server.house.uploads server.files.shelf bytes next.files.shelf → next.files.cache ≡ server.files.cache
       → Publishes entry next.house (published_if_ready mid at.0 n) → (IsStopped entry → IsTrue (is_published mid at.0 n)) → OnErr entry (next.house ≡ mid)
       → IsJournaled disk entry mid server.journal next.house next.journal
-      → told_by told ≡ told_of entry (λ published. Uploaded published at.1) → ((why : Refusal) → entry ≡ Err why → told ≡ Err why)
-      → DoesUpload did failures server n path bytes told next
-  upload_done server next mid n path bytes at entry told judged known stored cache done stops left journaled says fails =
+      → told_upload result ≡ told_of entry (λ published. told.Uploaded published at.1) → ((why : Refusal) → entry ≡ Err why → result ≡ Err why)
+      → DoesUpload did failures server judged n bytes result next
+  upload_done server next mid judged n bytes at entry result allowed known stored cache done stops left journaled says fails =
       let from : KeepsUp disk server.house server.journal mid server.journal = keeps_entries disk server.house mid server.journal server.journal (ap (λ (h : Host). h.entries) known) refl in
       let same = journaled_then disk entry server.house mid next.house server.journal server.journal next.journal from journaled in
-      done_so server next mid n path bytes at entry told judged known stored cache done stops left
+      done_so server next mid judged n bytes at entry result allowed known stored cache done stops left
       (journaled_as disk entry server.house next.house server.journal next.journal same) says fails

@@ -27,7 +27,8 @@ use Rattle.host_api.specs.declared.bodies.Ask.{Ask}
 use Rattle.host_api.specs.declared.bodies.Ask.TheVariants as ask
 use Rattle.host_api.specs.declared.refusals.Refusal.{Refusal}
 use Rattle.host_disk.specs.declared.disks.Disk.{Ghosts}
-use Rattle.host_server.specs.Asks.{AskRunsOut, AskStops, IsAnswer, IsReplyToAsk, asked_for}
+use Rattle.host_server.specs.Asks.{AskRunsOut, AskStops, IsAnswer, IsReplyToAsk}
+use Rattle.host_answers.specs.Asking.{asked_for}
 use Rattle.host_server.specs.Files.{IsFileSent, IsFileTold, IsKnown, IsReadReply, ReadRunsOut}
 use Rattle.host_replies.specs.FileAsks.{plan_of}
 use Rattle.host_server.specs.Hosts.{Host, state_of, with_upload}
@@ -171,9 +172,9 @@ module _ {S D : Type 0} {disk : Ghosts D} (did : S → Call → S → Type 0) (f
   uploaded_known server next n bytes (Err why) agrees known stored cache is =
       goes_over server next (uploads_of next.house server.house is) (λ name. ap (λ (s : S). has s name) stored) cache known
 
-  refused_known : (server next : Server S D disk) (n : ℕ) (path bytes : List ℕ) (why : UploadFault) → AgreesWith server.house.uploads bytes → HasKnown has server
-      → IsRefusedByStore did failures server n path bytes why next → HasKnown has next
-  refused_known server next n path bytes why agrees known refused = record {
+  refused_known : (server next : Server S D disk) (judged : Result (SiteName × Digest) Refusal) (bytes : List ℕ) (why : UploadFault) → AgreesWith server.house.uploads bytes → HasKnown has server
+      → IsRefusedByStore did failures server judged bytes why next → HasKnown has next
+  refused_known server next judged bytes why agrees known refused = record {
     on_shelf = λ digest file found.
         let had = ap (λ (h : Host). map.get h.uploads digest) (sym refused.same) ∙ found in
         there_after_fault did has keeps server.house.uploads server.files.shelf next.files.shelf (things_of file) bytes why (agrees.known digest file had) refused.not_stored.put
@@ -185,11 +186,11 @@ module _ {S D : Type 0} {disk : Ghosts D} (did : S → Call → S → Type 0) (f
       → IsUploadReply did failures server n path bytes answer next → HasKnown has next
   upload_known server next n path bytes answer agrees known (inl (told, done, says)) =
       uploaded_known server next n bytes (judge_upload server.house n path bytes) agrees known done.stored done.cache done.host_is
-  upload_known server next n path bytes answer agrees known (inr (why, other, refused, says)) = refused_known server next n path bytes why agrees known refused
+  upload_known server next n path bytes answer agrees known (inr (why, other, refused, says)) = refused_known server next (judge_upload server.house n path bytes) bytes why agrees known refused
 
   upload_out_known : (server next : Server S D disk) (n : ℕ) (path bytes : List ℕ) → AgreesWith server.house.uploads bytes → HasKnown has server
       → UploadRunsOut did failures server n path bytes next → HasKnown has next
-  upload_out_known server next n path bytes agrees known (inl refused) = refused_known server next n path bytes fault.OutOfMemory agrees known refused
+  upload_out_known server next n path bytes agrees known (inl refused) = refused_known server next (judge_upload server.house n path bytes) bytes fault.OutOfMemory agrees known refused
   upload_out_known server next n path bytes agrees known (inr (inl left)) = stored_over server next bytes agrees known left.stored left.cache (uploads_of next.house _ left.known)
   upload_out_known server next n path bytes agrees known (inr (inr (told, done, text))) =
       uploaded_known server next n bytes (judge_upload server.house n path bytes) agrees known done.stored done.cache done.host_is

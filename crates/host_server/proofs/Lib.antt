@@ -1,11 +1,9 @@
 pub mod Journaling
 pub mod Committing
-pub mod HoldingUp
-pub mod Telling
+pub mod Entering
 mod KeptByReads
 mod StoredReads
 mod HonestReads
-pub mod Reading
 pub mod Keeping
 mod FilesKnown
 mod SameUploads
@@ -13,13 +11,15 @@ pub mod KnownFiles
 pub mod ExactReads
 pub mod Honest
 pub mod ReadBacks
-mod Memory
 pub mod Kept
 pub mod Reached
 pub mod Refusing
-pub mod Opening
 pub mod Opened
-pub mod Entering
 pub mod Growing
-pub mod Lines
 pub mod Refuted
+pub mod EntryAnswers
+pub mod OpenAnswers
+pub mod ReadAnswers
+pub mod UploadAnswers
+pub mod ServerAnswers
+pub mod Counting

@@ -13,8 +13,9 @@ use Rattle.host_api.specs.declared.refusals.Refusal.{Refusal}
 use Rattle.host_api.specs.declared.refusals.Refusal.TheVariants as reason
 use Rattle.host_api.specs.declared.texts.Told.TheVariants.{Uploaded}
 use Rattle.host_disk.specs.declared.disks.Disk.{Ghosts}
-use Rattle.host_server.specs.Asks.{AskRunsOut, AskStops, IsAnswer, IsReplyToAsk, asked_for, holds_up}
+use Rattle.host_server.specs.Asks.{AskRunsOut, AskStops, IsAnswer, IsReplyToAsk, holds_up}
 use Rattle.host_replies.specs.SentFiles.{sent_as}
+use Rattle.host_answers.specs.Asking.{asked_for}
 use Rattle.host_server.specs.Hosts.{Host}
 use Rattle.host_server.specs.Outcomes.{uploaded}
 use Rattle.host_server.specs.ReadBack.{IsReadBack}

@@ -6,13 +6,15 @@ use Rattle.site_change.specs.declared.refusals.ChangeRefusal.{ChangeRefusal}
 use Rattle.site_change.specs.declared.commands.Command.{Command}
 use Rattle.site_change.specs.declared.commands.Command.TheVariants as command
 use Rattle.change_undo.specs.Histories.{entry_at}
-use Rattle.change_undo.specs.declared.entries.Entry.TheVariants.{Change}
+use Rattle.change_undo.specs.declared.entries.Entry.{Entry}
+use Rattle.change_undo.specs.declared.entries.Entry.TheVariants.{Change, Undo}
 use Rattle.host_api.specs.declared.bodies.Ask.{Ask}
 use Rattle.host_api.specs.declared.bodies.Ask.TheVariants as ask
 use Rattle.host_api.specs.declared.refusals.Refusal.{Refusal}
 use Rattle.host_server.specs.Asks.{HostRunsOut, HostStops, IsHostReply}
+use Rattle.host_answers.specs.Deploys.{site_of_deploy}
 use Rattle.host_server.specs.Hosts.{Host, next_number, with_entry}
-use Rattle.host_server.specs.Outcomes.{commit_outcome, committed, enter_outcome, is_ready, outcome_on, published_if_ready, publishing, site_of_deploy, undone}
+use Rattle.host_server.specs.Outcomes.{commit_outcome, committed, enter_outcome, is_ready, outcome_on, published_if_ready, publishing, undone}
 use Rattle.host_server.specs.Reasons.{commit_refusal, undo_refusal}
 use Rattle.host_replies.specs.Replies.{Answer}
 
@@ -35,17 +37,16 @@ commit_same : (host : Host) (change : Command) (required : List Digest) (refusal
 commit_same host change required None = committed_same host change required
 commit_same host change required (Some why) = refl
 
-enter_same : (host : Host) (change : Command) (refusal : Option ChangeRefusal) → (enter_outcome host change refusal).host.uploads ≡ host.uploads
-enter_same host change None = refl
-enter_same host change (Some why) = refl
+enter_same : (host : Host) (entry : Entry) (refusal : Option ChangeRefusal) → (enter_outcome host entry refusal).host.uploads ≡ host.uploads
+enter_same host entry None = refl
+enter_same host entry (Some why) = refl
 
 on_same : (host : Host) (change : SiteName → Command) (site : Option SiteName) → (outcome_on host change site).host.uploads ≡ host.uploads
 on_same host change None = refl
-on_same host change (Some site) = enter_same host (change site) (commit_refusal host (change site))
+on_same host change (Some site) = enter_same host (Change (change site)) (commit_refusal host (change site))
 
 undone_same : (host : Host) (site : SiteName) (k : ℕ) (refusal : Option ChangeRefusal) → (undone host site k refusal).host.uploads ≡ host.uploads
-undone_same host site k None = refl
-undone_same host site k (Some why) = refl
+undone_same host site k refusal = enter_same host (Undo site k) refusal
 
 pub uploads_of : (a b : Host) → a ≡ b → a.uploads ≡ b.uploads
 uploads_of a b is = ap (λ (h : Host). h.uploads) is

@@ -1,7 +1,9 @@
 -- What is read of the files of a shelf through a cache.
-use Rattle.std.proofs.Common.{◌≡◌, ◌⊎◌, inl, inr, ℕ, ◌<◌, ◌≤◌, List, [], ◌∷◌, Contains, Option, Some, Result, Err, map, refl, sym, subst, ◌∙◌, arith}
+use Rattle.std.proofs.Common.{◌≡◌, ◌⊎◌, inl, inr, ℕ, ◌<◌, ◌≤◌, List, [], ◌∷◌, Contains, Option, Some, Result, Ok, Err, map, refl, sym, subst, ◌∙◌, arith}
 use Rattle.std.specs.List.{AllByRecursion}
 use Rattle.host_names.specs.declared.digests.Digest.{Digest}
+use Rattle.byte_view.specs.Holds.{Held}
+use Rattle.chunk_reads.proofs.Turns.{of_failed}
 use Rattle.host_names.specs.Digests.{digest_of}
 use Rattle.byte_view.specs.Cuts.{cut, pieces_met}
 use Rattle.chunk_reads.specs.declared.faults.ReadFault.{ReadFault}
@@ -88,6 +90,24 @@ module _ {S : Type 0} (did : S → Call → S → Type 0) (failures : S → ℕ)
   pub fault_counts : (old new : CachedShelf S) (file : List ℕ) (plan : Choice)
       → IsNotRead (GaveOfNode did failures) (FailedOfNode did failures) old file plan Device new → failures old.shelf < failures new.shelf
   fault_counts old new file plan is = (stops_on old file new plan Device is).1 refl
+
+  -- nor by a hold, or where one can't be given
+
+  turns_go_on : (old new : CachedShelf S) (chunks : List (List ℕ)) → ReadsInTurn (ReadsChunk did failures) old chunks new → GoesOn old new
+  turns_go_on old new [] same = subst (GoesOn old) (sym same) (omega (arith))
+  turns_go_on old new (chunk ∷ chunks) (mid, read, more) =
+      let first = one_goes_on old mid (digest_of chunk) (Ok chunk) read in
+      let rest = turns_go_on mid new chunks more in
+      omega (arith, first, rest)
+
+  pub gave_counts : (old : CachedShelf S) (hold : Held) (new : CachedShelf S) → GaveOfNode did failures old hold new → failures old.shelf ≤ failures new.shelf
+  gave_counts old hold new is = turns_go_on old new hold.chunks is
+
+  pub failed_counts : (old : CachedShelf S) (file : List ℕ) (first last : ℕ) (why : ReadFault) (new : CachedShelf S) → FailedOfNode did failures old file first last why new
+      → failures old.shelf ≤ failures new.shelf
+  failed_counts old file first last why new is =
+      (of_failed (ReadsChunk did failures) file Any (any_met file) (GoesOn old) (read_on old file) (StopsOn old file) (fault_on old file) (none_on old file) (wrong_on old file)
+      old new first last why (omega (arith)) is).0
 
   -- ---- over a shelf that keeps what is put there
 

@@ -1,13 +1,10 @@
 -- What a request is answered, and what the server has then.
-use Rattle.std.specs.Prelude.{◌≡◌, ◌⊎◌, ℕ, List, Bool, true, false, Option, None, Result, Ok, Err, IsTrue}
+use Rattle.std.specs.Prelude.{◌≡◌, ◌⊎◌, ℕ, List, Bool, true, false, None, Result, Ok, Err, IsTrue}
 use Rattle.host_names.specs.declared.digests.Digest.{Digest}
 use Rattle.blob_store.specs.Calls.{Call}
 use Rattle.http_wire.specs.Requests.{RequestParts}
-use Rattle.change_journal.specs.entries.Held.{Keeps}
 use Rattle.site_change.specs.declared.commands.Command.{Command}
 use Rattle.site_change.specs.declared.commands.Command.TheVariants.{Cancel, RemoveDeploy}
-use Rattle.host_api.specs.Bodies.{asked, then_with}
-use Rattle.host_api.specs.Routes.{routed}
 use Rattle.host_api.specs.Texts.{has_cell}
 use Rattle.host_api.specs.declared.bodies.Ask.{Ask}
 use Rattle.host_api.specs.declared.bodies.Ask.TheVariants as ask
@@ -16,24 +13,21 @@ use Rattle.host_api.specs.declared.refusals.Refusal.TheVariants.{Broken, Device,
 use Rattle.host_api.specs.declared.texts.Told.{Told}
 use Rattle.host_api.specs.declared.texts.Told.TheVariants.{Changes}
 use Rattle.host_disk.specs.declared.disks.Disk.{Ghosts}
+use Rattle.host_answers.specs.Asking.{asked_for, asking_takes}
+use Rattle.host_answers.specs.ChangeLists.{shown_lines}
 use Rattle.host_server.specs.Files.{IsReadReply, ReadRunsOut}
 use Rattle.host_server.specs.HeldUp.{is_held_up}
 use Rattle.host_server.specs.Hosts.{Host, state_of}
-use Rattle.host_server.specs.Journals.{BreaksOff, KeepsUp}
-use Rattle.host_server.specs.Memory.{CommandRunsOut, UndoRunsOut, DeployRunsOut, TextRunsOut, asking_takes}
+use Rattle.host_server.specs.Memory.{CommandRunsOut, UndoRunsOut, DeployRunsOut, TextRunsOut}
 use Rattle.host_replies.specs.Replies.{takes_text}
-use Rattle.host_server.specs.Outcomes.{Outcome, AreRequired, commit_outcome, deploy_outcome, undone}
+use Rattle.host_server.specs.Outcomes.{Outcome, AreRequired, commit_outcome, deploy_outcome, judge_upload, undone}
 use Rattle.host_server.specs.Reasons.{commit_refusal, undo_refusal}
 use Rattle.host_replies.specs.Replies.{Answer, refused_answer, told_answer}
-use Rattle.host_server.specs.Shown.{ShowsDeploy, is_open, shown_lines}
+use Rattle.host_server.specs.Shown.{ShowsDeploy, is_open}
 use Rattle.host_server.specs.ServerJournals.{Breaks, GoesOn}
 use Rattle.host_server.specs.Storing.{IsUnpublished, IsUploadReply, UploadRunsOut}
 use Rattle.host_replies.specs.Versions.{file_of}
 use Rattle.host_server.specs.declared.servers.Server.{Server}
-
--- what a request of these parts and this body asks for, or the first reason why it asks for nothing
-abbrev pub asked_for : RequestParts → List ℕ → Result Ask Refusal
-asked_for parts body = then_with (routed parts.method parts.target) (λ route. asked route body)
 
 -- ---- without the files
 
@@ -52,7 +46,7 @@ abbrev pub IsHostReply : Host → Result Ask Refusal → Answer → Host → Typ
 IsHostReply host (Err refusal) answer next = (answer ≡ refused_answer refusal) × (next ≡ host)
 IsHostReply host (Ok (ask.Command command)) answer next = IsCommitTold host command answer next
 IsHostReply host (Ok (ask.Undo site change)) answer next = IsTold (undone host site change (undo_refusal host site change)) answer next
-IsHostReply host (Ok (ask.Changes site)) answer next = (answer ≡ told_answer (Changes (shown_lines host site))) × (next ≡ host)
+IsHostReply host (Ok (ask.Changes site)) answer next = (answer ≡ told_answer (Changes (shown_lines host.entries site))) × (next ≡ host)
 IsHostReply host (Ok (ask.Deploy deploy)) answer next =
     (told : Told) × ShowsDeploy host deploy told × (answer ≡ told_answer told) × (next ≡ host)
 IsHostReply host (Ok (ask.RemoveDeploy deploy)) answer next =
@@ -109,7 +103,8 @@ AskRunsOut did failures server parts body asking next = HostRunsOut server.house
 
 -- what the server has where the device fails while an entry is put into the journal
 abbrev pub AskStops : {S D : Type 0} {disk : Ghosts D} → (did : S → Call → S → Type 0) → Server S D disk → List ℕ → Result Ask Refusal → Server S D disk → Type 0
-AskStops did server body (Ok (ask.Upload deploy path)) next = IsUnpublished did server deploy path body next
+AskStops did server body (Ok (ask.Upload deploy path)) next =
+    IsUnpublished did server (judge_upload server.house deploy path body) deploy body next
 AskStops did server body asking next = HostStops server.house asking next.house × (next.files ≡ server.files)
 
 -- ---- a request
@@ -150,31 +145,3 @@ IsAnswer did failures server parts body answer next =
     (IsReply did failures server parts body answer next × GoesOn server next)
     ⊎ (IsWithoutMemory did failures server parts body answer next × GoesOn server next)
     ⊎ (IsBrokenOff did server parts body answer next × Breaks server next)
-
--- ---- what private functions say
-
--- the answer to what a request asks for that no file is read or stored for
-abbrev pub AnswersHost : {D : Type 0} → (disk : Ghosts D) → Host → Option (Keeps D) → Result Ask Refusal → Answer → Host → Option (Keeps D) → Type 0
-AnswersHost disk host journal asking answer next new_journal =
-    (IsHostReply host asking answer next × KeepsUp disk host journal next new_journal)
-    ⊎ (((answer ≡ refused_answer OutOfMemory) × HostRunsOut host asking next) × KeepsUp disk host journal next new_journal)
-    ⊎ (((answer ≡ refused_answer Device) × HostStops host asking next) × BreaksOff disk host journal next new_journal)
-
--- the answer to what a request asks for that isn't held up
-abbrev pub CarriesOut : {S D : Type 0} {disk : Ghosts D} → (did : S → Call → S → Type 0) → (failures : S → ℕ) → Server S D disk → RequestParts → List ℕ → Result Ask Refusal → Answer → Server S D disk → Type 0
-CarriesOut did failures server parts body asking answer next =
-    (IsReplyToAsk did failures server parts body asking answer next × GoesOn server next)
-    ⊎ (((answer ≡ refused_answer OutOfMemory) × AskRunsOut did failures server parts body asking next) × GoesOn server next)
-    ⊎ (((answer ≡ refused_answer Device) × AskStops did server body asking next) × Breaks server next)
-
--- the answer to what a request asks for
-abbrev pub AnswersAsk : {S D : Type 0} {disk : Ghosts D} → (did : S → Call → S → Type 0) → (failures : S → ℕ) → Server S D disk → RequestParts → List ℕ → Result Ask Refusal → Answer → Server S D disk → Type 0
-AnswersAsk did failures server parts body asking answer next =
-    ((holds_up server asking ≡ true) × (answer ≡ refused_answer Broken) × (next ≡ server))
-    ⊎ ((holds_up server asking ≡ false) × CarriesOut did failures server parts body asking answer next)
-
--- the answer to the reading of a file
-abbrev pub AnswersRead : {S D : Type 0} {disk : Ghosts D} → (did : S → Call → S → Type 0) → (failures : S → ℕ) → Server S D disk → RequestParts → List ℕ → Result (List ℕ) Refusal → Answer → Server S D disk → Type 0
-AnswersRead did failures server parts path file answer next =
-    IsReadReply did failures server parts path file answer next
-    ⊎ ((answer ≡ refused_answer OutOfMemory) × ReadRunsOut did failures server parts file next)

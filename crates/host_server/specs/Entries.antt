@@ -6,8 +6,8 @@ use Rattle.site_change.specs.declared.refusals.ChangeRefusal.{ChangeRefusal}
 use Rattle.change_journal.specs.entries.Held.{Keeps}
 use Rattle.change_undo.specs.declared.entries.Entry.{Entry}
 use Rattle.change_undo.specs.Histories.{may_take_memory}
-use Rattle.host_api.specs.declared.refusals.Refusal.{Refusal}
-use Rattle.host_api.specs.declared.refusals.Refusal.TheVariants as reason
+use Rattle.host_answers.specs.declared.stops.Stop.{Stop}
+use Rattle.host_answers.specs.declared.stops.Stop.TheVariants as stop
 use Rattle.journaled_history.specs.declared.entry_faults.EntryFault.{EntryFault}
 use Rattle.journaled_history.specs.declared.entry_faults.EntryFault.TheVariants as entry_fault
 use Rattle.host_server.specs.declared.host.entry_errors.EntryError.{EntryError}
@@ -25,11 +25,11 @@ abbrev pub of_entry_fault : EntryFault → EntryError
 of_entry_fault entry_fault.OutOfMemory = OutOfMemory
 of_entry_fault entry_fault.Device = Device
 
--- an error, as it is told
-abbrev pub told_error : EntryError → Refusal
-told_error (Refused why) = reason.Change why
-told_error OutOfMemory = reason.OutOfMemory
-told_error Device = reason.Device
+-- an error, as a house answers it
+abbrev pub stop_of : EntryError → Stop
+stop_of (Refused why) = stop.Refused why
+stop_of OutOfMemory = stop.OutOfMemory
+stop_of Device = stop.Device
 
 -- a command is refused exactly where there is a reason, and by that
 abbrev pub IsRefusedAs : {A : Type 0} → Option ChangeRefusal → Result A EntryError → Type 0

@@ -1,13 +1,13 @@
 -- Where a request is held up: the journal's device has failed.
-use Rattle.std.specs.Prelude.{◌≡◌, ℕ, Bool, true, false, ◌&&◌, Option, Result, Ok, Err, is_some}
+use Rattle.std.specs.Prelude.{ℕ, Bool, true, false, ◌&&◌, Option, Result, Ok, Err, is_some}
 use Rattle.change_journal.specs.entries.Held.{Keeps}
 use Rattle.change_undo.specs.Histories.{entry_at}
 use Rattle.host_api.specs.declared.bodies.Ask.{Ask}
 use Rattle.host_api.specs.declared.bodies.Ask.TheVariants as ask
 use Rattle.host_api.specs.declared.refusals.Refusal.{Refusal}
+use Rattle.host_answers.specs.Deploys.{site_of_deploy}
 use Rattle.host_server.specs.Hosts.{Host}
 use Rattle.host_server.specs.Journals.{is_broken}
-use Rattle.host_server.specs.Outcomes.{site_of_deploy}
 
 -- whether an entry opened the deploy of a number
 abbrev pub is_opened : Host → ℕ → Bool
@@ -26,7 +26,3 @@ may_change host other = false
 abbrev pub is_held_up : {D : Type 0} → Host → Option (Keeps D) → Result Ask Refusal → Bool
 is_held_up host journal (Ok asking) = is_broken journal && may_change host asking
 is_held_up host journal (Err why) = false
-
--- what is asked for of the deploy of a number is not held up
-abbrev pub IsWholeFor : {D : Type 0} → Option (Keeps D) → Host → ℕ → Type 0
-IsWholeFor journal host n = (is_broken journal && is_opened host n) ≡ false

@@ -7,7 +7,7 @@ pub mod Reasons
 pub mod Outcomes
 pub mod Memory
 pub mod HeldUp
--- what is read of it
+-- what is shown of its deploys
 pub mod Shown
 -- what is answered, and what a connection and a run of the program do
 pub mod Files
@@ -18,8 +18,8 @@ pub mod ReadBack
 pub mod Openings
 pub mod OpeningLines
 pub mod Solo
--- what the values and the calls of the code mean: `answer_of` and `Grows` for callers, the others for private functions
-pub mod Answers
+-- what the calls of a server do, as those of a house
+pub mod ServerHouses
 -- what stays of a host, step by step, and to what no body is sent
 pub mod Growth
 pub mod Withheld

@@ -1,5 +1,5 @@
 -- Where memory may run out, and what a host has by then.
-use Rattle.std.specs.Prelude.{◌≡◌, ◌⊎◌, ℕ, List, Bool, false, ◌&&◌, ◌||◌, Option, Some, None, Result, Ok, Err, is_none, IsTrue}
+use Rattle.std.specs.Prelude.{◌≡◌, ◌⊎◌, ℕ, Bool, false, ◌&&◌, Option, Some, None, is_none, IsTrue}
 use Rattle.host_names.specs.declared.names.SiteName.{SiteName}
 use Rattle.site_change.specs.declared.refusals.ChangeRefusal.{ChangeRefusal}
 use Rattle.site_change.specs.declared.refusals.ChangeRefusal.TheVariants.{NoSuchDeploy}
@@ -7,14 +7,10 @@ use Rattle.site_change.specs.declared.commands.Command.{Command}
 use Rattle.site_change.specs.declared.commands.Command.TheVariants.{Open, Publish}
 use Rattle.change_undo.specs.declared.entries.Entry.TheVariants.{Change}
 use Rattle.change_undo.specs.Histories.{entry_at, may_take_memory}
-use Rattle.http_wire.specs.Requests.{RequestParts}
-use Rattle.host_api.specs.Bodies.{is_parsed}
-use Rattle.host_api.specs.Routes.{routed, has_path}
-use Rattle.host_api.specs.declared.refusals.Refusal.{Refusal}
-use Rattle.host_api.specs.declared.routes.Route.{Route}
 use Rattle.host_replies.specs.Replies.{takes_text}
+use Rattle.host_answers.specs.Deploys.{site_of_deploy}
 use Rattle.host_server.specs.Hosts.{Host, next_number, with_entry}
-use Rattle.host_server.specs.Outcomes.{Outcome, is_ready, site_of_deploy}
+use Rattle.host_server.specs.Outcomes.{Outcome, is_ready}
 use Rattle.host_server.specs.Reasons.{commit_refusal, undo_refusal}
 
 -- whether a deploy would be published now: it is ready, and its publishing would not be refused
@@ -56,14 +52,3 @@ DeployRunsOut host n command next = (next ≡ host) × (deploy_refusal host n co
 -- all is done, and there is no memory for the text that tells it
 abbrev pub TextRunsOut : Outcome → Host → Type 0
 TextRunsOut out next = (next ≡ out.host) × IsTrue (takes_text out.told)
-
--- ---- what a request asks for
-
--- whether it takes memory to find what a request on this route asks for: to keep the path of a file, or to parse the body
-abbrev pub route_takes : List ℕ → Result Route Refusal → Bool
-route_takes body (Err refusal) = false
-route_takes body (Ok route) = has_path (Ok route) || is_parsed route body
-
--- whether it takes memory to find what this request asks for
-abbrev pub asking_takes : RequestParts → List ℕ → Bool
-asking_takes parts body = route_takes body (routed parts.method parts.target)

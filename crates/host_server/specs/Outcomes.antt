@@ -1,5 +1,5 @@
 -- What a host tells of a change, an undo or an upload, and what it has then.
-use Rattle.std.specs.Prelude.{◌≡◌, ◌⊎◌, ℕ, List, [], Bool, true, false, ◌&&◌, Option, Some, None, Result, Ok, Err, is_none, option_map, if◌then◌else◌}
+use Rattle.std.specs.Prelude.{◌≡◌, ◌⊎◌, ℕ, List, [], Bool, false, ◌&&◌, Option, Some, None, Result, Ok, Err, is_none, option_map, if◌then◌else◌}
 use Rattle.std.specs.Option.{option_flatten}
 use Rattle.host_names.specs.Digests.{digest_of}
 use Rattle.byte_view.specs.Contents.{Contents}
@@ -21,6 +21,7 @@ use Rattle.host_api.specs.declared.refusals.Refusal.{Refusal}
 use Rattle.host_api.specs.declared.refusals.Refusal.TheVariants as reason
 use Rattle.host_api.specs.declared.texts.Told.{Told}
 use Rattle.host_api.specs.declared.texts.Told.TheVariants.{Opened, Uploaded, Entered, Refused}
+use Rattle.host_answers.specs.Deploys.{site_of_deploy}
 use Rattle.host_server.specs.Hosts.{Host, state_of, next_number, with_entry, with_upload}
 use Rattle.host_server.specs.Journals.{IsStopped}
 use Rattle.host_server.specs.Reasons.{commit_refusal}
@@ -82,21 +83,21 @@ abbrev pub AreRequired : Contents → Command → Option ChangeRefusal → List 
 AreRequired uploads (Open site files auto) None required = AreMissing uploads files.1 required
 AreRequired uploads command refusal required = required ≡ []
 
--- the command's entry, whose number is told
-abbrev pub entering : Host → Command → Outcome
-entering host command = record { told = Entered (next_number host); host = with_entry host (Change command) }
+-- the entry, whose number is told
+abbrev pub entering : Host → Entry → Outcome
+entering host entry = record { told = Entered (next_number host); host = with_entry host entry }
 
--- what comes of a command that opens nothing, where this is the first reason against it
-abbrev pub enter_outcome : Host → Command → Option ChangeRefusal → Outcome
-enter_outcome host command (Some why) = refused host (reason.Change why)
-enter_outcome host command None = entering host command
+-- what comes of an entry alone, where this is the first reason against it
+abbrev pub enter_outcome : Host → Entry → Option ChangeRefusal → Outcome
+enter_outcome host entry (Some why) = refused host (reason.Change why)
+enter_outcome host entry None = entering host entry
 
 -- what comes of a command that is not refused: an opening also publishes what it leaves ready
 abbrev pub committed : Host → Command → List Digest → Outcome
 committed host (Open site files auto) required =
     then_published (published_if_ready (with_entry host (Change (Open site files auto))) site (next_number host))
     (λ published. Opened (next_number host) published required)
-committed host command required = entering host command
+committed host command required = entering host (Change command)
 
 -- what comes of a command, where this is the first reason against it
 abbrev pub commit_outcome : Host → Command → List Digest → Option ChangeRefusal → Outcome
@@ -105,15 +106,10 @@ commit_outcome host command required None = committed host command required
 
 -- ---- commands on a deploy whose site the request does not name
 
--- the site of a deploy is that of the entry which opened it
-abbrev pub site_of_deploy : Option Entry → Option SiteName
-site_of_deploy (Some (Change (Open site files auto))) = Some site
-site_of_deploy entry = None
-
 -- what comes of a command on the deploy of this site
 abbrev pub outcome_on : Host → (SiteName → Command) → Option SiteName → Outcome
 outcome_on host command None = refused host (reason.Change NoSuchDeploy)
-outcome_on host command (Some site) = enter_outcome host (command site) (commit_refusal host (command site))
+outcome_on host command (Some site) = enter_outcome host (Change (command site)) (commit_refusal host (command site))
 
 -- what comes of a command on the deploy of a number, which an entry opened
 abbrev pub deploy_outcome : Host → ℕ → (SiteName → Command) → Outcome
@@ -123,8 +119,7 @@ deploy_outcome host n command = outcome_on host command (site_of_deploy (entry_a
 
 -- what comes of the undo of a change, where this is the first reason against it
 abbrev pub undone : Host → SiteName → ℕ → Option ChangeRefusal → Outcome
-undone host site k (Some why) = refused host (reason.Change why)
-undone host site k None = record { told = Entered (next_number host); host = with_entry host (Undo site k) }
+undone host site k refusal = enter_outcome host (Undo site k) refusal
 
 -- ---- uploads
 
@@ -164,39 +159,3 @@ uploaded host n bytes (Err why) = refused host why
 -- what comes of an upload of these bytes to a path of the deploy of a number
 abbrev pub upload_outcome : Host → ℕ → List ℕ → List ℕ → Outcome
 upload_outcome host n path bytes = uploaded host n bytes (judge_upload host n path bytes)
-
--- ---- what is done first
-
--- the entry of the command alone, without that which publishes what it opened
-abbrev pub entered : Host → Command → Option ChangeRefusal → Host
-entered host command (Some why) = host
-entered host command None = with_entry host (Change command)
-
--- the bytes alone, without that entry
-abbrev pub kept : Host → List ℕ → Result (SiteName × Digest) Refusal → Host
-kept host bytes (Ok at) = with_upload host bytes
-kept host bytes (Err why) = host
-
--- ---- answers of calls
-
--- whether a refusal is told
-abbrev pub is_refusal : Told → Bool
-is_refusal (Refused why) = true
-is_refusal told = false
-
--- what is told where a call answers so
-abbrev pub told_by : Result Told Refusal → Told
-told_by (Ok told) = told
-told_by (Err why) = Refused why
-
--- the call did that, unless there was no memory or the journal's device failed
-abbrev pub Does : Result Told Refusal → Host → Outcome → Type 0
-Does result host out = IsStopped result ⊎ ((told_by result ≡ out.told) × (host ≡ out.host))
-
--- the same of a command
-abbrev pub DoesCommit : Result Told Refusal → Host → Host → Command → Type 0
-DoesCommit result next host command =
-    IsStopped result
-    ⊎ ((required : List Digest) × AreRequired host.uploads command (commit_refusal host command) required
-    × (told_by result ≡ (commit_outcome host command required (commit_refusal host command)).told)
-    × (next ≡ (commit_outcome host command required (commit_refusal host command)).host))

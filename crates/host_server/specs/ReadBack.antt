@@ -22,7 +22,7 @@ use Rattle.host_api.specs.declared.bodies.Ask.TheVariants.{Read, Upload}
 use Rattle.host_api.specs.declared.refusals.Refusal.TheVariants as reason
 use Rattle.host_api.specs.declared.versions.Version.{Version}
 use Rattle.host_disk.specs.declared.disks.Disk.{Ghosts}
-use Rattle.host_server.specs.Asks.{asked_for}
+use Rattle.host_answers.specs.Asking.{asked_for}
 use Rattle.host_replies.specs.FileAsks.{AsksRange, plan_of}
 use Rattle.host_replies.specs.SentFiles.{sent_answer}
 use Rattle.host_server.specs.Hosts.{state_of}

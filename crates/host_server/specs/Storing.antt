@@ -1,4 +1,4 @@
--- What is answered to an upload.
+-- What comes of an upload, and what is answered to it.
 use Rattle.std.specs.Prelude.{◌≡◌, ◌≢◌, ◌⊎◌, ◌↔◌, ℕ, ◌<◌, ◌≤◌, List, None, Result, Ok, Err, IsSome, IsTrue, length}
 use Rattle.std.specs.FinMap as map
 use Rattle.host_names.specs.Digests.{digest_of}
@@ -13,9 +13,11 @@ use Rattle.host_api.specs.declared.refusals.Refusal.{Refusal}
 use Rattle.host_api.specs.declared.refusals.Refusal.TheVariants as reason
 use Rattle.host_api.specs.declared.texts.Told.{Told}
 use Rattle.host_disk.specs.declared.disks.Disk.{Ghosts}
+use Rattle.host_answers.specs.Answers.{told_upload}
+use Rattle.host_answers.specs.declared.uploads.Uploaded.{Uploaded}
 use Rattle.host_server.specs.Hosts.{with_upload}
 use Rattle.host_server.specs.Memory.{is_published, TextRunsOut}
-use Rattle.host_server.specs.Outcomes.{judge_upload, told_by, upload_outcome}
+use Rattle.host_server.specs.Outcomes.{judge_upload, upload_outcome, uploaded}
 use Rattle.host_replies.specs.Replies.{Answer, refused_answer, told_answer}
 use Rattle.host_server.specs.ServerJournals.{Breaks, GoesOn}
 use Rattle.host_server.specs.declared.servers.Server.{Server}
@@ -47,55 +49,57 @@ IsStoredIf did (Ok at) uploads old bytes new = IsStored did uploads old bytes ne
 IsStoredIf did (Err why) uploads old bytes new = new ≡ old
 
 -- the bytes are stored where nothing is against them, what is in the cache stays, and the host does what comes of that
-pub record IsUploaded {S D : Type 0} {disk : Ghosts D} (did : S → Call → S → Type 0) (server : Server S D disk) (n : ℕ) (path bytes : List ℕ) (told : Told) (next : Server S D disk) : Type 0 where
-  pub stored : IsStoredIf did (judge_upload server.house n path bytes) server.house.uploads server.files.shelf bytes next.files.shelf
+pub record IsUploaded {S D : Type 0} {disk : Ghosts D} (did : S → Call → S → Type 0) (server : Server S D disk) (judged : Result (SiteName × Digest) Refusal) (n : ℕ) (bytes : List ℕ) (told : Told) (next : Server S D disk) : Type 0 where
+  pub stored : IsStoredIf did judged server.house.uploads server.files.shelf bytes next.files.shelf
   pub cache : next.files.cache ≡ server.files.cache
-  pub told_is : told ≡ (upload_outcome server.house n path bytes).told
-  pub host_is : next.house ≡ (upload_outcome server.house n path bytes).host
+  pub told_is : told ≡ (uploaded server.house n bytes judged).told
+  pub host_is : next.house ≡ (uploaded server.house n bytes judged).host
 
 -- nothing is against the bytes, but they can't be stored, and nothing else is done
-pub record IsRefusedByStore {S D : Type 0} {disk : Ghosts D} (did : S → Call → S → Type 0) (failures : S → ℕ) (server : Server S D disk) (n : ℕ) (path bytes : List ℕ) (why : UploadFault) (next : Server S D disk)
+pub record IsRefusedByStore {S D : Type 0} {disk : Ghosts D} (did : S → Call → S → Type 0) (failures : S → ℕ) (server : Server S D disk) (judged : Result (SiteName × Digest) Refusal) (bytes : List ℕ) (why : UploadFault) (next : Server S D disk)
     : Type 0 where
   pub at : SiteName × Digest
-  pub judged : judge_upload server.house n path bytes ≡ Ok at
+  pub allowed : judged ≡ Ok at
   pub not_stored : IsNotStored did failures server.house.uploads server.files.shelf bytes why next.files.shelf
   pub cache : next.files.cache ≡ server.files.cache
   pub same : next.house ≡ server.house
 
 -- the bytes are stored and known, and the entry that publishes the deploy that they complete is not made
-pub record IsUnpublished {S D : Type 0} {disk : Ghosts D} (did : S → Call → S → Type 0) (server : Server S D disk) (n : ℕ) (path bytes : List ℕ) (next : Server S D disk) : Type 0 where
+pub record IsUnpublished {S D : Type 0} {disk : Ghosts D} (did : S → Call → S → Type 0) (server : Server S D disk) (judged : Result (SiteName × Digest) Refusal) (n : ℕ) (bytes : List ℕ) (next : Server S D disk) : Type 0 where
   pub at : SiteName × Digest
-  pub judged : judge_upload server.house n path bytes ≡ Ok at
+  pub allowed : judged ≡ Ok at
   pub stored : IsStored did server.house.uploads server.files.shelf bytes next.files.shelf
   pub cache : next.files.cache ≡ server.files.cache
   pub known : next.house ≡ with_upload server.house bytes
   pub published : IsTrue (is_published (with_upload server.house bytes) at.0 n)
+
+-- ---- the call
+
+-- there was no memory for that entry, or the journal's device failed while it was put
+abbrev pub StopsPublishing : {S D : Type 0} {disk : Ghosts D} → Server S D disk → Result Uploaded Refusal → Server S D disk → Type 0
+StopsPublishing server done next =
+    ((done ≡ Err reason.OutOfMemory) × GoesOn server next) ⊎ ((done ≡ Err reason.Device) × Breaks server next)
+
+-- bytes, of which this was judged, are taken for the deploy of a number, or it is told why not
+abbrev pub DoesUpload : {S D : Type 0} {disk : Ghosts D} → (did : S → Call → S → Type 0) → (failures : S → ℕ) → Server S D disk → Result (SiteName × Digest) Refusal → ℕ → List ℕ → Result Uploaded Refusal → Server S D disk → Type 0
+DoesUpload did failures server judged n bytes done next =
+    (IsUploaded did server judged n bytes (told_upload done) next × GoesOn server next)
+    ⊎ ((why : UploadFault) × IsRefusedByStore did failures server judged bytes why next × (done ≡ Err (refusal_of_upload why)) × GoesOn server next)
+    ⊎ (IsUnpublished did server judged n bytes next × StopsPublishing server done next)
 
 -- ---- the reply
 
 -- the reply to an upload: what comes of it, or the reason why the store doesn't take the bytes
 abbrev pub IsUploadReply : {S D : Type 0} {disk : Ghosts D} → (did : S → Call → S → Type 0) → (failures : S → ℕ) → Server S D disk → ℕ → List ℕ → List ℕ → Answer → Server S D disk → Type 0
 IsUploadReply did failures server n path bytes answer next =
-    ((told : Told) × IsUploaded did server n path bytes told next × (answer ≡ told_answer told))
-    ⊎ ((why : UploadFault) × (why ≢ fault.OutOfMemory) × IsRefusedByStore did failures server n path bytes why next × (answer ≡ refused_answer (refusal_of_upload why)))
+    ((told : Told) × IsUploaded did server (judge_upload server.house n path bytes) n bytes told next × (answer ≡ told_answer told))
+    ⊎ ((why : UploadFault) × (why ≢ fault.OutOfMemory) × IsRefusedByStore did failures server (judge_upload server.house n path bytes) bytes why next
+    × (answer ≡ refused_answer (refusal_of_upload why)))
 
 -- an upload runs out of memory: the store does, or the entry that publishes, or the text of the reply
 abbrev pub UploadRunsOut : {S D : Type 0} {disk : Ghosts D} → (did : S → Call → S → Type 0) → (failures : S → ℕ) → Server S D disk → ℕ → List ℕ → List ℕ → Server S D disk → Type 0
 UploadRunsOut did failures server n path bytes next =
-    IsRefusedByStore did failures server n path bytes fault.OutOfMemory next
-    ⊎ IsUnpublished did server n path bytes next
-    ⊎ ((told : Told) × IsUploaded did server n path bytes told next × TextRunsOut (upload_outcome server.house n path bytes) next.house)
-
--- ---- what private functions say
-
--- there was no memory for that entry, or the journal's device failed while it was put
-abbrev pub StopsPublishing : {S D : Type 0} {disk : Ghosts D} → Server S D disk → Result Told Refusal → Server S D disk → Type 0
-StopsPublishing server result next =
-    ((result ≡ Err reason.OutOfMemory) × GoesOn server next) ⊎ ((result ≡ Err reason.Device) × Breaks server next)
-
--- the call did that, or says why not
-abbrev pub DoesUpload : {S D : Type 0} {disk : Ghosts D} → (did : S → Call → S → Type 0) → (failures : S → ℕ) → Server S D disk → ℕ → List ℕ → List ℕ → Result Told Refusal → Server S D disk → Type 0
-DoesUpload did failures server n path bytes result next =
-    (IsUploaded did server n path bytes (told_by result) next × GoesOn server next)
-    ⊎ ((why : UploadFault) × IsRefusedByStore did failures server n path bytes why next × (result ≡ Err (refusal_of_upload why)) × GoesOn server next)
-    ⊎ (IsUnpublished did server n path bytes next × StopsPublishing server result next)
+    IsRefusedByStore did failures server (judge_upload server.house n path bytes) bytes fault.OutOfMemory next
+    ⊎ IsUnpublished did server (judge_upload server.house n path bytes) n bytes next
+    ⊎ ((told : Told) × IsUploaded did server (judge_upload server.house n path bytes) n bytes told next
+    × TextRunsOut (upload_outcome server.house n path bytes) next.house)

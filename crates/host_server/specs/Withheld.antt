@@ -11,7 +11,8 @@ use Rattle.http_wire.specs.Requests.{RequestParts}
 use Rattle.range_reply.specs.declared.boundaries.Boundary.{Boundary}
 use Rattle.range_spec.specs.declared.selection.Choice.{Choice}
 use Rattle.range_spec.specs.declared.selection.Choice.TheVariants.{Whole, One, Many, None416}
-use Rattle.host_server.specs.Asks.{IsAnswer, IsHostReply, IsReplyToAsk, asked_for}
+use Rattle.host_server.specs.Asks.{IsAnswer, IsHostReply, IsReplyToAsk}
+use Rattle.host_answers.specs.Asking.{asked_for}
 use Rattle.host_server.specs.Files.{IsFileTold, IsReadReply}
 use Rattle.host_replies.specs.SentFiles.{sent_as}
 use Rattle.host_server.specs.Hosts.{Host, state_of}

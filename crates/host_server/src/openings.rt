@@ -190,10 +190,13 @@ impl<S: Shelf, D: Disk> Server<S, D> {
         ensures memory { IsTrue D.is_modelled → IfErr result (λ stop. stop.fault ≡ OutOfMemory
             → HasRecord (D.seen disk) ⊎ HadJournal D.Disk disk stop.disk) }
         ensures no_journal { IsTrue D.is_modelled → IsNoJournal (D.seen disk)
-            → MatchResult result (λ _. ⊥) (λ stop. (stop.fault ≡ BadHeader) ⊎ (stop.fault ≡ JournalDevice)) }
+            → MatchResult result (λ _. ⊥) (λ stop.
+            (stop.fault ≡ BadHeader) ⊎ (stop.fault ≡ JournalDevice)) }
         ensures reason { IsTrue D.is_modelled → IsRefused IsText (D.seen disk)
-            → IfErr result (λ stop. stop.fault ≡ JournalDevice → MayFailReading D.seen D.may_fail (D.seen disk)) }
-        ensures device { IfErr result (λ stop. stop.fault ≡ BlobsDevice → S.failures shelf < S.failures stop.shelf) }
+            → IfErr result (λ stop. stop.fault ≡ JournalDevice
+            → MayFailReading D.seen D.may_fail (D.seen disk)) }
+        ensures device { IfErr result (λ stop. stop.fault ≡ BlobsDevice
+            → S.failures shelf < S.failures stop.shelf) }
         ensures count { MatchResult result (λ server. S.failures shelf ≤ S.failures server.files.shelf) (λ stop.
             S.failures shelf ≤ S.failures stop.shelf) }
     {

@@ -2,7 +2,7 @@
 ghost use Rattle.std.specs.Prelude.{◌≡◌, ◌≤◌, [], None, IfOk};
 ghost use Rattle.std.specs.FinMap as map;
 ghost use Rattle.chunk_lru.specs.Caches.{empty};
-ghost use Rattle.host_server.specs.Journals.{Agrees};
+ghost use Rattle.host_server.specs.Journals.{Agrees, is_broken};
 
 use crate::host::SoloHouse;
 use blob_store::{Files, Shelf};
@@ -49,6 +49,16 @@ impl<S: Shelf + Drop, D: Disk> Server<S, D> {
 }
 
 impl<S: Shelf, D: Disk> Server<S, D> {
+    /// Whether its journal's device failed while an entry was put.
+    pub fn is_broken(&self) -> bool
+        ensures { result ≡ is_broken self.now.journal }
+    {
+        match &self.journal {
+            Some(journal) => journal.is_broken(),
+            None => false,
+        }
+    }
+
     /// Its host.
     pub fn house(&self) -> &SoloHouse
         ensures { result.now ≡ self.now.house }

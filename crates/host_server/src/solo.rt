@@ -58,8 +58,8 @@ pub fn run_solo<R: Files<File = File>, S: AsStr, D: Duplex, E: Sink>(
     duplex: &mut D,
     errors: &mut E,
 ) -> u8
-    ensures { Runs ⟦<MemDisk as Disk>⟧ ⟦<FileDisk as Disk>⟧ ⟦<DirShelf<'static, R> as Shelf>⟧ D.Duplex E.may_fail
-        (map S.text words.now) result duplex.old duplex.new (E.held errors.old) (E.held errors.new) }
+    ensures { Runs ⟦<MemDisk as Disk>⟧ ⟦<FileDisk as Disk>⟧ ⟦<DirShelf<'static, R> as Shelf>⟧ D.Duplex
+        E.may_fail (map S.text words.now) result duplex.old duplex.new (E.held errors.old) (E.held errors.new) }
 {
     match read(alloc, words) {
         Ok(Wanted::Solo { store: None }) => run_in_memory(alloc, duplex, errors),

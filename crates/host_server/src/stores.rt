@@ -70,8 +70,8 @@ pub(crate) fn run_folder<R: Files<File = File>, X: Duplex, E: Sink>(
     duplex: &mut X,
     errors: &mut E,
 ) -> u8
-    ensures { RunsFolder ⟦<FileDisk as Disk>⟧ ⟦<DirShelf<'static, R> as Shelf>⟧ X.Duplex E.may_fail folder.now result
-        duplex.old duplex.new (E.held errors.old) (E.held errors.new) }
+    ensures { RunsFolder ⟦<FileDisk as Disk>⟧ ⟦<DirShelf<'static, R> as Shelf>⟧ X.Duplex E.may_fail folder.now
+        result duplex.old duplex.new (E.held errors.old) (E.held errors.new) }
 {
     match open_folder(rt, alloc, folder) {
         Ok((disk, shelf)) => run_store(alloc, disk, shelf, duplex, errors),

@@ -1,10 +1,10 @@
 //! Uploads: their files are stored, and the deploys that they complete are published.
-ghost use Rattle.std.specs.Prelude.{◌≡◌, ◌≤◌, false, IfErr, IfOk, OnErr, OnOk};
+ghost use Rattle.std.specs.Prelude.{◌≡◌, ◌≤◌, false, IfErr, OnErr, OnOk, Some};
 ghost use Rattle.host_names.specs.Digests.{digest_of};
 ghost use Rattle.blob_store.specs.declared.blobs.UploadFault.{UploadFault as Fault};
-ghost use Rattle.host_server.specs.HeldUp.{IsWholeFor};
 ghost use Rattle.host_server.specs.Hosts.{Grows, with_upload};
-ghost use Rattle.host_server.specs.Outcomes;
+ghost use Rattle.host_server.specs.Journals;
+ghost use Rattle.host_server.specs.Outcomes.{judge_at};
 ghost use Rattle.host_server.specs.Storing as spec;
 ghost use Rattle.host_server.specs.Storing.{DoesUpload, IsNotStored, IsStored};
 
@@ -12,9 +12,10 @@ use crate::host::judge_upload;
 use crate::servers::Server;
 use blob_store::{Shelf, UploadFault};
 use byte_view::MAX_SIZE;
-use host_api::{Refusal, Told};
+use host_answers::Uploaded;
+use host_api::Refusal;
 use host_disk::Disk;
-use host_names::{Digest, FilePath};
+use host_names::{Digest, FilePath, SiteName};
 
 /// Why a store doesn't take an upload, as it is told.
 fn refusal_of_upload(why: UploadFault) -> Refusal
@@ -55,19 +56,24 @@ impl<S: Shelf, D: Disk> Server<S, D> {
         Ok(())
     }
 
-    /// Takes the bytes as the file of a path of a deploy, and publishes the deploy if it is ready. Where that fails, the
-    /// upload remains.
-    pub fn upload(&mut self, number: u64, path: &FilePath, bytes: Vec<u8>) -> Result<Told, Refusal>
-        requires whole { IsWholeFor self.old.journal self.old.house number }
-        ensures done { DoesUpload S.did S.failures self.old number path.now bytes.items result self.new }
-        ensures told { IfOk result (λ told. Outcomes.is_refusal told ≡ false) }
-        ensures grows { Grows self.old.house self.new.house }
+    /// Takes bytes as the file at a path of a deploy of a site, and publishes the deploy if it is ready then. Where that
+    /// fails, the upload remains.
+    pub(crate) fn store(
+        &mut self,
+        site: &SiteName,
+        number: u64,
+        path: &FilePath,
+        bytes: &[u8],
+    ) -> Result<Uploaded, Refusal>
+        requires whole { Journals.is_broken self.old.journal ≡ false }
+        ensures done { let judged = judge_at self.old.house (Some site.now) number path.now bytes.now in
+            DoesUpload S.did S.failures self.old judged number bytes.now result self.new }
         ensures count { S.failures self.old.files.shelf ≤ S.failures self.new.files.shelf }
     {
-        let (site, digest) = judge_upload(&self.house, number, path, bytes.as_slice())?;
-        self.keep(digest, bytes.as_slice())?;
+        let digest = judge_upload(self.house.state(), site, number, path, bytes)?;
+        self.keep(digest, bytes)?;
         let journal = &mut self.journal;
-        let published = self.house.publish_if_ready(journal, &site, number)?;
-        Ok(Told::Uploaded { published, digest })
+        let published = self.house.publish_if_ready(journal, site, number)?;
+        Ok(Uploaded { published, digest })
     }
 }

@@ -3,6 +3,7 @@ ghost use Rattle.std.specs.Prelude.{◌≡◌, ◌↔◌, ◌≤◌, ◌++◌, N
 ghost use Rattle.site_state.specs.Missing;
 ghost use Rattle.site_state.specs.Missing.{AreMissing, first_lacking_of, least_missing_of};
 
+use crate::listings::Listing;
 use crate::values::Draft;
 use byte_view::Uploads;
 use host_names::{Digest, FilePath};
@@ -41,7 +42,8 @@ fn lacking<U: Uploads>(
     files: &[(FilePath, Option<Digest>)],
     uploads: &U,
 ) -> Result<Vec<Digest>, AllocError>
-    ensures digests { IfOk result (λ digests. digests.items ≡ filter_map (λ f. Missing.if_lacking (U.contents uploads.now) f.1) files.now) }
+    ensures digests { IfOk result (λ digests.
+        digests.items ≡ filter_map (λ f. Missing.if_lacking (U.contents uploads.now) f.1) files.now) }
     ensures memory { OnErr result (IsSome (least_missing_of (U.contents uploads.now) files.now)) }
 {
     let mut digests = Vec::new(alloc);
@@ -51,18 +53,19 @@ fn lacking<U: Uploads>(
     Ok(digests)
 }
 
-/// The digests of the files that a deploy lists and that were not uploaded, in their order, each once. That takes memory
-/// only where there is one.
+/// The digests of the listed files that were not uploaded, in their order, each once. That takes memory only where there
+/// is one.
 pub fn missing<U: Uploads>(
     alloc: Global,
-    draft: &Draft,
+    files: &Listing,
     uploads: &U,
 ) -> Result<Vec<Digest>, AllocError>
-    ensures exactly { IfOk result (λ digests. AreMissing (U.contents uploads.now) draft.now.files.1 digests.items) }
-    ensures least_first { IfOk result (λ digests. slice_get digests.items 0 ≡ least_missing_of (U.contents uploads.now) draft.now.files.1) }
-    ensures memory { OnErr result (IsSome (least_missing_of (U.contents uploads.now) draft.now.files.1)) }
+    ensures exactly { IfOk result (λ digests. AreMissing (U.contents uploads.now) files.now.1 digests.items) }
+    ensures least_first { IfOk result (λ digests.
+        slice_get digests.items 0 ≡ least_missing_of (U.contents uploads.now) files.now.1) }
+    ensures memory { OnErr result (IsSome (least_missing_of (U.contents uploads.now) files.now.1)) }
 {
-    let mut digests = lacking(alloc, draft.files.entries(), uploads)?;
+    let mut digests = lacking(alloc, files.entries(), uploads)?;
     digests.sort_unstable();
     digests.dedup();
     Ok(digests)
@@ -95,7 +98,8 @@ pub fn least_missing<U: Uploads>(draft: &Draft, uploads: &U) -> Option<Digest>
 pub fn first_lacking<U: Uploads>(draft: &Draft, uploads: &U, from: usize) -> usize
     requires { from ≤ first_lacking_of (U.contents uploads.now) draft.now.files.1 }
     ensures first { result ≡ first_lacking_of (U.contents uploads.now) draft.now.files.1 }
-    ensures complete { (result ≡ length draft.now.files.1) ↔ (least_missing_of (U.contents uploads.now) draft.now.files.1 ≡ None) }
+    ensures complete { (result ≡ length draft.now.files.1)
+        ↔ (least_missing_of (U.contents uploads.now) draft.now.files.1 ≡ None) }
 {
     let files = draft.files.entries();
     let mut place = from;

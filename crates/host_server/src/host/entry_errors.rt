@@ -1,5 +1,6 @@
 //! Why a host gets no entry.
 
+use host_answers::Stop;
 use host_api::Refusal;
 use journaled_history::EntryFault;
 use site_change::{ChangeError, ChangeRefusal};
@@ -43,17 +44,29 @@ impl From<ChangeError> for EntryError {
     }
 }
 
+impl From<EntryError> for Stop {
+    ghost use Rattle.std.specs.Prelude.{◌≡◌};
+    ghost use Rattle.host_server.specs.Entries.{stop_of};
+
+    ghost from_gives = { λ error why. why ≡ stop_of error };
+
+    fn from(error: EntryError) -> Stop {
+        match error {
+            EntryError::Refused(reason) => Stop::Refused(reason),
+            EntryError::OutOfMemory => Stop::OutOfMemory,
+            EntryError::Device => Stop::Device,
+        }
+    }
+}
+
 impl From<EntryError> for Refusal {
     ghost use Rattle.std.specs.Prelude.{◌≡◌};
-    ghost use Rattle.host_server.specs.Entries.{told_error};
+    ghost use Rattle.host_answers.specs.Answers.{told_stop};
+    ghost use Rattle.host_server.specs.Entries.{stop_of};
 
-    ghost from_gives = { λ error reason. reason ≡ told_error error };
+    ghost from_gives = { λ error reason. reason ≡ told_stop (stop_of error) };
 
     fn from(error: EntryError) -> Refusal {
-        match error {
-            EntryError::Refused(reason) => Refusal::Change(reason),
-            EntryError::OutOfMemory => Refusal::OutOfMemory,
-            EntryError::Device => Refusal::Device,
-        }
+        Stop::from(error).into()
     }
 }

@@ -1,14 +1,14 @@
 //! A host on one thread: its history, and what is known of its uploads.
-ghost use Rattle.std.specs.Prelude.{◌≡◌, ◌≤◌, Option, [], ◌∷◌, Some, None, IfOk, OnOk, OnErr, false, length, nat_le, option_copied, option_map};
+ghost use Rattle.std.specs.Prelude.{◌≡◌, ◌≤◌, [], ◌∷◌, Some, None, IfOk, OnOk, OnErr, false, option_map};
 ghost use Rattle.std.specs.FinMap as map;
 ghost use Rattle.host_names.specs.Digests.{digest_of};
 ghost use Rattle.site_change.specs.Refusals.{IsRefusedBy};
-ghost use Rattle.change_undo.specs.Histories.{IsUndoRefusedBy, run, entry_at, marked_entry};
-ghost use Rattle.change_undo.specs.Logs.{empty_log, last_number};
+ghost use Rattle.change_undo.specs.Histories.{IsUndoRefusedBy, run, marked_entry};
+ghost use Rattle.change_undo.specs.Logs.{empty_log};
 ghost use Rattle.change_undo.specs.declared.entries.Entry.TheVariants as entry;
 ghost use Rattle.host_server.specs.Entries.{IsEntered, IsRefusedAs, IsUndoRefusedAs};
 ghost use Rattle.change_undo.specs.Plans.{IsHistoryOver};
-ghost use Rattle.host_server.specs.Hosts.{Grows, Host, host_of, state_of, next_number, with_entry, with_upload, IsLawful};
+ghost use Rattle.host_server.specs.Hosts.{Grows, host_of, state_of, next_number, with_entry, with_upload, IsLawful};
 ghost use Rattle.host_server.specs.Journals.{Agrees, is_broken};
 ghost use Rattle.host_server.specs.Outcomes;
 ghost use Rattle.host_server.specs.Reasons;
@@ -20,7 +20,7 @@ use blob_store::BlobIndex;
 use byte_view::BlobInfo;
 use change_journal::Journal;
 use change_undo::laws::deploys_were_opened_by_their_entries;
-use change_undo::{Entry, History};
+use change_undo::{Entry, History, Log};
 use host_disk::Disk;
 use host_names::SiteName;
 use journaled_history::{put_last, with_change, with_undo};
@@ -100,25 +100,11 @@ impl SoloHouse {
         let _ = &self.history;
     }
 
-    /// The entry of a number, from 1 on.
-    pub fn entry(&self, number: u64) -> Option<&Entry>
-        ensures { option_copied result ≡ entry_at self.now.entries number }
+    /// The entries. That takes no memory.
+    pub fn log(&self) -> &Log
+        ensures { result.now ≡ self.now.entries }
     {
-        self.history.entry(number)
-    }
-
-    /// Whether it has as many entries as its limit says.
-    pub(crate) fn is_full(&self) -> bool
-        ensures { result ≡ nat_le self.now.limit (last_number self.now.entries) }
-    {
-        self.history.is_full()
-    }
-
-    /// The number of entries.
-    pub(crate) fn len(&self) -> u64
-        ensures { result ≡ last_number self.now.entries }
-    {
-        self.history.len()
+        self.history.log()
     }
 
     /// The entry of a number, from 1 on, and whether an undo names it.
@@ -135,9 +121,9 @@ impl SoloHouse {
         &self.uploads
     }
 
-    /// Commits a command as the next entry, which is put into the journal first, and answers its number. On an error it
-    /// has no such entry.
-    pub(crate) fn commit<D: Disk>(
+    /// Makes a command the next entry, which is put into the journal first, and answers its number. On an error it has no
+    /// such entry.
+    pub(super) fn enter<D: Disk>(
         &mut self,
         journal: &mut Option<Journal<D>>,
         command: Command,
@@ -189,9 +175,9 @@ impl SoloHouse {
         Ok(self.history.len())
     }
 
-    /// Undoes a change of this site by the next entry, which is put into the journal first, and answers its number. On
-    /// an error it has no such entry.
-    pub(crate) fn undo<D: Disk>(
+    /// Makes the undo of a change of this site the next entry, which is put into the journal first, and answers its
+    /// number. On an error it has no such entry.
+    pub(super) fn enter_undo<D: Disk>(
         &mut self,
         journal: &mut Option<Journal<D>>,
         site: &SiteName,
@@ -257,7 +243,7 @@ impl SoloHouse {
     }
 
     /// Whether the deploy of a number publishes itself now.
-    pub(crate) fn is_ready(&mut self, site: &SiteName, number: u64) -> bool
+    pub(super) fn is_ready(&mut self, site: &SiteName, number: u64) -> bool
         ensures ready { result ≡ Outcomes.is_ready self.old site.now number }
         ensures same { self.new ≡ self.old }
     {
@@ -268,10 +254,12 @@ impl SoloHouse {
         }
     }
 
-    /// Forgets how far the files of a deploy were uploaded, which is no longer open.
-    pub(crate) fn forget(&mut self, number: u64)
+    /// Forgets how far the files of a deploy were uploaded, if one is no longer open.
+    pub(super) fn forget(&mut self, closed: Option<u64>)
         ensures { self.new ≡ self.old }
     {
-        self.readiness.forget(number);
+        if let Some(number) = closed {
+            self.readiness.forget(number);
+        }
     }
 }

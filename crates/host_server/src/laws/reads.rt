@@ -43,8 +43,9 @@ pub fn cached_files_are_sent<S: Shelf>()
         (file content_type : List ℕ) (plan : Choice) (body : SentFile) (name : ShelfName) → Keeps S.did honest has
         → IsTrue (honest new.shelf) → IsRead (GaveOfNode S.did S.failures) old file plan content_type body new
         → has new.shelf name ≡ has old.shelf name }
-    ensures stays_after_fault { (honest : S → Bool) (has : S → ShelfName → Option (List ℕ)) (old new : CachedShelf S)
-        (file : List ℕ) (plan : Choice) (fault : ReadFault) (name : ShelfName) → Keeps S.did honest has
+    ensures stays_after_fault { (honest : S → Bool) (has : S → ShelfName → Option (List ℕ))
+        (old new : CachedShelf S) (file : List ℕ) (plan : Choice) (fault : ReadFault) (name : ShelfName)
+        → Keeps S.did honest has
         → IsTrue (honest new.shelf)
         → IsNotRead (GaveOfNode S.did S.failures) (FailedOfNode S.did S.failures) old file plan fault new
         → has new.shelf name ≡ has old.shelf name }
@@ -52,8 +53,9 @@ pub fn cached_files_are_sent<S: Shelf>()
         (file content_type : List ℕ) (plan : Choice) (body : SentFile) → Keeps S.did honest has
         → IsTrue (honest new.shelf) → HasFile has old.shelf file → HasCached has old
         → IsRead (GaveOfNode S.did S.failures) old file plan content_type body new → HasCached has new }
-    ensures cached_after_fault { (honest : S → Bool) (has : S → ShelfName → Option (List ℕ)) (old new : CachedShelf S)
-        (file : List ℕ) (plan : Choice) (fault : ReadFault) → Keeps S.did honest has → IsTrue (honest new.shelf)
+    ensures cached_after_fault { (honest : S → Bool) (has : S → ShelfName → Option (List ℕ))
+        (old new : CachedShelf S) (file : List ℕ) (plan : Choice) (fault : ReadFault) → Keeps S.did honest has
+        → IsTrue (honest new.shelf)
         → HasFile has old.shelf file → HasCached has old
         → IsNotRead (GaveOfNode S.did S.failures) (FailedOfNode S.did S.failures) old file plan fault new
         → HasCached has new }

@@ -1,10 +1,12 @@
 //! What the relations of the contracts refuse. Each function does nothing: its contract is the law.
 ghost use Rattle.std.specs.FinMap as map;
-ghost use Rattle.std.specs.Prelude.{◌≡◌, ◌⊎◌, ℕ, ◌<◌, ◌≤◌, ◌+◌, ◌-◌, ◌^◌, min, List, [], ◌∷◌, Option, None, Some, Ok, Err, true, false, IsTrue, length};
+ghost use Rattle.std.specs.Prelude.{◌≡◌, ◌⊎◌, ℕ, ◌<◌, ◌≤◌, ◌+◌, ◌-◌, ◌^◌, min, List, [], ◌∷◌, None, Result, Some, Ok, Err, true, false, IsTrue, length};
 ghost use Rattle.byte_view.specs.Contents.{Contents};
 ghost use Rattle.host_names.specs.declared.digests.Digest.{Digest};
 ghost use Rattle.host_names.specs.declared.names.SiteName.{SiteName};
-ghost use Rattle.site_change.specs.declared.refusals.ChangeRefusal.TheVariants.{HistoryFull, NoSuchDeploy};
+ghost use Rattle.std.specs.declared.alloc.AllocError.{AllocError};
+ghost use Rattle.site_change.specs.declared.refusals.ChangeRefusal.{ChangeRefusal};
+ghost use Rattle.site_change.specs.declared.refusals.ChangeRefusal.TheVariants.{NoSuchDeploy};
 ghost use Rattle.blob_store.specs.declared.blobs.UploadFault.TheVariants as upload_fault;
 ghost use Rattle.range_spec.specs.declared.grammar.Asked.{Asked};
 ghost use Rattle.http_wire.specs.Requests.{RequestParts};
@@ -19,19 +21,22 @@ ghost use Rattle.host_api.specs.declared.refusals.Refusal.{Refusal};
 ghost use Rattle.host_api.specs.declared.refusals.Refusal.TheVariants as reason;
 ghost use Rattle.host_api.specs.declared.texts.DeployState.TheVariants.{Kept};
 ghost use Rattle.host_api.specs.declared.texts.Told.{Told};
-ghost use Rattle.host_api.specs.declared.texts.Told.TheVariants.{Entered, Refused, Uploaded};
-ghost use Rattle.host_server.specs.Asks.{HostStops, IsAnswer, asked_for};
+ghost use Rattle.host_api.specs.declared.texts.Told.TheVariants.{Refused};
+ghost use Rattle.host_answers.specs.Asking.{asked_for};
+ghost use Rattle.host_answers.specs.declared.uploads.Uploaded.{Uploaded};
+ghost use Rattle.host_server.specs.Asks.{HostStops, IsAnswer};
 ghost use Rattle.host_replies.specs.FileAsks.{AsksRange};
 ghost use Rattle.host_server.specs.Hosts.{Grows, Host};
-ghost use Rattle.host_server.specs.Journals.{IsJournaled, IsStopped};
+ghost use Rattle.host_server.specs.Journals.{IsJournaled, IsStopped, is_broken};
 ghost use Rattle.journaled_history.specs.Puts.{IsPut, IsPutInVain};
 ghost use Rattle.host_server.specs.Memory.{CommandRunsOut, DeployRunsOut, TextRunsOut, UndoRunsOut};
 ghost use Rattle.host_server.specs.Openings.{IsNoRecordFault, IsOpenFault, IsOpened};
-ghost use Rattle.host_server.specs.Outcomes.{Does, DoesCommit, refused};
+ghost use Rattle.host_server.specs.Outcomes.{refused};
 ghost use Rattle.host_server.specs.ReadBack.{IsReadBack};
 ghost use Rattle.host_replies.specs.Replies.{Answer, refused_answer};
 ghost use Rattle.host_connection.specs.Serving.{IsHeadBad, IsInterim, Serves, Stream};
 ghost use Rattle.host_server.specs.Shown.{ShowsDeploy, Stands};
+ghost use Rattle.host_server.specs.ServerHouses.{CommitsAt, EntersAt, LooksAt, MissesAt, UndoesAt, UploadsAt};
 ghost use Rattle.host_server.specs.Solo.{IsFolderFault, IsServed, Runs, RunsStore};
 ghost use Rattle.host_server.specs.Storing.{DoesUpload, IsNotStored, IsStored};
 ghost use Rattle.host_connection.specs.Timing.{Connects, IsCaughtUp};
@@ -63,10 +68,28 @@ pub fn wrong_answers_are_refused<S: Shelf, D: Disk>()
     ensures large { (uploads : Contents) (old new : S) (bytes : List ℕ) → length bytes ≤ 16777216
         → ¬ (IsNotStored S.did S.failures uploads old bytes upload_fault.TooLarge new) }
     ensures device { (uploads : Contents) (old new : S) (bytes : List ℕ)
-        → IsNotStored S.did S.failures uploads old bytes upload_fault.Device new → S.failures old < S.failures new }
-    ensures upload { (old new : Server S D D.Disk) (n : ℕ) (path bytes : List ℕ) (published : Option ℕ)
-        (digest : Digest) → 16777216 < length bytes
-        → ¬ (DoesUpload S.did S.failures old n path bytes (Ok (Uploaded published digest)) new) }
+        → IsNotStored S.did S.failures uploads old bytes upload_fault.Device new
+        → S.failures old < S.failures new }
+    ensures upload { (old new : Server S D D.Disk) (judged : Result (SiteName × Digest) Refusal) (n : ℕ)
+        (bytes : List ℕ) (done : Uploaded) → 16777216 < length bytes
+        → ¬ (DoesUpload S.did S.failures old judged n bytes (Ok done) new) }
+{}
+
+/// The same of what the calls of a server do.
+pub fn wrong_calls_are_refused<S: Shelf, D: Disk>()
+    ensures looks { (old new : Server S D D.Disk) (why : AllocError) → ¬ (LooksAt old (Err why) new) }
+    ensures misses { (server : Server S D D.Disk) (why : AllocError) → ¬ (MissesAt server [] (Err why)) }
+    ensures enters { (old new : Server S D D.Disk) (entry : Entry) (why : ChangeRefusal) (number : ℕ)
+        → ¬ (EntersAt entry (Some why) ⊥ old (Ok number) new) }
+    ensures commits { (old new : Server S D D.Disk) (command : Command) (number : ℕ)
+        → is_broken old.journal ≡ true → ¬ (CommitsAt old command (Ok number) new) }
+    ensures full { (old new : Server S D D.Disk) (command : Command) (number : ℕ)
+        → old.house ≡ record { limit = 0; entries = []; uploads = map.empty }
+        → ¬ (CommitsAt old command (Ok number) new) }
+    ensures undoes { (old new : Server S D D.Disk) (site : SiteName) (k number : ℕ)
+        → is_broken old.journal ≡ true → ¬ (UndoesAt old site k (Ok number) new) }
+    ensures uploads { (old new : Server S D D.Disk) (site : SiteName) (n : ℕ) (path bytes : List ℕ) (done : Uploaded)
+        → is_broken old.journal ≡ true → ¬ (UploadsAt S.did S.failures old site n path bytes (Ok done) new) }
 {}
 
 /// The same of what a host and its journal do.
@@ -91,10 +114,6 @@ pub fn wrong_changes_are_refused<D: Disk>()
     ensures text { (host : Host) → ¬ (TextRunsOut (refused host reason.BadName) host) }
     ensures deploy { (command : SiteName → Command) (next : Host)
         → ¬ (DeployRunsOut (record { limit = 0; entries = []; uploads = map.empty }) 1 command next) }
-    ensures does { (host : Host) → ¬ (Does (Ok (Entered 1)) host (record { told = Entered 2; host = host })) }
-    ensures commits { (told : Told) (next : Host) (command : Command)
-        → DoesCommit (Ok told) next (record { limit = 0; entries = []; uploads = map.empty }) command
-        → told ≡ Refused (reason.Change HistoryFull) }
     ensures shown { (told : Told) → ShowsDeploy (record { limit = 0; entries = []; uploads = map.empty }) 1 told
         → told ≡ Refused (reason.Change NoSuchDeploy) }
     ensures stands { (uploads : Contents) → ¬ (Stands uploads None None (Ok Kept)) }
@@ -108,7 +127,8 @@ pub fn wrong_runs_are_refused<S: Shelf, D: Disk, X: Duplex>()
         → ¬ (Serves (IsAnswer S.did S.failures) ⊥ ⊥ (Err fault.OutputFault) host next stream held new_held) }
     ensures idle { (host next : Server S D D.Disk)
         → ¬ (Connects (IsAnswer S.did S.failures) (Err fault.OutOfMemory) host next (AtEnd ∷ [])) }
-    ensures caught_up { (host : Server S D D.Disk) → ¬ (IsCaughtUp (IsAnswer S.did S.failures) host [] (0 ∷ [])) }
+    ensures caught_up { (host : Server S D D.Disk)
+        → ¬ (IsCaughtUp (IsAnswer S.did S.failures) host [] (0 ∷ [])) }
     ensures head { (stream : Stream) → ¬ (IsHeadBad CodingRefused stream) }
     ensures interim { (parts : RequestParts) → ¬ (IsInterim parts (0 ∷ [])) }
     ensures opened { (old : D) (shelf : S) (limit : ℕ) (server : Server S D D.Disk) → server.journal ≡ None

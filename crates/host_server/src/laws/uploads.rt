@@ -9,7 +9,8 @@ ghost use Rattle.http_wire.specs.Requests.{RequestParts};
 ghost use Rattle.host_api.specs.declared.bodies.Ask.TheVariants.{Read};
 ghost use Rattle.host_api.specs.declared.refusals.Refusal.TheVariants as reason;
 ghost use Rattle.host_api.specs.declared.versions.Version.{Version};
-ghost use Rattle.host_server.specs.Asks.{IsAnswer, asked_for};
+ghost use Rattle.host_answers.specs.Asking.{asked_for};
+ghost use Rattle.host_server.specs.Asks.{IsAnswer};
 ghost use Rattle.host_server.specs.Hosts.{state_of};
 ghost use Rattle.host_server.specs.ReadBack.{Agreeing, HasKnown, IsReadBack, ReadsBack, UploadAgrees};
 ghost use Rattle.host_server.specs.Openings.{IsOpened};
@@ -30,32 +31,35 @@ use host_disk::Disk;
 pub fn uploads_are_read_back<S: Shelf, D: Disk>()
     ensures empty { (has : S → ShelfName → Option (List ℕ)) (server : Server S D D.Disk) (limit : ℕ)
         → server.house.uploads ≡ map.empty → server.files.cache ≡ empty limit → HasKnown has server }
-    ensures opened { (honest : S → Bool) (has : S → ShelfName → Option (List ℕ)) (old : D) (shelf : S) (limit : ℕ)
-        (server : Server S D D.Disk) → Keeps S.did honest has → IsTrue (honest server.files.shelf)
+    ensures opened { (honest : S → Bool) (has : S → ShelfName → Option (List ℕ)) (old : D) (shelf : S)
+        (limit : ℕ) (server : Server S D D.Disk) → Keeps S.did honest has → IsTrue (honest server.files.shelf)
         → IsOpened S.did old shelf limit server → HasKnown has server }
     ensures kept { (honest : S → Bool) (has : S → ShelfName → Option (List ℕ)) (old new : Server S D D.Disk)
         (parts : RequestParts) (body : List ℕ) (answer : Answer) → Keeps S.did honest has
         → IsTrue (honest new.files.shelf) → UploadAgrees old.house.uploads parts body → HasKnown has old
         → IsAnswer S.did S.failures old parts body answer new → HasKnown has new }
     ensures read { (honest : S → Bool) (has : S → ShelfName → Option (List ℕ)) (old new : Server S D D.Disk)
-        (parts : RequestParts) (body : List ℕ) (answer : Answer) (site : Site) (version : Version) (path file : List ℕ)
-        → Keeps S.did honest has → IsTrue (honest new.files.shelf) → HasKnown has old
-        → asked_for parts body ≡ Ok (Read site version path) → file_of (state_of old.house) site version path ≡ Ok file
+        (parts : RequestParts) (body : List ℕ) (answer : Answer) (site : Site) (version : Version)
+        (path file : List ℕ) → Keeps S.did honest has → IsTrue (honest new.files.shelf) → HasKnown has old
+        → asked_for parts body ≡ Ok (Read site version path)
+        → file_of (state_of old.house) site version path ≡ Ok file
         → IsAnswer S.did S.failures old parts body answer new → IsReadBack parts path file answer }
     ensures there { (honest : S → Bool) (has : S → ShelfName → Option (List ℕ)) (old new : Server S D D.Disk)
-        (parts : RequestParts) (body : List ℕ) (answer : Answer) (site : Site) (version : Version) (path file : List ℕ)
-        → Keeps S.did honest has → IsTrue (honest new.files.shelf) → HasKnown has old
-        → asked_for parts body ≡ Ok (Read site version path) → file_of (state_of old.house) site version path ≡ Ok file
+        (parts : RequestParts) (body : List ℕ) (answer : Answer) (site : Site) (version : Version)
+        (path file : List ℕ) → Keeps S.did honest has → IsTrue (honest new.files.shelf) → HasKnown has old
+        → asked_for parts body ≡ Ok (Read site version path)
+        → file_of (state_of old.house) site version path ≡ Ok file
         → IsAnswer S.did S.failures old parts body answer new → answer ≢ refused_answer reason.Missing }
     ensures whole { (honest : S → Bool) (has : S → ShelfName → Option (List ℕ)) (old new : Server S D D.Disk)
-        (parts : RequestParts) (body : List ℕ) (answer : Answer) (site : Site) (version : Version) (path file : List ℕ)
-        → Keeps S.did honest has → IsTrue (honest new.files.shelf) → HasKnown has old
-        → asked_for parts body ≡ Ok (Read site version path) → file_of (state_of old.house) site version path ≡ Ok file
+        (parts : RequestParts) (body : List ℕ) (answer : Answer) (site : Site) (version : Version)
+        (path file : List ℕ) → Keeps S.did honest has → IsTrue (honest new.files.shelf) → HasKnown has old
+        → asked_for parts body ≡ Ok (Read site version path)
+        → file_of (state_of old.house) site version path ≡ Ok file
         → IsAnswer S.did S.failures old parts body answer new → answer ≢ refused_answer reason.Damaged }
     ensures before { (honest : S → Bool) (has : S → ShelfName → Option (List ℕ)) (number : ℕ)
         (old new : Server S D D.Disk) (stream left : Stream) (replies : List (List ℕ)) → Keeps S.did honest has
-        → IsTrue (honest new.files.shelf) → AreServed (IsAnswer S.did S.failures) number old stream replies new left
-        → IsTrue (honest old.files.shelf) }
+        → IsTrue (honest new.files.shelf)
+        → AreServed (IsAnswer S.did S.failures) number old stream replies new left → IsTrue (honest old.files.shelf) }
     ensures connection { (honest : S → Bool) (has : S → ShelfName → Option (List ℕ)) (number : ℕ)
         (old new : Server S D D.Disk) (stream left : Stream) (replies : List (List ℕ)) → Keeps S.did honest has
         → IsTrue (honest new.files.shelf) → HasKnown has old

@@ -1,30 +1,27 @@
-use Rattle.std.proofs.Common.{Ok, arith}
+use Rattle.std.proofs.Common.{List, ℕ, subst}
 use Rattle.host_replies.specs.Bodies.{answer_of}
-use Rattle.host_server.specs.Growth.{itself}
+use Rattle.host_answers.specs.Answers.{AnswersBy}
+use Rattle.host_server.specs.ServerHouses.{calls_of, failed_at, gave_at}
+use Rattle.host_server.proofs.Counting.{answers_count}
 use Rattle.host_server.proofs.Growing.{undone_at_once}
-use Rattle.host_server.proofs.Telling.{answered, unasked}
+use Rattle.host_server.proofs.ServerAnswers.{answered_by}
 use Rattle.host_server.proofs.answers.answer.Goals as goal
 
-pub returns-in-Ok : goal.returns-in-Ok
-returns-in-Ok g c =
-    let request = c.args.request in
-    record {
-      replied = answered g.S.Shelf.did g.S.Shelf.failures c.args.server.now c.respond.new.server request.head c.as_slice.result.now request.body.items (Ok c.in-Ok.ask)
-          (answer_of c.respond.result) c.as_slice.ensures.value c.in-Ok.ensures.ok c.respond.ensures.replied;
-      grows = c.respond.ensures.grows;
-      count = c.respond.ensures.count;
-      undone = λ before command site is undone.
-          undone_at_once c.args.server.now.house c.respond.new.server.house before command site c.lawful.ensures c.respond.ensures.grows is undone;
-    }
+pub returns-clause-replied : goal.returns-clause-replied
+returns-clause-replied g c =
+    let did = g.S.Shelf.did in
+    let failures = g.S.Shelf.failures in
+    let old = c.args.server.now in
+    let new = c.answer.new.house in
+    let parts = c.args.request.head in
+    let answer = answer_of c.answer.result in
+    answered_by did failures old new parts c.args.request.body.items answer
+    (subst (λ (body : List ℕ). AnswersBy (calls_of did failures) (gave_at did failures) (failed_at did failures) old parts body answer new) c.as_slice.ensures.value c.answer.ensures.by)
 
-pub returns : goal.returns
-returns g c =
-    let request = c.args.request in
-    record {
-      replied = unasked g.S.Shelf.did g.S.Shelf.failures c.args.server.now request.head c.as_slice.result.now request.body.items c.in-Err.reason (answer_of c.of_told.result)
-          c.as_slice.ensures.value c.in-Err.ensures.refused c.of_told.ensures;
-      grows = itself c.args.server.now.house;
-      count = omega arith;
-      undone = λ before command site is undone.
-          undone_at_once c.args.server.now.house c.args.server.now.house before command site c.lawful.ensures (itself c.args.server.now.house) is undone;
-    }
+pub returns-clause-count : goal.returns-clause-count
+returns-clause-count g c =
+    answers_count g.S.Shelf.did g.S.Shelf.failures c.args.server.now c.answer.new.house c.args.request.head c.as_slice.result.now (answer_of c.answer.result) c.answer.ensures.by
+
+pub returns-clause-undone : goal.returns-clause-undone
+returns-clause-undone g c = λ before command site is undone.
+    undone_at_once c.args.server.now.house c.answer.new.house.house before command site c.lawful.ensures c.answer.ensures.grows is undone

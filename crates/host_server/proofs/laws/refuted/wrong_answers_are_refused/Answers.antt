@@ -5,7 +5,6 @@ use Rattle.range_spec.specs.declared.grammar.Asked.{Asked}
 use Rattle.range_spec.specs.declared.grammar.Asked.TheVariants.{Ignore, Specs}
 use Rattle.http_wire.specs.Fields.{values_of}
 use Rattle.host_replies.specs.FileAsks.{AskedBy}
-use Rattle.host_server.specs.Outcomes.{judge_upload}
 use Rattle.host_server.proofs.Refuted.{not_damaged, not_missing, not_uploaded, refusal_is}
 use Rattle.host_server.proofs.laws.refuted.wrong_answers_are_refused.Goals as goal
 
@@ -47,7 +46,7 @@ pub returns-clause-device : goal.returns-clause-device
 returns-clause-device g c uploads old new bytes is = is.failed refl
 
 pub returns-clause-upload : goal.returns-clause-upload
-returns-clause-upload g c old new n path bytes published digest long (inl (up, kept)) =
-    not_uploaded g.S.Shelf.did old.house n bytes (judge_upload old.house n path bytes) old.house.uploads old.files.shelf new.files.shelf published digest long up.stored up.told_is
-returns-clause-upload g c old new n path bytes published digest long (inr (inl (why, refused, is, kept))) = absurd (cc is)
-returns-clause-upload g c old new n path bytes published digest long (inr (inr (alone, stops))) = let short = alone.stored.0 in omega (arith, long, short)
+returns-clause-upload g c old new judged n bytes done long (inl (up, kept)) =
+    not_uploaded g.S.Shelf.did old.house n bytes judged old.house.uploads old.files.shelf new.files.shelf done.published done.digest long up.stored up.told_is
+returns-clause-upload g c old new judged n bytes done long (inr (inl (why, refused, is, kept))) = absurd (cc is)
+returns-clause-upload g c old new judged n bytes done long (inr (inr (alone, stops))) = let short = alone.stored.0 in omega (arith, long, short)

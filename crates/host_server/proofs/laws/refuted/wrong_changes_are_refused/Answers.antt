@@ -41,16 +41,6 @@ returns-clause-undo g c site k next is = absurd (cc is.1)
 pub returns-clause-text : goal.returns-clause-text
 returns-clause-text g c host is = absurd (cc is.1)
 
-pub returns-clause-does : goal.returns-clause-does
-returns-clause-does g c host (inl (inl is)) = absurd (cc is)
-returns-clause-does g c host (inl (inr is)) = absurd (cc is)
-returns-clause-does g c host (inr (is, same)) = absurd (cc is)
-
-pub returns-clause-commits : goal.returns-clause-commits
-returns-clause-commits g c told next command (inl (inl is)) = absurd (cc is)
-returns-clause-commits g c told next command (inl (inr is)) = absurd (cc is)
-returns-clause-commits g c told next command (inr (required, are, is, same)) = is
-
 pub returns-clause-shown : goal.returns-clause-shown
 returns-clause-shown g c told is = is
 

@@ -1,0 +1,229 @@
+-- What is answered where a call makes an entry, or doesn't.
+use Rattle.std.proofs.Common.{◌≡◌, ◌⊎◌, inl, inr, ℕ, List, [], Bool, true, false, ◌&&◌, Option, Some, None, Result, Ok, Err, IsTrue, is_some, refl, sym, ap, subst, ◌∙◌}
+use Rattle.host_names.specs.declared.digests.Digest.{Digest}
+use Rattle.host_names.specs.declared.names.SiteName.{SiteName}
+use Rattle.blob_store.specs.Calls.{Call}
+use Rattle.site_change.specs.declared.commands.Command.{Command}
+use Rattle.site_change.specs.declared.commands.Command.TheVariants as command
+use Rattle.site_change.specs.declared.refusals.ChangeRefusal.{ChangeRefusal}
+use Rattle.site_change.specs.declared.refusals.ChangeRefusal.TheVariants.{NoSuchDeploy}
+use Rattle.change_undo.specs.Histories.{entry_at, may_take_memory}
+use Rattle.change_undo.specs.declared.entries.Entry.{Entry}
+use Rattle.change_undo.specs.declared.entries.Entry.TheVariants.{Change, Undo}
+use Rattle.http_wire.specs.Requests.{RequestParts}
+use Rattle.host_disk.specs.declared.disks.Disk.{Ghosts}
+use Rattle.host_api.specs.declared.bodies.Ask.{Ask}
+use Rattle.host_api.specs.declared.bodies.Ask.TheVariants as ask
+use Rattle.host_api.specs.declared.refusals.Refusal.{Refusal}
+use Rattle.host_api.specs.declared.refusals.Refusal.TheVariants as reason
+use Rattle.host_api.specs.declared.texts.Told.{Told}
+use Rattle.host_api.specs.declared.texts.Told.TheVariants as told
+use Rattle.host_replies.specs.Replies.{Answer, Tells, refused_answer, takes_text, told_answer}
+use Rattle.host_answers.specs.Answers.{ChangesBy, FollowsBy, InSite, UndoesBy, told_entry, told_stop}
+use Rattle.host_answers.specs.Deploys.{Opening, opened_by, site_of_deploy}
+use Rattle.host_answers.specs.declared.stops.Stop.{Stop}
+use Rattle.host_answers.specs.declared.stops.Stop.TheVariants as stop
+use Rattle.host_server.specs.Asks.{AskRunsOut, AskStops, IsReplyToAsk, IsTold, holds_up}
+use Rattle.host_server.specs.Journals.{is_broken}
+use Rattle.host_server.specs.Memory.{CommandRunsOut, DeployRunsOut, TextRunsOut, UndoRunsOut, refusal_on}
+use Rattle.host_server.specs.Outcomes.{AreRequired, Outcome, commit_outcome, deploy_outcome, enter_outcome, entering, outcome_on, refused}
+use Rattle.host_server.specs.Reasons.{commit_refusal, undo_refusal}
+use Rattle.host_server.specs.ServerHouses.{CommitsAt, EntersAt, UnlessBroken, calls_of}
+use Rattle.host_server.specs.ServerJournals.{Breaks, GoesOn}
+use Rattle.host_server.specs.declared.servers.Server.{Server}
+use Rattle.host_server.proofs.Journaling.{breaks_at, entered_ok, keeps_same}
+
+-- ---- what is told
+
+-- where a call ran out of memory the answer says so
+pub no_memory : (answer : Answer) → Tells (told.Refused reason.OutOfMemory) answer → answer ≡ refused_answer reason.OutOfMemory
+no_memory answer (inl is) = is
+no_memory answer (inr ran_out) = ran_out.0
+
+-- a reason is told that takes no text
+pub plainly : (why : Refusal) (answer : Answer) → (takes_text (told.Refused why) ≡ true → ⊥) → Tells (told.Refused why) answer → answer ≡ refused_answer why
+plainly why answer plain (inl is) = is
+plainly why answer plain (inr ran_out) = absurd (plain ran_out.1)
+
+-- ---- what is answered to what isn't held up
+
+module _ {S D : Type 0} {disk : Ghosts D} (server next : Server S D disk) (answer : Answer) where
+  -- an outcome is told, or the call or its text ran out of memory, or the journal's device failed
+  abbrev pub IsDone : (runs_out stops : Type 0) → Outcome → Type 0
+  IsDone runs_out stops out =
+      ((IsTold out answer next.house × (next.files ≡ server.files)) × GoesOn server next)
+      ⊎ (((answer ≡ refused_answer reason.OutOfMemory) × ((runs_out ⊎ TextRunsOut out next.house) × (next.files ≡ server.files))) × GoesOn server next)
+      ⊎ (((answer ≡ refused_answer reason.Device) × (stops × (next.files ≡ server.files))) × Breaks server next)
+
+  abbrev pub IsBrokenOr : (does : Type 0) → Type 0
+  IsBrokenOr does =
+      ((is_broken server.journal ≡ true) × (answer ≡ refused_answer reason.Broken) × (next ≡ server))
+      ⊎ ((is_broken server.journal ≡ false) × does)
+
+  pub done : (R B : Type 0) (out : Outcome) (tells : Told) → tells ≡ out.told → next.house ≡ out.host → next.files ≡ server.files → GoesOn server next
+      → Tells tells answer → IsDone R B out
+  done R B out tells same house files kept (inl says) = inl (((says ∙ ap told_answer same, house), files), kept)
+  done R B out tells same house files kept (inr ran_out) =
+      inr (inl ((ran_out.0, (inr (house, subst (λ (t : Told). IsTrue (takes_text t)) same ran_out.1), files)), kept))
+
+  -- the journal has failed before
+  pub unless_told : {Q : Type 0} (does : Server S D disk → Result ℕ Stop → Server S D disk → Type 0) (result : Result ℕ Stop)
+      → UnlessBroken (Err stop.Broken) does server result next → Tells (told_entry result) answer → (does server result next → Q) → IsBrokenOr Q
+  unless_told does result (inl (broken, is, same)) says then =
+      inl (broken, plainly reason.Broken answer (λ e. cc e) (subst (λ (r : Result ℕ Stop). Tells (told_entry r) answer) is says), same)
+  unless_told does result (inr (whole, is)) says then = inr (whole, then is)
+
+  -- there is no entry
+  pub not_entered : (R B : Type 0) (out : Outcome) (entry : Entry) (refusal : Option ChangeRefusal) (may_lack : Type 0) (why : Stop)
+      → ((told_why : ChangeRefusal) → refusal ≡ Some told_why → out ≡ refused server.house (reason.Change told_why))
+      → (may_lack → next.house ≡ server.house → R) → (refusal ≡ None → next.house ≡ server.house → B)
+      → EntersAt entry refusal may_lack server (Err why) next → Tells (told.Refused (told_stop why)) answer → IsDone R B out
+  not_entered R B out entry refusal may_lack stop.Broken refuses runs_out stops never says = absurd never
+  not_entered R B out entry refusal may_lack (stop.Refused why) refuses runs_out stops (is, (house, journal, files)) says =
+      let there = refuses why is in
+      done R B out (told.Refused (reason.Change why)) (sym (ap (λ (o : Outcome). o.told) there)) (house ∙ sym (ap (λ (o : Outcome). o.host) there)) files
+      (keeps_same disk server.house next.house server.journal next.journal house journal) says
+  not_entered R B out entry refusal may_lack stop.OutOfMemory refuses runs_out stops (may, (house, journal, files)) says =
+      inr (inl ((no_memory answer says, (inl (runs_out may house), files)), keeps_same disk server.house next.house server.journal next.journal house journal))
+  not_entered R B out entry refusal may_lack stop.Device refuses runs_out stops (none, house, put, files) says =
+      inr (inr ((plainly reason.Device answer (λ e. cc e) says, (stops none house, files)), breaks_at disk entry server.house next.house server.journal next.journal house put))
+
+  pub entered_told : (R B : Type 0) (entry : Entry) (refusal : Option ChangeRefusal) (may_lack : Type 0) (result : Result ℕ Stop)
+      → (may_lack → next.house ≡ server.house → R) → (refusal ≡ None → next.house ≡ server.house → B)
+      → EntersAt entry refusal may_lack server result next → Tells (told_entry result) answer → IsDone R B (enter_outcome server.house entry refusal)
+  entered_told R B entry refusal may_lack (Ok number) runs_out stops (none, is, house, put, files) says =
+      let there : enter_outcome server.house entry refusal ≡ entering server.house entry = ap (enter_outcome server.house entry) none in
+      done R B (enter_outcome server.house entry refusal) (told.Entered number) (ap told.Entered is ∙ sym (ap (λ (o : Outcome). o.told) there))
+      (house ∙ sym (ap (λ (o : Outcome). o.host) there)) files (entered_ok disk entry server.house next.house server.journal next.journal put house) says
+  entered_told R B entry refusal may_lack (Err why) runs_out stops is says =
+      not_entered R B (enter_outcome server.house entry refusal) entry refusal may_lack why (λ told_why some. ap (enter_outcome server.house entry) some) runs_out stops is says
+
+-- ---- what is asked for
+
+pub and_true : (b : Bool) → (b && true) ≡ b
+and_true true = refl
+and_true false = refl
+
+pub and_false : (b : Bool) → (b && false) ≡ false
+and_false true = refl
+and_false false = refl
+
+module _ {S D : Type 0} {disk : Ghosts D} (did : S → Call → S → Type 0) (failures : S → ℕ) (server next : Server S D disk) (parts : RequestParts) (body : List ℕ) (answer : Answer) where
+  -- the answer to what is asked for that isn't held up
+  abbrev pub CarriesOut : Result Ask Refusal → Type 0
+  CarriesOut asking =
+      (IsReplyToAsk did failures server parts body asking answer next × GoesOn server next)
+      ⊎ (((answer ≡ refused_answer reason.OutOfMemory) × AskRunsOut did failures server parts body asking next) × GoesOn server next)
+      ⊎ (((answer ≡ refused_answer reason.Device) × AskStops did server body asking next) × Breaks server next)
+
+  -- the answer to what is asked for
+  abbrev pub AnswersAsk : Result Ask Refusal → Type 0
+  AnswersAsk asking =
+      ((holds_up server asking ≡ true) × (answer ≡ refused_answer reason.Broken) × (next ≡ server))
+      ⊎ ((holds_up server asking ≡ false) × CarriesOut asking)
+
+  -- what may change the host is held up where the journal is broken
+  pub held : (asking : Result Ask Refusal) → holds_up server asking ≡ is_broken server.journal → IsBrokenOr server next answer (CarriesOut asking) → AnswersAsk asking
+  held asking is (inl (broken, says, same)) = inl (is ∙ broken, says, same)
+  held asking is (inr (whole, does)) = inr (is ∙ whole, does)
+
+  pub free : (asking : Result Ask Refusal) → holds_up server asking ≡ false → CarriesOut asking → AnswersAsk asking
+  free asking is does = inr (is, does)
+
+  -- ---- an undo
+
+  pub undo_told : (site : SiteName) (k : ℕ) → UndoesBy (calls_of did failures) server site k answer next → AnswersAsk (Ok (ask.Undo site k))
+  undo_told site k (result, undoes, says) =
+      let refusal = undo_refusal server.house site k in
+      let may = IsTrue (may_take_memory refusal) in
+      held (Ok (ask.Undo site k)) (and_true (is_broken server.journal))
+      (unless_told server next answer (EntersAt (Undo site k) refusal may) result undoes says (λ is.
+      entered_told server next answer (UndoRunsOut server.house site k next.house) ((next.house ≡ server.house) × (refusal ≡ None)) (Undo site k) refusal may result
+      (λ takes house. (house, takes)) (λ none house. (house, none)) is says))
+
+  -- ---- a command that opens nothing
+
+  -- what is required after it is known, whatever is told of it
+  abbrev pub CommandDone : Command → Type 0
+  CommandDone change =
+      (required : List Digest) × AreRequired server.house.uploads change (commit_refusal server.house change) required
+      × IsDone server next answer (CommandRunsOut server.house change next.house) (CommandRunsOut server.house change next.house)
+      (commit_outcome server.house change required (commit_refusal server.house change))
+
+  pub command_done : (change : Command) → CommandDone change → CarriesOut (Ok (ask.Command change))
+  command_done change (required, are, inl ((told_is, files), kept)) = inl (((required, are, told_is), files), kept)
+  command_done change (required, are, inr (inl ((says, (inl out, files)), kept))) = inr (inl ((says, (inl out, files)), kept))
+  command_done change (required, are, inr (inl ((says, (inr text, files)), kept))) = inr (inl ((says, (inr (required, are, text), files)), kept))
+  command_done change (required, are, inr (inr ((says, (stops, files)), broken))) = inr (inr ((says, (stops, files)), broken))
+
+  -- nothing follows
+  only_told : (mid : Server S D disk) (result : Result ℕ Stop) → FollowsBy (calls_of did failures) mid None result answer next → Tells (told_entry result) answer × (next ≡ mid)
+  only_told mid (Ok number) is = is
+  only_told mid (Err why) is = is
+
+  not_opened : (change : Command) (mid : Server S D disk) (result : Result ℕ Stop) → opened_by change ≡ None → CommitsAt server change result mid
+      → FollowsBy (calls_of did failures) mid (opened_by change) result answer next → CommitsAt server change result next × Tells (told_entry result) answer
+  not_opened change mid result none commits follows =
+      let only = only_told mid result (subst (λ (o : Option Opening). FollowsBy (calls_of did failures) mid o result answer next) none follows) in
+      (subst (CommitsAt server change result) (sym only.1) commits, only.0)
+
+  -- the entry of such a command alone
+  alone : (R B : Type 0) (change : Command) → opened_by change ≡ None → ChangesBy (calls_of did failures) server change answer next
+      → (commit_refusal server.house change ≡ None → next.house ≡ server.house → R) → (commit_refusal server.house change ≡ None → next.house ≡ server.house → B)
+      → IsBrokenOr server next answer (IsDone server next answer R B (enter_outcome server.house (Change change) (commit_refusal server.house change)))
+  alone R B change none (result, mid, commits, follows) runs_out stops =
+      let told_so = not_opened change mid result none commits follows in
+      let refusal = commit_refusal server.house change in
+      unless_told server next answer (EntersAt (Change change) refusal (refusal ≡ None)) result told_so.0 told_so.1 (λ is.
+      entered_told server next answer R B (Change change) refusal (refusal ≡ None) result runs_out stops is told_so.1)
+
+  none_required : (change : Command) (refusal : Option ChangeRefusal) → opened_by change ≡ None → AreRequired server.house.uploads change refusal []
+  none_required (command.Open site files auto) refusal none = absurd (cc none)
+  none_required change refusal none = refl
+
+  same_outcome : (change : Command) (refusal : Option ChangeRefusal) → opened_by change ≡ None
+      → enter_outcome server.house (Change change) refusal ≡ commit_outcome server.house change [] refusal
+  same_outcome change (Some why) none = refl
+  same_outcome (command.Open site files auto) None none = absurd (cc none)
+  same_outcome change None none = refl
+
+  pub map_done : {P Q : Type 0} → (P → Q) → IsBrokenOr server next answer P → IsBrokenOr server next answer Q
+  map_done f (inl held_up) = inl held_up
+  map_done f (inr (whole, does)) = inr (whole, f does)
+
+  pub commit_told : (change : Command) → opened_by change ≡ None → ChangesBy (calls_of did failures) server change answer next → AnswersAsk (Ok (ask.Command change))
+  commit_told change none changes =
+      let R = CommandRunsOut server.house change next.house in
+      let refusal = commit_refusal server.house change in
+      held (Ok (ask.Command change)) (and_true (is_broken server.journal))
+      (map_done (λ is. command_done change ([], none_required change refusal none, subst (IsDone server next answer R R) (same_outcome change refusal none) is))
+      (alone R R change none changes (λ is house. (is, inl house)) (λ is house. (is, inl house))))
+
+  -- ---- a command on a deploy
+
+  no_deploy : (R B : Type 0) (change : SiteName → Command) (site : Option SiteName) → site ≡ None → Tells (told.Refused (reason.Change NoSuchDeploy)) answer → next ≡ server
+      → IsDone server next answer R B (outcome_on server.house change site)
+  no_deploy R B change site none says same =
+      let house = ap (λ (s : Server S D disk). s.house) same in
+      let there : outcome_on server.house change site ≡ refused server.house (reason.Change NoSuchDeploy) = ap (outcome_on server.house change) none in
+      done server next answer R B (outcome_on server.house change site) (told.Refused (reason.Change NoSuchDeploy)) (sym (ap (λ (o : Outcome). o.told) there))
+      (house ∙ sym (ap (λ (o : Outcome). o.host) there)) (ap (λ (s : Server S D disk). s.files) same)
+      (keeps_same disk server.house next.house server.journal next.journal house (ap (λ (s : Server S D disk). s.journal) same)) says
+
+  pub deploy_told : (n : ℕ) (asking : Ask) (change : SiteName → Command) (site : Option SiteName) → site_of_deploy (entry_at server.house.entries n) ≡ site
+      → (holds_up server (Ok asking) ≡ (is_broken server.journal && is_some (site_of_deploy (entry_at server.house.entries n))))
+      → ((owner : SiteName) → opened_by (change owner) ≡ None)
+      → (IsDone server next answer (DeployRunsOut server.house n change next.house) (DeployRunsOut server.house n change next.house) (deploy_outcome server.house n change)
+      → CarriesOut (Ok asking))
+      → InSite (calls_of did failures) server site (λ owner. ChangesBy (calls_of did failures) server (change owner)) answer next → AnswersAsk (Ok asking)
+  deploy_told n asking change None is holds none carried (says, same) =
+      let R = DeployRunsOut server.house n change next.house in
+      free (Ok asking) (holds ∙ ap (λ (s : Option SiteName). is_broken server.journal && is_some s) is ∙ and_false (is_broken server.journal))
+      (carried (no_deploy R R change (site_of_deploy (entry_at server.house.entries n)) is says same))
+  deploy_told n asking change (Some owner) is holds none carried changes =
+      let R = DeployRunsOut server.house n change next.house in
+      let refuses : deploy_outcome server.house n change ≡ enter_outcome server.house (Change (change owner)) (commit_refusal server.house (change owner)) =
+      ap (outcome_on server.house change) is in
+      held (Ok asking) (holds ∙ ap (λ (s : Option SiteName). is_broken server.journal && is_some s) is ∙ and_true (is_broken server.journal))
+      (map_done (λ does. carried (subst (IsDone server next answer R R) (sym refuses) does))
+      (alone R R (change owner) (none owner) changes (λ free_of house. (house, ap (refusal_on server.house change) is ∙ free_of)) (λ free_of house. (house, ap (refusal_on server.house change) is ∙ free_of))))
