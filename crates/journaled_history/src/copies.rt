@@ -51,8 +51,8 @@ fn without_copy<U: Uploads>(
 /// against the undo, or else that.
 fn why_not_undone(history: &History, site: &SiteName, change: u64) -> ChangeError
     ensures { (uploads : Contents) → IsHistoryOver uploads history.now
-        → IsUndoRefusedBy {A = ℕ} (Histories.undo_refusal uploads history.now.limit history.now.entries site.now change)
-        (Err result) }
+        → IsUndoRefusedBy {A = ℕ}
+        (Histories.undo_refusal uploads history.now.limit history.now.entries site.now change) (Err result) }
 {
     match history.undo_refusal(site, change) {
         Ok(Some(reason)) => ChangeError::Refused(reason),
@@ -104,7 +104,8 @@ pub fn with_undo(history: &History, site: &SiteName, change: u64) -> Result<Hist
     ensures refused { (uploads : Contents) → IsHistoryOver uploads history.now
         → IsUndoRefusedBy (Histories.undo_refusal uploads history.now.limit history.now.entries site.now change)
         result }
-    ensures entries { IfOk result (λ next. next.entries ≡ with_entry history.now.entries (entry.Undo site.now change)) }
+    ensures entries { IfOk result
+        (λ next. next.entries ≡ with_entry history.now.entries (entry.Undo site.now change)) }
     ensures in_range { OnOk result ((uploads : Contents) → IsHistoryOver uploads history.now
         → IsInRange (entry.Undo site.now change)) }
     ensures over { IfOk result (λ next. (uploads : Contents) → IsHistoryOver uploads history.now
