@@ -10,7 +10,8 @@ use Rattle.host_connection.specs.declared.connections.ConnectionFault.TheVariant
 use Rattle.host_connection.specs.declared.connections.Next.{Next}
 use Rattle.host_connection.specs.declared.connections.Next.TheVariants as next_is
 use Rattle.host_connection.proofs.Served.{SoFar, at_first, goes_on, ends_well, stops, after_all, never_began}
-use Rattle.host_connection.proofs.TimedTrails.{Together, gives_more, gives_split, together_of}
+use Rattle.http_wire.specs.Halting.{Together}
+use Rattle.http_wire.proofs.SplitTrails.{gives_more, gives_split, together_of}
 
 -- what was done before the request of number n
 pub record ConnectionSoFar {S H : Type 0} (answers : Answering H) (saw : S → Event → S → Type 0) (old new : S) (first : H) (n : ℕ) (host : H) (buffer : List ℕ) : Type 0 where

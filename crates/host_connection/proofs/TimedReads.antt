@@ -23,7 +23,7 @@ use Rattle.host_connection.specs.declared.requests.Request.{Request}
 use Rattle.host_connection.specs.declared.connections.Stop.{Stop}
 use Rattle.host_connection.specs.declared.connections.Stop.TheVariants as stop
 use Rattle.host_connection.proofs.Turns.{head_stopped, invited, body_stopped, taken}
-use Rattle.host_connection.proofs.TimedTrails.{gives_more, gives_split, gives_written, put_after, put_before}
+use Rattle.http_wire.proofs.SplitTrails.{gives_more, gives_split, gives_written, put_after, put_before}
 
 -- ---- a head
 

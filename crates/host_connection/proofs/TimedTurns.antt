@@ -17,7 +17,7 @@ use Rattle.host_connection.specs.declared.connections.Next.TheVariants as next_i
 use Rattle.host_connection.specs.declared.connections.Stop.{Stop}
 use Rattle.host_connection.specs.declared.connections.Stop.TheVariants as stop
 use Rattle.host_connection.proofs.Turns.{turned, refused, refused_cut}
-use Rattle.host_connection.proofs.TimedTrails.{read_goes_on, write_goes_on, gives_read}
+use Rattle.http_wire.proofs.SplitTrails.{read_goes_on, write_goes_on, gives_read}
 
 -- ---- a reply
 

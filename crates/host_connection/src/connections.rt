@@ -12,7 +12,7 @@ use crate::services::Service;
 use host_api::{HeadRefusal, body_limit};
 use host_replies::{Reply, is_head_only};
 use http_wire::{
-    BodyFault, Duplex, Head, HeadFault, LengthFault, Outgoing, Wire, check_body, write_interim,
+    BodyFault, Head, HeadFault, LengthFault, Outgoing, Steady, Wire, check_body, write_interim,
 };
 use std::alloc::Global;
 use thiserror::Error;
@@ -57,7 +57,7 @@ enum Next {
 }
 
 /// Reads a head.
-fn read_head<D: Duplex>(wire: &mut Wire, duplex: &mut D) -> Result<Head, Stop>
+fn read_head<D: Steady>(wire: &mut Wire, duplex: &mut D) -> Result<Head, Stop>
     ensures { Ran D.saw (AwaitsHead wire.old) duplex.old duplex.new
         (ReadsHeadAs result wire.old wire.new) }
 {
@@ -103,7 +103,7 @@ fn announced(head: &Head) -> Result<u64, Stop>
 }
 
 /// Sends the interim reply, where the client may wait for it before it sends the body.
-fn invite<D: Duplex>(duplex: &mut D, head: &Head) -> Result<(), Stop>
+fn invite<D: Steady>(duplex: &mut D, head: &Head) -> Result<(), Stop>
     ensures { Ran D.saw NoRead duplex.old duplex.new (InvitesAs result head.now) }
 {
     if !head.expects_continue() {
@@ -116,7 +116,7 @@ fn invite<D: Duplex>(duplex: &mut D, head: &Head) -> Result<(), Stop>
 }
 
 /// Takes a body of this size.
-fn take_body<D: Duplex>(
+fn take_body<D: Steady>(
     wire: &mut Wire,
     duplex: &mut D,
     head: &Head,
@@ -136,7 +136,7 @@ fn take_body<D: Duplex>(
 }
 
 /// Reads the body that a head announces, once its client was invited to send it.
-fn read_body<D: Duplex>(wire: &mut Wire, duplex: &mut D, head: &Head) -> Result<Vec<u8>, Stop>
+fn read_body<D: Steady>(wire: &mut Wire, duplex: &mut D, head: &Head) -> Result<Vec<u8>, Stop>
     ensures { Ran D.saw (AwaitsAnnounced head.now wire.old) duplex.old duplex.new
         (ReadsAs result (λ body. TakesBody head.now body.items) (BodyStops head.now) wire.old wire.new) }
 {
@@ -146,7 +146,7 @@ fn read_body<D: Duplex>(wire: &mut Wire, duplex: &mut D, head: &Head) -> Result<
 }
 
 /// Reads a request.
-fn read_request<D: Duplex>(wire: &mut Wire, duplex: &mut D, is_last: bool) -> Result<Request, Stop>
+fn read_request<D: Steady>(wire: &mut Wire, duplex: &mut D, is_last: bool) -> Result<Request, Stop>
     ensures { Ran D.saw (AwaitsRequest wire.old) duplex.old duplex.new
         (ReadsAs result (TakesNext is_last) Stops wire.old wire.new) }
 {
@@ -160,7 +160,7 @@ fn read_request<D: Duplex>(wire: &mut Wire, duplex: &mut D, is_last: bool) -> Re
 }
 
 /// Sends a reply.
-fn send<D: Duplex>(
+fn send<D: Steady>(
     duplex: &mut D,
     out: &mut Outgoing,
     reply: Reply,
@@ -177,7 +177,7 @@ fn send<D: Duplex>(
 }
 
 /// Sends the reply where no request was read, if one is sent. The connection ends after it.
-fn refuse<D: Duplex>(duplex: &mut D, out: &mut Outgoing, stop: Stop) -> Result<(), ConnectionFault>
+fn refuse<D: Steady>(duplex: &mut D, out: &mut Outgoing, stop: Stop) -> Result<(), ConnectionFault>
     ensures { Ran D.saw NoRead duplex.old duplex.new (RefusesAs result stop) }
 {
     match stop {
@@ -194,7 +194,7 @@ fn refuse<D: Duplex>(duplex: &mut D, out: &mut Outgoing, stop: Stop) -> Result<(
 }
 
 /// Answers a request.
-fn exchange<D: Duplex, S: Service>(
+fn exchange<D: Steady, S: Service>(
     alloc: Global,
     duplex: &mut D,
     out: &mut Outgoing,
@@ -218,7 +218,7 @@ fn exchange<D: Duplex, S: Service>(
 }
 
 /// Reads a request and answers it.
-fn serve_next<D: Duplex, S: Service>(
+fn serve_next<D: Steady, S: Service>(
     alloc: Global,
     wire: &mut Wire,
     duplex: &mut D,
@@ -240,7 +240,7 @@ fn serve_next<D: Duplex, S: Service>(
 }
 
 /// Answers requests, one after another.
-fn serve_requests<D: Duplex, S: Service>(
+fn serve_requests<D: Steady, S: Service>(
     alloc: Global,
     wire: &mut Wire,
     duplex: &mut D,
@@ -270,7 +270,7 @@ fn serve_requests<D: Duplex, S: Service>(
 ///
 /// It reads only where all whole requests that came are answered, no head is refused, and all that is sent for them is
 /// written by then; nothing is read or written after the end of the stream, a fault or a reply that ends the connection.
-pub fn serve_connection<D: Duplex, S: Service>(
+pub fn serve_connection<D: Steady, S: Service>(
     alloc: Global,
     duplex: &mut D,
     service: &mut S,

@@ -26,7 +26,7 @@ use host_api::{HeadRefusal, Refusal, Told, short_text, text};
 use host_names::{Digest, FilePath};
 use http::StatusCode;
 use http_wire::{
-    ContentRange, Duplex, EntityTag, FieldText, Head, Outgoing, ReplyBody, ReplyHead, WriteFault,
+    ContentRange, EntityTag, FieldText, Head, Outgoing, ReplyBody, ReplyHead, Steady, WriteFault,
     write_reply,
 };
 use range_reply::{Boundary, FileBody, FileForm, Parts};
@@ -254,7 +254,7 @@ impl Reply {
     }
 
     /// Writes it with this entity tag, without its body where only the head is wanted.
-    fn send_with<D: Duplex>(
+    fn send_with<D: Steady>(
         &self,
         duplex: &mut D,
         out: &mut Outgoing,
@@ -277,7 +277,7 @@ impl Reply {
 
     /// Writes it, without its body where only the head is wanted (RFC 9110, section 9.3.2); its head says whether the
     /// connection closes.
-    pub fn send<D: Duplex>(
+    pub fn send<D: Steady>(
         &self,
         duplex: &mut D,
         out: &mut Outgoing,

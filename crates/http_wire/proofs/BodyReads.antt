@@ -4,6 +4,7 @@ use Rattle.std.specs.Prelude.{vec_len}
 use Rattle.std.specs.declared.vec.Vec.{Vec}
 use Rattle.std.specs.Io.KnownBytes.{IsAtEnd, Consumes, prepend_known}
 use Rattle.http_wire.specs.declared.faults.BodyFault.TheVariants as body_fault
+use Rattle.http_wire.specs.Halting.{KeepsOn}
 use Rattle.http_wire.specs.Timing.{Event, AtEnd, ReadFails, read_of, all_got, all_put, GoesOn, Timely, Steps, Gives, Ran}
 use Rattle.http_wire.specs.Wires.{AwaitsBody, ReadsBody}
 use Rattle.http_wire.proofs.Trails.{got_read, put_read, goes_on_read, timely_read}
@@ -118,6 +119,16 @@ read_failed saw old mid new size buffer body rest same so none less is seen = re
     leaves = is ∙ none;
     of_stream = λ left new_left gives. (body, taken (ReadFails ∷ so.events) left new_left buffer same body gives (ap (λ u. body ++ u) is ∙ so.moved), less);
   };
+}
+
+-- a read would have to wait
+pub would_wait : {S : Type 0} (saw : S → Event → S → Type 0) (old mid new : S) (size : ℕ) (buffer body rest same : List ℕ)
+    → BodySoFar saw old mid size buffer body rest → same ≡ rest → new ≡ mid → Ran saw (AwaitsBody buffer size) old new (KeepsOn buffer (body ++ same))
+would_wait {S} saw old mid new size buffer body rest same so is stays = record {
+  events = so.events;
+  steps = subst (λ (s : S). Steps saw old so.events s) (sym stays) so.steps;
+  timely = so.timely;
+  claimed = record { nothing_put = so.nothing_put; goes_on = so.goes_on; grown = ap (λ u. body ++ u) is ∙ so.moved };
 }
 
 pub input_ended : {S A : Type 0} (saw : S → Event → S → Type 0) (old mid new : S) (size : ℕ) (buffer body rest piece filled : List ℕ)

@@ -3,7 +3,10 @@ use Rattle.std.proofs.Common.{◌≡◌, ℕ, ◌<◌, ◌≤◌, inl, inr, true
 use Rattle.std.specs.Io.KnownBytes.{Keeps, prepend_known}
 use Rattle.http_wire.specs.declared.faults.HeadFault.{HeadFault}
 use Rattle.http_wire.specs.declared.faults.HeadFault.TheVariants as head_fault
+use Rattle.http_wire.specs.declared.halts.Halt.{Halt}
+use Rattle.http_wire.specs.declared.halts.Halt.TheVariants.{Failed, WouldWait}
 use Rattle.http_wire.specs.declared.scans.State.{State}
+use Rattle.http_wire.specs.Halting.{KeepsOn, TriesHead, TriesToFind}
 use Rattle.http_wire.specs.HeadText.{CutShort, head_limit}
 use Rattle.http_wire.specs.Requests.{RequestParts, Says, IsParsedAs}
 use Rattle.http_wire.specs.Scanning.{is_done}
@@ -67,7 +70,7 @@ found saw old new buffer bytes state scanned so scan done = record {
   claimed = record {
     nothing_put = so.nothing_put;
     grown = so.grown;
-    found = (so.goes_on, scan.within, head_before bytes state scanned scan done);
+    found = (so.goes_on, scan.searched.within, head_before bytes state scanned scan done);
   };
 }
 
@@ -95,6 +98,16 @@ read_failed saw old mid new buffer bytes same state scanned so scan nd room is s
   steps = (mid, so.steps, seen);
   timely = (so.goes_on, awaits saw old mid buffer bytes state scanned so scan nd room, so.timely);
   claimed = record { nothing_put = so.nothing_put; grown = is ∙ so.grown; found = refl };
+}
+
+-- a read would have to wait
+pub would_wait : {S : Type 0} (saw : S → Event → S → Type 0) (old mid new : S) (buffer bytes same : List ℕ)
+    → HeadSoFar saw old mid buffer bytes → same ≡ bytes → new ≡ mid → Ran saw (AwaitsHead buffer) old new (KeepsOn buffer same)
+would_wait {S} saw old mid new buffer bytes same so is stays = record {
+  events = so.events;
+  steps = subst (λ (s : S). Steps saw old so.events s) (sym stays) so.steps;
+  timely = so.timely;
+  claimed = record { nothing_put = so.nothing_put; goes_on = so.goes_on; grown = is ∙ so.grown };
 }
 
 -- the input ended
@@ -150,6 +163,12 @@ head_missed head_fault.HeadTooLarge buffer bytes events finds = record {
   );
 }
 head_missed head_fault.OutOfMemory buffer bytes events finds = absurd finds.found
+
+-- the same where a read may have to wait
+pub head_tried : (why : Halt HeadFault) (buffer bytes : List ℕ) (events : List Event) → TriesToFind (Err why) buffer bytes events
+    → TriesHead (Err why) buffer bytes events
+head_tried (Failed fault) buffer bytes events finds = head_missed fault buffer bytes events finds
+head_tried WouldWait buffer bytes events keeps = keeps
 
 -- the head is taken from the stream
 taken : (count : ℕ) (buffer bytes : List ℕ) (events : List Event) (finds : FindsHead (Ok count) buffer bytes events) → length bytes ≤ head_limit

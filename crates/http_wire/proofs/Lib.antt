@@ -11,9 +11,11 @@ pub mod SentParts
 pub mod Taking
 pub mod Windows
 pub mod Trails
+pub mod SplitTrails
 pub mod HeadReads
 pub mod BodyReads
 pub mod StreamReads
+pub mod Resumed
 pub mod Writes
 pub mod PartsPut
 pub mod OneHead

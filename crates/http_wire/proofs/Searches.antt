@@ -7,14 +7,13 @@ use Rattle.std.proofs.lemmas.Slice.{between_to_end}
 use Rattle.http_wire.specs.declared.scans.State.{State}
 use Rattle.http_wire.specs.declared.scans.State.TheVariants.{Before}
 use Rattle.http_wire.specs.HeadText.{IsHeadText, HasHead, CutShort, Overlong, head_limit}
-use Rattle.http_wire.specs.Scanning.{is_done, rest_from}
+use Rattle.http_wire.specs.Scanning.{HasSearched, is_done, rest_from}
 use Rattle.http_wire.proofs.HeadEnds.{head_runs, head_found}
 
--- the scan of the bytes is in that state after so many of them, and behind the others only if it found the end
+-- the search of the bytes is in that state after so many of them, and behind the others only if it found the end
 pub record HasScanned (bytes : List ℕ) (state : State) (scanned : ℕ) : Type 0 where
-  pub within : scanned ≤ length bytes
+  pub searched : HasSearched bytes state scanned
   pub through : (is_done state ≡ true) ⊎ (scanned ≡ length bytes)
-  pub same : (more : List ℕ) → rest_from Before (bytes ++ more) ≡ rest_from state (drop scanned bytes ++ more)
 
 -- a scan that is not done has seen all bytes
 pub all_seen : (bytes : List ℕ) (state : State) (scanned : ℕ) → HasScanned bytes state scanned → is_done state ≡ false → scanned ≡ length bytes
@@ -30,7 +29,7 @@ rest_from-some state (b ∷ bytes) d = rw d refl
 -- such a scan found no end
 pub none_found : (bytes : List ℕ) (state : State) (scanned : ℕ) → HasScanned bytes state scanned → is_done state ≡ false → rest_from Before bytes ≡ None
 none_found bytes state scanned h nd =
-    ap (rest_from Before) (sym (append-nil bytes)) ∙ h.same []
+    ap (rest_from Before) (sym (append-nil bytes)) ∙ h.searched.same []
     ∙ ap (rest_from state) (append-nil (drop scanned bytes) ∙ drop_all scanned bytes (let e = all_seen bytes state scanned h nd in omega arith))
     ∙ rest_from-none state nd
 
@@ -39,43 +38,53 @@ pub head_before : (bytes : List ℕ) (state : State) (scanned : ℕ) → HasScan
 head_before bytes state scanned h d =
     let rest = drop scanned bytes in
     let found : rest_from Before bytes ≡ Some rest =
-    ap (rest_from Before) (sym (append-nil bytes)) ∙ h.same [] ∙ rest_from-some state (rest ++ []) d ∙ ap Some (append-nil rest) in
+    ap (rest_from Before) (sym (append-nil bytes)) ∙ h.searched.same [] ∙ rest_from-some state (rest ++ []) d ∙ ap Some (append-nil rest) in
     let head = head_found bytes rest found in
     subst IsHeadText (append_cancel_right head.0 (take scanned bytes) rest (sym head.1.stream_is ∙ sym (take-append-drop scanned bytes))) head.1.head
 
--- the scan goes on through a piece that came
-pub scanned_more : (bytes piece : List ℕ) (state next : State) (scanned count : ℕ)
-    → HasScanned bytes state scanned → is_done state ≡ false
-    → count ≤ length (drop scanned (bytes ++ piece))
-    → (is_done next ≡ true) ⊎ (count ≡ length (drop scanned (bytes ++ piece)))
-    → ((more : List ℕ) → rest_from state (drop scanned (bytes ++ piece) ++ more) ≡ rest_from next (drop count (drop scanned (bytes ++ piece)) ++ more))
-    → HasScanned (bytes ++ piece) next (scanned + count)
-scanned_more bytes piece state next scanned count h nd within through same = record {
-  within = omega (arith, length-drop scanned (bytes ++ piece), length-append bytes piece, h.within);
-  through = elim through [ inl d ↦ inl d | inr e ↦ inr (omega (arith, length-drop scanned (bytes ++ piece), length-append bytes piece, h.within)) ];
-  same = λ more. ap (rest_from Before) (append_assoc bytes piece more)
-      ∙ h.same (piece ++ more)
-      ∙ ap (rest_from state) (sym (append_assoc (drop scanned bytes) piece more) ∙ ap (λ u. u ++ more) (sym (drop-append-le scanned bytes piece h.within)))
-      ∙ same more
-      ∙ ap (λ u. rest_from next (u ++ more)) (drop-drop count scanned (bytes ++ piece));
-}
+-- a search that has seen nothing
+pub none_searched : (bytes : List ℕ) → HasSearched bytes Before 0
+none_searched bytes = record { within = omega arith; same = λ more. refl }
 
--- the same, of the bytes as they are shown
-pub scanned_shown : (bytes piece whole shown : List ℕ) (state after : State) (scanned count : ℕ) → whole ≡ bytes ++ piece → shown ≡ whole
-    → HasScanned bytes state scanned → is_done state ≡ false
-    → count ≤ length (slice_range shown scanned (length shown))
-    → (is_done after ≡ true) ⊎ (count ≡ length (slice_range shown scanned (length shown)))
-    → ((more : List ℕ) → rest_from state (slice_range shown scanned (length shown) ++ more) ≡ rest_from after (drop count (slice_range shown scanned (length shown)) ++ more))
-    → HasScanned whole after (scanned + count)
-scanned_shown bytes piece whole shown state after scanned count longer is h nd within through same =
-    let fits : scanned ≤ length shown = omega (arith, ap length is, ap length longer, length-append bytes piece, h.within) in
-    let rest : slice_range shown scanned (length shown) ≡ drop scanned (bytes ++ piece) =
-    between_to_end shown scanned (length shown) (omega arith) ∙ ap (drop scanned) (is ∙ longer) in
-    subst (λ u. HasScanned u after (scanned + count)) (sym longer)
-    (scanned_more bytes piece state after scanned count h nd
-    (subst (λ u. count ≤ length u) rest within)
-    (subst (λ u. (is_done after ≡ true) ⊎ (count ≡ length u)) rest through)
-    (λ more. subst (λ u. rest_from state (u ++ more) ≡ rest_from after (drop count u ++ more)) rest (same more)))
+-- the search goes on through the rest of the bytes
+pub search_on : (bytes : List ℕ) (state after : State) (scanned count : ℕ) → HasSearched bytes state scanned
+    → count ≤ length (slice_range bytes scanned (length bytes))
+    → ((more : List ℕ) → rest_from state (slice_range bytes scanned (length bytes) ++ more) ≡ rest_from after (drop count (slice_range bytes scanned (length bytes)) ++ more))
+    → HasSearched bytes after (scanned + count)
+search_on bytes state after scanned count h within same =
+    let rest : slice_range bytes scanned (length bytes) ≡ drop scanned bytes = between_to_end bytes scanned (length bytes) (omega arith) in
+    record {
+      within = omega (arith, ap length rest, length-drop scanned bytes, h.within, within);
+      same = λ more. h.same more
+          ∙ subst (λ u. rest_from state (u ++ more) ≡ rest_from after (drop count u ++ more)) rest (same more)
+          ∙ ap (λ u. rest_from after (u ++ more)) (drop-drop count scanned bytes);
+    }
+
+-- where it went through the rest, it went through the bytes
+pub search_through : (bytes : List ℕ) (state after : State) (scanned count : ℕ) → HasSearched bytes state scanned
+    → (is_done after ≡ true) ⊎ (count ≡ length (slice_range bytes scanned (length bytes)))
+    → (is_done after ≡ true) ⊎ (scanned + count ≡ length bytes)
+search_through bytes state after scanned count h (inl done) = inl done
+search_through bytes state after scanned count h (inr all) =
+    let rest : slice_range bytes scanned (length bytes) ≡ drop scanned bytes = between_to_end bytes scanned (length bytes) (omega arith) in
+    inr (omega (arith, ap length rest, length-drop scanned bytes, h.within, all))
+
+-- it is a search of longer bytes too, as they are shown
+pub searched_more : (bytes piece whole shown : List ℕ) (state : State) (scanned : ℕ) → whole ≡ bytes ++ piece → shown ≡ whole
+    → HasSearched bytes state scanned → HasSearched shown state scanned
+searched_more bytes piece whole shown state scanned longer is h =
+    subst (λ u. HasSearched u state scanned) (sym (is ∙ longer)) (record {
+      within = omega (arith, length-append bytes piece, h.within);
+      same = λ more. ap (rest_from Before) (append_assoc bytes piece more)
+          ∙ h.same (piece ++ more)
+          ∙ ap (rest_from state) (sym (append_assoc (drop scanned bytes) piece more) ∙ ap (λ u. u ++ more) (sym (drop-append-le scanned bytes piece h.within)));
+    })
+
+-- the search of the bytes that are shown is one of those that they are
+pub scanned_shown : (shown bytes : List ℕ) (state : State) (scanned : ℕ) → shown ≡ bytes → HasSearched shown state scanned
+    → (is_done state ≡ true) ⊎ (scanned ≡ length shown) → HasScanned bytes state scanned
+scanned_shown shown bytes state scanned is searched through =
+    subst (λ u. HasScanned u state scanned) is (record { searched = searched; through = through })
 
 -- a head at the front of a longer stream that lies in the bytes is a head of the bytes
 head_within : (bytes more text rest : List ℕ) → HasHead (bytes ++ more) text rest → length text ≤ length bytes → rest_from Before bytes ≢ None

@@ -4,6 +4,7 @@ pub mod HeadText
 pub mod Requests
 pub mod Fields
 pub mod Wires
+pub mod Halting
 pub mod Sending
 pub mod FieldTexts
 pub mod EntityTags

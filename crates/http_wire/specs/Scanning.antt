@@ -1,5 +1,5 @@
 -- How the end of a head is found, byte by byte.
-use Rattle.std.specs.Prelude.{ℕ, Bool, true, false, List, [], ◌∷◌, Option, Some, None, ◌==◌, if◌then◌else◌}
+use Rattle.std.specs.Prelude.{◌≡◌, ℕ, ◌≤◌, Bool, true, false, List, [], ◌∷◌, ◌++◌, length, drop, Option, Some, None, ◌==◌, if◌then◌else◌}
 use Rattle.http_wire.specs.declared.scans.State.{State}
 use Rattle.http_wire.specs.declared.scans.State.TheVariants.{Before, BeforeReturn, Text, Between, BetweenReturn, Done}
 use Rattle.http_wire.specs.HeadText.{line_feed, carriage_return}
@@ -25,3 +25,8 @@ is_done Done = true
 abbrev pub rest_from : State → List ℕ → Option (List ℕ)
 rest_from s [] = if is_done s then Some [] else None
 rest_from s (b ∷ bytes) = if is_done s then Some (b ∷ bytes) else rest_from (step_of s b) bytes
+
+-- a search from the front of these bytes is in that state after so many of them
+pub record HasSearched (bytes : List ℕ) (state : State) (scanned : ℕ) : Type 0 where
+  pub within : scanned ≤ length bytes
+  pub same : (more : List ℕ) → rest_from Before (bytes ++ more) ≡ rest_from state (drop scanned bytes ++ more)

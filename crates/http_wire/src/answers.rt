@@ -7,8 +7,10 @@ ghost use Rattle.http_wire.specs.Timing.{Ran};
 use crate::answer_heads::judge;
 use crate::bodies::read_body;
 use crate::buffers::Buffer;
-use crate::duplexes::Duplex;
+use crate::duplexes::Steady;
 use crate::faults::{BodyFault, HeadFault};
+use crate::halts::Halt;
+use crate::scans::Search;
 use crate::wires::find_head;
 use std::alloc::{AllocError, Global};
 use thiserror::Error;
@@ -66,7 +68,7 @@ fn without_body(fault: BodyFault) -> AnswerFault
 }
 
 // Reads an answer from the stream, where nothing was read before.
-fn take_answer<D: Duplex>(
+fn take_answer<D: Steady>(
     buffer: &mut Buffer,
     duplex: &mut D,
     limit: u64,
@@ -74,9 +76,11 @@ fn take_answer<D: Duplex>(
     requires { buffer.old ≡ [] }
     ensures { Ran D.saw (AwaitsAnswer limit) duplex.old duplex.new (ReadsAnswer result limit) }
 {
-    let count = match find_head(buffer, duplex) {
+    let mut search = Search::new();
+    let count = match find_head(buffer, duplex, &mut search) {
         Ok(count) => count,
-        Err(fault) => return Err(without_head(fault)),
+        Err(Halt::Failed(fault)) => return Err(without_head(fault)),
+        Err(Halt::WouldWait) => unreachable!(),
     };
     let size = match judge(&buffer.as_slice()[..count], limit) {
         Ok(size) => size,
@@ -94,7 +98,7 @@ fn take_answer<D: Duplex>(
 /// Its head is judged before more of its body is read: a status other than 200 is NotOk, whatever else the head says; not exactly one valid
 /// length is BadHead, and one over the limit TooLong. Memory is taken for the longest head, and for the body as its bytes come, by design
 /// for twice as many at most and no more than the length that is said. It may read beyond the answer: the stream brings no other.
-pub fn read_answer<D: Duplex>(
+pub fn read_answer<D: Steady>(
     alloc: Global,
     duplex: &mut D,
     limit: u64,

@@ -1,11 +1,13 @@
 //! Bodies of requests.
-ghost use Rattle.std.specs.Prelude.{◌≡◌, ◌≤◌, ◌<◌, ◌+◌, ◌⊎◌, [], ◌++◌, OnOk, OnErr, vec_len, vec_capacity};
+ghost use Rattle.std.specs.Prelude.{◌≡◌, ◌≤◌, ◌<◌, ◌+◌, ◌⊎◌, [], ◌++◌, IsErrOf, OnOk, OnErr, vec_len, vec_capacity};
+ghost use Rattle.http_wire.specs.Halting.{TriesBody};
 ghost use Rattle.http_wire.specs.Timing.{Ran};
 ghost use Rattle.http_wire.specs.Wires.{AwaitsBody, ReadsBody};
 
 use crate::buffers::Buffer;
-use crate::duplexes::Duplex;
+use crate::duplexes::{Duplex, Steady};
 use crate::faults::BodyFault;
+use crate::halts::Halt;
 use std::alloc::AllocError;
 
 // Makes room for `more` bytes, and for as many again as the body then has, up to `size`: so a body has room for no
@@ -40,25 +42,47 @@ fn move_front(buffer: &mut Buffer, body: &mut Vec<u8>, size: usize) -> Result<()
     Ok(())
 }
 
-/// Reads a body of so many bytes, from the buffer and then from the stream after it. Memory is taken as the bytes come.
-pub fn read_body<D: Duplex>(
+/// Goes on reading a body of so many bytes, of which a part is there: from the buffer and then from the stream after it. Memory is taken
+/// as the bytes come.
+pub fn fill_body<D: Duplex>(
+    buffer: &mut Buffer,
+    duplex: &mut D,
+    body: &mut Vec<u8>,
+    size: usize,
+) -> Result<(), Halt<BodyFault>>
+    requires { vec_len body.old ≤ size }
+    ensures ran { Ran D.saw (AwaitsBody (body.old.items ++ buffer.old) size) duplex.old duplex.new
+        (TriesBody result size (body.old.items ++ buffer.old) body.new buffer.new) }
+    ensures within { vec_len body.new ≤ size }
+    ensures waits { IsErrOf result Halt.WouldWait → D.waits }
+{
+    move_front(buffer, body, size)?;
+    'reads: while body.len() < size {
+        let came = match buffer.fill(duplex) {
+            Ok(came) => came,
+            Err(Halt::Failed(_)) => return Err(Halt::Failed(BodyFault::ReadFault)),
+            Err(Halt::WouldWait) => return Err(Halt::WouldWait),
+        };
+        if came == 0 {
+            return Err(Halt::Failed(BodyFault::Ended));
+        }
+        move_front(buffer, body, size)?;
+    }
+    Ok(())
+}
+
+/// Reads a body of so many bytes, from the buffer and then from the stream after it, which never has to wait.
+pub fn read_body<D: Steady>(
     buffer: &mut Buffer,
     duplex: &mut D,
     count: u64,
 ) -> Result<Vec<u8>, BodyFault>
     ensures { Ran D.saw (AwaitsBody buffer.old count) duplex.old duplex.new (ReadsBody result count buffer.old buffer.new) }
 {
-    let size = count as usize;
     let mut body = Vec::new(buffer.allocator());
-    move_front(buffer, &mut body, size)?;
-    'reads: while body.len() < size {
-        let Ok(came) = buffer.fill(duplex) else {
-            return Err(BodyFault::ReadFault);
-        };
-        if came == 0 {
-            return Err(BodyFault::Ended);
-        }
-        move_front(buffer, &mut body, size)?;
+    match fill_body(buffer, duplex, &mut body, count as usize) {
+        Ok(()) => Ok(body),
+        Err(Halt::Failed(fault)) => Err(fault),
+        Err(Halt::WouldWait) => unreachable!(),
     }
-    Ok(body)
 }

@@ -1,8 +1,10 @@
 //! Bytes that were read and not yet taken.
-ghost use Rattle.std.specs.Prelude.{◌≡◌, ℕ, ◌≤◌, ◌<◌, ◌+◌, ◌-◌, List, [], ◌++◌, length, take, drop, IfOk, OnErr, slice_range, vec_len};
+ghost use Rattle.std.specs.Prelude.{◌≡◌, ℕ, ◌≤◌, ◌<◌, ◌+◌, ◌-◌, List, [], ◌++◌, length, take, drop, IfOk, IfErr, slice_range, vec_len};
+ghost use Rattle.http_wire.specs.Halting.{Halts};
 ghost use Rattle.http_wire.specs.Timing.{ReadFails, read_of};
 
 use crate::duplexes::Duplex;
+use crate::halts::Halt;
 use crate::sources::ReadFailed;
 use std::alloc::{AllocError, Global};
 use std::marker::Model;
@@ -59,12 +61,14 @@ impl Buffer {
         self.start += count;
     }
 
-    /// Reads more bytes after the others, by one read; none come only at the end. A failure changes nothing.
-    pub fn fill<D: Duplex>(&mut self, duplex: &mut D) -> Result<usize, ReadFailed>
+    /// Reads more bytes after the others, by one read; none come only at the end. Where it fails or would have to wait, nothing
+    /// changes.
+    pub fn fill<D: Duplex>(&mut self, duplex: &mut D) -> Result<usize, Halt<ReadFailed>>
         requires room { length self.old < HEAD_LIMIT }
         ensures grown { IfOk result (λ count. (piece : List ℕ) × (self.new ≡ self.old ++ piece) × (length piece ≡ count)
             × D.saw duplex.old (read_of piece) duplex.new) }
-        ensures err { OnErr result ((self.new ≡ self.old) × D.saw duplex.old ReadFails duplex.new) }
+        ensures err { IfErr result (λ halt. (self.new ≡ self.old)
+            × Halts D.saw D.waits ReadFails duplex.old duplex.new halt) }
     {
         self.end = pack(&mut self.bytes, self.start, self.end);
         self.start = 0;
@@ -93,12 +97,13 @@ pub fn read_behind<D: Duplex>(
     duplex: &mut D,
     bytes: &mut [u8],
     end: usize,
-) -> Result<usize, ReadFailed>
+) -> Result<usize, Halt<ReadFailed>>
     requires { end < length bytes.old }
     ensures grown { IfOk result (λ count. (piece : List ℕ) × (take (end + count) bytes.new ≡ take end bytes.old ++ piece)
         × (length piece ≡ count) × D.saw duplex.old (read_of piece) duplex.new) }
     ensures within { IfOk result (λ count. end + count ≤ length bytes.old) }
-    ensures err { OnErr result ((take end bytes.new ≡ take end bytes.old) × D.saw duplex.old ReadFails duplex.new) }
+    ensures err { IfErr result (λ halt. (take end bytes.new ≡ take end bytes.old)
+        × Halts D.saw D.waits ReadFails duplex.old duplex.new halt) }
 {
     let count = duplex.read_some(&mut bytes[end..])?;
     Ok(count)

@@ -1,12 +1,15 @@
 //! A connection's stream of bytes, in both directions.
 ghost use Rattle.std.specs.Prelude.{ℕ, List, Option, ◌<◌, ◌≤◌, length, take, IfOk, MatchResult};
+ghost use Rattle.http_wire.specs.Halting.{Halts};
 ghost use Rattle.http_wire.specs.Timing.{Event, ReadFails, Put, WriteFails, read_of, Moves};
 
+use crate::halts::Halt;
 use crate::sinks::{Sink, WriteFailed};
 use crate::sources::{ReadFailed, Source};
 
 /// A stream of bytes in both directions that is read and written in pieces. Each read and each write is an event that
-/// `saw` tells of, so a call that is generic over it can say in which order it read and wrote.
+/// `saw` tells of, so a call that is generic over it can say in which order it read and wrote. One that would have to wait is no event: no
+/// byte was got or put, and the stream is as it was.
 pub trait Duplex {
     // The bytes that reads will give from here on, where they are known.
     ghost left: { Self → Option (List ℕ) };
@@ -19,27 +22,37 @@ pub trait Duplex {
 
     ghost write_fails: { Type 0 };
 
+    // Whether reads and writes of such a stream may have to wait at all.
+    ghost waits: { Type 0 };
+
     // What a read or a write leads from and to.
     ghost saw: { Self → Event → Self → Type 0 };
 
     /// Reads some bytes to the front of `buf`: none only at the end.
-    fn read_some(&mut self, buf: &mut [u8]) -> Result<usize, ReadFailed>
+    fn read_some(&mut self, buf: &mut [u8]) -> Result<usize, Halt<ReadFailed>>
         requires { 0 < length buf.old }
         ensures bound { IfOk result (λ count. count ≤ length buf.new) }
-        ensures seen { MatchResult result (λ count. saw self.old (read_of (take count buf.new)) self.new) (λ _. saw self.old ReadFails self.new) };
+        ensures seen { MatchResult result (λ count. saw self.old (read_of (take count buf.new)) self.new)
+            (Halts saw waits ReadFails self.old self.new) };
 
     /// Writes some of the bytes, from their front: at least one, where there is one.
-    fn write_some(&mut self, bytes: &[u8]) -> Result<usize, WriteFailed>
+    fn write_some(&mut self, bytes: &[u8]) -> Result<usize, Halt<WriteFailed>>
         ensures bound { IfOk result (λ count. count ≤ length bytes.now) }
         ensures some { IfOk result (λ count. 0 < length bytes.now → 0 < count) }
-        ensures seen { MatchResult result (λ count. saw self.old (Put (take count bytes.now)) self.new) (λ _. saw self.old WriteFails self.new) };
+        ensures seen { MatchResult result (λ count. saw self.old (Put (take count bytes.now)) self.new)
+            (Halts saw waits WriteFails self.old self.new) };
 
     // What each event does to the bytes; a fault comes only where there can be one.
     ghost told: { (old new : Self) (event : Event) → saw old event new
         → Moves read_fails write_fails event (left old) (held old) (left new) (held new) };
 }
 
-/// A source and a sink as one stream in both directions.
+/// A stream whose reads and writes never have to wait: each of them gives bytes, finds the end or fails.
+pub trait Steady: Duplex {
+    ghost never_waits: { Self.Duplex.waits → ⊥ };
+}
+
+/// A source and a sink as one stream in both directions, which never has to wait.
 #[derive(Debug, Drop)]
 pub struct Pair<R, W> {
     pub source: R,
@@ -55,15 +68,25 @@ impl<R: Source, W: Sink> Duplex for Pair<R, W> {
 
     ghost write_fails = { W.may_fail };
 
+    ghost waits = { ⊥ };
+
     ghost saw = { λ old event new. Moves R.may_fail W.may_fail event (R.left old.source) (W.held old.sink) (R.left new.source) (W.held new.sink) };
 
-    fn read_some(&mut self, buf: &mut [u8]) -> Result<usize, ReadFailed> {
-        self.source.read_some(buf)
+    fn read_some(&mut self, buf: &mut [u8]) -> Result<usize, Halt<ReadFailed>> {
+        self.source
+            .read_some(buf)
+            .map_err(|failed| Halt::Failed(failed))
     }
 
-    fn write_some(&mut self, bytes: &[u8]) -> Result<usize, WriteFailed> {
-        self.sink.write_some(bytes)
+    fn write_some(&mut self, bytes: &[u8]) -> Result<usize, Halt<WriteFailed>> {
+        self.sink
+            .write_some(bytes)
+            .map_err(|failed| Halt::Failed(failed))
     }
 
     ghost told = { λ old new event seen. seen };
+}
+
+impl<R: Source, W: Sink> Steady for Pair<R, W> {
+    ghost never_waits = { λ never. never };
 }

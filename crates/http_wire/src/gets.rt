@@ -5,12 +5,12 @@ ghost use Rattle.http_wire.specs.Answers.{get_text};
 ghost use Rattle.http_wire.specs.Sending.{SentFront, WritesText};
 ghost use Rattle.http_wire.specs.Timing.{NoRead, Ran};
 
-use crate::duplexes::Duplex;
+use crate::duplexes::Steady;
 use crate::faults::WriteFault;
 use crate::sends::{Outgoing, put_pieces};
 
 // Writes the pieces of a request.
-fn write_pieces<D: Duplex>(
+fn write_pieces<D: Steady>(
     duplex: &mut D,
     out: &mut Outgoing,
     path: &[u8],
@@ -27,7 +27,7 @@ fn write_pieces<D: Duplex>(
 /// 3.2). Reads nothing.
 ///
 /// It takes no memory, and fails as `write_reply` does.
-pub fn write_get<D: Duplex>(
+pub fn write_get<D: Steady>(
     duplex: &mut D,
     out: &mut Outgoing,
     path: &str,

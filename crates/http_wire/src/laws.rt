@@ -1,9 +1,14 @@
 //! Laws of the definitions, each the contract of a function that does nothing.
 ghost use Rattle.std.specs.Prelude.{◌≡◌, ◌≤◌, ◌-◌, ℕ, List, [], ◌∷◌, Option, Some, Result, Ok, Err, length, codes};
 ghost use Rattle.http_wire.specs.declared.answers.AnswerFault.{AnswerFault};
+ghost use Rattle.std.specs.declared.vec.Vec.{Vec};
+ghost use Rattle.http_wire.specs.declared.faults.BodyFault.{BodyFault};
 ghost use Rattle.http_wire.specs.declared.faults.BodyFault.TheVariants as body_fault;
+ghost use Rattle.http_wire.specs.declared.faults.HeadFault.{HeadFault};
 ghost use Rattle.http_wire.specs.declared.faults.HeadFault.TheVariants as head_fault;
 ghost use Rattle.http_wire.specs.declared.faults.LengthFault.{LengthFault};
+ghost use Rattle.http_wire.specs.declared.halts.Halt.{Halt};
+ghost use Rattle.http_wire.specs.Halting.{KeepsOn, TriesBody, TriesHead};
 ghost use Rattle.http_wire.specs.Answers.{AnswerParts, Begins, Brings, Tells};
 ghost use Rattle.http_wire.specs.AnswerReads.{AwaitsAnswer};
 ghost use Rattle.http_wire.specs.Fields.{IsBodyLength};
@@ -43,6 +48,19 @@ pub fn one_answer()
     ensures nothing { (answer : Result ℕ AnswerFault) (limit : ℕ) (rest : List ℕ)
         → ¬ (Begins answer limit [] rest) }
     ensures asked { (limit : ℕ) (got : List ℕ) → ¬ (AwaitsAnswer limit got (0 ∷ [])) }
+{}
+
+/// Where a call would have had to wait and the next one goes on, both together are one call: so a head and a body are read alike in whatever
+/// steps they come.
+pub fn calls_go_on<D: Duplex>()
+    ensures head { (old mid new : D) (buffer waiting rest : List ℕ) (result : Result RequestParts (Halt HeadFault))
+        → Ran D.saw (AwaitsHead buffer) old mid (KeepsOn buffer waiting)
+        → Ran D.saw (AwaitsHead waiting) mid new (TriesHead result waiting rest)
+        → Ran D.saw (AwaitsHead buffer) old new (TriesHead result buffer rest) }
+    ensures body { (old mid new : D) (size : ℕ) (before waiting rest : List ℕ) (body : Vec ℕ ℕ) (result : Result (Unit {0}) (Halt BodyFault))
+        → Ran D.saw (AwaitsBody before size) old mid (KeepsOn before waiting)
+        → Ran D.saw (AwaitsBody waiting size) mid new (TriesBody result size waiting body rest)
+        → Ran D.saw (AwaitsBody before size) old new (TriesBody result size before body rest) }
 {}
 
 /// A head and a body are read in no more reads than bytes are missing: those of the body, or of the longest head.

@@ -13,6 +13,7 @@ mod faults;
 mod field_texts;
 mod fields;
 mod gets;
+mod halts;
 mod heads;
 pub mod laws;
 mod lengths;
@@ -25,12 +26,13 @@ mod sources;
 mod wires;
 
 pub use answers::{AnswerFault, read_answer};
-pub use duplexes::{Duplex, Pair};
+pub use duplexes::{Duplex, Pair, Steady};
 pub use entity_tags::EntityTag;
 pub use faults::{BodyFault, HeadFault, LengthFault, WriteFault};
 pub use field_texts::FieldText;
 pub use fields::{Fields, Values};
 pub use gets::write_get;
+pub use halts::Halt;
 pub use heads::Head;
 pub use lengths::check_body;
 pub use replies::{

@@ -6,7 +6,7 @@ ghost use Rattle.std.specs.Io.KnownBytes.{Appends};
 ghost use Rattle.http_wire.specs.Sending.{Puts, SentFront, WritesText};
 ghost use Rattle.http_wire.specs.Timing.{NoRead, Ran};
 
-use crate::duplexes::Duplex;
+use crate::duplexes::Steady;
 use crate::entity_tags::EntityTag;
 use crate::faults::WriteFault;
 use crate::field_texts::FieldText;
@@ -102,7 +102,7 @@ pub fn range_value(range: ContentRange) -> ArrayString<72>
 }
 
 // Puts a body, where it is sent.
-fn put_body<D: Duplex, P: BodyParts<Item: Drop> + Drop>(
+fn put_body<D: Steady, P: BodyParts<Item: Drop> + Drop>(
     duplex: &mut D,
     out: &mut Outgoing,
     body: ReplyBody<P>,
@@ -116,7 +116,7 @@ fn put_body<D: Duplex, P: BodyParts<Item: Drop> + Drop>(
 }
 
 // Writes a head, and then the body.
-fn write_both<D: Duplex, P: BodyParts<Item: Drop> + Drop>(
+fn write_both<D: Steady, P: BodyParts<Item: Drop> + Drop>(
     duplex: &mut D,
     out: &mut Outgoing,
     head: &ReplyHead<'_>,
@@ -136,7 +136,7 @@ fn write_both<D: Duplex, P: BodyParts<Item: Drop> + Drop>(
 /// Each part of the body goes out as it lies, but for small ones, which are gathered: head and body are one write where they have
 /// 8,192 bytes at most. It takes no memory. A write that takes no byte is a fault, and so is one that fails. Nothing is written
 /// after it.
-pub fn write_reply<D: Duplex, P: BodyParts<Item: Drop> + Drop>(
+pub fn write_reply<D: Steady, P: BodyParts<Item: Drop> + Drop>(
     duplex: &mut D,
     out: &mut Outgoing,
     head: &ReplyHead<'_>,
@@ -154,7 +154,7 @@ pub fn write_reply<D: Duplex, P: BodyParts<Item: Drop> + Drop>(
 }
 
 // Writes a text.
-fn write_text<D: Duplex>(duplex: &mut D, text: &[u8]) -> Result<(), WriteFault>
+fn write_text<D: Steady>(duplex: &mut D, text: &[u8]) -> Result<(), WriteFault>
     ensures { Ran D.saw NoRead duplex.old duplex.new (WritesText result text.now) }
 {
     let mut sent = 0;
@@ -164,7 +164,7 @@ fn write_text<D: Duplex>(duplex: &mut D, text: &[u8]) -> Result<(), WriteFault>
 /// Writes the interim reply after which the client sends the body (RFC 9110, section 15.2.1). Reads nothing.
 ///
 /// It takes no memory, and fails as `write_reply` does.
-pub fn write_interim<D: Duplex>(duplex: &mut D) -> Result<(), WriteFault>
+pub fn write_interim<D: Steady>(duplex: &mut D) -> Result<(), WriteFault>
     ensures ok { OnOk result (Appends (D.held duplex.old) (D.held duplex.new) continue_text) }
     ensures fault { IfErr result (λ fault. SentFront (D.held duplex.old) (D.held duplex.new) continue_text fault.0) }
     ensures cause { OnErr result D.write_fails }

@@ -6,7 +6,7 @@ ghost use Rattle.http_wire.specs.Replies.{crlf, ended_line, fields_of, head_text
 ghost use Rattle.http_wire.specs.Sending.{Puts};
 ghost use Rattle.http_wire.specs.Timing.{NoRead, Ran};
 
-use crate::duplexes::Duplex;
+use crate::duplexes::Steady;
 use crate::faults::WriteFault;
 use crate::replies::{ReplyHead, decimal_text, range_value};
 use crate::sends::{Outgoing, put_pieces};
@@ -60,7 +60,7 @@ fn field_lines<'a>(
 }
 
 // Puts a line, where its value is there.
-fn put_line<D: Duplex>(
+fn put_line<D: Steady>(
     duplex: &mut D,
     out: &mut Outgoing,
     line: &Line<'_>,
@@ -79,7 +79,7 @@ fn put_line<D: Duplex>(
 }
 
 // Puts the lines, one after another.
-fn put_lines<D: Duplex>(
+fn put_lines<D: Steady>(
     duplex: &mut D,
     out: &mut Outgoing,
     lines: &[Line<'_>],
@@ -93,7 +93,7 @@ fn put_lines<D: Duplex>(
 }
 
 // Puts the status line.
-fn put_status<D: Duplex>(
+fn put_status<D: Steady>(
     duplex: &mut D,
     out: &mut Outgoing,
     status: StatusCode,
@@ -113,7 +113,7 @@ fn put_status<D: Duplex>(
 }
 
 // Puts a head whose numbers are written out.
-fn put_texts<'a, D: Duplex>(
+fn put_texts<'a, D: Steady>(
     duplex: &mut D,
     out: &mut Outgoing,
     head: &'a ReplyHead<'a>,
@@ -131,7 +131,7 @@ fn put_texts<'a, D: Duplex>(
 }
 
 /// Puts the head before a body of this many bytes.
-pub fn put_head<D: Duplex>(
+pub fn put_head<D: Steady>(
     duplex: &mut D,
     out: &mut Outgoing,
     head: &ReplyHead<'_>,

@@ -1,6 +1,6 @@
 //! Where a head ends.
 ghost use Rattle.std.specs.Prelude.{◌≡◌, ℕ, ◌≤◌, ◌⊎◌, List, ◌++◌, length, drop, true};
-ghost use Rattle.http_wire.specs.Scanning.{step_of, is_done, rest_from};
+ghost use Rattle.http_wire.specs.Scanning.{HasSearched, step_of, is_done, rest_from};
 
 /// What the bytes of a head read so far end in.
 #[derive(Clone, Copy, Debug, PartialEq, Eq)]
@@ -39,6 +39,36 @@ impl State {
             (State::Done, _) => State::Done,
             _ => State::Text,
         }
+    }
+}
+
+/// How far the search for the end of a head has come: the state after so many bytes of the buffer.
+#[derive(Clone, Copy, Debug, PartialEq, Eq)]
+pub struct Search {
+    pub state: State,
+    pub scanned: usize,
+}
+
+impl Search {
+    /// A search that has seen nothing.
+    pub fn new() -> Search
+        ensures { (bytes : List ℕ) → HasSearched bytes result.state result.scanned }
+    {
+        Search {
+            state: State::Before,
+            scanned: 0,
+        }
+    }
+
+    /// Goes on through the bytes of the buffer, up to the head's end.
+    pub fn go_on(&mut self, bytes: &[u8])
+        requires { HasSearched bytes.now self.old.state self.old.scanned }
+        ensures searched { HasSearched bytes.now self.new.state self.new.scanned }
+        ensures through { (is_done self.new.state ≡ true) ⊎ (self.new.scanned ≡ length bytes.now) }
+    {
+        let (state, more) = scan(self.state, &bytes[self.scanned..]);
+        self.state = state;
+        self.scanned += more;
     }
 }
 

@@ -4,8 +4,9 @@ ghost use Rattle.std.specs.List.{concat, flat_map};
 ghost use Rattle.http_wire.specs.Sending.{Puts, Sent, WritesAll, WritesOn};
 ghost use Rattle.http_wire.specs.Timing.{NoRead, Ran};
 
-use crate::duplexes::Duplex;
+use crate::duplexes::Steady;
 use crate::faults::WriteFault;
+use crate::halts::Halt;
 use byte_view::BodyParts;
 use std::alloc::{AllocError, Global};
 
@@ -23,13 +24,15 @@ pub struct Outgoing {
 }
 
 // Writes all the bytes, or answers how many were written.
-fn send<D: Duplex>(duplex: &mut D, bytes: &[u8]) -> Result<(), usize>
+fn send<D: Steady>(duplex: &mut D, bytes: &[u8]) -> Result<(), usize>
     ensures { Ran D.saw NoRead duplex.old duplex.new (WritesAll result bytes.now) }
 {
     let mut at = 0;
     'writes: while at < bytes.len() {
-        let Ok(count) = duplex.write_some(&bytes[at..]) else {
-            return Err(at);
+        let count = match duplex.write_some(&bytes[at..]) {
+            Ok(count) => count,
+            Err(Halt::Failed(_)) => return Err(at),
+            Err(Halt::WouldWait) => unreachable!(),
         };
         at += count;
     }
@@ -37,7 +40,7 @@ fn send<D: Duplex>(duplex: &mut D, bytes: &[u8]) -> Result<(), usize>
 }
 
 /// Writes the rest of a text, and counts its bytes to those that were written before.
-pub fn send_rest<D: Duplex>(duplex: &mut D, sent: &mut u64, rest: &[u8]) -> Result<(), WriteFault>
+pub fn send_rest<D: Steady>(duplex: &mut D, sent: &mut u64, rest: &[u8]) -> Result<(), WriteFault>
     ensures { Ran D.saw NoRead duplex.old duplex.new (WritesOn result [] sent.old sent.new rest.now []) }
 {
     match send(duplex, rest) {
@@ -67,7 +70,7 @@ impl Outgoing {
     }
 
     // Writes all that was put.
-    pub(crate) fn flush<D: Duplex>(&mut self, duplex: &mut D) -> Result<(), WriteFault>
+    pub(crate) fn flush<D: Steady>(&mut self, duplex: &mut D) -> Result<(), WriteFault>
         ensures ran { Ran D.saw NoRead duplex.old duplex.new
             (WritesOn result [] self.old.sent self.new.sent self.old.pending.items []) }
         ensures empty { OnOk result (self.new.pending.items ≡ []) }
@@ -90,7 +93,7 @@ impl Outgoing {
     }
 
     // Puts one more piece, and writes as much as it takes to make room for it.
-    pub(crate) fn put<D: Duplex>(&mut self, duplex: &mut D, piece: &[u8]) -> Result<(), WriteFault>
+    pub(crate) fn put<D: Steady>(&mut self, duplex: &mut D, piece: &[u8]) -> Result<(), WriteFault>
         ensures { Ran D.saw NoRead duplex.old duplex.new (Puts result piece.now self.old self.new) }
     {
         if self.gather(piece) {
@@ -105,7 +108,7 @@ impl Outgoing {
 }
 
 /// Puts the pieces, one after another.
-pub fn put_pieces<D: Duplex>(
+pub fn put_pieces<D: Steady>(
     duplex: &mut D,
     out: &mut Outgoing,
     pieces: &[&[u8]],
@@ -120,7 +123,7 @@ pub fn put_pieces<D: Duplex>(
 }
 
 /// Puts the parts of a body, one after another, each as it lies.
-pub fn put_parts<D: Duplex, P: BodyParts<Item: Drop> + Drop>(
+pub fn put_parts<D: Steady, P: BodyParts<Item: Drop> + Drop>(
     duplex: &mut D,
     out: &mut Outgoing,
     parts: P,

@@ -1,33 +1,40 @@
 //! Requests on a stream: heads and bodies, one after another.
-ghost use Rattle.std.specs.Prelude.{◌≡◌, ◌≢◌, ◌<◌, List, [], ℕ, length, vec_len, IfOk, IfErr, IfSome, IsErrOf};
+ghost use Rattle.std.specs.Prelude.{◌≡◌, ◌≢◌, ◌<◌, List, [], ◌++◌, ℕ, ◌≤◌, length, vec_len, IfOk, IfErr, IfSome, IsErrOf};
 ghost use Rattle.std.specs.Io.KnownBytes.{Consumes, Keeps, IsAtEnd, prepend_known};
+ghost use Rattle.http_wire.specs.Halting.{TriesBody, TriesHead, TriesToFind};
 ghost use Rattle.http_wire.specs.HeadText.{CutShort};
+ghost use Rattle.http_wire.specs.Scanning.{HasSearched};
 ghost use Rattle.http_wire.specs.Timing.{Ran};
-ghost use Rattle.http_wire.specs.Wires.{HasWholeHead, ServesHead, RefusesHead, RefusesLargeHead, AwaitsHead, AwaitsBody, ReadsHead, ReadsBody, FindsHead};
+ghost use Rattle.http_wire.specs.Wires.{HasWholeHead, ServesHead, RefusesHead, RefusesLargeHead, AwaitsHead, AwaitsBody, ReadsHead, ReadsBody};
 
-use crate::bodies::read_body;
+use crate::bodies::{fill_body, read_body};
 use crate::buffers::{Buffer, HEAD_LIMIT};
-use crate::duplexes::Duplex;
+use crate::duplexes::{Duplex, Steady};
 use crate::faults::{BodyFault, HeadFault};
+use crate::halts::Halt;
 use crate::heads::Head;
-use crate::scans::{State, scan};
+use crate::scans::{Search, scan};
 use std::alloc::{AllocError, Global};
 use std::marker::Model;
 
 /// Requests on a stream, one after another, whatever pieces it comes in. The stream is lent to each call. A contract
 /// sees the bytes that were read and not yet taken; what is left of the requests is these, and then what is left of
-/// the stream.
+/// the stream. The search for the end of a head goes on where it left off, so that a byte is looked at once, however slowly they come.
 #[derive(Drop)]
 pub struct Wire {
     buffer: Buffer,
+    search: Search,
 }
 
 impl Model for Wire {
     ghost use Rattle.std.specs.Prelude.{ℕ, List};
+    ghost use Rattle.http_wire.specs.Scanning.{HasSearched};
 
     ghost Value = { List ℕ };
 
     ghost view = { λ w. w.buffer };
+
+    ghost invariant = { λ w. HasSearched w.buffer w.search.state w.search.scanned };
 }
 
 impl Wire {
@@ -35,16 +42,43 @@ impl Wire {
     pub fn new(alloc: Global) -> Result<Wire, AllocError>
         ensures { IfOk result (λ wire. wire ≡ []) }
     {
-        Ok(Wire {
-            buffer: Buffer::new(alloc)?,
-        })
+        let buffer = Buffer::new(alloc)?;
+        let search = Search::new();
+        Ok(Wire { buffer, search })
+    }
+
+    /// Reads the next head as `read_head` does, from a stream that may have to wait: then what came is kept, and the next call goes on
+    /// there.
+    pub fn try_read_head<D: Duplex>(&mut self, duplex: &mut D) -> Result<Head, Halt<HeadFault>>
+        ensures ran { Ran D.saw (AwaitsHead self.old) duplex.old duplex.new (TriesHead result self.old self.new) }
+        ensures waits { IsErrOf result Halt.WouldWait → D.waits }
+    {
+        try_take_head(&mut self.buffer, duplex, &mut self.search)
+    }
+
+    /// Goes on reading a body of `size` bytes as `read_body` does, of which `body` is the part that is there, from a stream that may have to
+    /// wait: then what came is kept in `body` and in the wire, and the next call goes on there.
+    pub fn try_read_body<D: Duplex>(
+        &mut self,
+        duplex: &mut D,
+        body: &mut Vec<u8>,
+        size: usize,
+    ) -> Result<(), Halt<BodyFault>>
+        requires { vec_len body.old ≤ size }
+        ensures ran { Ran D.saw (AwaitsBody (body.old.items ++ self.old) size) duplex.old duplex.new
+            (TriesBody result size (body.old.items ++ self.old) body.new self.new) }
+        ensures within { vec_len body.new ≤ size }
+        ensures waits { IsErrOf result Halt.WouldWait → D.waits }
+    {
+        self.search = Search::new();
+        fill_body(&mut self.buffer, duplex, body, size)
     }
 
     /// Reads the next head. Reads only where what came before is no whole head, and writes nothing.
     ///
     /// A head, also one that is not answered, is taken from the stream with its last byte, and nothing after it is. One
     /// that is too long is left there, and any other error leaves what is left as it was.
-    pub fn read_head<D: Duplex>(&mut self, duplex: &mut D) -> Result<Head, HeadFault>
+    pub fn read_head<D: Steady>(&mut self, duplex: &mut D) -> Result<Head, HeadFault>
         ensures ok { let old = prepend_known self.old (D.left duplex.old) in
             let new = prepend_known self.new (D.left duplex.new) in
             IfOk result (ServesHead old new) }
@@ -64,12 +98,12 @@ impl Wire {
             IfErr result (λ e. e ≢ HeadFault.BadHead → e ≢ HeadFault.HeadTooLarge → Keeps old new) }
         ensures ran { Ran D.saw (AwaitsHead self.old) duplex.old duplex.new (ReadsHead result self.old self.new) }
     {
-        take_head(&mut self.buffer, duplex)
+        take_head(&mut self.buffer, duplex, &mut self.search)
     }
 
     /// Reads a body of `count` bytes. Reads only where what came before is fewer bytes, and writes nothing. Memory is
     /// taken as the bytes come, by design for twice as many at most and no more than `count`; a body of none takes none.
-    pub fn read_body<D: Duplex>(&mut self, duplex: &mut D, count: u64) -> Result<Vec<u8>, BodyFault>
+    pub fn read_body<D: Steady>(&mut self, duplex: &mut D, count: u64) -> Result<Vec<u8>, BodyFault>
         ensures ok { let old = prepend_known self.old (D.left duplex.old) in
             let new = prepend_known self.new (D.left duplex.new) in
             IfOk result (λ body. (vec_len body ≡ count) × Consumes old new body.items) }
@@ -85,38 +119,74 @@ impl Wire {
         ensures memory { IsErrOf result BodyFault.OutOfMemory → 0 < count }
         ensures ran { Ran D.saw (AwaitsBody self.old count) duplex.old duplex.new (ReadsBody result count self.old self.new) }
     {
+        self.search = Search::new();
         read_body(&mut self.buffer, duplex, count)
     }
 }
 
-// Takes the next head from the buffer and the stream after it.
-fn take_head<D: Duplex>(buffer: &mut Buffer, duplex: &mut D) -> Result<Head, HeadFault>
-    ensures { Ran D.saw (AwaitsHead buffer.old) duplex.old duplex.new (ReadsHead result buffer.old buffer.new) }
+// Takes the next head from the buffer and the stream after it, which never has to wait.
+fn take_head<D: Steady>(
+    buffer: &mut Buffer,
+    duplex: &mut D,
+    search: &mut Search,
+) -> Result<Head, HeadFault>
+    requires { HasSearched buffer.old search.old.state search.old.scanned }
+    ensures ran { Ran D.saw (AwaitsHead buffer.old) duplex.old duplex.new (ReadsHead result buffer.old buffer.new) }
+    ensures searched { HasSearched buffer.new search.new.state search.new.scanned }
 {
-    let count = find_head(buffer, duplex)?;
-    let parsed = Head::parse(buffer.allocator(), &buffer.as_slice()[..count])?;
-    buffer.consume(count);
-    parsed
+    match try_take_head(buffer, duplex, search) {
+        Ok(head) => Ok(head),
+        Err(Halt::Failed(fault)) => Err(fault),
+        Err(Halt::WouldWait) => unreachable!(),
+    }
 }
 
-// Reads on until the head at the front of the buffer is whole, and answers its length.
-pub(crate) fn find_head<D: Duplex>(buffer: &mut Buffer, duplex: &mut D) -> Result<usize, HeadFault>
-    ensures { Ran D.saw (AwaitsHead buffer.old) duplex.old duplex.new (FindsHead result buffer.old buffer.new) }
+// Takes the next head from the buffer and the stream after it.
+fn try_take_head<D: Duplex>(
+    buffer: &mut Buffer,
+    duplex: &mut D,
+    search: &mut Search,
+) -> Result<Head, Halt<HeadFault>>
+    requires { HasSearched buffer.old search.old.state search.old.scanned }
+    ensures ran { Ran D.saw (AwaitsHead buffer.old) duplex.old duplex.new (TriesHead result buffer.old buffer.new) }
+    ensures waits { IsErrOf result Halt.WouldWait → D.waits }
+    ensures searched { HasSearched buffer.new search.new.state search.new.scanned }
 {
-    let (mut state, mut scanned) = scan(State::Before, buffer.as_slice());
-    'reads: while !state.is_done() {
+    let count = find_head(buffer, duplex, search)?;
+    let parsed = Head::parse(buffer.allocator(), &buffer.as_slice()[..count])?;
+    buffer.consume(count);
+    *search = Search::new();
+    match parsed {
+        Ok(head) => Ok(head),
+        Err(fault) => Err(Halt::Failed(fault)),
+    }
+}
+
+// Reads on until the head at the front of the buffer is whole, and answers its length. The search goes on where it left off.
+pub(crate) fn find_head<D: Duplex>(
+    buffer: &mut Buffer,
+    duplex: &mut D,
+    search: &mut Search,
+) -> Result<usize, Halt<HeadFault>>
+    requires { HasSearched buffer.old search.old.state search.old.scanned }
+    ensures ran { Ran D.saw (AwaitsHead buffer.old) duplex.old duplex.new (TriesToFind result buffer.old buffer.new) }
+    ensures waits { IsErrOf result Halt.WouldWait → D.waits }
+    ensures searched { HasSearched buffer.new search.new.state search.new.scanned }
+{
+    search.go_on(buffer.as_slice());
+    'reads: while !search.state.is_done() {
         if buffer.as_slice().len() == HEAD_LIMIT {
-            return Err(HeadFault::HeadTooLarge);
+            return Err(Halt::Failed(HeadFault::HeadTooLarge));
         }
-        let Ok(count) = buffer.fill(duplex) else {
-            return Err(HeadFault::ReadFault);
+        let count = match buffer.fill(duplex) {
+            Ok(count) => count,
+            Err(Halt::Failed(_)) => return Err(Halt::Failed(HeadFault::ReadFault)),
+            Err(Halt::WouldWait) => return Err(Halt::WouldWait),
         };
         if count == 0 {
-            return Err(HeadFault::Ended);
+            return Err(Halt::Failed(HeadFault::Ended));
         }
-        let (next, more) = scan(state, &buffer.as_slice()[scanned..]);
-        state = next;
-        scanned += more;
+        search.go_on(buffer.as_slice());
     }
-    Ok(scanned)
+    Ok(search.scanned)
 }

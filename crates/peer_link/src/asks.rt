@@ -7,7 +7,7 @@ ghost use Rattle.peer_link.specs.Paths as spec;
 use crate::links::PeerFault;
 use crate::paths::chunk_path;
 use host_names::Digest;
-use http_wire::{Duplex, Outgoing, read_answer, write_get};
+use http_wire::{Outgoing, Steady, read_answer, write_get};
 use std::alloc::Global;
 
 /// How many bytes a peer's answer has at most: those of the longest chunk.
@@ -15,7 +15,7 @@ pub const CHUNK_LIMIT: u64 = 65536;
 
 /// Asks the peer at the other end of a stream for a chunk, by one request, and gives the bytes that it answers, whatever they are: at most
 /// as many as a chunk has.
-pub fn ask<D: Duplex>(alloc: Global, duplex: &mut D, key: &Digest) -> Result<Vec<u8>, PeerFault>
+pub fn ask<D: Steady>(alloc: Global, duplex: &mut D, key: &Digest) -> Result<Vec<u8>, PeerFault>
     ensures asked { OnOk result
         (Appends (D.held duplex.old) (D.held duplex.new) (get_text (spec.chunk_path key.now))) }
     ensures answered { IfOk result (λ bytes.

@@ -12,7 +12,7 @@ use byte_view::Chunk;
 use host_names::Digest;
 use http::{StatusCode, Version};
 use http_wire::{
-    Duplex, Head, HeadFault, Outgoing, ReplyBody, ReplyHead, Wire, WriteFault, check_body,
+    Head, HeadFault, Outgoing, ReplyBody, ReplyHead, Steady, Wire, WriteFault, check_body,
     write_reply,
 };
 use std::alloc::{AllocError, Global};
@@ -72,7 +72,7 @@ fn head_of(status: StatusCode) -> ReplyHead<'static>
 }
 
 // Answers with the bytes of a chunk, which go out as they lie.
-fn write_chunk<D: Duplex>(
+fn write_chunk<D: Steady>(
     duplex: &mut D,
     out: &mut Outgoing,
     bytes: &[u8],
@@ -85,7 +85,7 @@ fn write_chunk<D: Duplex>(
 }
 
 // Answers that there is no such chunk.
-fn write_no_chunk<D: Duplex>(duplex: &mut D, out: &mut Outgoing) -> Result<(), WriteFault>
+fn write_no_chunk<D: Steady>(duplex: &mut D, out: &mut Outgoing) -> Result<(), WriteFault>
     ensures ok { OnOk result (Appends (D.held duplex.old) (D.held duplex.new) (answer_text None)) }
     ensures cause { OnErr result D.write_fails }
 {
@@ -111,7 +111,7 @@ fn asked_key(head: &Head) -> Option<Digest>
 
 /// Answers one request of a peer from the chunks that a node has by itself: 200 with the bytes of the chunk, which go out as they lie; or 404
 /// without a body, for another method, for a path that is none of a chunk, and for a chunk that it hasn't. To write it takes no memory.
-pub fn answer_peer<R: Wait, D: Duplex, C: LocalChunks>(
+pub fn answer_peer<R: Wait, D: Steady, C: LocalChunks>(
     rt: &R,
     duplex: &mut D,
     out: &mut Outgoing,
@@ -132,7 +132,7 @@ pub fn answer_peer<R: Wait, D: Duplex, C: LocalChunks>(
 }
 
 // Reads the next head, and writes nothing.
-fn read_head<D: Duplex>(wire: &mut Wire, duplex: &mut D) -> Result<Head, HeadFault>
+fn read_head<D: Steady>(wire: &mut Wire, duplex: &mut D) -> Result<Head, HeadFault>
     ensures kept { Appends (D.held duplex.old) (D.held duplex.new) [] }
     ensures failed { IsErrOf result HeadFault.ReadFault → D.read_fails }
 {
@@ -163,7 +163,7 @@ fn is_last(head: &Head) -> bool {
 /// request that asks for that or is of HTTP/1.0, and at a head that is none or announces a body, which it doesn't answer.
 ///
 /// It is handed no link: whatever a peer asks, no other peer is asked for it.
-pub fn serve_peer<R: Wait, D: Duplex, C: LocalChunks>(
+pub fn serve_peer<R: Wait, D: Steady, C: LocalChunks>(
     rt: &R,
     alloc: Global,
     duplex: &mut D,

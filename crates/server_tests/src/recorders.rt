@@ -4,7 +4,7 @@ ghost use Rattle.host_connection.specs.Timing.{Connects, IsCaughtUp};
 ghost use Rattle.server_tests.specs.Recorders.{IsRecorded, Records, put_of};
 
 use host_connection::{ConnectionFault, Service, serve_connection};
-use http_wire::{Duplex, ReadFailed, WriteFailed};
+use http_wire::{Duplex, Halt, ReadFailed, Steady, WriteFailed};
 use std::alloc::Global;
 
 /// A byte that was got or put, or a read that found the end.
@@ -50,34 +50,40 @@ impl Duplex for Recorder<'_> {
 
     ghost write_fails = { ⊤ };
 
+    ghost waits = { ⊥ };
+
     ghost saw = { λ old event new. Records event old.input.now old.steps.items new.input.now new.steps.items };
 
-    fn read_some(&mut self, buf: &mut [u8]) -> Result<usize, ReadFailed> {
+    fn read_some(&mut self, buf: &mut [u8]) -> Result<usize, Halt<ReadFailed>> {
         let Some((first, rest)) = self.input.split_first() else {
             let Ok(()) = self.steps.push(Step::AtEnd) else {
-                return Err(ReadFailed);
+                return Err(Halt::Failed(ReadFailed));
             };
             return Ok(0);
         };
         let Ok(()) = self.steps.push(Step::Got(*first)) else {
-            return Err(ReadFailed);
+            return Err(Halt::Failed(ReadFailed));
         };
         buf[0] = *first;
         self.input = rest;
         Ok(1)
     }
 
-    fn write_some(&mut self, bytes: &[u8]) -> Result<usize, WriteFailed> {
+    fn write_some(&mut self, bytes: &[u8]) -> Result<usize, Halt<WriteFailed>> {
         let Some(first) = bytes.first() else {
             return Ok(0);
         };
         let Ok(()) = self.steps.push(Step::Put(*first)) else {
-            return Err(WriteFailed);
+            return Err(Halt::Failed(WriteFailed));
         };
         Ok(1)
     }
 
     ghost told = { λ old new event seen. seen.1 };
+}
+
+impl Steady for Recorder<'_> {
+    ghost never_waits = { λ never. never };
 }
 
 /// Serves a connection. Its record is the trail of what it did: each read came where it may.

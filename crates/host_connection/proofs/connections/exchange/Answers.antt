@@ -7,7 +7,7 @@ use Rattle.host_connection.specs.Timing.{ExchangesAs}
 use Rattle.host_connection.specs.declared.connections.ConnectionFault.{ConnectionFault}
 use Rattle.host_connection.specs.declared.connections.Next.{Next}
 use Rattle.host_connection.specs.declared.connections.Next.TheVariants as next_is
-use Rattle.host_connection.proofs.TimedTrails.{ran_as}
+use Rattle.http_wire.proofs.HeadReads.{ran_as}
 use Rattle.host_connection.proofs.Turns.{is_sent, exchange_sent, exchange_cut}
 use Rattle.host_connection.proofs.connections.exchange.Goals as goal
 

@@ -1,7 +1,7 @@
 use Rattle.std.proofs.Common.{◌≡◌, false, Ok, rules}
 use Rattle.http_wire.specs.Timing.{NoRead}
 use Rattle.host_connection.specs.Timing.{InvitesAs}
-use Rattle.host_connection.proofs.TimedTrails.{ran_none}
+use Rattle.http_wire.proofs.SplitTrails.{ran_none}
 use Rattle.host_connection.proofs.TimedReads.{not_invited}
 use Rattle.host_connection.proofs.connections.invite.Goals as goal
 

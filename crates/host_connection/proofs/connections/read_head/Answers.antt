@@ -3,7 +3,7 @@ use Rattle.http_wire.specs.declared.faults.HeadFault.{HeadFault}
 use Rattle.http_wire.specs.declared.faults.HeadFault.TheVariants as head_fault
 use Rattle.http_wire.specs.Timing.{Ran}
 use Rattle.http_wire.specs.Wires.{AwaitsHead, ReadsHead}
-use Rattle.host_connection.proofs.TimedTrails.{ran_as}
+use Rattle.http_wire.proofs.HeadReads.{ran_as}
 use Rattle.host_connection.proofs.TimedReads.{head_read, head_missed}
 use Rattle.host_connection.proofs.connections.read_head.Goals as goal
 

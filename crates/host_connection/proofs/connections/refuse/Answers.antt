@@ -4,7 +4,7 @@ use Rattle.host_replies.specs.Replies.{Answer, sent_text}
 use Rattle.host_connection.specs.Serving.{Sends}
 use Rattle.host_connection.specs.Timing.{RefusesAs}
 use Rattle.host_connection.specs.declared.connections.Stop.{Stop}
-use Rattle.host_connection.proofs.TimedTrails.{ran_as}
+use Rattle.http_wire.proofs.HeadReads.{ran_as}
 use Rattle.host_connection.proofs.connections.refuse.Goals as goal
 
 pub returns-in-Refused : goal.returns-in-Refused

@@ -4,7 +4,7 @@ use Rattle.http_wire.specs.declared.faults.BodyFault.{BodyFault}
 use Rattle.http_wire.specs.declared.faults.BodyFault.TheVariants as body_fault
 use Rattle.http_wire.specs.Timing.{Ran}
 use Rattle.http_wire.specs.Wires.{AwaitsBody, ReadsBody}
-use Rattle.host_connection.proofs.TimedTrails.{ran_as}
+use Rattle.http_wire.proofs.HeadReads.{ran_as}
 use Rattle.host_connection.proofs.TimedReads.{body_taken, body_missed}
 use Rattle.host_connection.proofs.connections.take_body.Goals as goal
 

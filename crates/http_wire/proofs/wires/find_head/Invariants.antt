@@ -5,7 +5,7 @@ use Rattle.http_wire.proofs.wires.find_head.Given as goal
 
 abbrev pub invariant-reads : goal.invariant-reads
 invariant-reads g l = record {
-  scan : HasScanned l.buffer l.state l.scanned;
+  scan : HasScanned l.buffer l.search.state l.search.scanned;
   so : HeadSoFar g.D.Duplex.saw l.fn.duplex l.duplex l.fn.buffer l.buffer;
 }
 

@@ -8,7 +8,7 @@ use Rattle.http_wire.proofs.wires.Wire.read_head.Goals as goal
 pub returns-clause-ok : goal.returns-clause-ok
 returns-clause-ok g c =
     let d = g.D.Duplex in
-    let ran = c.take_head.ensures in
+    let ran = c.take_head.ensures.ran in
     let told = all_told d.saw d.left d.held d.read_fails d.write_fails g.met.D.Duplex.told c.args.duplex.now c.take_head.new.duplex ran.events ran.steps in
     let left = d.left c.args.duplex.now in
     let new : Option (List ℕ) = prepend_known c.take_head.new.buffer (d.left c.take_head.new.duplex) in
@@ -19,7 +19,7 @@ returns-clause-ok g c =
 pub returns-clause-bad : goal.returns-clause-bad
 returns-clause-bad g c =
     let d = g.D.Duplex in
-    let ran = c.take_head.ensures in
+    let ran = c.take_head.ensures.ran in
     let told = all_told d.saw d.left d.held d.read_fails d.write_fails g.met.D.Duplex.told c.args.duplex.now c.take_head.new.duplex ran.events ran.steps in
     let left = d.left c.args.duplex.now in
     let new : Option (List ℕ) = prepend_known c.take_head.new.buffer (d.left c.take_head.new.duplex) in
@@ -30,7 +30,7 @@ returns-clause-bad g c =
 pub returns-clause-large : goal.returns-clause-large
 returns-clause-large g c =
     let d = g.D.Duplex in
-    let ran = c.take_head.ensures in
+    let ran = c.take_head.ensures.ran in
     let told = all_told d.saw d.left d.held d.read_fails d.write_fails g.met.D.Duplex.told c.args.duplex.now c.take_head.new.duplex ran.events ran.steps in
     let left = d.left c.args.duplex.now in
     let new : Option (List ℕ) = prepend_known c.take_head.new.buffer (d.left c.take_head.new.duplex) in
@@ -41,7 +41,7 @@ returns-clause-large g c =
 pub returns-clause-ended : goal.returns-clause-ended
 returns-clause-ended g c =
     let d = g.D.Duplex in
-    let ran = c.take_head.ensures in
+    let ran = c.take_head.ensures.ran in
     let told = all_told d.saw d.left d.held d.read_fails d.write_fails g.met.D.Duplex.told c.args.duplex.now c.take_head.new.duplex ran.events ran.steps in
     let left = d.left c.args.duplex.now in
     let new : Option (List ℕ) = prepend_known c.take_head.new.buffer (d.left c.take_head.new.duplex) in
@@ -52,14 +52,14 @@ returns-clause-ended g c =
 pub returns-clause-failed : goal.returns-clause-failed
 returns-clause-failed g c =
     let d = g.D.Duplex in
-    let ran = c.take_head.ensures in
+    let ran = c.take_head.ensures.ran in
     let told = all_told d.saw d.left d.held d.read_fails d.write_fails g.met.D.Duplex.told c.args.duplex.now c.take_head.new.duplex ran.events ran.steps in
     head_failed d.read_fails c.take_head.result ran.events ran.claimed.ends told.read
 
 pub returns-clause-memory : goal.returns-clause-memory
 returns-clause-memory g c =
     let d = g.D.Duplex in
-    let ran = c.take_head.ensures in
+    let ran = c.take_head.ensures.ran in
     let told = all_told d.saw d.left d.held d.read_fails d.write_fails g.met.D.Duplex.told c.args.duplex.now c.take_head.new.duplex ran.events ran.steps in
     let left = d.left c.args.duplex.now in
     let new : Option (List ℕ) = prepend_known c.take_head.new.buffer (d.left c.take_head.new.duplex) in
@@ -70,7 +70,7 @@ returns-clause-memory g c =
 pub returns-clause-kept : goal.returns-clause-kept
 returns-clause-kept g c =
     let d = g.D.Duplex in
-    let ran = c.take_head.ensures in
+    let ran = c.take_head.ensures.ran in
     let told = all_told d.saw d.left d.held d.read_fails d.write_fails g.met.D.Duplex.told c.args.duplex.now c.take_head.new.duplex ran.events ran.steps in
     let left = d.left c.args.duplex.now in
     let new : Option (List ℕ) = prepend_known c.take_head.new.buffer (d.left c.take_head.new.duplex) in

@@ -1,17 +1,12 @@
--- Trails of a connection: which streams they are of, and what they wrote.
-use Rattle.std.proofs.Common.{◌≡◌, ℕ, List, [], ◌∷◌, ◌++◌, Some, None, refl, ap, subst, ◌∙◌, append_assoc, append-nil}
+-- Trails in two parts: which streams they are of, and what they wrote.
+use Rattle.std.proofs.Common.{◌≡◌, ℕ, List, [], ◌∷◌, ◌++◌, Option, Some, None, refl, ap, subst, ◌∙◌, append_assoc, append-nil}
 use Rattle.std.specs.Io.KnownBytes.{Consumes}
 use Rattle.http_wire.specs.Timing.{Event, Got, AtEnd, ReadFails, Put, WriteFails, all_got, all_put, IsLatest, GoesOn, Gives, Ran}
 use Rattle.http_wire.proofs.Trails.{got_joined, put_joined, latest_joined}
-use Rattle.host_connection.specs.Serving.{Stream}
-use Rattle.host_connection.proofs.Turns.{taken}
+use Rattle.http_wire.specs.Halting.{Together}
 
 pub ran_none : {S : Type 0} (saw : S → Event → S → Type 0) (may : List ℕ → List ℕ → Type 0) (old : S) (claim : List Event → Type 0) → claim [] → Ran saw may old old claim
 ran_none saw may old claim claimed = record { events = []; steps = refl; timely = tt; claimed = claimed }
-
-pub ran_as : {S : Type 0} (saw : S → Event → S → Type 0) (may : List ℕ → List ℕ → Type 0) (old new : S) (claim other : List Event → Type 0)
-    → ((events : List Event) → claim events → other events) → Ran saw may old new claim → Ran saw may old new other
-ran_as saw may old new claim other f ran = record { events = ran.events; steps = ran.steps; timely = ran.timely; claimed = f ran.events ran.claimed }
 
 ended_stops : (events : List Event) → GoesOn events → IsLatest AtEnd events → ⊥
 ended_stops [] on latest = latest
@@ -41,34 +36,28 @@ write_goes_on (WriteFails ∷ past) on latest = on
 pub gives_more : (events : List Event) (more : List ℕ) → GoesOn events → Gives events (Some (all_got events ++ more)) (Some more)
 gives_more events more on = record { taken = refl; end = λ latest. absurd (ended_stops events on latest) }
 
--- what is left of a stream that isn't known isn't known either
-abbrev pub Together : Stream → Stream → Type 0
-Together None None = Unit {0}
-Together None (Some bytes) = ⊥
-Together (Some bytes) new_left = Unit {0}
-
 -- a stream between two trails
-pub record Between (events past : List Event) (left new_left : Stream) : Type 0 where
-  pub mid : Stream
+pub record Between (events past : List Event) (left new_left : Option (List ℕ)) : Type 0 where
+  pub mid : Option (List ℕ)
   pub first : Gives past left mid
   pub second : Gives events mid new_left
   pub together : Together left mid
   pub later : Together left new_left → Together mid new_left
 
-pub record Parted (left new_left : Stream) (xs ys : List ℕ) : Type 0 where
-  pub mid : Stream
+pub record Parted (left new_left : Option (List ℕ)) (xs ys : List ℕ) : Type 0 where
+  pub mid : Option (List ℕ)
   pub first : Consumes left mid xs
   pub second : Consumes mid new_left ys
   pub together : Together left mid
   pub later : Together left new_left → Together mid new_left
 
-between : (left new_left : Stream) (xs ys : List ℕ) → Consumes left new_left (xs ++ ys) → Parted left new_left xs ys
+between : (left new_left : Option (List ℕ)) (xs ys : List ℕ) → Consumes left new_left (xs ++ ys) → Parted left new_left xs ys
 between None new_left xs ys taken = record { mid = None; first = tt; second = tt; together = tt; later = λ t. t }
 between (Some bs) None xs ys taken = absurd taken
 between (Some bs) (Some cs) xs ys taken =
     record { mid = Some (ys ++ cs); first = taken ∙ append_assoc xs ys cs; second = refl; together = tt; later = λ t. tt }
 
-pub gives_split : (events past : List Event) (left new_left : Stream) → GoesOn past → Gives (events ++ past) left new_left → Between events past left new_left
+pub gives_split : (events past : List Event) (left new_left : Option (List ℕ)) → GoesOn past → Gives (events ++ past) left new_left → Between events past left new_left
 gives_split events past left new_left on gives =
     let parts = between left new_left (all_got past) (all_got events) (subst (Consumes left new_left) (got_joined events past) gives.taken) in
     record {
@@ -80,19 +69,19 @@ gives_split events past left new_left on gives =
     }
 
 -- the same stream, of which nothing is known after the reads where nothing was before
-pub together_of : (events : List Event) (left new_left : Stream) → Gives events left new_left → (mid : Stream) × Gives events left mid × Together left mid
+pub together_of : (events : List Event) (left new_left : Option (List ℕ)) → Gives events left new_left → (mid : Option (List ℕ)) × Gives events left mid × Together left mid
 together_of events None new_left gives = (None, record { taken = tt; end = λ latest. tt }, tt)
 together_of events (Some bytes) new_left gives = (new_left, gives, tt)
 
 -- writes after reads take nothing of the stream
-pub gives_read : (events past : List Event) (left new_left : Stream) → GoesOn past → all_got events ≡ [] → Gives (events ++ past) left new_left → Gives past left new_left
+pub gives_read : (events past : List Event) (left new_left : Option (List ℕ)) → GoesOn past → all_got events ≡ [] → Gives (events ++ past) left new_left → Gives past left new_left
 gives_read events past left new_left on none gives = record {
   taken = subst (Consumes left new_left) (got_joined events past ∙ ap (λ u. all_got past ++ u) none ∙ append-nil (all_got past)) gives.taken;
   end = λ latest. absurd (ended_stops past on latest);
 }
 
 -- reads after writes take all that is taken of the stream
-pub gives_written : (events past : List Event) (left new_left : Stream) → all_got past ≡ [] → Gives (events ++ past) left new_left → Gives events left new_left
+pub gives_written : (events past : List Event) (left new_left : Option (List ℕ)) → all_got past ≡ [] → Gives (events ++ past) left new_left → Gives events left new_left
 gives_written events past left new_left none gives = record {
   taken = subst (Consumes left new_left) (got_joined events past ∙ ap (λ u. u ++ all_got events) none) gives.taken;
   end = λ latest. gives.end (latest_joined AtEnd events past latest);

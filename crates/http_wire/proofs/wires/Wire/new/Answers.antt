@@ -1,0 +1,4 @@
+use Rattle.http_wire.proofs.wires.Wire.new.Goals as goal
+
+pub invariant_of-result : goal.invariant_of-result
+invariant_of-result c = c.new-search.ensures _
