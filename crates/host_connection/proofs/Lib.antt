@@ -3,4 +3,5 @@ pub mod Served
 pub mod TimedReads
 pub mod TimedTurns
 pub mod TimedConnections
+pub mod InPhases
 pub mod NoHead

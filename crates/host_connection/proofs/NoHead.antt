@@ -1,5 +1,5 @@
 -- Of a stream that has no byte no head is taken, so that nothing is sent.
-use Rattle.std.proofs.Common.{◌≡◌, ◌⊎◌, inl, inr, ℕ, ◌+◌, ◌<◌, List, [], ◌∷◌, ◌++◌, length, Option, Some, None, refl, sym, ap, subst, ◌∙◌, arith, length-append}
+use Rattle.std.proofs.Common.{◌≡◌, inl, inr, ℕ, ◌<◌, List, [], ◌∷◌, ◌++◌, length, Some, None, sym, subst, ◌∙◌, arith, length-append}
 use Rattle.std.specs.Io.KnownBytes.{Consumes}
 use Rattle.std.specs.List.{concat}
 use Rattle.http_wire.specs.HeadText.{IsHeadText}

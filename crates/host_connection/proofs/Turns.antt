@@ -24,7 +24,7 @@ is_sent answers close head_only host next parts body answer named right =
     record { answer = answer; is_answer = right; sent_is = ap (λ h. sent_text close h answer) named }
 
 -- whether the connection ends next
-abbrev is_end : Next → Bool
+abbrev pub is_end : Next → Bool
 is_end next_is.Exchange = false
 is_end next_is.End = true
 

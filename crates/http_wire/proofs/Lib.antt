@@ -17,6 +17,7 @@ pub mod BodyReads
 pub mod StreamReads
 pub mod Resumed
 pub mod Writes
+pub mod WritesOn
 pub mod PartsPut
 pub mod OneHead
 pub mod ReadCounts

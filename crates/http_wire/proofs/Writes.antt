@@ -1,62 +1,12 @@
 -- What writes lead to, one after another.
-use Rattle.std.proofs.Common.{◌≡◌, ℕ, ◌+◌, ◌-◌, ◌^◌, ◌<◌, ◌≤◌, min, List, [], ◌∷◌, ◌++◌, length, take, drop, Option, Some, Result, Ok, Err, OnOk, OnErr, IfErr, slice_range, refl, sym, ap, subst, ◌∙◌, append_assoc, append-nil, arith}
+use Rattle.std.proofs.Common.{◌≡◌, ℕ, ◌+◌, ◌-◌, ◌^◌, ◌<◌, min, List, [], ◌++◌, length, drop, Option, Some, Result, Ok, Err, OnOk, OnErr, IfErr, refl, sym, ap, subst, ◌∙◌, append_assoc, append-nil, arith}
 use Rattle.std.specs.Io.KnownBytes.{Appends}
-use Rattle.std.proofs.lemmas.List.{length-take-le, length-drop, take_all}
-use Rattle.std.proofs.lemmas.Slice.{between_to_end}
+use Rattle.std.proofs.lemmas.List.{length-drop}
 use Rattle.http_wire.specs.declared.faults.WriteFault.{WriteFault}
 use Rattle.http_wire.specs.Sending.{SentFront, WritesText, WritesAll, Written, WrittenNow, WritesEnd, WritesOn}
-use Rattle.http_wire.specs.Timing.{Event, Put, WriteFails, all_put, IsLatest, GoesOn, Timely, Steps, NoRead, Ran}
-use Rattle.http_wire.proofs.SentParts.{take_further, some_left, sent_more, sent_some, sent_all, sent_whole}
+use Rattle.http_wire.specs.Timing.{Event, WriteFails, all_put, IsLatest, GoesOn, NoRead, Ran}
+use Rattle.http_wire.proofs.SentParts.{some_left, sent_more, sent_some, sent_all, sent_whole}
 use Rattle.http_wire.proofs.Trails.{put_joined, goes_on_joined, latest_joined, steps_joined, timely_joined}
-
--- ---- all the bytes
-
--- the first so many bytes were written
-pub record AllSoFar {S : Type 0} (saw : S → Event → S → Type 0) (old new : S) (bytes : List ℕ) (at : ℕ) : Type 0 where
-  pub events : List Event
-  pub steps : Steps saw old events new
-  pub timely : Timely NoRead events
-  pub goes_on : GoesOn events
-  pub put : all_put events ≡ take at bytes
-  pub within : at ≤ length bytes
-
-pub none_written : {S : Type 0} (saw : S → Event → S → Type 0) (old : S) (bytes : List ℕ) → AllSoFar saw old old bytes 0
-none_written saw old bytes = record { events = []; steps = refl; timely = tt; goes_on = tt; put = refl; within = omega arith }
-
-pub write_more : {S : Type 0} (saw : S → Event → S → Type 0) (old mid new : S) (bytes : List ℕ) (at count : ℕ) → AllSoFar saw old mid bytes at → at < length bytes
-    → count ≤ length (slice_range bytes at (length bytes)) → (0 < length (slice_range bytes at (length bytes)) → 0 < count)
-    → saw mid (Put (take count (slice_range bytes at (length bytes)))) new → AllSoFar saw old new bytes (at + count)
-write_more saw old mid new bytes at count so room within some seen =
-    let rest = slice_range bytes at (length bytes) in
-    let size : length rest ≡ length bytes - at = ap length (between_to_end bytes at (length bytes) (omega arith)) ∙ length-drop at bytes in
-    let piece : length (take count rest) ≡ count = length-take-le count rest within in
-    let one : 0 < count = some (omega (arith, size, room)) in
-    record {
-      events = Put (take count rest) ∷ so.events;
-      steps = (mid, so.steps, seen);
-      timely = (so.goes_on, omega (arith, piece, one), so.timely);
-      goes_on = tt;
-      put = ap (λ u. u ++ take count rest) so.put ∙ sym (take_further bytes at count so.within);
-      within = omega (arith, within, size, room);
-    }
-
-pub all_written : {S : Type 0} (saw : S → Event → S → Type 0) (old new : S) (bytes : List ℕ) (at : ℕ) → AllSoFar saw old new bytes at → length bytes ≤ at
-    → Ran saw NoRead old new (WritesAll (Ok tt) bytes)
-all_written saw old new bytes at so full = record {
-  events = so.events;
-  steps = so.steps;
-  timely = so.timely;
-  claimed = (so.goes_on, so.put ∙ take_all at bytes full);
-}
-
-pub write_failed : {S : Type 0} (saw : S → Event → S → Type 0) (old mid new : S) (bytes : List ℕ) (at : ℕ) → AllSoFar saw old mid bytes at → at < length bytes
-    → saw mid WriteFails new → Ran saw NoRead old new (WritesAll (Err at) bytes)
-write_failed saw old mid new bytes at so room seen = record {
-  events = WriteFails ∷ so.events;
-  steps = (mid, so.steps, seen);
-  timely = (so.goes_on, tt, so.timely);
-  claimed = (refl, room, so.put);
-}
 
 -- ---- the rest of a text
 

@@ -1,12 +1,13 @@
 -- Calls that may have to wait, and go on where they left off.
-use Rattle.std.specs.Prelude.{◌≡◌, ℕ, List, [], ◌++◌, Option, Some, None, Result, Ok, Err}
+use Rattle.std.specs.Prelude.{◌≡◌, ℕ, ◌<◌, ◌≤◌, List, [], ◌++◌, length, take, Option, Some, None, Result, Ok, Err}
 use Rattle.std.specs.declared.vec.Vec.{Vec}
 use Rattle.http_wire.specs.declared.faults.BodyFault.{BodyFault}
 use Rattle.http_wire.specs.declared.faults.HeadFault.{HeadFault}
 use Rattle.http_wire.specs.declared.halts.Halt.{Halt}
 use Rattle.http_wire.specs.declared.halts.Halt.TheVariants.{Failed, WouldWait}
+use Rattle.http_wire.specs.declared.sinks.WriteFailed.{WriteFailed}
 use Rattle.http_wire.specs.Requests.{RequestParts}
-use Rattle.http_wire.specs.Timing.{Event, all_got, all_put, GoesOn}
+use Rattle.http_wire.specs.Timing.{Event, WriteFails, all_got, all_put, GoesOn, IsLatest}
 use Rattle.http_wire.specs.Wires.{FindsHead, ReadsBody, ReadsHead}
 
 -- a read or a write failed, which is this event; or it would have to wait, which is none: the stream is as it was
@@ -32,6 +33,18 @@ abbrev pub TriesBody : {A : Type 0} → Result (Unit {0}) (Halt BodyFault) → (
 TriesBody (Ok done) size before body new_buffer events = ReadsBody (Ok body) size before new_buffer events
 TriesBody {A = A} (Err (Failed why)) size before body new_buffer events = ReadsBody {A = A} (Err why) size before new_buffer events
 TriesBody (Err WouldWait) size before body new_buffer events = KeepsOn before (body.items ++ new_buffer) events
+
+-- how writes of a text up to this place end: all of it is written; or a write failed, or would have to wait, and some is left
+abbrev pub TextEnds : Result (Unit {0}) (Halt WriteFailed) → (text : List ℕ) → (at : ℕ) → List Event → Type 0
+TextEnds (Ok done) text at events = GoesOn events × (at ≡ length text)
+TextEnds (Err (Failed why)) text at events = IsLatest WriteFails events × (at < length text)
+TextEnds (Err WouldWait) text at events = GoesOn events × (at < length text)
+
+-- the text was written from one place in it on, up to another
+pub record WritesFrom (result : Result (Unit {0}) (Halt WriteFailed)) (text : List ℕ) (at new_at : ℕ) (events : List Event) : Type 0 where
+  pub within : new_at ≤ length text
+  pub put : take at text ++ all_put events ≡ take new_at text
+  pub ends : TextEnds result text new_at events
 
 -- what is left of a stream that isn't known isn't known either
 abbrev pub Together : (left new_left : Option (List ℕ)) → Type 0

@@ -36,7 +36,8 @@ pub use halts::Halt;
 pub use heads::Head;
 pub use lengths::check_body;
 pub use replies::{
-    ContentRange, ReplyBody, ReplyHead, decimal_text, range_value, write_interim, write_reply,
+    ContentRange, ReplyBody, ReplyHead, decimal_text, range_value, try_write_interim,
+    write_interim, write_reply,
 };
 pub use sends::Outgoing;
 pub use sinks::{Sink, WriteFailed, Writing, write_all};

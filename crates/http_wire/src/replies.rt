@@ -1,17 +1,20 @@
 //! Replies.
-ghost use Rattle.std.specs.Prelude.{◌≡◌, ◌≤◌, length, decimal, IfErr, OnOk, OnErr};
+ghost use Rattle.std.specs.Prelude.{◌≡◌, ◌≤◌, length, decimal, IfErr, IsErrOf, OnOk, OnErr};
 ghost use Rattle.http_wire.specs.Expectations.{continue_text};
+ghost use Rattle.http_wire.specs.Halting.{WritesFrom};
 ghost use Rattle.http_wire.specs.Replies.{range_text, sent_of, sent_reply};
 ghost use Rattle.std.specs.Io.KnownBytes.{Appends};
 ghost use Rattle.http_wire.specs.Sending.{Puts, SentFront, WritesText};
 ghost use Rattle.http_wire.specs.Timing.{NoRead, Ran};
 
-use crate::duplexes::Steady;
+use crate::duplexes::{Duplex, Steady};
 use crate::entity_tags::EntityTag;
 use crate::faults::WriteFault;
 use crate::field_texts::FieldText;
+use crate::halts::Halt;
 use crate::reply_heads::put_head;
-use crate::sends::{Outgoing, put_parts, send_rest};
+use crate::sends::{Outgoing, put_parts, send_on, send_rest};
+use crate::sinks::WriteFailed;
 use arrayvec::ArrayString;
 use byte_view::BodyParts;
 use http::StatusCode;
@@ -159,6 +162,16 @@ fn write_text<D: Steady>(duplex: &mut D, text: &[u8]) -> Result<(), WriteFault>
 {
     let mut sent = 0;
     send_rest(duplex, &mut sent, text)
+}
+
+/// Goes on with the interim reply from a place in it on, as `write_interim` writes it, on a stream that may have to wait; and moves the
+/// place behind what was written.
+pub fn try_write_interim<D: Duplex>(duplex: &mut D, at: &mut usize) -> Result<(), Halt<WriteFailed>>
+    requires { at.old ≤ length continue_text }
+    ensures ran { Ran D.saw NoRead duplex.old duplex.new (WritesFrom result continue_text at.old at.new) }
+    ensures waits { IsErrOf result Halt.WouldWait → D.waits }
+{
+    send_on(duplex, b"HTTP/1.1 100 Continue\r\n\r\n", at)
 }
 
 /// Writes the interim reply after which the client sends the body (RFC 9110, section 15.2.1). Reads nothing.

@@ -1,12 +1,14 @@
 //! Texts on their way out.
-ghost use Rattle.std.specs.Prelude.{◌≡◌, ℕ, List, Option, [], ◌++◌, OnOk, MatchBool};
+ghost use Rattle.std.specs.Prelude.{◌≡◌, ℕ, List, Option, [], ◌++◌, ◌≤◌, length, IsErrOf, OnOk, MatchBool};
+ghost use Rattle.http_wire.specs.Halting.{WritesFrom};
 ghost use Rattle.std.specs.List.{concat, flat_map};
 ghost use Rattle.http_wire.specs.Sending.{Puts, Sent, WritesAll, WritesOn};
 ghost use Rattle.http_wire.specs.Timing.{NoRead, Ran};
 
-use crate::duplexes::Steady;
+use crate::duplexes::{Duplex, Steady};
 use crate::faults::WriteFault;
 use crate::halts::Halt;
+use crate::sinks::WriteFailed;
 use byte_view::BodyParts;
 use std::alloc::{AllocError, Global};
 
@@ -23,20 +25,33 @@ pub struct Outgoing {
     sent: u64,
 }
 
+/// Writes a text from a place in it on, and moves the place behind what was written.
+pub fn send_on<D: Duplex>(
+    duplex: &mut D,
+    text: &[u8],
+    at: &mut usize,
+) -> Result<(), Halt<WriteFailed>>
+    requires { at.old ≤ length text.now }
+    ensures ran { Ran D.saw NoRead duplex.old duplex.new (WritesFrom result text.now at.old at.new) }
+    ensures waits { IsErrOf result Halt.WouldWait → D.waits }
+{
+    'writes: while *at < text.len() {
+        let count = duplex.write_some(&text[*at..])?;
+        *at += count;
+    }
+    Ok(())
+}
+
 // Writes all the bytes, or answers how many were written.
 fn send<D: Steady>(duplex: &mut D, bytes: &[u8]) -> Result<(), usize>
     ensures { Ran D.saw NoRead duplex.old duplex.new (WritesAll result bytes.now) }
 {
     let mut at = 0;
-    'writes: while at < bytes.len() {
-        let count = match duplex.write_some(&bytes[at..]) {
-            Ok(count) => count,
-            Err(Halt::Failed(_)) => return Err(at),
-            Err(Halt::WouldWait) => unreachable!(),
-        };
-        at += count;
+    match send_on(duplex, bytes, &mut at) {
+        Ok(()) => Ok(()),
+        Err(Halt::Failed(_)) => Err(at),
+        Err(Halt::WouldWait) => unreachable!(),
     }
-    Ok(())
 }
 
 /// Writes the rest of a text, and counts its bytes to those that were written before.
