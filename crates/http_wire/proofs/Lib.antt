@@ -16,8 +16,9 @@ pub mod HeadReads
 pub mod BodyReads
 pub mod StreamReads
 pub mod Resumed
+pub mod WritesFrom
 pub mod Writes
-pub mod WritesOn
+pub mod Amid
 pub mod PartsPut
 pub mod OneHead
 pub mod ReadCounts

@@ -1,90 +1,149 @@
 -- What writes lead to, one after another.
-use Rattle.std.proofs.Common.{◌≡◌, ℕ, ◌+◌, ◌-◌, ◌^◌, ◌<◌, min, List, [], ◌++◌, length, drop, Option, Some, Result, Ok, Err, OnOk, OnErr, IfErr, refl, sym, ap, subst, ◌∙◌, append_assoc, append-nil, arith}
+use Rattle.std.proofs.Common.{◌≡◌, ℕ, ◌+◌, ◌-◌, ◌^◌, ◌<◌, ◌≤◌, min, inl, inr, Bool, true, false, List, [], ◌++◌, length, length-append, take, drop, Option, Some, Result, Ok, Err, OnOk, OnErr, IfErr, MatchBool, slice_range, refl, sym, ap, subst, ◌∙◌, append_assoc, append-nil, arith}
 use Rattle.std.specs.Io.KnownBytes.{Appends}
-use Rattle.std.proofs.lemmas.List.{length-drop}
+use Rattle.std.proofs.KnownBytes.{Appends-trans}
+use Rattle.std.proofs.lemmas.Bool.{cases_lt}
+use Rattle.std.proofs.lemmas.List.{append_cancel_left, drop-append-le, drop-drop, drop_all, length-take-le, length-drop, take_at, take-append-drop}
+use Rattle.std.proofs.lemmas.Slice.{between_to_end}
 use Rattle.http_wire.specs.declared.faults.WriteFault.{WriteFault}
-use Rattle.http_wire.specs.Sending.{SentFront, WritesText, WritesAll, Written, WrittenNow, WritesEnd, WritesOn}
+use Rattle.http_wire.specs.declared.halts.Halt.{Halt}
+use Rattle.http_wire.specs.declared.halts.Halt.TheVariants.{Failed, WouldWait}
+use Rattle.http_wire.specs.declared.sinks.WriteFailed.{WriteFailed}
+use Rattle.http_wire.specs.Gathering.{Gathered, nothing, Written, WrittenNow, WritesEnd, WritesOn, Puts}
+use Rattle.http_wire.specs.Halting.{TextEnds, WritesFrom}
+use Rattle.http_wire.specs.Sending.{Sent, SentFront, WritesText}
 use Rattle.http_wire.specs.Timing.{Event, WriteFails, all_put, IsLatest, GoesOn, NoRead, Ran}
-use Rattle.http_wire.proofs.SentParts.{some_left, sent_more, sent_some, sent_all, sent_whole}
+use Rattle.http_wire.proofs.SentParts.{some_left, sent_more, sent_whole}
 use Rattle.http_wire.proofs.Trails.{put_joined, goes_on_joined, latest_joined, steps_joined, timely_joined}
 
--- ---- the rest of a text
+-- ---- the rest of a text, from a place in it on
 
-pub rest_written : {S : Type 0} (saw : S → Event → S → Type 0) (old new : S) (rest : List ℕ) (count after : ℕ) → after ≡ min (count + length rest) (2 ^ 64 - 1)
-    → Ran saw NoRead old new (WritesAll (Ok tt) rest) → Ran saw NoRead old new (WritesOn (Ok tt) [] count after rest [])
-rest_written saw old new rest count after is ran = record {
-  events = ran.events;
-  steps = ran.steps;
-  timely = ran.timely;
-  claimed = record {
-    ends = ran.claimed.0;
-    text = λ written text s. (
-        let more = sent_all (Some []) (Some written) (Some (written ++ all_put ran.events)) text count rest s (ap (λ u. written ++ u) ran.claimed.1) in
-        subst (λ t. Written (written ++ all_put ran.events) t after []) (sym (append-nil text))
-        (subst (λ n. Written (written ++ all_put ran.events) text n []) (sym is) more)
-        );
-  };
+-- what was written between two places
+between_places : (text put : List ℕ) (at new_at : ℕ) → take at text ++ put ≡ take new_at text → drop at text ≡ put ++ drop new_at text
+between_places text put at new_at is =
+    append_cancel_left (take at text) (drop at text) (put ++ drop new_at text)
+    (take-append-drop at text ∙ sym (take-append-drop new_at text) ∙ ap (λ u. u ++ drop new_at text) (sym is) ∙ append_assoc (take at text) put (drop new_at text))
+
+how_many : (text put : List ℕ) (at new_at : ℕ) → at ≤ length text → new_at ≤ length text → take at text ++ put ≡ take new_at text → at + length put ≡ new_at
+how_many text put at new_at h k is = omega (arith, ap length is, length-append (take at text) put, length-take-le at text h, length-take-le new_at text k)
+
+sent_further : (start held new : Option (List ℕ)) (text : List ℕ) (count after : ℕ) (rest put new_rest : List ℕ) → Sent start held text count rest → rest ≡ put ++ new_rest
+    → Appends held new put → after ≡ min (count + length put) (2 ^ 64 - 1) → Sent start new text after new_rest
+sent_further start held new text count after rest put new_rest h is more after_is = record {
+  gone = h.gone ++ put;
+  text_is = h.text_is ∙ ap (λ u. h.gone ++ u) is ∙ sym (append_assoc h.gone put new_rest);
+  count_is = omega (arith, after_is, h.count_is, length-append h.gone put);
+  appended = Appends-trans start held new h.gone put h.appended more;
 }
 
-pub rest_cut : {S : Type 0} (saw : S → Event → S → Type 0) (old new : S) (rest new_rest : List ℕ) (count after n : ℕ) (fault : WriteFault) → fault.0 ≡ min (count + n) (2 ^ 64 - 1)
-    → Ran saw NoRead old new (WritesAll (Err n) rest) → Ran saw NoRead old new (WritesOn (Err fault) [] count after rest new_rest)
-rest_cut saw old new rest new_rest count after n fault is ran = record {
-  events = ran.events;
-  steps = ran.steps;
-  timely = ran.timely;
-  claimed = record {
-    ends = ran.claimed.0;
-    text = λ written text s. (
-        let less : n < length rest = ran.claimed.1 in
-        let more = sent_some (Some []) (Some written) (Some (written ++ all_put ran.events)) text count rest n s (omega (arith, less)) (ap (λ u. written ++ u) ran.claimed.2) in (
-          drop n rest,
-          omega (arith, less, length-drop n rest),
-          subst (λ t. Written (written ++ all_put ran.events) t fault.0 (drop n rest)) (sym (append-nil text))
-              (subst (λ m. Written (written ++ all_put ran.events) text m (drop n rest)) (sym is) more),
-        )
-        );
-  };
-}
+ends_on : (result : Result (Unit {0}) (Halt WriteFailed)) (text : List ℕ) (at : ℕ) (events : List Event) → TextEnds result text at events → WritesEnd result events
+ends_on (Ok done) text at events ends = ends.0
+ends_on (Err (Failed why)) text at events ends = ends.0
+ends_on (Err WouldWait) text at events ends = ends.0
 
--- ---- one more piece
+now_on : (result : Result (Unit {0}) (Halt WriteFailed)) (written text whole : List ℕ) (at count : ℕ) (events : List Event) → TextEnds result text at events
+    → Written written whole count (drop at text) → WrittenNow result written whole count (drop at text)
+now_on (Ok done) written text whole at count events ends now = now
+now_on (Err (Failed why)) written text whole at count events ends now = ([], omega (arith, length-drop at text, ends.1, length-append (drop at text) []), subst (Written written whole count) (sym (append-nil (drop at text))) now)
+now_on (Err WouldWait) written text whole at count events ends now = ([], omega (arith, length-drop at text, ends.1, length-append (drop at text) []), subst (Written written whole count) (sym (append-nil (drop at text))) now)
 
--- it is gathered, and nothing is written
-pub gathered : {S : Type 0} (saw : S → Event → S → Type 0) (old : S) (piece : List ℕ) (count : ℕ) (rest new_rest : List ℕ) → new_rest ≡ rest ++ piece
-    → Ran saw NoRead old old (WritesOn (Ok tt) piece count count rest new_rest)
-gathered saw old piece count rest new_rest is = record {
-  events = [];
-  steps = refl;
-  timely = tt;
-  claimed = record {
-    ends = tt;
-    text = λ written text s. subst (λ w. Written w (text ++ piece) count new_rest) (sym (append-nil written))
-        (subst (Written written (text ++ piece) count) (sym is) (sent_more (Some []) (Some written) text count rest piece s));
-  };
-}
+pub not_before : (result : Result (Unit {0}) (Halt WriteFailed)) (text : List ℕ) (at new_at : ℕ) (events : List Event) → at ≤ length text → WritesFrom result text at new_at events → at ≤ new_at
+not_before result text at new_at events h writes = omega (arith, how_many text (all_put events) at new_at h writes.within writes.put)
 
--- the flush before it failed
-pub flush_cut : {S : Type 0} (saw : S → Event → S → Type 0) (old new : S) (fault : WriteFault) (piece : List ℕ) (count after : ℕ) (rest new_rest other : List ℕ)
-    → Ran saw NoRead old new (WritesOn (Err fault) [] count after rest new_rest) → Ran saw NoRead old new (WritesOn (Err fault) piece count after rest other)
-flush_cut saw old new fault piece count after rest new_rest other ran = record {
+pub rest_from : {S : Type 0} (saw : S → Event → S → Type 0) (old new : S) (result : Result (Unit {0}) (Halt WriteFailed)) (text : List ℕ) (at new_at count after : ℕ) → at ≤ length text
+    → after ≡ min (count + (new_at - at)) (2 ^ 64 - 1) → Ran saw NoRead old new (WritesFrom result text at new_at)
+    → Ran saw NoRead old new (WritesOn result [] count after (drop at text) (drop new_at text))
+rest_from saw old new result text at new_at count after h after_is ran =
+    let put = all_put ran.events in
+    let many : at + length put ≡ new_at = how_many text put at new_at h ran.claimed.within ran.claimed.put in
+    record {
+      events = ran.events;
+      steps = ran.steps;
+      timely = ran.timely;
+      claimed = record {
+        ends = ends_on result text new_at ran.events ran.claimed.ends;
+        text = λ written whole s. now_on result (written ++ put) text (whole ++ []) new_at after ran.events ran.claimed.ends
+            (subst (λ t. Written (written ++ put) t after (drop new_at text)) (sym (append-nil whole))
+            (sent_further (Some []) (Some written) (Some (written ++ put)) whole count after (drop at text) put (drop new_at text) s
+            (between_places text put at new_at ran.claimed.put) refl (omega (arith, after_is, many))));
+      };
+    }
+
+pub all_gone : (result : Result (Unit {0}) (Halt WriteFailed)) (text : List ℕ) (at new_at : ℕ) (events : List Event) → WritesFrom result text at new_at events → OnOk result (drop new_at text ≡ [])
+all_gone (Ok done) text at new_at events writes = drop_all new_at text (omega (arith, writes.ends.1))
+all_gone (Err why) text at new_at events writes = tt
+
+-- what is not gathered is left
+unkept_now : (result : Result (Unit {0}) (Halt WriteFailed)) (written text : List ℕ) (count : ℕ) (rest : List ℕ) → OnOk result (rest ≡ []) → WrittenNow result written text count rest
+    → WrittenNow result written text count []
+unkept_now (Ok done) written text count rest none now = subst (Written written text count) none now
+unkept_now (Err why) written text count rest none now = (rest ++ now.0, now.1, now.2)
+
+pub unkept : {S : Type 0} (saw : S → Event → S → Type 0) (old new : S) (result : Result (Unit {0}) (Halt WriteFailed)) (more : List ℕ) (count after : ℕ) (rest new_rest : List ℕ) → OnOk result (new_rest ≡ [])
+    → Ran saw NoRead old new (WritesOn result more count after rest new_rest) → Ran saw NoRead old new (WritesOn result more count after rest [])
+unkept saw old new result more count after rest new_rest none ran = record {
   events = ran.events;
   steps = ran.steps;
   timely = ran.timely;
   claimed = record {
     ends = ran.claimed.ends;
-    text = λ written text s. (
-        let front = ran.claimed.text written text s in
-        let whole = subst (λ t. Written (written ++ all_put ran.events) t fault.0 front.0) (append-nil text) front.2 in
-        (front.0 ++ piece, some_left front.0 piece front.1, sent_more (Some []) (Some (written ++ all_put ran.events)) text fault.0 front.0 piece whole)
-        );
+    text = λ written text s. unkept_now result (written ++ all_put ran.events) (text ++ more) after new_rest none (ran.claimed.text written text s);
   };
 }
 
-ends_joined : (result : Result (Unit {0}) WriteFault) (events past : List Event) → WritesEnd result events → GoesOn past → WritesEnd result (events ++ past)
+-- ---- one more piece
+
+-- a piece is put behind the others
+pub extended : (b : Bool) (items new_items piece rest : List ℕ) (at : ℕ) → at ≤ length items → drop at items ≡ rest → MatchBool b (new_items ≡ items ++ piece) (new_items ≡ items)
+    → MatchBool b (drop at new_items ≡ rest ++ piece) (drop at new_items ≡ rest)
+extended true items new_items piece rest at fits is longer = ap (drop at) longer ∙ drop-append-le at items piece fits ∙ ap (λ u. u ++ piece) is
+extended false items new_items piece rest at fits is same = ap (drop at) same ∙ is
+
+-- it is gathered, and nothing is written
+pub gathered : {S : Type 0} (saw : S → Event → S → Type 0) (old : S) (piece : List ℕ) (count after : ℕ) (rest new_rest : List ℕ) → after ≡ count → new_rest ≡ rest ++ piece
+    → Ran saw NoRead old old (WritesOn (Ok tt) piece count after rest new_rest)
+gathered saw old piece count after rest new_rest same is = record {
+  events = [];
+  steps = refl;
+  timely = tt;
+  claimed = record {
+    ends = tt;
+    text = λ written text s. subst (λ w. Written w (text ++ piece) after new_rest) (sym (append-nil written))
+        (subst (λ n. Written written (text ++ piece) n new_rest) (sym same)
+        (subst (Written written (text ++ piece) count) (sym is) (sent_more (Some []) (Some written) text count rest piece s)));
+  };
+}
+
+-- with more behind a text that is cut short, it is cut short as well
+more_behind : (why : Halt WriteFailed) (written text : List ℕ) (count : ℕ) (rest more : List ℕ) → WrittenNow (Err why) written text count rest
+    → WrittenNow (Err why) written (text ++ more) count rest
+more_behind why written text count rest more now = (
+  now.0 ++ more,
+  subst (λ u. 0 < length u) (append_assoc rest now.0 more) (some_left (rest ++ now.0) more now.1),
+  subst (Written written (text ++ more) count) (append_assoc rest now.0 more) (sent_more (Some []) (Some written) text count (rest ++ now.0) more now.2),
+)
+
+-- a text is cut short, and so is one that has more behind it
+pub cut_before : {S : Type 0} (saw : S → Event → S → Type 0) (old new : S) (why : Halt WriteFailed) (first second : List ℕ) (count after : ℕ) (rest new_rest : List ℕ)
+    → Ran saw NoRead old new (WritesOn (Err why) first count after rest new_rest) → Ran saw NoRead old new (WritesOn (Err why) (first ++ second) count after rest new_rest)
+cut_before saw old new why first second count after rest new_rest ran = record {
+  events = ran.events;
+  steps = ran.steps;
+  timely = ran.timely;
+  claimed = record {
+    ends = ran.claimed.ends;
+    text = λ written text s. subst (λ t. WrittenNow (Err why) (written ++ all_put ran.events) t after new_rest) (append_assoc text first second)
+        (more_behind why (written ++ all_put ran.events) (text ++ first) after new_rest second (ran.claimed.text written text s));
+  };
+}
+
+ends_joined : (result : Result (Unit {0}) (Halt WriteFailed)) (events past : List Event) → WritesEnd result events → GoesOn past → WritesEnd result (events ++ past)
 ends_joined (Ok done) events past ends on = goes_on_joined events past ends on
-ends_joined (Err fault) events past ends on = latest_joined WriteFails events past ends
+ends_joined (Err (Failed why)) events past ends on = latest_joined WriteFails events past ends
+ends_joined (Err WouldWait) events past ends on = goes_on_joined events past ends on
 
 -- writes of a piece after the flush of what was before it
-pub flushed_then : {S : Type 0} (saw : S → Event → S → Type 0) (old mid new : S) (result : Result (Unit {0}) WriteFault) (piece : List ℕ) (count between after : ℕ) (rest new_rest : List ℕ)
+pub flushed_then : {S : Type 0} (saw : S → Event → S → Type 0) (old mid new : S) (result : Result (Unit {0}) (Halt WriteFailed)) (piece : List ℕ) (count between after : ℕ) (rest new_rest : List ℕ)
     → Ran saw NoRead old mid (WritesOn (Ok tt) [] count between rest []) → Ran saw NoRead mid new (WritesOn result [] between after piece new_rest)
     → Ran saw NoRead old new (WritesOn result piece count after rest new_rest)
 flushed_then saw old mid new result piece count between after rest new_rest first second = record {
@@ -111,10 +170,10 @@ flushed_then saw old mid new result piece count between after rest new_rest firs
 
 -- nothing more is written
 pub none_more : {S : Type 0} (saw : S → Event → S → Type 0) (old : S) (count : ℕ) (rest : List ℕ) → Ran saw NoRead old old (WritesOn (Ok tt) [] count count rest rest)
-none_more saw old count rest = gathered saw old [] count rest rest (sym (append-nil rest))
+none_more saw old count rest = gathered saw old [] count count rest rest refl (sym (append-nil rest))
 
 -- writes of one text after those of another
-pub and_then : {S : Type 0} (saw : S → Event → S → Type 0) (old mid new : S) (result : Result (Unit {0}) WriteFault) (first second : List ℕ) (count between after : ℕ) (rest mid_rest new_rest : List ℕ)
+and_then : {S : Type 0} (saw : S → Event → S → Type 0) (old mid new : S) (result : Result (Unit {0}) (Halt WriteFailed)) (first second : List ℕ) (count between after : ℕ) (rest mid_rest new_rest : List ℕ)
     → Ran saw NoRead old mid (WritesOn (Ok tt) first count between rest mid_rest) → Ran saw NoRead mid new (WritesOn result second between after mid_rest new_rest)
     → Ran saw NoRead old new (WritesOn result (first ++ second) count after rest new_rest)
 and_then saw old mid new result first second count between after rest mid_rest new_rest one other = record {
@@ -134,65 +193,175 @@ and_then saw old mid new result first second count between after rest mid_rest n
   };
 }
 
--- a text is cut short, and so is one that has more behind it
-pub cut_before : {S : Type 0} (saw : S → Event → S → Type 0) (old new : S) (fault : WriteFault) (first second : List ℕ) (count after other : ℕ) (rest new_rest other_rest : List ℕ)
-    → Ran saw NoRead old new (WritesOn (Err fault) first count after rest new_rest) → Ran saw NoRead old new (WritesOn (Err fault) (first ++ second) count other rest other_rest)
-cut_before saw old new fault first second count after other rest new_rest other_rest ran = record {
-  events = ran.events;
-  steps = ran.steps;
-  timely = ran.timely;
-  claimed = record {
-    ends = ran.claimed.ends;
-    text = λ written text s. (
-        let front = ran.claimed.text written text s in
-        let more = sent_more (Some []) (Some (written ++ all_put ran.events)) (text ++ first) fault.0 front.0 second front.2 in (
-          front.0 ++ second,
-          some_left front.0 second front.1,
-          subst (λ t. Written (written ++ all_put ran.events) t fault.0 (front.0 ++ second)) (append_assoc text first second) more,
-        )
-        );
-  };
-}
+-- ---- where what was taken before is passed over
 
-whole_of : (result : Result (Unit {0}) WriteFault) (text : List ℕ) (events : List Event) (after : ℕ) → WritesEnd result events
-    → WrittenNow result (all_put events) text after [] → WritesText result text events
-whole_of (Ok done) text events after ends now = (ends, sent_whole (Some []) (Some (all_put events)) text after now)
-whole_of (Err fault) text events after ends now = (ends, now)
+drop_front : (xs ys : List ℕ) → drop (length xs) (xs ++ ys) ≡ ys
+drop_front xs ys =
+    append_cancel_left xs (drop (length xs) (xs ++ ys)) ys
+    (ap (λ u. u ++ drop (length xs) (xs ++ ys)) (sym (take_at xs ys (length xs) refl)) ∙ take-append-drop (length xs) (xs ++ ys))
 
--- all that was put is written, from the first on
-all_of : {S : Type 0} (saw : S → Event → S → Type 0) (old new : S) (result : Result (Unit {0}) WriteFault) (text : List ℕ) (count after : ℕ) (rest : List ℕ)
-    → Written [] [] count rest → Ran saw NoRead old new (WritesOn result text count after rest []) → Ran saw NoRead old new (WritesText result text)
-all_of saw old new result text count after rest s ran = record {
-  events = ran.events;
-  steps = ran.steps;
-  timely = ran.timely;
-  claimed = whole_of result text ran.events after ran.claimed.ends (ran.claimed.text [] [] s);
-}
+drop_past : (n : ℕ) (xs ys : List ℕ) → length xs ≤ n → drop n (xs ++ ys) ≡ drop n xs ++ drop (n - length xs) ys
+drop_past n xs ys past =
+    let k : ℕ = n - length xs in
+    let sum : n ≡ length xs + k = omega (arith, past) in
+    ap (λ m. drop m (xs ++ ys)) sum ∙ sym (drop-drop k (length xs) (xs ++ ys)) ∙ ap (drop k) (drop_front xs ys) ∙ ap (λ u. u ++ drop k ys) (sym (drop_all n xs past))
 
--- no write after one that failed
-pub nothing_after : {S : Type 0} (saw : S → Event → S → Type 0) (old new : S) (fault : WriteFault) (text : List ℕ) (count after : ℕ) (rest new_rest : List ℕ)
-    → Written [] [] count rest → Ran saw NoRead old new (WritesOn (Err fault) text count after rest new_rest) → Ran saw NoRead old new (WritesText (Err fault) text)
-nothing_after saw old new fault text count after rest new_rest s ran = record {
-  events = ran.events;
-  steps = ran.steps;
-  timely = ran.timely;
-  claimed = (ran.claimed.ends, ran.claimed.text [] [] s);
-}
+drop_over : (n : ℕ) (xs ys : List ℕ) → drop n (xs ++ ys) ≡ drop n xs ++ drop (n - length xs) ys
+drop_over n xs ys = elim (cases_lt n (length xs)) [
+  | inl lt ↦ (let none : 0 ≡ n - length xs = omega (arith, lt) in drop-append-le n xs ys (omega (arith, lt)) ∙ ap (λ m. drop n xs ++ drop m ys) none)
+  | inr ge ↦ drop_past n xs ys ge
+]
+
+on_ok : (result : Result (Unit {0}) (Halt WriteFailed)) (P : Type 0) → P → OnOk result P
+on_ok (Ok done) P p = p
+on_ok (Err why) P p = tt
+
+-- what is put of a piece
+pub put_passed : {S : Type 0} (saw : S → Event → S → Type 0) (old new : S) (result : Result (Unit {0}) (Halt WriteFailed)) (piece : List ℕ) (count : ℕ) (o m n : Gathered) → count ≡ min o.passed (length piece)
+    → m.passed ≡ o.passed - length piece → m.sent ≡ o.sent → m.rest ≡ o.rest → n.passed ≡ m.passed
+    → Ran saw NoRead old new (WritesOn result (slice_range piece count (length piece)) m.sent n.sent m.rest n.rest) → Ran saw NoRead old new (Puts result piece o n)
+put_passed saw old new result piece count o m n count_is passed sent rest same ran =
+    let shown : slice_range piece count (length piece) ≡ drop o.passed piece =
+    between_to_end piece count (length piece) (omega arith) ∙ elim (cases_lt o.passed (length piece)) [
+      | inl lt ↦ ap (λ k. drop k piece) (omega (arith, count_is, lt))
+      | inr ge ↦ drop_all count piece (omega (arith, count_is, ge)) ∙ sym (drop_all o.passed piece (omega (arith, ge)))
+    ] in
+    let P : List ℕ → ℕ → List ℕ → Type 0 = λ t k r. WritesOn result t k n.sent r n.rest ran.events in
+    record {
+      events = ran.events;
+      steps = ran.steps;
+      timely = ran.timely;
+      claimed = record {
+        writes = subst (λ t. P t o.sent o.rest) shown (subst (λ k. P (slice_range piece count (length piece)) k o.rest) sent
+            (subst (λ r. P (slice_range piece count (length piece)) m.sent r) rest ran.claimed));
+        passed = on_ok result (n.passed ≡ o.passed - length piece) (same ∙ passed);
+      };
+    }
+
+pub puts_none : {S : Type 0} (saw : S → Event → S → Type 0) (old : S) (o : Gathered) → Ran saw NoRead old old (Puts (Ok tt) [] o o)
+puts_none saw old o =
+    let ran = none_more saw old o.sent o.rest in
+    record {
+      events = ran.events;
+      steps = ran.steps;
+      timely = ran.timely;
+      claimed = record {
+        writes = subst (λ t. WritesOn (Ok tt) t o.sent o.sent o.rest o.rest ran.events) (sym (drop_all o.passed [] (omega arith))) ran.claimed;
+        passed = omega arith;
+      };
+    }
+
+passed_both : (result : Result (Unit {0}) (Halt WriteFailed)) (p m n : ℕ) (first second : List ℕ) → m ≡ p - length first → OnOk result (n ≡ m - length second) → OnOk result (n ≡ p - length (first ++ second))
+passed_both (Ok done) p m n first second one other = omega (arith, one, other, length-append first second)
+passed_both (Err why) p m n first second one other = tt
+
+writes_of : {S : Type 0} (saw : S → Event → S → Type 0) (old new : S) (result : Result (Unit {0}) (Halt WriteFailed)) (more : List ℕ) (o n : Gathered) → Ran saw NoRead old new (Puts result more o n)
+    → Ran saw NoRead old new (WritesOn result (drop o.passed more) o.sent n.sent o.rest n.rest)
+writes_of saw old new result more o n ran = record { events = ran.events; steps = ran.steps; timely = ran.timely; claimed = ran.claimed.writes }
+
+pub puts_then : {S : Type 0} (saw : S → Event → S → Type 0) (old mid new : S) (result : Result (Unit {0}) (Halt WriteFailed)) (first second : List ℕ) (o m n : Gathered)
+    → Ran saw NoRead old mid (Puts (Ok tt) first o m) → Ran saw NoRead mid new (Puts result second m n) → Ran saw NoRead old new (Puts result (first ++ second) o n)
+puts_then saw old mid new result first second o m n one other =
+    let ran = and_then saw old mid new result (drop o.passed first) (drop m.passed second) o.sent m.sent n.sent o.rest m.rest n.rest
+    (writes_of saw old mid (Ok tt) first o m one) (writes_of saw mid new result second m n other) in
+    let whole : drop o.passed (first ++ second) ≡ drop o.passed first ++ drop m.passed second =
+    drop_over o.passed first second ∙ ap (λ k. drop o.passed first ++ drop k second) (sym one.claimed.passed) in
+    record {
+      events = ran.events;
+      steps = ran.steps;
+      timely = ran.timely;
+      claimed = record {
+        writes = subst (λ t. WritesOn result t o.sent n.sent o.rest n.rest ran.events) (sym whole) ran.claimed;
+        passed = passed_both result o.passed m.passed n.passed first second one.claimed.passed other.claimed.passed;
+      };
+    }
+
+pub puts_cut : {S : Type 0} (saw : S → Event → S → Type 0) (old new : S) (why : Halt WriteFailed) (first second : List ℕ) (o n : Gathered) → Ran saw NoRead old new (Puts (Err why) first o n)
+    → Ran saw NoRead old new (Puts (Err why) (first ++ second) o n)
+puts_cut saw old new why first second o n one =
+    let ran = cut_before saw old new why (drop o.passed first) (drop (o.passed - length first) second) o.sent n.sent o.rest n.rest (writes_of saw old new (Err why) first o n one) in
+    record {
+      events = ran.events;
+      steps = ran.steps;
+      timely = ran.timely;
+      claimed = record {
+        writes = subst (λ t. WritesOn (Err why) t o.sent n.sent o.rest n.rest ran.events) (sym (drop_over o.passed first second)) ran.claimed;
+        passed = tt;
+      };
+    }
 
 -- the last flush
-pub flushed_last : {S : Type 0} (saw : S → Event → S → Type 0) (old mid new : S) (result : Result (Unit {0}) WriteFault) (text : List ℕ) (count between after : ℕ) (rest mid_rest : List ℕ)
-    → Written [] [] count rest → Ran saw NoRead old mid (WritesOn (Ok tt) text count between rest mid_rest) → Ran saw NoRead mid new (WritesOn result [] between after mid_rest [])
-    → Ran saw NoRead old new (WritesText result text)
-flushed_last saw old mid new result text count between after rest mid_rest s ran last =
-    subst (λ t. Ran saw NoRead old new (WritesText result t)) (append-nil text)
-    (all_of saw old new result (text ++ []) count after rest s (and_then saw old mid new result text [] count between after rest mid_rest [] ran last))
+pub puts_flushed : {S : Type 0} (saw : S → Event → S → Type 0) (old mid new : S) (result : Result (Unit {0}) (Halt WriteFailed)) (text : List ℕ) (o m n : Gathered)
+    → Ran saw NoRead old mid (Puts (Ok tt) text o m) → n.passed ≡ m.passed → Ran saw NoRead mid new (WritesOn result [] m.sent n.sent m.rest n.rest)
+    → Ran saw NoRead old new (Puts result text o n)
+puts_flushed saw old mid new result text o m n one same flushed =
+    let last : Ran saw NoRead mid new (Puts result [] m n) = record {
+      events = flushed.events;
+      steps = flushed.steps;
+      timely = flushed.timely;
+      claimed = record {
+        writes = subst (λ t. WritesOn result t m.sent n.sent m.rest n.rest flushed.events) (sym (drop_all m.passed [] (omega arith))) flushed.claimed;
+        passed = on_ok result (n.passed ≡ m.passed - 0) (omega (arith, same));
+      };
+    } in
+    subst (λ t. Ran saw NoRead old new (Puts result t o n)) (append-nil text) (puts_then saw old mid new result text [] o m n one last)
+
+-- ---- whole texts, from the first byte on
+
+none_written : Written [] [] 0 []
+none_written = record { gone = []; text_is = refl; count_is = refl; appended = refl }
+
+-- all of it is written
+pub text_written : {S : Type 0} (saw : S → Event → S → Type 0) (old new : S) (text : List ℕ) (after : ℕ) (rest : List ℕ) → rest ≡ []
+    → Ran saw NoRead old new (WritesOn (Ok tt) text 0 after [] rest) → Ran saw NoRead old new (WritesText (Ok tt) text)
+text_written saw old new text after rest none ran = record {
+  events = ran.events;
+  steps = ran.steps;
+  timely = ran.timely;
+  claimed = (
+    ran.claimed.ends,
+    sent_whole (Some []) (Some (all_put ran.events)) text after
+        (subst (Written (all_put ran.events) text after) none (ran.claimed.text [] [] none_written)),
+  );
+}
+
+-- a write failed, after a front of it
+pub text_cut : {S : Type 0} (saw : S → Event → S → Type 0) (old new : S) (why : WriteFailed) (fault : WriteFault) (text : List ℕ) (after : ℕ) (rest : List ℕ) → fault.0 ≡ after
+    → Ran saw NoRead old new (WritesOn (Err (Failed why)) text 0 after [] rest) → Ran saw NoRead old new (WritesText (Err fault) text)
+text_cut saw old new why fault text after rest is ran =
+    let now = ran.claimed.text [] [] none_written in
+    record {
+      events = ran.events;
+      steps = ran.steps;
+      timely = ran.timely;
+      claimed = (ran.claimed.ends, (rest ++ now.0, now.1, subst (λ n. Written (all_put ran.events) text n (rest ++ now.0)) (sym is) now.2));
+    }
+
+-- the same of what is put where nothing is gathered
+pub puts_written : {S : Type 0} (saw : S → Event → S → Type 0) (old new : S) (text : List ℕ) (o n : Gathered) → o ≡ nothing → n.rest ≡ []
+    → Ran saw NoRead old new (Puts (Ok tt) text o n) → Ran saw NoRead old new (WritesText (Ok tt) text)
+puts_written saw old new text o n is none ran =
+    let P : Gathered → Type 0 = λ g. Ran saw NoRead old new (Puts (Ok tt) text g n) in
+    text_written saw old new text n.sent n.rest none (writes_of saw old new (Ok tt) text nothing n (subst P is ran))
+
+pub puts_failed : {S : Type 0} (saw : S → Event → S → Type 0) (old new : S) (why : WriteFailed) (fault : WriteFault) (text : List ℕ) (o n : Gathered) → o ≡ nothing → fault.0 ≡ n.sent
+    → Ran saw NoRead old new (Puts (Err (Failed why)) text o n) → Ran saw NoRead old new (WritesText (Err fault) text)
+puts_failed saw old new why fault text o n is count ran =
+    let P : Gathered → Type 0 = λ g. Ran saw NoRead old new (Puts (Err (Failed why)) text g n) in
+    text_cut saw old new why fault text n.sent n.rest count (writes_of saw old new (Err (Failed why)) text nothing n (subst P is ran))
 
 -- a whole text is written at once, and nothing is gathered of it
-pub sent_at_once : {S : Type 0} (saw : S → Event → S → Type 0) (old new : S) (result : Result (Unit {0}) WriteFault) (text : List ℕ) (after : ℕ)
-    → Ran saw NoRead old new (WritesOn result [] 0 after text []) → Ran saw NoRead old new (WritesText result text)
-sent_at_once saw old new result text after ran =
-    let none : Written [] [] 0 [] = record { gone = []; text_is = refl; count_is = refl; appended = refl } in
-    all_of saw old new result text 0 after [] none (flushed_then saw old old new result text 0 0 after [] [] (none_more saw old 0 []) ran)
+at_once : {S : Type 0} (saw : S → Event → S → Type 0) (old new : S) (result : Result (Unit {0}) (Halt WriteFailed)) (text : List ℕ) (after : ℕ) (rest : List ℕ)
+    → Ran saw NoRead old new (WritesOn result [] 0 after text rest) → Ran saw NoRead old new (WritesOn result text 0 after [] rest)
+at_once saw old new result text after rest ran = flushed_then saw old old new result text 0 0 after [] rest (none_more saw old 0 []) ran
+
+pub sent_at_once : {S : Type 0} (saw : S → Event → S → Type 0) (old new : S) (text : List ℕ) (after : ℕ) (rest : List ℕ) → rest ≡ []
+    → Ran saw NoRead old new (WritesOn (Ok tt) [] 0 after text rest) → Ran saw NoRead old new (WritesText (Ok tt) text)
+sent_at_once saw old new text after rest none ran = text_written saw old new text after rest none (at_once saw old new (Ok tt) text after rest ran)
+
+pub cut_at_once : {S : Type 0} (saw : S → Event → S → Type 0) (old new : S) (why : WriteFailed) (fault : WriteFault) (text : List ℕ) (after : ℕ) (rest : List ℕ) → fault.0 ≡ after
+    → Ran saw NoRead old new (WritesOn (Err (Failed why)) [] 0 after text rest) → Ran saw NoRead old new (WritesText (Err fault) text)
+cut_at_once saw old new why fault text after rest is ran = text_cut saw old new why fault text after rest is (at_once saw old new (Err (Failed why)) text after rest ran)
 
 -- ---- what a sink holds then
 

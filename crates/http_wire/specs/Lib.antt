@@ -6,6 +6,7 @@ pub mod Fields
 pub mod Wires
 pub mod Halting
 pub mod Sending
+pub mod Gathering
 pub mod FieldTexts
 pub mod EntityTags
 pub mod Replies

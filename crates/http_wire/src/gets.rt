@@ -1,13 +1,32 @@
 //! Requests for a path.
-ghost use Rattle.std.specs.Prelude.{OnOk, OnErr, IfErr};
+ghost use Rattle.std.specs.Prelude.{◌≡◌, [], OnOk, OnErr, IfErr, IsErrOf};
+ghost use Rattle.std.specs.List.{flat_map};
 ghost use Rattle.std.specs.Io.KnownBytes.{Appends};
 ghost use Rattle.http_wire.specs.Answers.{get_text};
+ghost use Rattle.http_wire.specs.Gathering.{Puts};
 ghost use Rattle.http_wire.specs.Sending.{SentFront, WritesText};
 ghost use Rattle.http_wire.specs.Timing.{NoRead, Ran};
 
-use crate::duplexes::Steady;
+use crate::duplexes::{Duplex, Steady};
 use crate::faults::WriteFault;
+use crate::halts::Halt;
 use crate::sends::{Outgoing, put_pieces};
+use crate::sinks::WriteFailed;
+
+// Puts the pieces, and writes all of them.
+fn put_all<D: Duplex>(
+    duplex: &mut D,
+    out: &mut Outgoing,
+    pieces: &[&[u8]],
+) -> Result<(), Halt<WriteFailed>>
+    ensures ran { Ran D.saw NoRead duplex.old duplex.new
+        (Puts result (flat_map (λ p. p.now) pieces.now) out.old out.new) }
+    ensures empty { OnOk result (out.new.rest ≡ []) }
+    ensures waits { IsErrOf result Halt.WouldWait → D.waits }
+{
+    put_pieces(duplex, out, pieces)?;
+    out.flush(duplex)
+}
 
 // Writes the pieces of a request.
 fn write_pieces<D: Steady>(
@@ -19,8 +38,11 @@ fn write_pieces<D: Steady>(
 {
     out.begin();
     let pieces: [&[u8]; 3] = [b"GET ", path, b" HTTP/1.1\r\nHost: peer\r\n\r\n"];
-    put_pieces(duplex, out, &pieces)?;
-    out.flush(duplex)
+    match put_all(duplex, out, &pieces) {
+        Ok(()) => Ok(()),
+        Err(Halt::Failed(_)) => Err(WriteFault(out.sent())),
+        Err(Halt::WouldWait) => unreachable!(),
+    }
 }
 
 /// Writes the request for a path, as it is, of a peer: a GET whose one field is `Host`, which every request has (RFC 9112, section

@@ -1,10 +1,11 @@
 //! Replies.
-ghost use Rattle.std.specs.Prelude.{◌≡◌, ◌≤◌, length, decimal, IfErr, IsErrOf, OnOk, OnErr};
+ghost use Rattle.std.specs.Prelude.{◌≡◌, ◌≤◌, ◌<◌, ◌^◌, [], length, decimal, IfErr, IsErrOf, OnOk, OnErr};
 ghost use Rattle.http_wire.specs.Expectations.{continue_text};
 ghost use Rattle.http_wire.specs.Halting.{WritesFrom};
 ghost use Rattle.http_wire.specs.Replies.{range_text, sent_of, sent_reply};
 ghost use Rattle.std.specs.Io.KnownBytes.{Appends};
-ghost use Rattle.http_wire.specs.Sending.{Puts, SentFront, WritesText};
+ghost use Rattle.http_wire.specs.Gathering.{IsAmid, Puts};
+ghost use Rattle.http_wire.specs.Sending.{SentFront, WritesText};
 ghost use Rattle.http_wire.specs.Timing.{NoRead, Ran};
 
 use crate::duplexes::{Duplex, Steady};
@@ -105,17 +106,34 @@ pub fn range_value(range: ContentRange) -> ArrayString<72>
 }
 
 // Puts a body, where it is sent.
-fn put_body<D: Steady, P: BodyParts<Item: Drop> + Drop>(
+fn put_body<D: Duplex, P: BodyParts<Item: Drop> + Drop>(
     duplex: &mut D,
     out: &mut Outgoing,
     body: ReplyBody<P>,
-) -> Result<(), WriteFault>
-    ensures { Ran D.saw NoRead duplex.old duplex.new (Puts result (sent_of P.texts body) out.old out.new) }
+) -> Result<(), Halt<WriteFailed>>
+    ensures ran { Ran D.saw NoRead duplex.old duplex.new (Puts result (sent_of P.texts body) out.old out.new) }
+    ensures waits { IsErrOf result Halt.WouldWait → D.waits }
 {
     match body {
         ReplyBody::Sent(parts) => put_parts(duplex, out, parts),
         ReplyBody::Withheld(_) => Ok(()),
     }
+}
+
+// Puts a head, and then the body, and writes all of them.
+fn put_both<D: Duplex, P: BodyParts<Item: Drop> + Drop>(
+    duplex: &mut D,
+    out: &mut Outgoing,
+    head: &ReplyHead<'_>,
+    body: ReplyBody<P>,
+) -> Result<(), Halt<WriteFailed>>
+    ensures ran { Ran D.saw NoRead duplex.old duplex.new (Puts result (sent_reply P.texts head.now body) out.old out.new) }
+    ensures empty { OnOk result (out.new.rest ≡ []) }
+    ensures waits { IsErrOf result Halt.WouldWait → D.waits }
+{
+    put_head(duplex, out, head, body.size())?;
+    put_body(duplex, out, body)?;
+    out.flush(duplex)
 }
 
 // Writes a head, and then the body.
@@ -128,9 +146,30 @@ fn write_both<D: Steady, P: BodyParts<Item: Drop> + Drop>(
     ensures { Ran D.saw NoRead duplex.old duplex.new (WritesText result (sent_reply P.texts head.now body)) }
 {
     out.begin();
-    put_head(duplex, out, head, body.size())?;
-    put_body(duplex, out, body)?;
-    out.flush(duplex)
+    match put_both(duplex, out, head, body) {
+        Ok(()) => Ok(()),
+        Err(Halt::Failed(_)) => Err(WriteFault(out.sent())),
+        Err(Halt::WouldWait) => unreachable!(),
+    }
+}
+
+/// Goes on with a reply as `write_reply` writes it, on a stream that may have to wait: behind the bytes of it that were written, and with
+/// those that are gathered in `out`. It begins where `out` begins a text.
+pub fn try_write_reply<D: Duplex, P: BodyParts<Item: Drop> + Drop>(
+    duplex: &mut D,
+    out: &mut Outgoing,
+    head: &ReplyHead<'_>,
+    body: ReplyBody<P>,
+) -> Result<(), Halt<WriteFailed>>
+    requires fits { length (sent_reply P.texts head.now body) < 2 ^ 64 }
+    requires amid { IsAmid (sent_reply P.texts head.now body) out.old }
+    ensures ran { Ran D.saw NoRead duplex.old duplex.new
+        (WritesFrom result (sent_reply P.texts head.now body) out.old.sent out.new.sent) }
+    ensures amid { IsAmid (sent_reply P.texts head.now body) out.new }
+    ensures waits { IsErrOf result Halt.WouldWait → D.waits }
+{
+    out.go_on();
+    put_both(duplex, out, head, body)
 }
 
 /// Writes a reply: its head and then its body, where that is sent. Reads nothing. The head always has a Content-Length, so
@@ -161,7 +200,12 @@ fn write_text<D: Steady>(duplex: &mut D, text: &[u8]) -> Result<(), WriteFault>
     ensures { Ran D.saw NoRead duplex.old duplex.new (WritesText result text.now) }
 {
     let mut sent = 0;
-    send_rest(duplex, &mut sent, text)
+    let mut at = 0;
+    match send_rest(duplex, &mut sent, text, &mut at) {
+        Ok(()) => Ok(()),
+        Err(Halt::Failed(_)) => Err(WriteFault(sent)),
+        Err(Halt::WouldWait) => unreachable!(),
+    }
 }
 
 /// Goes on with the interim reply from a place in it on, as `write_interim` writes it, on a stream that may have to wait; and moves the

@@ -1,15 +1,16 @@
 //! Heads of replies, on their way out.
-ghost use Rattle.std.specs.Prelude.{◌≡◌, ℕ, ◌++◌, decimal};
+ghost use Rattle.std.specs.Prelude.{◌≡◌, ℕ, ◌++◌, decimal, IsErrOf};
 ghost use Rattle.std.specs.Option.{option_map};
 ghost use Rattle.std.specs.List.{flat_map};
 ghost use Rattle.http_wire.specs.Replies.{crlf, ended_line, fields_of, head_text, line_of, range_text, status_line, text_of_line};
-ghost use Rattle.http_wire.specs.Sending.{Puts};
+ghost use Rattle.http_wire.specs.Gathering.{Puts};
 ghost use Rattle.http_wire.specs.Timing.{NoRead, Ran};
 
-use crate::duplexes::Steady;
-use crate::faults::WriteFault;
+use crate::duplexes::Duplex;
+use crate::halts::Halt;
 use crate::replies::{ReplyHead, decimal_text, range_value};
 use crate::sends::{Outgoing, put_pieces};
+use crate::sinks::WriteFailed;
 use http::StatusCode;
 
 // A line of a head, where its value is there. What is behind the value ends the line.
@@ -60,12 +61,13 @@ fn field_lines<'a>(
 }
 
 // Puts a line, where its value is there.
-fn put_line<D: Steady>(
+fn put_line<D: Duplex>(
     duplex: &mut D,
     out: &mut Outgoing,
     line: &Line<'_>,
-) -> Result<(), WriteFault>
-    ensures { Ran D.saw NoRead duplex.old duplex.new (Puts result (text_of_line line.now) out.old out.new) }
+) -> Result<(), Halt<WriteFailed>>
+    ensures ran { Ran D.saw NoRead duplex.old duplex.new (Puts result (text_of_line line.now) out.old out.new) }
+    ensures waits { IsErrOf result Halt.WouldWait → D.waits }
 {
     let Some(value) = line.value else {
         return Ok(());
@@ -79,12 +81,13 @@ fn put_line<D: Steady>(
 }
 
 // Puts the lines, one after another.
-fn put_lines<D: Steady>(
+fn put_lines<D: Duplex>(
     duplex: &mut D,
     out: &mut Outgoing,
     lines: &[Line<'_>],
-) -> Result<(), WriteFault>
-    ensures { Ran D.saw NoRead duplex.old duplex.new (Puts result (flat_map text_of_line lines.now) out.old out.new) }
+) -> Result<(), Halt<WriteFailed>>
+    ensures ran { Ran D.saw NoRead duplex.old duplex.new (Puts result (flat_map text_of_line lines.now) out.old out.new) }
+    ensures waits { IsErrOf result Halt.WouldWait → D.waits }
 {
     for line in lines {
         put_line(duplex, out, line)?;
@@ -93,12 +96,13 @@ fn put_lines<D: Steady>(
 }
 
 // Puts the status line.
-fn put_status<D: Steady>(
+fn put_status<D: Duplex>(
     duplex: &mut D,
     out: &mut Outgoing,
     status: StatusCode,
-) -> Result<(), WriteFault>
-    ensures { Ran D.saw NoRead duplex.old duplex.new (Puts result (ended_line (status_line status)) out.old out.new) }
+) -> Result<(), Halt<WriteFailed>>
+    ensures ran { Ran D.saw NoRead duplex.old duplex.new (Puts result (ended_line (status_line status)) out.old out.new) }
+    ensures waits { IsErrOf result Halt.WouldWait → D.waits }
 {
     let code = status.as_str();
     let phrase = status.canonical_reason().unwrap_or("");
@@ -113,16 +117,17 @@ fn put_status<D: Steady>(
 }
 
 // Puts a head whose numbers are written out.
-fn put_texts<'a, D: Steady>(
+fn put_texts<'a, D: Duplex>(
     duplex: &mut D,
     out: &mut Outgoing,
     head: &'a ReplyHead<'a>,
     digits: &'a str,
     range: Option<&'a str>,
-) -> Result<(), WriteFault>
+) -> Result<(), Halt<WriteFailed>>
     requires { option_map (λ v. v.now) range ≡ option_map range_text head.now.content_range }
-    ensures { (size : ℕ) → digits.now ≡ decimal size → Ran D.saw NoRead duplex.old duplex.new
+    ensures ran { (size : ℕ) → digits.now ≡ decimal size → Ran D.saw NoRead duplex.old duplex.new
         (Puts result (head_text (fields_of head.now size)) out.old out.new) }
+    ensures waits { IsErrOf result Halt.WouldWait → D.waits }
 {
     let fields = field_lines(head, digits, range);
     put_status(duplex, out, head.status)?;
@@ -131,14 +136,15 @@ fn put_texts<'a, D: Steady>(
 }
 
 /// Puts the head before a body of this many bytes.
-pub fn put_head<D: Steady>(
+pub fn put_head<D: Duplex>(
     duplex: &mut D,
     out: &mut Outgoing,
     head: &ReplyHead<'_>,
     size: u64,
-) -> Result<(), WriteFault>
-    ensures { Ran D.saw NoRead duplex.old duplex.new
+) -> Result<(), Halt<WriteFailed>>
+    ensures ran { Ran D.saw NoRead duplex.old duplex.new
         (Puts result (head_text (fields_of head.now size)) out.old out.new) }
+    ensures waits { IsErrOf result Halt.WouldWait → D.waits }
 {
     let digits = decimal_text(size);
     let range = head.content_range.map(range_value);

@@ -1,28 +1,42 @@
 //! Texts on their way out.
-ghost use Rattle.std.specs.Prelude.{◌≡◌, ℕ, List, Option, [], ◌++◌, ◌≤◌, length, IsErrOf, OnOk, MatchBool};
-ghost use Rattle.http_wire.specs.Halting.{WritesFrom};
+ghost use Rattle.std.specs.Prelude.{◌≡◌, ◌≤◌, ◌-◌, [], ◌++◌, drop, length, min, IfOk, IsErrOf, MatchBool, OnOk};
 ghost use Rattle.std.specs.List.{concat, flat_map};
-ghost use Rattle.http_wire.specs.Sending.{Puts, Sent, WritesAll, WritesOn};
+ghost use Rattle.http_wire.specs.Gathering.{from_front, nothing, Puts, WritesOn};
+ghost use Rattle.http_wire.specs.Halting.{WritesFrom};
 ghost use Rattle.http_wire.specs.Timing.{NoRead, Ran};
 
-use crate::duplexes::{Duplex, Steady};
-use crate::faults::WriteFault;
+use crate::duplexes::Duplex;
 use crate::halts::Halt;
 use crate::sinks::WriteFailed;
 use byte_view::BodyParts;
 use std::alloc::{AllocError, Global};
+use std::marker::Model;
 
 // How many bytes are gathered before they are written: a small reply is one write.
 const ROOM: usize = 8192;
 
-/// Room in which a text is gathered before it is written. A connection takes it once, and lends it to each call that writes; what
-/// one call leaves in it means nothing to the next.
+/// Room in which a text is gathered before it is written, and how far the text has come. A connection takes it once, and lends it to each
+/// call that writes. Where a write would have to wait, what is gathered stays, and the next call for the same text goes on behind it.
 #[derive(Drop)]
 pub struct Outgoing {
-    // What was put and not yet written.
+    // What was gathered, and how many bytes of it were written.
     pending: Vec<u8>,
-    // How many bytes of the text were written before it.
+    at: usize,
+    // How many bytes of the text were written.
     sent: u64,
+    // How many bytes of what is put next were taken before.
+    passed: u64,
+}
+
+impl Model for Outgoing {
+    ghost use Rattle.std.specs.Prelude.{◌≤◌, drop, vec_len};
+    ghost use Rattle.http_wire.specs.Gathering.{Gathered};
+
+    ghost Value = { Gathered };
+
+    ghost view = { λ o. record { rest = drop o.at o.pending.items; sent = o.sent; passed = o.passed } };
+
+    ghost invariant = { λ o. o.at ≤ vec_len o.pending };
 }
 
 /// Writes a text from a place in it on, and moves the place behind what was written.
@@ -42,74 +56,121 @@ pub fn send_on<D: Duplex>(
     Ok(())
 }
 
-// Writes all the bytes, or answers how many were written.
-fn send<D: Steady>(duplex: &mut D, bytes: &[u8]) -> Result<(), usize>
-    ensures { Ran D.saw NoRead duplex.old duplex.new (WritesAll result bytes.now) }
+/// The same, and counts the bytes to those that were written before.
+pub fn send_rest<D: Duplex>(
+    duplex: &mut D,
+    sent: &mut u64,
+    text: &[u8],
+    at: &mut usize,
+) -> Result<(), Halt<WriteFailed>>
+    requires { at.old ≤ length text.now }
+    ensures ran { Ran D.saw NoRead duplex.old duplex.new
+        (WritesOn result [] sent.old sent.new (drop at.old text.now) (drop at.new text.now)) }
+    ensures within { at.new ≤ length text.now }
+    ensures all { OnOk result (drop at.new text.now ≡ []) }
+    ensures waits { IsErrOf result Halt.WouldWait → D.waits }
 {
-    let mut at = 0;
-    match send_on(duplex, bytes, &mut at) {
-        Ok(()) => Ok(()),
-        Err(Halt::Failed(_)) => Err(at),
-        Err(Halt::WouldWait) => unreachable!(),
-    }
+    let before = *at;
+    let done = send_on(duplex, text, at);
+    *sent = sent.saturating_add((*at - before) as u64);
+    done
 }
 
-/// Writes the rest of a text, and counts its bytes to those that were written before.
-pub fn send_rest<D: Steady>(duplex: &mut D, sent: &mut u64, rest: &[u8]) -> Result<(), WriteFault>
-    ensures { Ran D.saw NoRead duplex.old duplex.new (WritesOn result [] sent.old sent.new rest.now []) }
+// Puts a piece behind the others, where there is room for it.
+fn extend(pending: &mut Vec<u8>, piece: &[u8]) -> bool
+    ensures { MatchBool result (pending.new.items ≡ pending.old.items ++ piece.now) (pending.new.items ≡ pending.old.items) }
 {
-    match send(duplex, rest) {
-        Ok(()) => {
-            *sent = sent.saturating_add(rest.len() as u64);
-            Ok(())
-        }
-        Err(count) => Err(WriteFault(sent.saturating_add(count as u64))),
+    let room = pending.capacity() - pending.len();
+    if room < piece.len() {
+        return false;
     }
+    pending.extend_from_slice(piece).is_ok()
 }
 
 impl Outgoing {
     /// Takes the memory for 8,192 bytes.
-    pub fn new(alloc: Global) -> Result<Outgoing, AllocError> {
+    pub fn new(alloc: Global) -> Result<Outgoing, AllocError>
+        ensures { IfOk result (λ out. out ≡ nothing) }
+    {
         Ok(Outgoing {
             pending: Vec::with_capacity(alloc, ROOM)?,
+            at: 0,
             sent: 0,
+            passed: 0,
         })
     }
 
-    // Begins another text.
-    pub(crate) fn begin(&mut self)
-        ensures { (held : Option (List ℕ)) → Sent held held [] self.new.sent self.new.pending.items }
+    /// Begins another text.
+    pub fn begin(&mut self)
+        ensures { self.new ≡ nothing }
     {
         self.pending.clear();
+        self.at = 0;
         self.sent = 0;
+        self.passed = 0;
     }
 
-    // Writes all that was put.
-    pub(crate) fn flush<D: Steady>(&mut self, duplex: &mut D) -> Result<(), WriteFault>
-        ensures ran { Ran D.saw NoRead duplex.old duplex.new
-            (WritesOn result [] self.old.sent self.new.sent self.old.pending.items []) }
-        ensures empty { OnOk result (self.new.pending.items ≡ []) }
+    // Begins to put the same text again, of which what was taken is passed over.
+    pub(crate) fn go_on(&mut self)
+        ensures { self.new ≡ from_front self.old }
     {
-        send_rest(duplex, &mut self.sent, self.pending.as_slice())?;
+        let gathered = self.pending.len() - self.at;
+        self.passed = self.sent.saturating_add(gathered as u64);
+    }
+
+    /// How many bytes of the text were written.
+    pub(crate) fn sent(&self) -> u64
+        ensures { result ≡ self.now.sent }
+    {
+        self.sent
+    }
+
+    // Writes all that is gathered.
+    pub(crate) fn flush<D: Duplex>(&mut self, duplex: &mut D) -> Result<(), Halt<WriteFailed>>
+        ensures ran { Ran D.saw NoRead duplex.old duplex.new
+            (WritesOn result [] self.old.sent self.new.sent self.old.rest self.new.rest) }
+        ensures empty { OnOk result (self.new.rest ≡ []) }
+        ensures passed { self.new.passed ≡ self.old.passed }
+        ensures waits { IsErrOf result Halt.WouldWait → D.waits }
+    {
+        send_rest(
+            duplex,
+            &mut self.sent,
+            self.pending.as_slice(),
+            &mut self.at,
+        )?;
         self.pending.clear();
+        self.at = 0;
         Ok(())
     }
 
-    // Puts one more piece where there is room for it.
+    // Gathers one more piece where there is room for it.
     fn gather(&mut self, piece: &[u8]) -> bool
-        ensures { MatchBool result ((self.new.pending.items ≡ self.old.pending.items ++ piece.now) × (self.new.sent ≡ self.old.sent))
-            (self.new ≡ self.old) }
+        ensures gathered { MatchBool result (self.new.rest ≡ self.old.rest ++ piece.now) (self.new.rest ≡ self.old.rest) }
+        ensures sent { self.new.sent ≡ self.old.sent }
+        ensures passed { self.new.passed ≡ self.old.passed }
     {
-        let room = self.pending.capacity() - self.pending.len();
-        if room < piece.len() {
-            return false;
-        }
-        self.pending.extend_from_slice(piece).is_ok()
+        extend(&mut self.pending, piece)
     }
 
-    // Puts one more piece, and writes as much as it takes to make room for it.
-    pub(crate) fn put<D: Steady>(&mut self, duplex: &mut D, piece: &[u8]) -> Result<(), WriteFault>
-        ensures { Ran D.saw NoRead duplex.old duplex.new (Puts result piece.now self.old self.new) }
+    // Passes over the front of a piece that was taken before, and answers how long that is.
+    fn pass(&mut self, len: usize) -> usize
+        ensures count { result ≡ min self.old.passed len }
+        ensures passed { self.new.passed ≡ self.old.passed - len }
+        ensures sent { self.new.sent ≡ self.old.sent }
+        ensures rest { self.new.rest ≡ self.old.rest }
+    {
+        let count = self.passed.min(len as u64);
+        self.passed -= count;
+        count as usize
+    }
+
+    // Takes one more piece, and writes as much as it takes to make room for it.
+    fn take<D: Duplex>(&mut self, duplex: &mut D, piece: &[u8]) -> Result<(), Halt<WriteFailed>>
+        ensures ran { Ran D.saw NoRead duplex.old duplex.new
+            (WritesOn result piece.now self.old.sent self.new.sent self.old.rest self.new.rest) }
+        ensures passed { self.new.passed ≡ self.old.passed }
+        ensures waits { IsErrOf result Halt.WouldWait → D.waits }
     {
         if self.gather(piece) {
             return Ok(());
@@ -118,18 +179,44 @@ impl Outgoing {
         if self.gather(piece) {
             return Ok(());
         }
-        send_rest(duplex, &mut self.sent, piece)
+        self.write(duplex, piece)
+    }
+
+    // Writes a piece, where none is gathered before it.
+    fn write<D: Duplex>(&mut self, duplex: &mut D, piece: &[u8]) -> Result<(), Halt<WriteFailed>>
+        requires { self.old.rest ≡ [] }
+        ensures ran { Ran D.saw NoRead duplex.old duplex.new (WritesOn result [] self.old.sent self.new.sent piece.now []) }
+        ensures rest { self.new.rest ≡ [] }
+        ensures passed { self.new.passed ≡ self.old.passed }
+        ensures waits { IsErrOf result Halt.WouldWait → D.waits }
+    {
+        let mut at = 0;
+        send_rest(duplex, &mut self.sent, piece, &mut at)
+    }
+
+    // Puts one more piece, of which what was taken before is passed over.
+    pub(crate) fn put<D: Duplex>(
+        &mut self,
+        duplex: &mut D,
+        piece: &[u8],
+    ) -> Result<(), Halt<WriteFailed>>
+        ensures ran { Ran D.saw NoRead duplex.old duplex.new (Puts result piece.now self.old self.new) }
+        ensures waits { IsErrOf result Halt.WouldWait → D.waits }
+    {
+        let passed = self.pass(piece.len());
+        self.take(duplex, &piece[passed..])
     }
 }
 
 /// Puts the pieces, one after another.
-pub fn put_pieces<D: Steady>(
+pub fn put_pieces<D: Duplex>(
     duplex: &mut D,
     out: &mut Outgoing,
     pieces: &[&[u8]],
-) -> Result<(), WriteFault>
-    ensures { Ran D.saw NoRead duplex.old duplex.new
+) -> Result<(), Halt<WriteFailed>>
+    ensures ran { Ran D.saw NoRead duplex.old duplex.new
         (Puts result (flat_map (λ p. p.now) pieces.now) out.old out.new) }
+    ensures waits { IsErrOf result Halt.WouldWait → D.waits }
 {
     for piece in pieces {
         out.put(duplex, piece)?;
@@ -138,12 +225,13 @@ pub fn put_pieces<D: Steady>(
 }
 
 /// Puts the parts of a body, one after another, each as it lies.
-pub fn put_parts<D: Steady, P: BodyParts<Item: Drop> + Drop>(
+pub fn put_parts<D: Duplex, P: BodyParts<Item: Drop> + Drop>(
     duplex: &mut D,
     out: &mut Outgoing,
     parts: P,
-) -> Result<(), WriteFault>
-    ensures { Ran D.saw NoRead duplex.old duplex.new (Puts result (concat (P.texts parts)) out.old out.new) }
+) -> Result<(), Halt<WriteFailed>>
+    ensures ran { Ran D.saw NoRead duplex.old duplex.new (Puts result (concat (P.texts parts)) out.old out.new) }
+    ensures waits { IsErrOf result Halt.WouldWait → D.waits }
 {
     for part in parts {
         out.put(duplex, P::bytes(&part))?;

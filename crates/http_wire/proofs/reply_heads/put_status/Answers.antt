@@ -1,20 +1,18 @@
 use Rattle.std.proofs.Common.{◌≡◌, [], ◌++◌, ◌∙◌, List, ℕ, Bor, refl, ap, subst, append-nil}
 use Rattle.std.specs.Prelude.{codes}
+use Rattle.http_wire.specs.Gathering.{Puts}
 use Rattle.http_wire.specs.Replies.{crlf}
-use Rattle.http_wire.specs.Sending.{WritesOn}
 use Rattle.http_wire.specs.Timing.{NoRead, Ran}
 use Rattle.http_wire.proofs.ReplyPieces.{phrase_is, status_is}
 use Rattle.http_wire.proofs.reply_heads.put_status.Goals as goal
 
-pub returns : goal.returns
-returns g c =
+pub returns-clause-ran : goal.returns-clause-ran
+returns-clause-ran g c =
     let now : Bor (List ℕ) → List ℕ = λ p. p.now in
-    let old = c.args.out.now in
-    let new = c.put_pieces.new.out in
     let phrase = c.as_bytes-2.ensures.value ∙ ap now c.unwrap_or-phrase.ensures ∙ phrase_is c.canonical_reason.result _ _ c.canonical_reason.ensures.value refl in
     let code : List ℕ = c.as_bytes.result.now in
     let said : List ℕ = c.as_bytes-2.result.now in
-    let P : List ℕ → Type 0 = λ t. Ran g.D.Duplex.saw NoRead c.args.duplex.now c.put_pieces.new.duplex (WritesOn c.put_pieces.result t old.sent new.sent old.pending.items new.pending.items) in
+    let P : List ℕ → Type 0 = λ t. Ran g.D.Duplex.saw NoRead c.args.duplex.now c.put_pieces.new.duplex (Puts c.put_pieces.result t c.args.out.now c.put_pieces.new.out) in
     let ended : codes "HTTP/1.1 " ++ (code ++ (codes " " ++ (said ++ (crlf ++ [])))) ≡ codes "HTTP/1.1 " ++ (code ++ (codes " " ++ (said ++ crlf))) =
     ap (λ u. codes "HTTP/1.1 " ++ (code ++ (codes " " ++ (said ++ u)))) (append-nil crlf) in
-    subst P (ended ∙ status_is c.args.status _ _ (c.as_bytes.ensures.value ∙ c.as_str-code.ensures) phrase) c.put_pieces.ensures
+    subst P (ended ∙ status_is c.args.status _ _ (c.as_bytes.ensures.value ∙ c.as_str-code.ensures) phrase) c.put_pieces.ensures.ran

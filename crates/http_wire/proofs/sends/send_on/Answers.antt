@@ -3,7 +3,7 @@ use Rattle.http_wire.specs.declared.halts.Halt.{Halt}
 use Rattle.http_wire.specs.declared.sinks.WriteFailed.{WriteFailed}
 use Rattle.http_wire.specs.Halting.{WritesFrom}
 use Rattle.http_wire.specs.Timing.{NoRead, Ran}
-use Rattle.http_wire.proofs.WritesOn.{all_from, halted, none_from, write_further}
+use Rattle.http_wire.proofs.WritesFrom.{all_from, halted, none_from, write_further}
 use Rattle.http_wire.proofs.sends.send_on.Goals as goal
 
 pub writes-init : goal.writes-init

@@ -1,5 +1,5 @@
 use Rattle.std.proofs.Common.{◌-◌, length}
-use Rattle.http_wire.proofs.WritesOn.{FromSoFar}
+use Rattle.http_wire.proofs.WritesFrom.{FromSoFar}
 use Rattle.http_wire.proofs.sends.send_on.Given as goal
 
 abbrev pub invariant-writes : goal.invariant-writes

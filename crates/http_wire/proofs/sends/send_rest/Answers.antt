@@ -1,8 +1,19 @@
-use Rattle.http_wire.proofs.Writes.{rest_written, rest_cut}
+use Rattle.http_wire.proofs.Writes.{rest_from, all_gone, not_before}
 use Rattle.http_wire.proofs.sends.send_rest.Goals as goal
 
-pub returns-in-Ok : goal.returns-in-Ok
-returns-in-Ok g c = rest_written g.D.Duplex.saw c.args.duplex.now c.send.new.duplex c.args.rest.now c.args.sent.now _ c.saturating_add.ensures c.in-Ok.ensures
+pub overflow_sub-at : goal.overflow_sub-at
+overflow_sub-at g c =
+    let ran = c.send_on-done.ensures.ran in
+    not_before c.send_on-done.result c.args.text.now c.args.at.now c.send_on-done.new.at ran.events c.requires ran.claimed
 
-pub returns-in-Err : goal.returns-in-Err
-returns-in-Err g c = rest_cut g.D.Duplex.saw c.args.duplex.now c.send.new.duplex c.args.rest.now _ c.args.sent.now _ c.in-Err.count _ c.saturating_add-in-Err.ensures c.in-Err.ensures
+pub returns-clause-ran : goal.returns-clause-ran
+returns-clause-ran g c =
+    rest_from g.D.Duplex.saw c.args.duplex.now c.send_on-done.new.duplex c.send_on-done.result c.args.text.now c.args.at.now c.send_on-done.new.at c.args.sent.now _ c.requires
+    c.saturating_add.ensures c.send_on-done.ensures.ran
+
+pub returns-clause-within : goal.returns-clause-within
+returns-clause-within g c = c.send_on-done.ensures.ran.claimed.within
+
+pub returns-clause-all : goal.returns-clause-all
+returns-clause-all g c =
+    all_gone c.send_on-done.result c.args.text.now c.args.at.now c.send_on-done.new.at c.send_on-done.ensures.ran.events c.send_on-done.ensures.ran.claimed

@@ -1,12 +1,11 @@
 -- What the writes of a text lead to, from a place in it on.
 use Rattle.std.proofs.Common.{◌≡◌, ℕ, ◌+◌, ◌-◌, ◌<◌, ◌≤◌, List, [], ◌∷◌, ◌++◌, length, take, Ok, Err, slice_range, refl, sym, ap, subst, ◌∙◌, append_assoc, append-nil, arith}
-use Rattle.std.proofs.lemmas.List.{length-take-le, length-drop, take_all}
+use Rattle.std.proofs.lemmas.List.{length-take-le, length-drop}
 use Rattle.std.proofs.lemmas.Slice.{between_to_end}
 use Rattle.http_wire.specs.declared.halts.Halt.{Halt}
 use Rattle.http_wire.specs.declared.halts.Halt.TheVariants.{Failed, WouldWait}
 use Rattle.http_wire.specs.declared.sinks.WriteFailed.{WriteFailed}
 use Rattle.http_wire.specs.Halting.{Halts, WritesFrom}
-use Rattle.http_wire.specs.Sending.{WritesAll}
 use Rattle.http_wire.specs.Timing.{Event, Put, WriteFails, all_put, GoesOn, Timely, Steps, NoRead, Ran}
 use Rattle.http_wire.proofs.SentParts.{take_further}
 
@@ -63,23 +62,4 @@ halted {S} saw waits old mid new WouldWait text from at so room seen = record {
   steps = subst (λ (s : S). Steps saw old so.events s) (sym seen.1) so.steps;
   timely = so.timely;
   claimed = record { within = so.within; put = so.put; ends = (so.goes_on, room) };
-}
-
--- from its front on, the whole text is written
-pub from_front : {S : Type 0} (saw : S → Event → S → Type 0) (old new : S) (text : List ℕ) (at : ℕ) → Ran saw NoRead old new (WritesFrom (Ok tt) text 0 at)
-    → Ran saw NoRead old new (WritesAll (Ok tt) text)
-from_front saw old new text at ran = record {
-  events = ran.events;
-  steps = ran.steps;
-  timely = ran.timely;
-  claimed = (ran.claimed.ends.0, ran.claimed.put ∙ take_all at text (omega (arith, ran.claimed.ends.1)));
-}
-
-pub from_front_failed : {S : Type 0} (saw : S → Event → S → Type 0) (old new : S) (text : List ℕ) (at : ℕ) (why : WriteFailed)
-    → Ran saw NoRead old new (WritesFrom (Err (Failed why)) text 0 at) → Ran saw NoRead old new (WritesAll (Err at) text)
-from_front_failed saw old new text at why ran = record {
-  events = ran.events;
-  steps = ran.steps;
-  timely = ran.timely;
-  claimed = (ran.claimed.ends.0, ran.claimed.ends.1, ran.claimed.put);
 }

@@ -1,0 +1,56 @@
+-- Texts that are gathered and written, piece by piece.
+use Rattle.std.specs.Prelude.{◌≡◌, ℕ, ◌+◌, ◌-◌, ◌^◌, ◌<◌, ◌≤◌, min, List, [], ◌++◌, drop, length, Some, Result, Ok, Err, OnOk}
+use Rattle.http_wire.specs.declared.halts.Halt.{Halt}
+use Rattle.http_wire.specs.declared.halts.Halt.TheVariants.{Failed, WouldWait}
+use Rattle.http_wire.specs.declared.sinks.WriteFailed.{WriteFailed}
+use Rattle.http_wire.specs.Sending.{Sent}
+use Rattle.http_wire.specs.Timing.{Event, WriteFails, all_put, IsLatest, GoesOn}
+
+-- What is gathered of a text and not yet written, and how many bytes of the text were written before it, a count that stops at the largest
+-- number of 64 bits. Of what is put next so many bytes were taken before.
+pub record Gathered : Type 0 where
+  pub rest : List ℕ
+  pub sent : ℕ
+  pub passed : ℕ
+
+-- nothing of a text
+abbrev pub nothing : Gathered
+nothing = record { rest = []; sent = 0; passed = 0 }
+
+-- of what is put next, which is the text from its front on, all was taken before that was gathered or written
+abbrev pub from_front : Gathered → Gathered
+from_front out = record { rest = out.rest; sent = out.sent; passed = min (out.sent + length out.rest) (2 ^ 64 - 1) }
+
+-- of the text the first bytes were written, those that are gathered come next, and others may be left
+pub record IsAmid (text : List ℕ) (out : Gathered) : Type 0 where
+  pub within : out.sent ≤ length text
+  pub left : List ℕ
+  pub behind : drop out.sent text ≡ out.rest ++ left
+
+-- ---- what private functions say
+
+-- so many bytes of the text are written, and the rest is not
+abbrev pub Written : (written text : List ℕ) → (count : ℕ) → (rest : List ℕ) → Type 0
+Written written text count rest = Sent (Some []) (Some written) text count rest
+
+-- the same after more writes: of the text this rest is left, or a write failed or would have to wait, and more may be left
+abbrev pub WrittenNow : Result (Unit {0}) (Halt WriteFailed) → (written text : List ℕ) → (count : ℕ) → (rest : List ℕ) → Type 0
+WrittenNow (Ok done) written text count rest = Written written text count rest
+WrittenNow (Err why) written text count rest = (left : List ℕ) × (0 < length (rest ++ left)) × Written written text count (rest ++ left)
+
+-- how the writes end: another event may follow, or the last of them failed
+abbrev pub WritesEnd : Result (Unit {0}) (Halt WriteFailed) → List Event → Type 0
+WritesEnd (Ok done) events = GoesOn events
+WritesEnd (Err (Failed why)) events = IsLatest WriteFails events
+WritesEnd (Err WouldWait) events = GoesOn events
+
+-- writes that follow others lead from one rest of a text to another, of that text with more at its end
+pub record WritesOn (result : Result (Unit {0}) (Halt WriteFailed)) (more : List ℕ) (count new_count : ℕ) (rest new_rest : List ℕ) (events : List Event)
+    : Type 0 where
+  pub ends : WritesEnd result events
+  pub text : (written text : List ℕ) → Written written text count rest → WrittenNow result (written ++ all_put events) (text ++ more) new_count new_rest
+
+-- the same of what is gathered before and after them, where what was taken before is passed over
+pub record Puts (result : Result (Unit {0}) (Halt WriteFailed)) (more : List ℕ) (old new : Gathered) (events : List Event) : Type 0 where
+  pub writes : WritesOn result (drop old.passed more) old.sent new.sent old.rest new.rest events
+  pub passed : OnOk result (new.passed ≡ old.passed - length more)
