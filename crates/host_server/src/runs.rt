@@ -7,7 +7,7 @@ use crate::servers::Server;
 use blob_store::Shelf;
 use host_connection::{ConnectionFault, serve_connection};
 use host_disk::Disk;
-use http_wire::{Duplex, Sink, write_all};
+use http_wire::{Sink, Steady, write_all};
 use std::alloc::Global;
 
 /// The exit status where the connection has ended.
@@ -41,7 +41,7 @@ fn status_after<E: Sink>(errors: &mut E, ended: Result<(), ConnectionFault>) -> 
 }
 
 /// Serves one connection over a server, and gives the exit status; where it isn't 0, why is said.
-pub(crate) fn serve_server<S: Shelf + Drop, D: Disk + Drop, X: Duplex, E: Sink>(
+pub(crate) fn serve_server<S: Shelf + Drop, D: Disk + Drop, X: Steady, E: Sink>(
     alloc: Global,
     server: Server<S, D>,
     duplex: &mut X,

@@ -10,7 +10,7 @@ use blob_store::{DirShelf, MemShelf, Shelf};
 use change_undo::GREATEST_LIMIT;
 use command_line::{Refusal, Wanted, read};
 use host_disk::{Disk, FileDisk, MemDisk};
-use http_wire::{Duplex, Sink};
+use http_wire::{Sink, Steady};
 use std::alloc::{AllocError, Global};
 use std::convert::AsStr;
 use std::fs::File;
@@ -31,7 +31,7 @@ fn refuse<E: Sink>(errors: &mut E, refusal: Refusal) -> u8
 }
 
 /// Serves one connection over an empty server in memory, and gives the exit status; or there is no memory for the server.
-fn run_in_memory<D: Duplex, E: Sink>(alloc: Global, duplex: &mut D, errors: &mut E) -> u8
+fn run_in_memory<D: Steady, E: Sink>(alloc: Global, duplex: &mut D, errors: &mut E) -> u8
     ensures { IsEmptyServed ⟦<MemDisk as Disk>⟧ D.Duplex E.may_fail result
         duplex.old duplex.new (E.held errors.old) (E.held errors.new) }
 {
@@ -51,7 +51,7 @@ fn run_in_memory<D: Duplex, E: Sink>(alloc: Global, duplex: &mut D, errors: &mut
 /// nothing is written there.
 ///
 /// Memory may run out while the words are read, whatever they are: no contract tells when it does.
-pub fn run_solo<R: Files<File = File>, S: AsStr, D: Duplex, E: Sink>(
+pub fn run_solo<R: Files<File = File>, S: AsStr, D: Steady, E: Sink>(
     rt: &R,
     alloc: Global,
     words: &[S],

@@ -10,7 +10,7 @@ use crate::servers::Server;
 use blob_store::{DirShelf, Shelf};
 use change_undo::GREATEST_LIMIT;
 use host_disk::{Disk, FileDisk};
-use http_wire::{Duplex, Sink};
+use http_wire::{Sink, Steady};
 use std::alloc::Global;
 use std::fs::File;
 use std::path::PathBuf;
@@ -21,7 +21,7 @@ const JOURNAL: &str = "journal";
 
 /// Serves one connection over the store of a disk and a shelf, and gives the exit status. Where it isn't 0, `errors` is told why:
 /// the store can't be opened, and nothing is answered; or the connection failed.
-pub fn run_store<S: Shelf + Drop, D: Disk + Drop, X: Duplex, E: Sink>(
+pub fn run_store<S: Shelf + Drop, D: Disk + Drop, X: Steady, E: Sink>(
     alloc: Global,
     disk: D,
     shelf: S,
@@ -63,7 +63,7 @@ fn open_folder<'a, R: Files<File = File>>(
 }
 
 /// The same over the store in a folder.
-pub(crate) fn run_folder<R: Files<File = File>, X: Duplex, E: Sink>(
+pub(crate) fn run_folder<R: Files<File = File>, X: Steady, E: Sink>(
     rt: &R,
     alloc: Global,
     folder: &str,
