@@ -13,20 +13,23 @@ use Rattle.world_node.specs.declared.readers.Phase.{Phase}
 use Rattle.world_node.specs.declared.readers.Phase.TheVariants.{Idle, Wants, Missed, Looks, Loads, Holds, Sets, Ends, Joins, Has}
 use Rattle.world_node.specs.Nodes.{NodeStep}
 use Rattle.world_node.specs.Nodes.{Want, Look, Begin, Answer, Add, Settle, Finish, Take}
-use Rattle.world_node.specs.Nodes.{NodeState, Landing, ReaderState, after_all, answered, begun, by_reader, checked, ended, finished, flight_changed, found_again, found_first, gets, got_of, happens, is_open_of, led_or_joined, looked, open_flight, outcome_at, put, set_outcome, settled, start, told, took, wanted, with_phase}
+use Rattle.world_node.specs.Nodes.{NodeState, Landing, ReaderState, after_all, answered, begun, by_reader, checked, ended, finished, flight_changed, found_again, found_first, fresh, gets, got_of, happens, is_open_of, led_or_joined, looked, open_flight, outcome_at, put, set_outcome, settled, start, told, took, wanted, with_phase}
 use Rattle.world_node.specs.Lawful.{CameTo, IsNamed, IsOfFlight, IsRight, OpenOnce, ReadersAgree}
+use Rattle.world_node.specs.Tables.{AreOfATable}
 use Rattle.world_node.proofs.Lists.{all_get, all_mapped, all_push, all_set, all_weaker}
 use Rattle.world_node.proofs.Onward.{Continue, FlightNamed, Follows, IsOf, all_ended, all_settled, came, came_named, continue_changed, continue_push, ended_follows, of_later, once_changed, once_push, settled_follows}
+use Rattle.world_node.proofs.Tables.{of_ended, of_led, of_settled, of_start}
 use Rattle.world_node.proofs.Reading.{by_bytes, right_later, PhaseOk, ReaderOk, checked_named, gets_ok, held_named, reader_later}
 
 pub record IsLawful (w : NodeState) : Type 0 where
   pub once : OpenOnce w.flights
+  pub table : (cells : ℕ → ℕ) → AreOfATable cells w.flights
   pub named : AllByRecursion FlightNamed w.flights
   pub readers : AllByRecursion (ReaderOk w.flights) w.readers
 
 -- a reader goes on, and the caches may have changed
 moved : (w : NodeState) (cache : Cache) (r : ℕ) (v : ReaderState) → ReaderOk w.flights v → IsLawful w → IsLawful (record { cache = cache; flights = w.flights; readers = slice_set w.readers r v })
-moved w cache r v ok lawful = record { once = lawful.once; named = lawful.named; readers = all_set (ReaderOk w.flights) w.readers r v lawful.readers ok }
+moved w cache r v ok lawful = record { once = lawful.once; table = lawful.table; named = lawful.named; readers = all_set (ReaderOk w.flights) w.readers r v lawful.readers ok }
 
 abbrev Goes : NodeState → (ReaderState → Phase → NodeState) → Type 0
 Goes w does = (v : ReaderState) (phase : Phase) → PhaseOk w.flights phase → AllByRecursion (IsRight w.flights) v.got → IsLawful (does v phase)
@@ -97,7 +100,7 @@ opened key (f ∷ fs) n e = opened_at key f fs n (is_open_of key f) refl (open_f
 
 led_or_joined_lawful : (w : NodeState) (r : ℕ) (v : ReaderState) (key : Digest) → IsLawful w → AllByRecursion (IsRight w.flights) v.got → (at : Option ℕ) → open_flight key w.flights ≡ at → IsLawful (led_or_joined w r v key at)
 led_or_joined_lawful w r v key lawful got None none =
-    let new : Flight = record { key = key; outcome = None; is_open = true } in
+    let new : Flight = fresh key in
     let later = w.flights ++ new ∷ [] in
     let goes : Continue w.flights later = continue_push w.flights new in
     let on : AllByRecursion (ReaderOk later) w.readers = all_weaker (ReaderOk w.flights) (ReaderOk later) (reader_later w.flights later goes) w.readers lawful.readers in
@@ -105,6 +108,7 @@ led_or_joined_lawful w r v key lawful got None none =
     let gots : AllByRecursion (IsRight later) v.got = all_weaker (IsRight w.flights) (IsRight later) (right_later w.flights later goes) v.got got in
     record {
       once = once_push w.flights new none lawful.once;
+      table = λ cells. of_led cells w.flights key none (lawful.table cells);
       named = all_push FlightNamed w.flights new lawful.named tt;
       readers = all_set (ReaderOk later) w.readers r (with_phase (Looks (length w.flights) key) v) on (is, gots);
     }
@@ -158,6 +162,7 @@ told_lawful w r v n key o lawful is named got =
     let leader : ReaderOk later (with_phase (Ends n key) v) = reader_later w.flights later goes (with_phase (Ends n key) v) (is, got) in
     record {
       once = once_changed n (settled o) (settled_follows o) w.flights lawful.once;
+      table = λ cells. of_settled cells w.flights n o (lawful.table cells);
       named = names;
       readers = all_set (ReaderOk later) w.readers r (with_phase (Ends n key) v) on leader;
     }
@@ -188,6 +193,7 @@ finished_lawful w r lawful v (Ends n key) ok got =
     let on : AllByRecursion (ReaderOk later) w.readers = all_weaker (ReaderOk w.flights) (ReaderOk later) (reader_later w.flights later goes) w.readers lawful.readers in
     record {
       once = once_changed n ended ended_follows w.flights lawful.once;
+      table = λ cells. of_ended cells w.flights n lawful.once (lawful.table cells);
       named = all_ended w.flights n lawful.named;
       readers = all_set (ReaderOk later) w.readers r (with_phase (Joins n key) v) on (reader_later w.flights later goes (with_phase (Joins n key) v) (ok, got));
     }
@@ -232,7 +238,7 @@ all_idle zero = tt
 all_idle (suc n) = ((tt, tt), all_idle n)
 
 pub start_lawful : (limit readers : ℕ) → IsLawful (start limit readers)
-start_lawful limit readers = record { once = tt; named = tt; readers = all_idle readers }
+start_lawful limit readers = record { once = tt; table = of_start; named = tt; readers = all_idle readers }
 
 pub runs_lawful : (limit readers : ℕ) (steps : List NodeStep) → IsLawful (after_all steps (start limit readers))
 runs_lawful limit readers steps = all_lawful steps (start limit readers) (start_lawful limit readers)

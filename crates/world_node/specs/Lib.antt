@@ -1,5 +1,6 @@
 -- what public clauses say
 pub mod Nodes
 pub mod Lawful
+pub mod Tables
 -- ---- what private functions say
 pub mod Handlers

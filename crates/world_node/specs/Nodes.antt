@@ -48,6 +48,10 @@ gets key flight outcome v = record { phase = Idle; got = v.got ++ record { key =
 
 -- ---- flights
 
+-- a flight of the key that has just begun
+abbrev pub fresh : Digest → Flight
+fresh key = record { key = key; outcome = None; is_open = true }
+
 -- a flight of the key is open
 abbrev pub is_open_of : Digest → Flight → Bool
 is_open_of key f = f.is_open && bytes_eq key.0 f.key.0
@@ -106,7 +110,7 @@ looked w r v phase = w
 -- a flight is led where none of the key is open, and else that one is joined
 abbrev pub led_or_joined : NodeState → ℕ → ReaderState → Digest → Option ℕ → NodeState
 led_or_joined w r v key None =
-    record w { flights = w.flights ++ record { key = key; outcome = None; is_open = true } ∷ []; readers = slice_set w.readers r (with_phase (Looks (length w.flights) key) v) }
+    record w { flights = w.flights ++ fresh key ∷ []; readers = slice_set w.readers r (with_phase (Looks (length w.flights) key) v) }
 led_or_joined w r v key (Some n) = record w { readers = slice_set w.readers r (with_phase (Joins n key) v) }
 
 -- after a miss

@@ -183,7 +183,8 @@ impl Node {
 
     /// A leader is answered. Without memory nothing changes.
     fn answer(&mut self, number: usize, answer: &Option<Vec<u8>>) -> Result<(), AllocError>
-        ensures ok { OnOk result (self.new ≡ happens self.old (step.Answer number (option_map (λ bytes. bytes.items) answer.now))) }
+        ensures ok { OnOk result (self.new ≡
+            happens self.old (step.Answer number (option_map (λ bytes. bytes.items) answer.now))) }
         ensures err { OnErr result (self.new ≡ self.old) }
     {
         if number >= self.readers.len() {

@@ -121,7 +121,8 @@ impl Reader {
 
     /// The flight that it leads, with its key and the chunk that it has loaded.
     pub(crate) fn loaded(&self) -> Result<Option<(usize, Digest, Arc<Chunk>)>, AllocError>
-        ensures { IfOk result (λ loaded. option_map (λ it. (it.0, it.1, it.2.value)) loaded ≡ loaded_chunk self.now.phase) }
+        ensures { IfOk result (λ loaded.
+            option_map (λ it. (it.0, it.1, it.2.value)) loaded ≡ loaded_chunk self.now.phase) }
     {
         match &self.phase {
             Phase::Holds(flight, key, outcome) => match outcome.chunk()? {
