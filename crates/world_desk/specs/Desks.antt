@@ -43,9 +43,17 @@ pub data DeskStep : Type 0 where
 abbrev pub is_published : DeskState → Bool
 is_published d = last_number d.shown == last_number d.log
 
--- the log has room, and the entry may follow it
+-- a log of at most so many entries has room, and the entry may follow it
+abbrev pub may_take : Contents → ℕ → Log → Entry → Bool
+may_take uploads limit log entry = nat_lt (last_number log) limit && is_allowed uploads log entry
+
+-- the log with the entry where it may have that, and else as it was
+abbrev pub with_taken : Contents → ℕ → Log → Entry → Log
+with_taken uploads limit log entry = if may_take uploads limit log entry then with_entry log entry else log
+
+-- the desk's log may have the entry
 abbrev pub is_taken : DeskState → Entry → Bool
-is_taken d entry = nat_lt (last_number d.log) d.limit && is_allowed d.uploads d.log entry
+is_taken d entry = may_take d.uploads d.limit d.log entry
 
 -- the desk takes an entry where that may follow and no other one is unpublished; else nothing changes
 abbrev pub asked : DeskState → Entry → DeskState

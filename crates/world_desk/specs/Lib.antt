@@ -2,3 +2,5 @@
 pub mod Visitors
 pub mod Desks
 pub mod Undoing
+-- ---- what private functions say
+pub mod Sights

@@ -6,7 +6,7 @@ ghost use Rattle.world_desk.specs.Desks.{asked, happens, is_published, look_coun
 ghost use Rattle.world_desk.specs.Desks as step;
 
 use crate::entries::{ask_commit, ask_undo};
-use crate::visitors::{Visitor, look_at, tell, visitors_of};
+use crate::visitors::{Sight, Visitor, show_to, visitors_of};
 use blob_store::BlobIndex;
 use byte_view::{BlobInfo, MAX_SIZE};
 use change_undo::laws::histories_outlast_uploads;
@@ -156,7 +156,7 @@ impl Desk {
         ensures ok { OnOk result (self.new ≡ happens self.old (step.Enter visitor)) }
         ensures err { OnErr result (self.new ≡ self.old) }
     {
-        look_at(&mut self.visitors, visitor, self.shown.log())
+        show_to(&mut self.visitors, visitor, Sight::Look, self.shown.log())
     }
 
     /// A visitor is told of what is shown, if there is one of this number. Without memory nothing changes.
@@ -164,7 +164,12 @@ impl Desk {
         ensures ok { OnOk result (self.new ≡ happens self.old (step.Learn visitor)) }
         ensures err { OnErr result (self.new ≡ self.old) }
     {
-        tell(&mut self.visitors, visitor, self.shown.log())
+        show_to(
+            &mut self.visitors,
+            visitor,
+            Sight::Telling,
+            self.shown.log(),
+        )
     }
 
     /// A file is uploaded, unless it has more than 16,777,216 bytes. Without memory nothing changes.

@@ -1,9 +1,8 @@
 //! Entries that a history is asked for.
-ghost use Rattle.std.specs.Prelude.{◌≡◌, nat_lt, ◌&&◌, OnErr, OnOk, if◌then◌else◌};
+ghost use Rattle.std.specs.Prelude.{◌≡◌, OnErr, OnOk};
 ghost use Rattle.change_undo.specs.declared.entries.Entry.TheVariants as entry;
-ghost use Rattle.change_undo.specs.Histories.{is_allowed};
-ghost use Rattle.change_undo.specs.Logs.{last_number, with_entry};
 ghost use Rattle.change_undo.specs.Plans.{IsHistoryOver};
+ghost use Rattle.world_desk.specs.Desks.{with_taken};
 
 use blob_store::BlobIndex;
 use change_undo::History;
@@ -19,8 +18,7 @@ pub(crate) fn ask_commit(
 ) -> Result<(), AllocError>
     requires { IsHistoryOver uploads.now history.old }
     ensures ok { OnOk result (history.new.entries ≡
-        (if nat_lt (last_number history.old.entries) history.old.limit && is_allowed uploads.now history.old.entries (entry.Change command.now)
-        then with_entry history.old.entries (entry.Change command.now) else history.old.entries)) }
+        with_taken uploads.now history.old.limit history.old.entries (entry.Change command.now)) }
     ensures over { IsHistoryOver uploads.now history.new }
     ensures limit { history.new.limit ≡ history.old.limit }
     ensures err { OnErr result (history.new ≡ history.old) }
@@ -41,8 +39,7 @@ pub(crate) fn ask_undo(
 ) -> Result<(), AllocError>
     requires { IsHistoryOver uploads.now history.old }
     ensures ok { OnOk result (history.new.entries ≡
-        (if nat_lt (last_number history.old.entries) history.old.limit && is_allowed uploads.now history.old.entries (entry.Undo site.now change)
-        then with_entry history.old.entries (entry.Undo site.now change) else history.old.entries)) }
+        with_taken uploads.now history.old.limit history.old.entries (entry.Undo site.now change)) }
     ensures over { IsHistoryOver uploads.now history.new }
     ensures limit { history.new.limit ≡ history.old.limit }
     ensures err { OnErr result (history.new ≡ history.old) }

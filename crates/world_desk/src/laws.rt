@@ -1,41 +1,33 @@
 //! Laws over all steps of a desk, each the contract of a function that does nothing.
-ghost use Rattle.std.specs.Prelude.{◌≡◌, ◌<◌, ℕ, List, Some, None, true};
-ghost use Rattle.std.specs.List.{Contains};
-ghost use Rattle.host_names.specs.declared.cells.Cell.{Cell};
+ghost use Rattle.std.specs.Prelude.{◌≡◌, ◌↔◌, ℕ, List, None, true};
 ghost use Rattle.host_names.specs.declared.names.SiteName.{SiteName as Site};
-ghost use Rattle.site_change.specs.declared.commands.Command.{Command};
-ghost use Rattle.site_change.specs.Changes.{site_of_command};
-ghost use Rattle.change_undo.specs.declared.entries.Entry.TheVariants as line;
-ghost use Rattle.change_undo.specs.Clashes.{IsClash};
-ghost use Rattle.change_undo.specs.Histories.{live_changes};
-ghost use Rattle.change_undo.specs.Logs.{last_number};
-ghost use Rattle.world_desk.specs.Desks.{Ask, DeskState, DeskStep, IsLawful, after_all, happens, is_published, start};
-ghost use Rattle.world_desk.specs.Undoing.{LeavesOut, UndoesOrRefuses};
+ghost use Rattle.change_undo.specs.Histories.{undo_refusal};
+ghost use Rattle.world_desk.specs.Desks.{DeskState, DeskStep, IsLawful, after_all, happens, is_published, start};
+ghost use Rattle.world_desk.specs.Undoing.{IsFree, IsUndoRefused, LeavesOut, UndoesOrRefuses, after_undo};
 
-use change_undo::laws::{
-    an_allowed_undo_leaves_a_legal_history, an_undo_without_a_clash_is_not_refused,
-    histories_outlast_uploads,
-};
+use change_undo::laws::{an_allowed_undo_leaves_a_legal_history, histories_outlast_uploads};
 
 /// After every list of steps the desk's log is legal, what is shown is a beginning of it that lacks one entry at most, and no visitor's look goes
 /// back.
 pub fn desks_stay_lawful()
     ensures start { (limit visitors : ℕ) → IsLawful (start limit visitors) }
     ensures step { (desk : DeskState) (step : DeskStep) → IsLawful desk → IsLawful (happens desk step) }
-    ensures all { (limit visitors : ℕ) (steps : List DeskStep) → IsLawful (after_all steps (start limit visitors)) }
+    ensures all { (limit visitors : ℕ) (steps : List DeskStep)
+        → IsLawful (after_all steps (start limit visitors)) }
 {
     histories_outlast_uploads();
 }
 
-/// Where all is shown, the undo of a change that lives, by its own site, leaves exactly the state of the log without that change, if there is room
-/// and no later live change touches what the change changed. Every undo does that, or is refused by its first reason and changes nothing.
+/// Where all is shown, to undo a change whose effects no later live change touches, by its own site, leaves exactly the state of the log without
+/// that change, if there is room. Every other undo is refused by its first reason, and changes nothing.
 pub fn an_undo_leaves_its_change_out()
-    ensures undone { (desk : DeskState) (k : ℕ) (command : Command) → IsLawful desk → is_published desk ≡ true → Contains (live_changes desk.log) (k, command)
-        → last_number desk.log < desk.limit → ((j : ℕ) (at : Cell) → ¬ (IsClash desk.uploads desk.log k j at))
-        → LeavesOut (site_of_command command) k desk (happens desk (Ask (line.Undo (site_of_command command) k))) }
+    ensures undone { (desk : DeskState) (site : Site) (k : ℕ) → IsLawful desk → is_published desk ≡ true
+        → IsFree desk site k → LeavesOut site k desk (after_undo desk site k) }
+    ensures refused { (desk : DeskState) (site : Site) (k : ℕ) → IsLawful desk → is_published desk ≡ true
+        → ¬ (IsFree desk site k) → IsUndoRefused site k desk (after_undo desk site k) }
+    ensures free { (desk : DeskState) (site : Site) (k : ℕ) → IsLawful desk
+        → (IsFree desk site k ↔ (undo_refusal desk.uploads desk.limit desk.log site k ≡ None)) }
     ensures every { (desk : DeskState) (site : Site) (k : ℕ) → IsLawful desk → UndoesOrRefuses desk site k }
 {
-    histories_outlast_uploads();
     an_allowed_undo_leaves_a_legal_history();
-    an_undo_without_a_clash_is_not_refused();
 }

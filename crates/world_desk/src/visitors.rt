@@ -1,11 +1,21 @@
 //! What visitors have seen.
 ghost use Rattle.std.specs.Prelude.{◌≡◌, IfOk, OnErr, OnOk, replicate};
 ghost use Rattle.world_desk.specs.Desks.{change_at};
-ghost use Rattle.world_desk.specs.Visitors.{looked, taught, unseen};
+ghost use Rattle.world_desk.specs.Sights.{seen};
+ghost use Rattle.world_desk.specs.Visitors.{unseen};
 
 use change_undo::Log;
 use std::alloc::{AllocError, Global};
 use std::marker::Model;
+
+/// How a visitor comes to see a log.
+#[derive(Clone, Copy)]
+pub(crate) enum Sight {
+    /// It looks.
+    Look,
+    /// It is told.
+    Telling,
+}
 
 /// The logs of a visitor's looks, in order, and the logs that it was told of, each with how many looks it had then.
 #[derive(Drop)]
@@ -37,22 +47,18 @@ impl Visitor {
         }
     }
 
-    /// It looks, and sees this log.
-    fn look(&mut self, log: Log) -> Result<(), AllocError>
-        ensures ok { OnOk result (self.new ≡ looked log self.old) }
+    /// It sees this log.
+    fn see(&mut self, sight: Sight, log: Log) -> Result<(), AllocError>
+        ensures ok { OnOk result (self.new ≡ seen sight log self.old) }
         ensures err { OnErr result (self.new ≡ self.old) }
     {
-        self.looks.push(log)?;
-        Ok(())
-    }
-
-    /// It is told of this log.
-    fn learn(&mut self, log: Log) -> Result<(), AllocError>
-        ensures ok { OnOk result (self.new ≡ taught log self.old) }
-        ensures err { OnErr result (self.new ≡ self.old) }
-    {
-        let looks = self.looks.len();
-        self.told.push((looks, log))?;
+        match sight {
+            Sight::Look => self.looks.push(log)?,
+            Sight::Telling => {
+                let looks = self.looks.len();
+                self.told.push((looks, log))?;
+            }
+        }
         Ok(())
     }
 }
@@ -68,36 +74,20 @@ pub(crate) fn visitors_of(alloc: Global, count: usize) -> Result<Vec<Visitor>, A
     Ok(visitors)
 }
 
-/// A visitor looks at what is shown, if there is one of this number. Without memory nothing changes.
-pub(crate) fn look_at(
+/// A visitor sees what is shown, if there is one of this number. Without memory nothing changes.
+pub(crate) fn show_to(
     visitors: &mut Vec<Visitor>,
     visitor: usize,
+    sight: Sight,
     shown: &Log,
 ) -> Result<(), AllocError>
-    ensures ok { OnOk result (visitors.new.items ≡ change_at visitor (looked shown.now) visitors.old.items) }
+    ensures ok { OnOk result (visitors.new.items ≡ change_at visitor (seen sight shown.now) visitors.old.items) }
     ensures err { OnErr result (visitors.new.items ≡ visitors.old.items) }
 {
     if visitor < visitors.len() {
         let log = shown.copy()?;
         let visitor = &mut visitors[visitor];
-        visitor.look(log)?;
-    }
-    Ok(())
-}
-
-/// A visitor is told of what is shown, if there is one of this number. Without memory nothing changes.
-pub(crate) fn tell(
-    visitors: &mut Vec<Visitor>,
-    visitor: usize,
-    shown: &Log,
-) -> Result<(), AllocError>
-    ensures ok { OnOk result (visitors.new.items ≡ change_at visitor (taught shown.now) visitors.old.items) }
-    ensures err { OnErr result (visitors.new.items ≡ visitors.old.items) }
-{
-    if visitor < visitors.len() {
-        let log = shown.copy()?;
-        let visitor = &mut visitors[visitor];
-        visitor.learn(log)?;
+        visitor.see(sight, log)?;
     }
     Ok(())
 }
