@@ -7,12 +7,13 @@ ghost use Rattle.world_read.specs.Reads.{Begins, Failed, FileReading, GoesOnWith
 ghost use Rattle.world_read.specs.declared.requests.FileRequest.{FileRequest as Request};
 
 /// Whatever chunks a read takes: where none of them differs from a piece of its file that has its name, an answer is the reply over the whole file.
-/// Where there is no file the answer is the
-/// refusal. Without a fault no such read fails.
+/// Where there is no file the answer is the refusal. Without a fault no such read fails.
 pub fn answers_are_right()
-    ensures begun { (request : Request) (found : Result (List ℕ) Refusal) (content : Result FileReading Answer) → Begins request found content
-        → IsRight request found content }
-    ensures next { (request : Request) (file : List ℕ) (old new : FileReading) (taken : Option (List ℕ)) → IsRight request (Ok file) (Ok old)
-        → GoesOnWith request old taken new → IsRight request (Ok file) (Ok new) }
-    ensures fails { (request : Request) (file : List ℕ) (chunks : List (List ℕ)) → IsStage request file chunks Failed → ¬ (All (IsPure file) chunks) }
+    ensures begun { (request : Request) (found : Result (List ℕ) Refusal) (content : Result FileReading Answer)
+        → Begins request found content → IsRight request found content }
+    ensures next { (request : Request) (file : List ℕ) (old new : FileReading) (taken : Option (List ℕ))
+        → IsRight request (Ok file) (Ok old) → GoesOnWith request old taken new
+        → IsRight request (Ok file) (Ok new) }
+    ensures fails { (request : Request) (file : List ℕ) (chunks : List (List ℕ))
+        → IsStage request file chunks Failed → ¬ (All (IsPure file) chunks) }
 {}

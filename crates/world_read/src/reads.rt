@@ -74,7 +74,8 @@ fn stage_with(
     info: &Arc<BlobInfo>,
     chunks: &[Arc<Chunk>],
 ) -> Result<Stage, AllocError>
-    ensures { IfOk result (λ stage. IsStage request.now info.now.value (map (λ chunk. chunk.value) chunks.now) (stage_of stage)) }
+    ensures { IfOk result (λ stage.
+        IsStage request.now info.now.value (map (λ chunk. chunk.value) chunks.now) (stage_of stage)) }
 {
     let mut gathered = Gathered {
         alloc,
@@ -127,7 +128,8 @@ impl Reading {
         request: &FileRequest,
         taken: Option<Arc<Chunk>>,
     ) -> Result<Reading, AllocError>
-        ensures { IfOk result (λ next. GoesOnWith request.now self.now (option_map (λ chunk. chunk.value) taken) next) }
+        ensures { IfOk result (λ next.
+            GoesOnWith request.now self.now (option_map (λ chunk. chunk.value) taken) next) }
     {
         let info = Arc::try_clone(&self.info)?;
         let mut chunks = shares(alloc, self.chunks.as_slice())?;
@@ -233,7 +235,8 @@ impl FileRead {
         alloc: Global,
         taken: Option<Arc<Chunk>>,
     ) -> Result<Option<Reading>, AllocError>
-        ensures { IfOk result (λ next. IsNext self.now.request self.now.content (option_map (λ chunk. chunk.value) taken) next) }
+        ensures { IfOk result (λ next.
+            IsNext self.now.request self.now.content (option_map (λ chunk. chunk.value) taken) next) }
     {
         match &self.content {
             Ok(reading) if reading.wants().is_some() => {
