@@ -1,10 +1,10 @@
 -- What holds of a world after every list of steps.
-use Rattle.std.specs.Prelude.{◌≡◌, ℕ, List, slice_get, Some}
+use Rattle.std.specs.Prelude.{◌≡◌, ℕ, List, slice_get, Some, true}
 use Rattle.std.specs.List.{AllByRecursion}
 use Rattle.site_state.specs.States.{State}
 use Rattle.change_undo.specs.Histories.{IsLegal, run}
 use Rattle.change_undo.specs.Logs.{Log}
-use Rattle.world_desk.specs.Desks.{DeskState, look_at}
+use Rattle.world_desk.specs.Desks.{DeskState, is_published, look_at}
 use Rattle.world_node.specs.Lawful.{OpenOnce, ReadersAgree}
 use Rattle.world_node.specs.Nodes.{NodeState}
 use Rattle.world_read.specs.Reads.{IsRight, ReadState}
@@ -21,6 +21,10 @@ pub record IsReached (w : WorldState) : Type 0 where
   pub visitors : ℕ
   pub steps : List Step
   pub runs : Runs (start entries cache nodes visitors) steps w
+
+-- some list of steps leads to it, and all that its desk has is shown
+abbrev pub IsSettled : WorldState → Type 0
+IsSettled w = IsReached w × (is_published w.desk ≡ true)
 
 -- the log that a visitor saw at the read's look is legal; and where no chunk differs from a piece of the file that has its name, the answer is the reply
 -- over the whole file that the state of that log has for the request, or its refusal

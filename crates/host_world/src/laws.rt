@@ -1,24 +1,18 @@
 //! Laws over all steps, each the contract of a function that does nothing.
-ghost use Rattle.std.specs.Prelude.{◌≡◌, ◌<◌, ℕ, Some, true};
-ghost use Rattle.std.specs.List.{Contains};
-ghost use Rattle.host_names.specs.declared.cells.Cell.{Cell};
+ghost use Rattle.std.specs.Prelude.{◌≡◌, ℕ, Some};
 ghost use Rattle.host_names.specs.declared.names.SiteName.{SiteName as Site};
-ghost use Rattle.site_change.specs.declared.commands.Command.{Command};
 ghost use Rattle.site_change.specs.declared.refusals.ChangeRefusal.{ChangeRefusal};
-ghost use Rattle.site_change.specs.Changes.{site_of_command};
-ghost use Rattle.change_undo.specs.Clashes.{IsClash};
-ghost use Rattle.change_undo.specs.Histories.{live_changes, undo_refusal};
-ghost use Rattle.change_undo.specs.Logs.{last_number};
-ghost use Rattle.world_desk.specs.Desks.{IsLawful, is_published};
-ghost use Rattle.world_desk.specs.Undoing.{LeavesOut};
-ghost use Rattle.host_world.specs.Lawful.{AreRight, IsReached, ShareFlights};
+ghost use Rattle.change_undo.specs.Histories.{undo_refusal};
+ghost use Rattle.world_desk.specs.Desks.{IsLawful};
+ghost use Rattle.world_desk.specs.Undoing.{IsFree, IsUndoRefused, LeavesOut};
+ghost use Rattle.host_world.specs.Lawful.{AreRight, IsReached, IsSettled, ShareFlights};
 ghost use Rattle.host_world.specs.Steps.{Happens};
 ghost use Rattle.host_world.specs.Worlds.{WorldState};
 ghost use Rattle.host_world.specs.declared.steps.Step.TheVariants as step;
 
 use change_undo::laws::{
     a_beginning_of_a_legal_log_is_legal, an_allowed_undo_leaves_a_legal_history,
-    an_undo_without_a_clash_is_not_refused, histories_outlast_uploads,
+    histories_outlast_uploads,
 };
 
 /// After every list of steps, however those of the desk, of the nodes and of the visitors are mixed: the desk's log is legal, and no look goes back;
@@ -33,19 +27,21 @@ pub fn worlds_stay_lawful()
 }
 
 /// After every list of steps, where all is published: to undo a change whose effects no later live change touches leaves exactly the state of the
-/// history without it; every other undo is refused, and changes nothing. Every answered read gives the bytes of the state of one such history, and
-/// none older than its visitor had seen.
+/// history without it; every other undo is refused with its reason, and changes nothing. Every answered read gives the bytes of the state of one
+/// such history, and none older than its visitor had seen.
 pub fn the_headline()
-    ensures undone { (world new : WorldState) (k : ℕ) (command : Command) → IsReached world → is_published world.desk ≡ true
-        → Contains (live_changes world.desk.log) (k, command) → ((j : ℕ) (at : Cell) → ¬ (IsClash world.desk.uploads world.desk.log k j at))
-        → last_number world.desk.log < world.desk.limit → Happens world (step.Undo (site_of_command command) k) new
-        → LeavesOut (site_of_command command) k world.desk new.desk }
-    ensures refused { (world new : WorldState) (site : Site) (k : ℕ) (reason : ChangeRefusal) → IsReached world → is_published world.desk ≡ true
-        → undo_refusal world.desk.uploads world.desk.limit world.desk.log site k ≡ Some reason → Happens world (step.Undo site k) new → new ≡ world }
+    ensures undone { (world new : WorldState) (site : Site) (k : ℕ) → IsSettled world
+        → IsFree world.desk site k → Happens world (step.Undo site k) new
+        → LeavesOut site k world.desk new.desk }
+    ensures refused { (world new : WorldState) (site : Site) (k : ℕ) → IsSettled world
+        → ¬ (IsFree world.desk site k) → Happens world (step.Undo site k) new
+        → IsUndoRefused site k world.desk new.desk × (new ≡ world) }
+    ensures reason { (world new : WorldState) (site : Site) (k : ℕ) (reason : ChangeRefusal) → IsSettled world
+        → undo_refusal world.desk.uploads world.desk.limit world.desk.log site k ≡ Some reason
+        → Happens world (step.Undo site k) new → new ≡ world }
     ensures answered { (world : WorldState) → IsReached world → AreRight world }
     ensures no_older { (world : WorldState) → IsReached world → IsLawful world.desk }
 {
     worlds_stay_lawful();
     an_allowed_undo_leaves_a_legal_history();
-    an_undo_without_a_clash_is_not_refused();
 }

@@ -115,7 +115,8 @@ pub(crate) fn begin_at(
 ) -> Result<(), AllocError>
     requires { visitor < length visits.old.items }
     ensures desk { OnOk result (desk.new ≡ happens desk.old (Enter visitor)) }
-    ensures reads { OnOk result (visits.new.items ≡ change_at visitor (λ reads. reads ++ read ∷ []) visits.old.items) }
+    ensures reads { OnOk result (visits.new.items ≡
+        change_at visitor (λ reads. reads ++ read ∷ []) visits.old.items) }
     ensures err { OnErr result ((desk.new ≡ desk.old) × (visits.new.items ≡ visits.old.items)) }
 {
     let visits = &mut visits[visitor];

@@ -176,7 +176,8 @@ impl World {
     /// Takes these steps, one after another, up to where there is no memory.
     fn take_steps(&mut self, steps: &[Step]) -> Result<(), AllocError>
         ensures ok { OnOk result (Runs self.old steps.now self.new) }
-        ensures err { OnErr result ((n : ℕ) × (n < length steps.now) × Runs self.old (take n steps.now) self.new) }
+        ensures err { OnErr result
+            ((n : ℕ) × (n < length steps.now) × Runs self.old (take n steps.now) self.new) }
     {
         for step in steps {
             self.step(step)?;
@@ -188,7 +189,8 @@ impl World {
     /// the world from the one in which nothing has happened, it stays lawful.
     pub fn run(&mut self, steps: &[Step]) -> Result<(), AllocError>
         ensures ok { OnOk result (Runs self.old steps.now self.new) }
-        ensures err { OnErr result ((n : ℕ) × (n < length steps.now) × Runs self.old (take n steps.now) self.new) }
+        ensures err { OnErr result
+            ((n : ℕ) × (n < length steps.now) × Runs self.old (take n steps.now) self.new) }
         // The desk's log is legal; each look of a visitor is a beginning of it, and begins with all that the visitor saw or was told of before.
         ensures lawful { IsReached self.old → IsLawful self.new.desk }
         // Each answer has the status, the range and the body of the reply over the state of the log of its look.
