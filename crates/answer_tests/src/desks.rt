@@ -70,14 +70,16 @@ pub trait Desk {
     fn commit(&self, command: Command) -> Result<Receipt, Refused>
         ensures entered { IfOk result (λ receipt.
             (before : Entries) × (receipt.snap.value.entries ≡ with_entry before (entry.Change command))) }
-        ensures refused { IfErr result (λ why. (reason : Reason) (seen : Receipt) → why ≡ Refused.Refused reason seen
+        ensures refused { IfErr result (λ why. (reason : Reason) (seen : Receipt)
+            → why ≡ Refused.Refused reason seen
             → RefusesCommand command seen.snap.value.entries reason) };
 
     /// So it does with the undo of a change.
     fn undo(&self, site: &SiteName, change: u64) -> Result<Receipt, Refused>
         ensures entered { IfOk result (λ receipt.
             (before : Entries) × (receipt.snap.value.entries ≡ with_entry before (entry.Undo site.now change))) }
-        ensures refused { IfErr result (λ why. (reason : Reason) (seen : Receipt) → why ≡ Refused.Refused reason seen
+        ensures refused { IfErr result (λ why. (reason : Reason) (seen : Receipt)
+            → why ≡ Refused.Refused reason seen
             → RefusesUndo site.now change seen.snap.value.entries reason) };
 
     /// Takes bytes as a file of a deploy, and publishes the deploy if it is ready then.
@@ -105,5 +107,6 @@ pub trait Files {
     fn hold(&self, info: Arc<BlobInfo>, first: usize, last: usize) -> Result<Hold, ReadFault>
         requires ordered { first ≤ last }
         requires within { last < length info.value }
-        ensures stretch { IfOk result (λ hold. (hold.file ≡ info.value) × (hold.first ≡ first) × (hold.last ≡ last)) };
+        ensures stretch { IfOk result (λ hold.
+            (hold.file ≡ info.value) × (hold.first ≡ first) × (hold.last ≡ last)) };
 }

@@ -17,4 +17,4 @@ pub use names::ListName;
 pub use publishers::{Owners, Publisher};
 pub use receipts::{Listed, Receipt};
 pub use shows::{Shown, publish};
-pub use visitors::Visitor;
+pub use visitors::{LookFault, Visitor};

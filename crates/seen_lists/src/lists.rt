@@ -93,7 +93,8 @@ impl<E, L: ListName<E>> Model for SeenList<E, L> {
 
     ghost view = { λ l. L.found ++ items_of l.seen.log };
 
-    ghost invariant = { λ l. IsList L.book L.found l.entries l.count l.head l.pen.book l.pen.nib l.seen.book l.seen.log };
+    ghost invariant = { λ l.
+        IsList L.book L.found l.entries l.count l.head l.pen.book l.pen.nib l.seen.book l.seen.log };
 }
 
 impl<E, L: ListName<E>> SeenList<E, L> {

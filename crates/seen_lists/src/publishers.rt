@@ -27,7 +27,8 @@ impl<E, S: Listed<E> + Drop> Model for Owners<E, S> {
 
     ghost view = { λ o. S.items o.told.value };
 
-    ghost invariant = { λ o. (S.items o.kept.value ≡ S.items o.told.value) × (S.items o.shown.value ≡ S.items o.told.value) };
+    ghost invariant = { λ o. (S.items o.kept.value ≡ S.items o.told.value)
+        × (S.items o.shown.value ≡ S.items o.told.value) };
 }
 
 impl<E, S: Listed<E> + Drop> Owners<E, S> {

@@ -1,8 +1,11 @@
 //! Visitors, who look at what is shown, with no wait.
-ghost use Rattle.std.specs.Prelude.{◌≡◌, IfOk, IfSome, OnErr, OnOk};
+ghost use Rattle.std.specs.Prelude.{◌≡◌, ◌<◌, IfErr, IfOk, IfSome, OnErr, OnOk, length};
 ghost use mathlib.Core.List.{IsPrefix};
 ghost use Rattle.seen_lists.specs.Fronts.{longer_of};
+ghost use Rattle.seen_lists.specs.Visits.{Visit, sees};
+ghost use Rattle.seen_lists.specs.declared.visitors.LookFault.TheVariants.{Behind};
 
+use crate::fronts::Front;
 use crate::names::ListName;
 use crate::receipts::{Listed, Receipt};
 use crate::shows::Shown;
@@ -11,90 +14,156 @@ use std::alloc::AllocError;
 use std::marker::Model;
 use std::sync::Arc;
 
-/// A visitor, with the receipt of the most that it saw or learnt. Contracts see the items of that.
+/// Why a look gives no snapshot.
+#[derive(Clone, Copy, Debug, Drop, PartialEq, Eq)]
+pub enum LookFault {
+    /// The snapshot has as many owners as it can have.
+    OutOfMemory,
+    /// What is shown is shorter than a front that was learnt. So it is while the item that this front has is not shown yet, and where the owner of
+    /// the list is gone.
+    Behind,
+}
+
+impl From<AllocError> for LookFault {
+    ghost use Rattle.std.specs.Prelude.{◌≡◌};
+    ghost use Rattle.seen_lists.specs.declared.visitors.LookFault.TheVariants.{OutOfMemory};
+
+    ghost from_gives = { λ _ fault. fault ≡ OutOfMemory };
+
+    fn from(_error: AllocError) -> LookFault {
+        LookFault::OutOfMemory
+    }
+}
+
+/// A visitor, with the front of the most that it saw or learnt, and the receipt of the longest snapshot that it was given. Contracts see the items of
+/// both.
 #[derive(Drop)]
 pub struct Visitor<E, L: ListName<E>, S: Listed<E> + Drop> {
     reader: ReadHandle<Shown<E, L, S>>,
+    front: Front<E, L>,
     last: Receipt<E, L, S>,
 }
 
 impl<E, L: ListName<E>, S: Listed<E> + Drop> Model for Visitor<E, L, S> {
-    ghost use Rattle.std.specs.Prelude.{List};
+    ghost use mathlib.Core.List.{IsPrefix};
+    ghost use Rattle.seen_lists.specs.Visits.{Visit};
 
-    ghost Value = { List E };
+    ghost Value = { Visit E };
 
-    ghost view = { λ v. v.last };
+    ghost view = { λ v. record { known = v.front; held = v.last } };
+
+    ghost invariant = { λ v. IsPrefix v.last v.front };
 }
 
-/// What is shown, if that is longer than what was seen.
+/// What is shown, if it is no shorter than what is known, and longer than what is held.
 fn newer<E, L: ListName<E>, S: Listed<E> + Drop>(
     shown: &Shown<E, L, S>,
-    last: &Receipt<E, L, S>,
+    known: &Front<E, L>,
+    held: &Receipt<E, L, S>,
 ) -> Result<Option<Receipt<E, L, S>>, AllocError>
-    ensures { IfOk result (λ next. IfSome next (λ receipt. IsPrefix last.now receipt)) }
+    ensures { IfOk result (λ next. IfSome next (λ receipt. IsPrefix known.now receipt)) }
 {
     let next = shown.receipt();
-    if next.number() <= last.number() {
+    if next.number() < known.len() || next.number() <= held.number() {
         return Ok(None);
     }
-    last.front().begins(next.front());
+    known.begins(next.front());
     Ok(Some(next.again()?))
 }
 
 impl<E, L: ListName<E>, S: Listed<E> + Drop> Visitor<E, L, S> {
     /// A visitor that knows a receipt.
     pub fn of(reader: ReadHandle<Shown<E, L, S>>, last: Receipt<E, L, S>) -> Visitor<E, L, S>
-        ensures { result ≡ last }
+        ensures { result ≡ sees last }
     {
-        Visitor { reader, last }
-    }
-
-    /// Looks at what is shown: the snapshot of the most that is shown, was seen or was learnt.
-    pub fn look(&mut self) -> Result<Arc<S>, AllocError>
-        ensures seen { IfOk result (λ snap. S.items snap.value ≡ self.new) }
-        ensures kept { IsPrefix self.old self.new }
-        ensures err { OnErr result (self.new ≡ self.old) }
-    {
-        match self.next()? {
-            Some(next) => self.go_over(next),
-            None => Arc::try_clone(self.last.snap()),
+        Visitor {
+            reader,
+            front: last.front().again(),
+            last,
         }
     }
 
-    /// What is shown, if that is longer.
+    /// The front of all that it saw or learnt.
+    pub fn front(&self) -> Front<E, L>
+        ensures { result ≡ self.now.known }
+    {
+        self.front.again()
+    }
+
+    /// Looks at what is shown: the snapshot of the most that is shown, was seen or was learnt. It gives none where it learnt a front that is longer
+    /// than what is shown and than each snapshot that it has.
+    pub fn look(&mut self) -> Result<Arc<S>, LookFault>
+        ensures seen { IfOk result (λ snap. self.new ≡ sees (S.items snap.value)) }
+        ensures kept { IsPrefix self.old.known self.new.known }
+        ensures err { OnErr result (self.new ≡ self.old) }
+        ensures behind { IfErr result (λ fault. fault ≡ Behind → length self.old.held < length self.old.known) }
+    {
+        match self.next()? {
+            Some(next) => Ok(self.go_over(next)?),
+            None => self.held(),
+        }
+    }
+
+    /// What is shown, if it is no shorter than what is known, and longer than what is held.
     fn next(&mut self) -> Result<Option<Receipt<E, L, S>>, AllocError>
         ensures same { self.new ≡ self.old }
-        ensures kept { IfOk result (λ next. IfSome next (λ receipt. IsPrefix self.old receipt)) }
+        ensures kept { IfOk result (λ next. IfSome next (λ receipt. IsPrefix self.old.known receipt)) }
     {
-        let Visitor { reader, last } = self;
+        let Visitor {
+            reader,
+            front,
+            last,
+        } = self;
         match reader.enter() {
-            Some(shown) => newer(&shown, last),
+            Some(shown) => newer(&shown, front, last),
             None => Ok(None),
         }
     }
 
     /// Goes over to a receipt, and gives its snapshot.
+    #[tactic(auto, using(crate::proofs::Beginnings::prefix_self))]
     fn go_over(&mut self, next: Receipt<E, L, S>) -> Result<Arc<S>, AllocError>
-        ensures seen { IfOk result (λ snap. S.items snap.value ≡ self.new) }
-        ensures ok { OnOk result (self.new ≡ next) }
+        ensures seen { IfOk result (λ snap. S.items snap.value ≡ next) }
+        ensures ok { OnOk result (self.new ≡ sees next) }
         ensures err { OnErr result (self.new ≡ self.old) }
     {
         let snap = Arc::try_clone(next.snap())?;
+        self.front = next.front().again();
         self.last = next;
         Ok(snap)
     }
 
+    /// The snapshot that it holds, if that has all that is known.
+    fn held(&self) -> Result<Arc<S>, LookFault>
+        ensures seen { IfOk result (λ snap. self.now ≡ sees (S.items snap.value)) }
+        ensures behind { IfErr result (λ fault. fault ≡ Behind → length self.now.held < length self.now.known) }
+    {
+        if self.last.number() < self.front.len() {
+            return Err(LookFault::Behind);
+        }
+        Ok(Arc::try_clone(self.last.snap())?)
+    }
+
     /// Learns a receipt.
     pub fn learn(&mut self, receipt: Receipt<E, L, S>)
-        ensures longer { self.new ≡ longer_of self.old receipt }
-        ensures kept { IsPrefix self.old self.new }
-        ensures learnt { IsPrefix receipt self.new }
+        ensures longer { self.new.known ≡ longer_of self.old.known receipt }
+        ensures held { self.new.held ≡ longer_of self.old.held receipt }
+        ensures kept { IsPrefix self.old.known self.new.known }
+        ensures learnt { IsPrefix receipt self.new.known }
     {
-        if receipt.number() <= self.last.number() {
-            receipt.front().begins(self.last.front());
-        } else {
-            self.last.front().begins(receipt.front());
+        self.front.learn(receipt.front());
+        if self.last.number() < receipt.number() {
             self.last = receipt;
         }
+    }
+
+    /// Learns a front, which another visitor handed out.
+    pub fn learn_front(&mut self, front: &Front<E, L>)
+        ensures longer { self.new.known ≡ longer_of self.old.known front.now }
+        ensures held { self.new.held ≡ self.old.held }
+        ensures kept { IsPrefix self.old.known self.new.known }
+        ensures learnt { IsPrefix front.now self.new.known }
+    {
+        self.front.learn(front);
     }
 }

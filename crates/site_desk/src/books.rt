@@ -1,11 +1,13 @@
 //! A book: the history of a desk, its journal, and what is published of it.
-ghost use Rattle.std.specs.Prelude.{◌≡◌, ◌+◌, ◌≤◌, IfOk, MatchOption, MatchResult, None, Some, true};
+ghost use Rattle.std.specs.Prelude.{◌≡◌, ◌+◌, ◌≤◌, IfOk, MatchOption, MatchResult, None, Some, false, true};
+ghost use Rattle.change_journal.specs.texts.Spells.{IsInRange};
 ghost use Rattle.change_undo.specs.Histories.{may_take_memory};
-ghost use Rattle.change_undo.specs.Logs.{last_number, with_entry};
+ghost use Rattle.change_undo.specs.Logs.{Log, last_number, with_entry};
 ghost use Rattle.change_undo.specs.Plans.{IsHistoryOver};
+ghost use Rattle.change_undo.specs.declared.entries.Entry.{Entry as Line};
 ghost use Rattle.change_undo.specs.declared.entries.Entry.TheVariants as entry;
 ghost use Rattle.site_change.specs.Changes.{IsWithin};
-ghost use Rattle.site_desk.specs.Answers.{IsAnswer, IsToldAs};
+ghost use Rattle.site_desk.specs.Answers.{IsAnswer, IsEnd, IsToldAs};
 ghost use Rattle.site_desk.specs.Books.{IsEntered, Kept, commit_refusal, undo_refusal, with_known};
 
 use crate::errors::DeskError;
@@ -19,13 +21,22 @@ use change_journal::Journal;
 use change_undo::{Entry, History};
 use host_disk::Disk;
 use host_names::SiteName;
-use journaled_history::{with_change, with_undo};
+use journaled_history::{put_last, with_change, with_undo};
 use left_right::Absorb;
-use seen_lists::ListName;
+use seen_lists::{ListName, Owners};
 use site_change::{ChangeError, Command};
 use std::alloc::Global;
 use std::marker::Model;
 use std::sync::{Arc, Wait};
+
+/// The last entry of a history that has one.
+fn last_entry(history: &History) -> &Entry
+    requires { (log : Log) × (last : Line) × (history.now.entries ≡ with_entry log last) }
+    ensures last { (log : Log) (last : Line) → history.now.entries ≡ with_entry log last → result.now ≡ last }
+    ensures few { last_number history.now.entries ≤ 1000000 }
+{
+    history.entry(history.len()).unwrap()
+}
 
 /// The history of a desk, its journal, what is published of it, and what is known of the uploads. Contracts see these uploads and the journal. The
 /// journal's entries are those of the history, of what is shown and of the last receipt; there are as many as were there when the desk was opened and
@@ -38,10 +49,10 @@ pub struct Book<
     T: Absorb<Notice<J>, State = [Entry; 0]> + Drop,
     R: Wait + Drop,
 > {
-    pub(crate) alloc: Global,
-    pub(crate) latest: Arc<HostSnap>,
-    pub(crate) journal: Journal<D>,
-    pub(crate) published: Published<J, T, R>,
+    alloc: Global,
+    latest: Arc<HostSnap>,
+    journal: Journal<D>,
+    published: Published<J, T, R>,
     tie: Tie<K>,
 }
 
@@ -157,9 +168,11 @@ impl<
         command: Command,
     ) -> Result<Notice<J>, DeskError<Notice<J>>>
         requires known { U.contents uploads.now ≡ self.old.known }
-        ensures answer { let why = commit_refusal self.old command in IsAnswer self.old.journal.broken self.old.journal.entries why (why ≡ None) result }
+        ensures answer { let why = commit_refusal self.old command in
+            IsAnswer self.old.journal.broken self.old.journal.entries why (why ≡ None) result }
         ensures entered { IsEntered D.Disk result (entry.Change command) self.old self.new }
-        ensures receipt { IfOk result (λ receipt. receipt ≡ with_entry self.old.journal.entries (entry.Change command)) }
+        ensures receipt { IfOk result (λ receipt.
+            receipt ≡ with_entry self.old.journal.entries (entry.Change command)) }
         ensures made { MatchResult result (λ _. mine.new ≡ mine.old + 1) (λ _. mine.new ≡ mine.old) }
     {
         if self.journal.is_broken() {
@@ -182,7 +195,8 @@ impl<
         ensures answer { let why = undo_refusal self.old site.now change in
             IsAnswer self.old.journal.broken self.old.journal.entries why (may_take_memory why ≡ true) result }
         ensures entered { IsEntered D.Disk result (entry.Undo site.now change) self.old self.new }
-        ensures receipt { IfOk result (λ receipt. receipt ≡ with_entry self.old.journal.entries (entry.Undo site.now change)) }
+        ensures receipt { IfOk result (λ receipt.
+            receipt ≡ with_entry self.old.journal.entries (entry.Undo site.now change)) }
         ensures made { MatchResult result (λ _. mine.new ≡ mine.old + 1) (λ _. mine.new ≡ mine.old) }
     {
         if self.journal.is_broken() {
@@ -192,6 +206,33 @@ impl<
             Ok(undone) => self.enter(rt, mine, undone),
             Err(why) => Err(self.told(why)),
         }
+    }
+
+    /// Takes a history with one entry more: the entry is put into the journal, and then shown. All that takes memory comes before the entry is put.
+    fn enter(
+        &mut self,
+        rt: &impl Wait,
+        mine: &mut Seat<J>,
+        next: History,
+    ) -> Result<Notice<J>, DeskError<Notice<J>>>
+        requires whole { self.old.journal.broken ≡ false }
+        requires follows { (last : Line) × IsInRange last
+            × (next.entries ≡ with_entry self.old.journal.entries last) }
+        requires limit { next.limit ≡ 1000000 }
+        requires over { IsHistoryOver self.old.known next }
+        ensures end { IsEnd result }
+        ensures entered { (last : Line) → next.entries ≡ with_entry self.old.journal.entries last
+            → IsEntered D.Disk result last self.old self.new }
+        ensures receipt { IfOk result (λ receipt. receipt ≡ next.entries) }
+        ensures made { MatchResult result (λ _. mine.new ≡ mine.old + 1) (λ _. mine.new ≡ mine.old) }
+    {
+        let snap = HostSnap::shared(self.alloc, next)?;
+        let owners = Owners::of(&snap)?;
+        let entry = last_entry(snap.history());
+        put_last(self.alloc, &mut self.journal, snap.history())?;
+        let receipt = self.published.show(rt, mine, entry, owners);
+        self.latest = snap;
+        Ok(receipt)
     }
 
     /// Hands out the journal.

@@ -2,7 +2,6 @@
 #![tactic(auto)]
 
 mod books;
-mod entering;
 mod errors;
 mod names;
 mod published;

@@ -23,7 +23,8 @@ impl<J: DeskName> Model for Seat<J> {
 
     ghost view = { λ s. s.share.amount };
 
-    ghost invariant = { λ s. (s.opening ≡ last_number J.found) × (s.made ≡ s.share.amount) × (0 < s.share.parts) };
+    ghost invariant = { λ s. (s.opening ≡ last_number J.found)
+        × (s.made ≡ s.share.amount) × (0 < s.share.parts) };
 }
 
 impl<J: DeskName> Seat<J> {
@@ -79,7 +80,8 @@ impl<J: DeskName> Model for Seats<J> {
 
     ghost view = { λ s. s.left };
 
-    ghost invariant = { λ s. (s.opening ≡ last_number J.found) × (s.rest.parts ≡ s.left) × (s.rest.amount ≡ 0) };
+    ghost invariant = { λ s. (s.opening ≡ last_number J.found)
+        × (s.rest.parts ≡ s.left) × (s.rest.amount ≡ 0) };
 }
 
 impl<J: DeskName> Seats<J> {
