@@ -1,6 +1,6 @@
 /* Stands before the C library's malloc and realloc in a program, and refuses one call of these: that at the place
- * REFUSED_PLACE, counted from 1. At the end it writes how many there were to the file ALLOCATIONS_FILE, if that is named. A
- * program with threads ends by _exit, which calls no destructor. */
+ * REFUSED_PLACE, counted from 1. With REFUSED_FROM_THERE it refuses each one after that too. At the end it writes how many
+ * there were to the file ALLOCATIONS_FILE, if that is named. A program with threads ends by _exit, which calls no destructor. */
 #define _GNU_SOURCE
 #include <dlfcn.h>
 #include <stdio.h>
@@ -14,7 +14,8 @@ static unsigned long refused_place(void) {
 }
 
 static int is_refused(void) {
-    return __atomic_add_fetch(&count, 1, __ATOMIC_SEQ_CST) == refused_place();
+    unsigned long place = __atomic_add_fetch(&count, 1, __ATOMIC_SEQ_CST), refused = refused_place();
+    return place == refused || (refused && place > refused && getenv("REFUSED_FROM_THERE"));
 }
 
 static void *next(const char *name) {
