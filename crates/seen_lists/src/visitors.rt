@@ -121,7 +121,6 @@ impl<E, L: ListName<E>, S: Listed<E> + Drop> Visitor<E, L, S> {
     }
 
     /// Goes over to a receipt, and gives its snapshot.
-    #[tactic(auto, using(crate::proofs::Beginnings::prefix_self))]
     fn go_over(&mut self, next: Receipt<E, L, S>) -> Result<Arc<S>, AllocError>
         ensures seen { IfOk result (λ snap. S.items snap.value ≡ next) }
         ensures ok { OnOk result (self.new ≡ sees next) }
