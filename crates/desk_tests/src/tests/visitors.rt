@@ -3,7 +3,9 @@ ghost use Rattle.std.specs.Prelude.{◌≡◌, ◌++◌, ◌∷◌, [], IfOk, On
 ghost use Rattle.left_right.specs.Handles.{pending, published};
 
 use left_right::WriteHandle;
-use seen_lists::{ListName, Listed, NewList, Owners, Publisher, Receipt, SeenList, Shown, Visitor};
+use seen_lists::{
+    ListName, Listed, LookFault, NewList, Owners, Publisher, Receipt, SeenList, Shown, Visitor,
+};
 use std::alloc::{AllocError, Global};
 use std::marker::Brand;
 use std::process::Abort;
@@ -34,7 +36,7 @@ fn none<L: ListName<u64>>(
     Ok(Receipt::of(Arc::new(alloc, items)?, list.front()))
 }
 
-/// Shows a receipt, to two visitors.
+/// Shows a receipt, to three visitors. It is shown twice, so that there is room for what is shown later.
 fn shown<L: ListName<u64>, R: Wait + Drop>(
     alloc: Global,
     rt: R,
@@ -43,13 +45,16 @@ fn shown<L: ListName<u64>, R: Wait + Drop>(
     ensures shown { IfOk result (λ handle. published handle ≡ receipt.now) }
     ensures none { IfOk result (λ handle. pending handle ≡ []) }
 {
-    WriteHandle::new(
+    let mut handle = WriteHandle::new(
         alloc,
         rt,
         Shown::of(receipt.again()?),
         Shown::of(receipt.again()?),
-        2,
-    )
+        3,
+    )?;
+    handle.append(receipt.again()?).map_err(|_| AllocError)?;
+    handle.publish()?;
+    Ok(handle)
 }
 
 /// The owners of the snapshot of these items.
@@ -98,19 +103,22 @@ fn visitor<L: ListName<u64>, R: Wait + Drop>(
     Ok(Visitor::of(handle.handle()?, last.again()?))
 }
 
-/// A list that is shown while it is empty, and a visitor.
+/// Two visitors.
+type Both<L> = (Visitor<u64, L, Items>, Visitor<u64, L, Items>);
+
+/// A list that is shown while it is empty, and two visitors.
 fn shown_empty<L: ListName<u64>, R: Wait + Drop>(
     alloc: Global,
     rt: R,
     list: SeenList<u64, L>,
-) -> Result<(Publishes<L, R>, Visitor<u64, L, Items>), AllocError>
+) -> Result<(Publishes<L, R>, Both<L>), AllocError>
     requires { list ≡ [] }
     ensures { IfOk result (λ opened. opened.0 ≡ []) }
 {
     let first = none(alloc, &list)?;
     let handle = shown(alloc, rt, &first)?;
-    let visitor = visitor(&handle, &first)?;
-    Ok((publisher(list, first, handle), visitor))
+    let both = (visitor(&handle, &first)?, visitor(&handle, &first)?);
+    Ok((publisher(list, first, handle), both))
 }
 
 /// The visitor looks before and after a push.
@@ -141,6 +149,17 @@ fn learn<L: ListName<u64>, R: Wait + Drop, W: Wait + Abort>(
     seen(rt, visitor, &[7, 8])
 }
 
+/// A visitor that looked at nothing learns the front of one that has, and sees what that saw.
+fn hand_over<L: ListName<u64>>(
+    rt: &impl Abort,
+    visitor: &Visitor<u64, L, Items>,
+    late: &mut Visitor<u64, L, Items>,
+) -> Result<(), Fail> {
+    late.learn_front(&visitor.front());
+    assert_eq!(rt; late.front().len(), 2);
+    seen(rt, late, &[7, 8])
+}
+
 fn open<L: ListName<u64>, R: Wait + Abort>(
     rt: &R,
     alloc: Global,
@@ -149,12 +168,37 @@ fn open<L: ListName<u64>, R: Wait + Abort>(
     requires book { new ≡ L.book }
     requires found { L.found ≡ [] }
 {
-    let (mut publisher, mut visitor) = shown_empty(alloc, rt, new.named::<L>(0))?;
+    let (mut publisher, (mut visitor, mut late)) = shown_empty(alloc, rt, new.named::<L>(0))?;
     look(rt, alloc, &mut publisher, &mut visitor)?;
-    learn(rt, alloc, &mut publisher, &mut visitor)
+    learn(rt, alloc, &mut publisher, &mut visitor)?;
+    hand_over(rt, &visitor, &mut late)
 }
 
 #[test]
 fn visitors_see_what_is_shown(rt: HostRuntime) -> Result<(), Fail> {
     open::<Brand, _>(&rt, rt.alloc(), NewList::new(&rt))
+}
+
+/// A visitor learns a front that is not shown.
+fn learn_unshown<L: ListName<u64>, R: Wait + Abort>(
+    rt: &R,
+    alloc: Global,
+    new: NewList<u64>,
+) -> Result<(), Fail>
+    requires book { new ≡ L.book }
+    requires found { L.found ≡ [] }
+{
+    let mut list = new.named::<L>(0);
+    let first = none(alloc, &list)?;
+    let handle = shown(alloc, rt, &first)?;
+    let mut visitor = visitor(&handle, &first)?;
+    list.push(&7);
+    visitor.learn_front(&list.front());
+    assert_eq!(rt; visitor.look().err(), Some(LookFault::Behind));
+    Ok(())
+}
+
+#[test]
+fn a_front_that_is_not_shown_is_not_seen(rt: HostRuntime) -> Result<(), Fail> {
+    learn_unshown::<Brand, _>(&rt, rt.alloc(), NewList::new(&rt))
 }
