@@ -3,6 +3,7 @@ use Rattle.std.specs.Prelude.{◌≡◌, ℕ, ◌+◌, ◌-◌, ◌^◌, ◌<◌
 use Rattle.http_wire.specs.declared.halts.Halt.{Halt}
 use Rattle.http_wire.specs.declared.halts.Halt.TheVariants.{Failed, WouldWait}
 use Rattle.http_wire.specs.declared.sinks.WriteFailed.{WriteFailed}
+use Rattle.http_wire.specs.Halting.{WritesFrom}
 use Rattle.http_wire.specs.Sending.{Sent}
 use Rattle.http_wire.specs.Timing.{Event, WriteFails, all_put, IsLatest, GoesOn}
 
@@ -21,11 +22,20 @@ nothing = record { rest = []; sent = 0; passed = 0 }
 abbrev pub from_front : Gathered → Gathered
 from_front out = record { rest = out.rest; sent = out.sent; passed = min (out.sent + length out.rest) (2 ^ 64 - 1) }
 
--- of the text the first bytes were written, those that are gathered come next, and others may be left
-pub record IsAmid (text : List ℕ) (out : Gathered) : Type 0 where
-  pub within : out.sent ≤ length text
+-- the text was written up to this place in it, what is gathered comes next, and more may be left
+pub record IsAmid (text : List ℕ) (at : ℕ) (out : Gathered) : Type 0 where
+  pub within : at ≤ length text
+  pub count : out.sent ≡ min at (2 ^ 64 - 1)
   pub left : List ℕ
-  pub behind : drop out.sent text ≡ out.rest ++ left
+  pub behind : drop at text ≡ out.rest ++ left
+
+-- the count is below its largest number, also with what is gathered: so it is exact
+abbrev pub IsCounted : Gathered → Type 0
+IsCounted out = out.sent + length out.rest < 2 ^ 64 - 1
+
+-- the text goes on from one place in it to another
+abbrev pub GoesOnFrom : Result (Unit {0}) (Halt WriteFailed) → (text : List ℕ) → (at : ℕ) → Gathered → List Event → Type 0
+GoesOnFrom result text at out events = (new_at : ℕ) × WritesFrom result text at new_at events × IsAmid text new_at out
 
 -- ---- what private functions say
 

@@ -1,10 +1,10 @@
 //! Replies.
-ghost use Rattle.std.specs.Prelude.{◌≡◌, ◌≤◌, ◌<◌, ◌^◌, [], length, decimal, IfErr, IsErrOf, OnOk, OnErr};
+ghost use Rattle.std.specs.Prelude.{◌≡◌, ◌≤◌, ℕ, [], length, decimal, IfErr, IsErrOf, OnOk, OnErr};
 ghost use Rattle.http_wire.specs.Expectations.{continue_text};
 ghost use Rattle.http_wire.specs.Halting.{WritesFrom};
 ghost use Rattle.http_wire.specs.Replies.{range_text, sent_of, sent_reply};
 ghost use Rattle.std.specs.Io.KnownBytes.{Appends};
-ghost use Rattle.http_wire.specs.Gathering.{IsAmid, Puts};
+ghost use Rattle.http_wire.specs.Gathering.{GoesOnFrom, IsAmid, IsCounted, Puts};
 ghost use Rattle.http_wire.specs.Sending.{SentFront, WritesText};
 ghost use Rattle.http_wire.specs.Timing.{NoRead, Ran};
 
@@ -161,11 +161,9 @@ pub fn try_write_reply<D: Duplex, P: BodyParts<Item: Drop> + Drop>(
     head: &ReplyHead<'_>,
     body: ReplyBody<P>,
 ) -> Result<(), Halt<WriteFailed>>
-    requires fits { length (sent_reply P.texts head.now body) < 2 ^ 64 }
-    requires amid { IsAmid (sent_reply P.texts head.now body) out.old }
-    ensures ran { Ran D.saw NoRead duplex.old duplex.new
-        (WritesFrom result (sent_reply P.texts head.now body) out.old.sent out.new.sent) }
-    ensures amid { IsAmid (sent_reply P.texts head.now body) out.new }
+    requires { IsCounted out.old }
+    ensures ran { (at : ℕ) → IsAmid (sent_reply P.texts head.now body) at out.old → Ran D.saw NoRead duplex.old duplex.new
+        (GoesOnFrom result (sent_reply P.texts head.now body) at out.new) }
     ensures waits { IsErrOf result Halt.WouldWait → D.waits }
 {
     out.go_on();

@@ -1,7 +1,7 @@
 //! Texts on their way out.
-ghost use Rattle.std.specs.Prelude.{◌≡◌, ◌≤◌, ◌-◌, [], ◌++◌, drop, length, min, IfOk, IsErrOf, MatchBool, OnOk};
+ghost use Rattle.std.specs.Prelude.{◌≡◌, ◌≤◌, ◌↔◌, IsTrue, ◌-◌, [], ◌++◌, drop, length, min, IfOk, IsErrOf, MatchBool, OnOk};
 ghost use Rattle.std.specs.List.{concat, flat_map};
-ghost use Rattle.http_wire.specs.Gathering.{from_front, nothing, Puts, WritesOn};
+ghost use Rattle.http_wire.specs.Gathering.{from_front, IsCounted, nothing, Puts, WritesOn};
 ghost use Rattle.http_wire.specs.Halting.{WritesFrom};
 ghost use Rattle.http_wire.specs.Timing.{NoRead, Ran};
 
@@ -116,6 +116,15 @@ impl Outgoing {
     {
         let gathered = self.pending.len() - self.at;
         self.passed = self.sent.saturating_add(gathered as u64);
+    }
+
+    /// Whether the bytes that were written and those that are gathered are few enough to be counted. They always are: a text would have to
+    /// have 2^64 bytes.
+    pub fn is_counted(&self) -> bool
+        ensures { IsTrue result ↔ IsCounted self.now }
+    {
+        let gathered = self.pending.len() - self.at;
+        self.sent.saturating_add(gathered as u64) < u64::MAX
     }
 
     /// How many bytes of the text were written.
