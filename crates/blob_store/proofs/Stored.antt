@@ -1,12 +1,15 @@
 -- What the entries of a map from digests to files mean.
-use Rattle.std.proofs.Common.{◌≡◌, ◌⊎◌, inl, inr, ℕ, Bool, true, false, cond, is_some, List, [], ◌∷◌, Contains, map, Option, Some, None, option_map, refl, sym, ap, subst, ◌∙◌}
+use Rattle.std.proofs.Common.{◌≡◌, ◌⊎◌, inl, inr, ℕ, ◌+◌, Bool, true, false, cond, is_some, List, [], ◌∷◌, Contains, length, map, Option, Some, None, option_map, arith, refl, sym, ap, subst, ◌∙◌}
 use Rattle.std.specs.BTreeMap.{is_at}
-use Rattle.std.specs.FinMap.{get, find, insert, get-from_entries, get-insert, get-empty, same_map}
-use Rattle.std.specs.Map.{lookup}
+use Rattle.std.specs.FinMap.{get, find, insert, len, get-from_entries, get-insert, get-empty, len-empty, len-insert, same_map}
+use Rattle.std.specs.List.{AllByRecursion}
+use Rattle.std.specs.List.Sorted.{IsStrictlySortedBy}
+use Rattle.std.specs.Map.{keys_of, lookup}
 use Rattle.std.specs.Ordering.{eq_by_cmp, is_eq}
 use Rattle.std.specs.declared.cmp.Ordering.{Ordering}
 use Rattle.std.specs.declared.cmp.Ordering.TheVariants.{Less, Equal, Greater}
 use Rattle.std.proofs.lemmas.Cmp.{eq_by_cmp_equiv}
+use Rattle.std.proofs.lemmas.Map.Keys.{sorted_head, sorted_tail}
 use Rattle.sha1.specs.Sha1 as sha
 use Rattle.host_names.specs.declared.digests.Digest.{Digest}
 use Rattle.host_names.specs.Digests.{digest_cmp, digest_cmp_total, digest_cmp-IsAntisymmetric, digest_of}
@@ -84,6 +87,21 @@ module _ {File : Type 0} (bytes : File → List ℕ) where
 
   pub get-stored : (files : List (Digest × File)) (q : Digest) → get (stored bytes files) q ≡ option_map bytes (lookup (is_at (digest_cmp q)) files)
   get-stored files q = get-from_entries digest_cmp_total _ q ∙ find-stored files q
+
+  none_after : (q : Digest) (files : List (Digest × File)) → AllByRecursion (λ other. digest_cmp q other ≡ Less) (keys_of files)
+      → lookup (is_at (digest_cmp q)) files ≡ None
+  none_after q [] above = refl
+  none_after q (e ∷ files) above = ap (λ (o : Ordering). cond (is_eq o) (Some e.1) (lookup (is_at (digest_cmp q)) files)) above.0 ∙ none_after q files above.1
+
+  -- there are as many files as entries
+  pub len-stored : (files : List (Digest × File)) → IsStrictlySortedBy digest_cmp (keys_of files) → len (stored bytes files) ≡ length files
+  len-stored [] rise = len-empty digest_cmp (List ℕ)
+  len-stored (e ∷ files) rise =
+      let kept = stored bytes files in
+      let none : get kept e.0 ≡ None = get-stored files e.0 ∙ ap (option_map bytes) (none_after e.0 files (sorted_head digest_cmp e.0 (keys_of files) rise)) in
+      let more : len (stored bytes (e ∷ files)) ≡ len kept + 1 =
+          len-insert digest_cmp_total kept e.0 (bytes e.1) ∙ ap (λ (o : Option (List ℕ)). cond (is_some o) (len kept) (len kept + 1)) none in
+      omega (arith, more, len-stored files (sorted_tail digest_cmp e.0 (keys_of files) rise))
 
   -- files that differ at one digest
   pub stored-insert : (old new : List (Digest × File)) (digest : Digest) (file : File)

@@ -49,6 +49,13 @@ impl BlobIndex {
         }
     }
 
+    /// How many files are known.
+    pub fn len(&self) -> u64
+        ensures { result ≡ map.len self.now }
+    {
+        self.files.len() as u64
+    }
+
     /// The file of a digest, if it is known.
     pub fn find(&self, digest: &Digest) -> Option<&Arc<BlobInfo>>
         ensures found { option_map (λ info. info.now.value) result ≡ map.get self.now digest.now }

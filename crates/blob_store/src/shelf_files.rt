@@ -41,6 +41,11 @@ impl<S: Shelf> Files<S> {
         self.shelf
     }
 
+    /// The shelf, for one call of it.
+    pub(crate) fn shelf_mut(&mut self) -> &mut S {
+        &mut self.shelf
+    }
+
     /// Puts a file of at most `MAX_SIZE` bytes on the shelf, each piece once and then its table, and answers what is kept of it. The shelf is to
     /// have the known files: a piece that one of these has isn't put, unless there was no memory to keep its name.
     pub fn put(
