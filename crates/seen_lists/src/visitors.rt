@@ -83,6 +83,17 @@ impl<E, L: ListName<E>, S: Listed<E> + Drop> Visitor<E, L, S> {
         }
     }
 
+    /// A second visitor, who knows what this one does. There is none where all places for visitors are taken, or there is no memory.
+    pub fn again(&self) -> Result<Visitor<E, L, S>, AllocError>
+        ensures { IfOk result (λ copy. copy ≡ self.now) }
+    {
+        Ok(Visitor {
+            reader: self.reader.clone()?,
+            front: self.front.again(),
+            last: self.last.again()?,
+        })
+    }
+
     /// The front of all that it saw or learnt.
     pub fn front(&self) -> Front<E, L>
         ensures { result ≡ self.now.known }
