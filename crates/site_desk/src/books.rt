@@ -13,7 +13,7 @@ ghost use Rattle.site_desk.specs.Books.{IsEntered, Kept, commit_refusal, undo_re
 use crate::errors::DeskError;
 use crate::names::DeskName;
 use crate::published::{Notice, Published};
-use crate::seats::Seat;
+use crate::seats::{Returned, Seat};
 use crate::snaps::HostSnap;
 use crate::stocks::{Stock, Tie};
 use byte_view::{BlobInfo, Uploads};
@@ -109,6 +109,13 @@ impl<
         }
     }
 
+    /// Whether the device of the journal failed at an earlier call.
+    pub fn is_broken(&self) -> bool
+        ensures { result ≡ self.now.journal.broken }
+    {
+        self.journal.is_broken()
+    }
+
     /// The snapshot of all entries.
     pub fn latest(&self) -> &HostSnap
         ensures entries { result.now.entries ≡ self.now.journal.entries }
@@ -158,6 +165,16 @@ impl<
         self.published.audit(mine);
     }
 
+    /// If all seats were given back, the entries are those that were there at the opening and those that were made from the seats. Nothing is changed.
+    pub fn tally(&mut self, all: &mut Returned<J>)
+        ensures same { self.new ≡ self.old }
+        ensures seats { all.new ≡ all.old }
+        ensures whole { all.old.seats ≡ J.parts
+            → last_number self.old.journal.entries ≡ last_number J.found + all.old.made }
+    {
+        self.published.tally(all);
+    }
+
     /// Commits a command as the next entry, over the uploads that are known, from a seat: the entry is put into the journal, and then shown. Gives the
     /// receipt of it.
     pub fn commit<U: Uploads>(
@@ -175,7 +192,7 @@ impl<
             receipt ≡ with_entry self.old.journal.entries (entry.Change command)) }
         ensures made { MatchResult result (λ _. mine.new ≡ mine.old + 1) (λ _. mine.new ≡ mine.old) }
     {
-        if self.journal.is_broken() {
+        if self.is_broken() {
             return Err(DeskError::Broken);
         }
         match with_change(self.alloc, self.history(), uploads, command) {
@@ -199,7 +216,7 @@ impl<
             receipt ≡ with_entry self.old.journal.entries (entry.Undo site.now change)) }
         ensures made { MatchResult result (λ _. mine.new ≡ mine.old + 1) (λ _. mine.new ≡ mine.old) }
     {
-        if self.journal.is_broken() {
+        if self.is_broken() {
             return Err(DeskError::Broken);
         }
         match with_undo(self.history(), site, change) {

@@ -3,7 +3,7 @@ ghost use Rattle.std.specs.Prelude.{◌≡◌, ◌+◌, ◌≤◌, MatchOption, 
 ghost use Rattle.change_undo.specs.Logs.{last_number, with_entry};
 
 use crate::names::DeskName;
-use crate::seats::Seat;
+use crate::seats::{Returned, Seat};
 use crate::snaps::HostSnap;
 use change_undo::Entry;
 use left_right::Absorb;
@@ -92,5 +92,14 @@ impl<J: DeskName, T: Absorb<Notice<J>, State = [Entry; 0]> + Drop, R: Wait + Dro
         ensures floor { last_number J.found + mine.old ≤ last_number self.old }
     {
         mine.audit(&mut self.count);
+    }
+
+    /// If all seats were given back, the entries are those that were there at the opening and those that were made from the seats. Nothing is changed.
+    pub(crate) fn tally(&mut self, all: &mut Returned<J>)
+        ensures same { self.new ≡ self.old }
+        ensures seats { all.new ≡ all.old }
+        ensures whole { all.old.seats ≡ J.parts → last_number self.old ≡ last_number J.found + all.old.made }
+    {
+        all.audit(&mut self.count);
     }
 }

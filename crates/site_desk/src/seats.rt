@@ -16,7 +16,7 @@ pub struct Seat<J: DeskName> {
 }
 
 impl<J: DeskName> Model for Seat<J> {
-    ghost use Rattle.std.specs.Prelude.{◌≡◌, ◌<◌, ℕ};
+    ghost use Rattle.std.specs.Prelude.{◌≡◌, ℕ};
     ghost use Rattle.change_undo.specs.Logs.{last_number};
 
     ghost Value = { ℕ };
@@ -24,7 +24,7 @@ impl<J: DeskName> Model for Seat<J> {
     ghost view = { λ s. s.share.amount };
 
     ghost invariant = { λ s. (s.opening ≡ last_number J.found)
-        × (s.made ≡ s.share.amount) × (0 < s.share.parts) };
+        × (s.made ≡ s.share.amount) × (s.share.parts ≡ 1) };
 }
 
 impl<J: DeskName> Seat<J> {
@@ -114,5 +114,48 @@ impl<J: DeskName> Seats<J> {
             made: 0,
             share,
         })
+    }
+}
+
+/// Seats that were given back. Contracts see how many they are, and how many entries were made from them.
+#[derive(Drop)]
+pub struct Returned<J: DeskName> {
+    share: Share<J>,
+}
+
+impl<J: DeskName> Model for Returned<J> {
+    ghost use Rattle.site_desk.specs.Seats.{Tally};
+
+    ghost Value = { Tally };
+
+    ghost view = { λ r. record { seats = r.share.parts; made = r.share.amount } };
+}
+
+impl<J: DeskName> Returned<J> {
+    /// The first seat that is given back.
+    pub fn of(seat: Seat<J>) -> Returned<J>
+        ensures seats { result.seats ≡ 1 }
+        ensures made { result.made ≡ seat }
+    {
+        let Seat { share, .. } = seat;
+        Returned { share }
+    }
+
+    /// One more is given back.
+    pub fn add(&mut self, seat: Seat<J>)
+        ensures seats { self.new.seats ≡ self.old.seats + 1 }
+        ensures made { self.new.made ≡ self.old.made + seat }
+    {
+        let Seat { share, .. } = seat;
+        self.share.merge(share);
+    }
+
+    /// What was made from all seats together is what is counted. Nothing is changed.
+    pub(crate) fn audit(&mut self, count: &mut ledger::Book<J>)
+        ensures total { count.new.total ≡ count.old.total }
+        ensures same { self.new ≡ self.old }
+        ensures whole { self.old.seats ≡ J.parts → self.old.made ≡ count.old.total }
+    {
+        count.audit(&mut self.share);
     }
 }
