@@ -2,9 +2,6 @@
 ghost use Rattle.std.specs.Prelude.{ℕ, ◌≡◌, ◌≢◌, All, length, true, false, Some, None, IsTrue, IfOk, IfErr, OnErr, Err, IsErrOf, MatchOption, option_map};
 ghost use Rattle.std.specs.List.{concat};
 ghost use Rattle.http_wire.specs.Replies.{fields_of};
-ghost use Rattle.http_wire.specs.Gathering.{GoesOnFrom, IsAmid, IsCounted};
-ghost use Rattle.http_wire.specs.Sending.{WritesText};
-ghost use Rattle.http_wire.specs.Timing.{NoRead, Ran};
 ghost use Rattle.host_api.specs.Texts.{has_cell, told_text};
 ghost use Rattle.host_api.specs.declared.refusals.Refusal.TheVariants as reason;
 ghost use Rattle.host_api.specs.declared.refusals.Refusal.TheVariants.{OutOfMemory};
@@ -19,6 +16,8 @@ ghost use Rattle.host_replies.specs.SentFiles.{SendsParts, sent_answer};
 ghost use Rattle.host_replies.specs.PartsTypes.{IsOfEight, parts_type};
 ghost use Rattle.host_replies.specs.Replies.{told_answer, refused_answer, part_answer, fields_for, is_head, sent_text, unread_answer};
 
+mod sends;
+
 use crate::bodies::{Body, BodyText};
 use crate::media_types::{MediaType, file_type};
 use crate::parts_types::PartsType;
@@ -26,10 +25,7 @@ use byte_view::BlobInfo;
 use host_api::{HeadRefusal, Refusal, Told, short_text, text};
 use host_names::{Digest, FilePath};
 use http::StatusCode;
-use http_wire::{
-    ContentRange, Duplex, EntityTag, FieldText, Halt, Head, Outgoing, ReplyBody, ReplyHead, Steady,
-    WriteFailed, WriteFault, try_write_reply, write_reply,
-};
+use http_wire::{ContentRange, EntityTag, FieldText, Head, ReplyHead};
 use range_reply::{Boundary, FileBody, FileForm, Parts};
 use std::alloc::{AllocError, Global};
 use std::sync::Arc;
@@ -252,99 +248,5 @@ impl Reply {
         ensures { concat result ≡ (answer_of self.now).body }
     {
         self.body.parts()
-    }
-
-    /// Writes it with this entity tag, without its body where only the head is wanted.
-    fn send_with<D: Steady>(
-        &self,
-        duplex: &mut D,
-        out: &mut Outgoing,
-        etag: Option<EntityTag<'_>>,
-        close: bool,
-        head_only: bool,
-    ) -> Result<(), WriteFault>
-        requires tag { option_map (λ t. t.text.now) etag ≡ (answer_of self.now).etag }
-        requires sent { (answer_of self.now).withheld ≡ true → head_only ≡ true }
-        ensures { Ran D.saw NoRead duplex.old duplex.new
-            (WritesText result (sent_text close head_only (answer_of self.now))) }
-    {
-        let head = self.head(etag, close);
-        if head_only {
-            let body = ReplyBody::<Parts<'_>>::Withheld(self.body.length());
-            return write_reply(duplex, out, &head, body);
-        }
-        write_reply(duplex, out, &head, ReplyBody::Sent(self.parts()))
-    }
-
-    /// Goes on with it, with this entity tag, as `send_with` writes it.
-    fn try_send_with<D: Duplex>(
-        &self,
-        duplex: &mut D,
-        out: &mut Outgoing,
-        etag: Option<EntityTag<'_>>,
-        close: bool,
-        head_only: bool,
-    ) -> Result<(), Halt<WriteFailed>>
-        requires tag { option_map (λ t. t.text.now) etag ≡ (answer_of self.now).etag }
-        requires sent { (answer_of self.now).withheld ≡ true → head_only ≡ true }
-        requires counted { IsCounted out.old }
-        ensures ran { (at : ℕ) → IsAmid (sent_text close head_only (answer_of self.now)) at out.old
-            → Ran D.saw NoRead duplex.old duplex.new (GoesOnFrom result (sent_text close head_only (answer_of self.now)) at out.new) }
-        ensures waits { IsErrOf result Halt.WouldWait → D.waits }
-    {
-        let head = self.head(etag, close);
-        if head_only {
-            return try_write_reply(
-                duplex,
-                out,
-                &head,
-                ReplyBody::<Parts<'_>>::Withheld(self.body.length()),
-            );
-        }
-        try_write_reply(duplex, out, &head, ReplyBody::Sent(self.parts()))
-    }
-
-    /// Writes it, without its body where only the head is wanted (RFC 9110, section 9.3.2); its head says whether the
-    /// connection closes.
-    pub fn send<D: Steady>(
-        &self,
-        duplex: &mut D,
-        out: &mut Outgoing,
-        close: bool,
-        head_only: bool,
-    ) -> Result<(), WriteFault>
-        requires { (answer_of self.now).withheld ≡ true → head_only ≡ true }
-        ensures { Ran D.saw NoRead duplex.old duplex.new
-            (WritesText result (sent_text close head_only (answer_of self.now))) }
-    {
-        let Some(digest) = self.etag else {
-            return self.send_with(duplex, out, None, close, head_only);
-        };
-        let hex = digest.to_hex();
-        let etag = Some(EntityTag::new(hex.as_str()));
-        self.send_with(duplex, out, etag, close, head_only)
-    }
-
-    /// Goes on with it as `send` writes it, on a stream that may have to wait: behind the bytes of it that were written, and with those that
-    /// are gathered in `out`. It begins where `out` begins a text.
-    pub fn try_send<D: Duplex>(
-        &self,
-        duplex: &mut D,
-        out: &mut Outgoing,
-        close: bool,
-        head_only: bool,
-    ) -> Result<(), Halt<WriteFailed>>
-        requires sent { (answer_of self.now).withheld ≡ true → head_only ≡ true }
-        requires counted { IsCounted out.old }
-        ensures ran { (at : ℕ) → IsAmid (sent_text close head_only (answer_of self.now)) at out.old
-            → Ran D.saw NoRead duplex.old duplex.new (GoesOnFrom result (sent_text close head_only (answer_of self.now)) at out.new) }
-        ensures waits { IsErrOf result Halt.WouldWait → D.waits }
-    {
-        let Some(digest) = self.etag else {
-            return self.try_send_with(duplex, out, None, close, head_only);
-        };
-        let hex = digest.to_hex();
-        let etag = Some(EntityTag::new(hex.as_str()));
-        self.try_send_with(duplex, out, etag, close, head_only)
     }
 }

@@ -57,7 +57,8 @@ pub fn calls_go_on<D: Duplex>()
         → Ran D.saw (AwaitsHead buffer) old mid (KeepsOn buffer waiting)
         → Ran D.saw (AwaitsHead waiting) mid new (TriesHead result waiting rest)
         → Ran D.saw (AwaitsHead buffer) old new (TriesHead result buffer rest) }
-    ensures body { (old mid new : D) (size : ℕ) (before waiting rest : List ℕ) (body : Vec ℕ ℕ) (result : Result (Unit {0}) (Halt BodyFault))
+    ensures body { (old mid new : D) (size : ℕ) (before waiting rest : List ℕ) (body : Vec ℕ ℕ)
+        (result : Result (Unit {0}) (Halt BodyFault))
         → Ran D.saw (AwaitsBody before size) old mid (KeepsOn before waiting)
         → Ran D.saw (AwaitsBody waiting size) mid new (TriesBody result size waiting body rest)
         → Ran D.saw (AwaitsBody before size) old new (TriesBody result size before body rest) }

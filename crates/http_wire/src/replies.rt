@@ -127,7 +127,8 @@ fn put_both<D: Duplex, P: BodyParts<Item: Drop> + Drop>(
     head: &ReplyHead<'_>,
     body: ReplyBody<P>,
 ) -> Result<(), Halt<WriteFailed>>
-    ensures ran { Ran D.saw NoRead duplex.old duplex.new (Puts result (sent_reply P.texts head.now body) out.old out.new) }
+    ensures ran { Ran D.saw NoRead duplex.old duplex.new
+        (Puts result (sent_reply P.texts head.now body) out.old out.new) }
     ensures empty { OnOk result (out.new.rest ≡ []) }
     ensures waits { IsErrOf result Halt.WouldWait → D.waits }
 {
@@ -162,7 +163,8 @@ pub fn try_write_reply<D: Duplex, P: BodyParts<Item: Drop> + Drop>(
     body: ReplyBody<P>,
 ) -> Result<(), Halt<WriteFailed>>
     requires { IsCounted out.old }
-    ensures ran { (at : ℕ) → IsAmid (sent_reply P.texts head.now body) at out.old → Ran D.saw NoRead duplex.old duplex.new
+    ensures ran { (at : ℕ) → IsAmid (sent_reply P.texts head.now body) at out.old
+        → Ran D.saw NoRead duplex.old duplex.new
         (GoesOnFrom result (sent_reply P.texts head.now body) at out.new) }
     ensures waits { IsErrOf result Halt.WouldWait → D.waits }
 {

@@ -86,7 +86,8 @@ fn put_lines<D: Duplex>(
     out: &mut Outgoing,
     lines: &[Line<'_>],
 ) -> Result<(), Halt<WriteFailed>>
-    ensures ran { Ran D.saw NoRead duplex.old duplex.new (Puts result (flat_map text_of_line lines.now) out.old out.new) }
+    ensures ran { Ran D.saw NoRead duplex.old duplex.new
+        (Puts result (flat_map text_of_line lines.now) out.old out.new) }
     ensures waits { IsErrOf result Halt.WouldWait → D.waits }
 {
     for line in lines {
@@ -101,7 +102,8 @@ fn put_status<D: Duplex>(
     out: &mut Outgoing,
     status: StatusCode,
 ) -> Result<(), Halt<WriteFailed>>
-    ensures ran { Ran D.saw NoRead duplex.old duplex.new (Puts result (ended_line (status_line status)) out.old out.new) }
+    ensures ran { Ran D.saw NoRead duplex.old duplex.new
+        (Puts result (ended_line (status_line status)) out.old out.new) }
     ensures waits { IsErrOf result Halt.WouldWait → D.waits }
 {
     let code = status.as_str();

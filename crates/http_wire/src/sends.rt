@@ -78,7 +78,8 @@ pub fn send_rest<D: Duplex>(
 
 // Puts a piece behind the others, where there is room for it.
 fn extend(pending: &mut Vec<u8>, piece: &[u8]) -> bool
-    ensures { MatchBool result (pending.new.items ≡ pending.old.items ++ piece.now) (pending.new.items ≡ pending.old.items) }
+    ensures { MatchBool result (pending.new.items ≡ pending.old.items ++ piece.now)
+        (pending.new.items ≡ pending.old.items) }
 {
     let room = pending.capacity() - pending.len();
     if room < piece.len() {
@@ -155,7 +156,8 @@ impl Outgoing {
 
     // Gathers one more piece where there is room for it.
     fn gather(&mut self, piece: &[u8]) -> bool
-        ensures gathered { MatchBool result (self.new.rest ≡ self.old.rest ++ piece.now) (self.new.rest ≡ self.old.rest) }
+        ensures gathered { MatchBool result (self.new.rest ≡ self.old.rest ++ piece.now)
+            (self.new.rest ≡ self.old.rest) }
         ensures sent { self.new.sent ≡ self.old.sent }
         ensures passed { self.new.passed ≡ self.old.passed }
     {
@@ -194,7 +196,8 @@ impl Outgoing {
     // Writes a piece, where none is gathered before it.
     fn write<D: Duplex>(&mut self, duplex: &mut D, piece: &[u8]) -> Result<(), Halt<WriteFailed>>
         requires { self.old.rest ≡ [] }
-        ensures ran { Ran D.saw NoRead duplex.old duplex.new (WritesOn result [] self.old.sent self.new.sent piece.now []) }
+        ensures ran { Ran D.saw NoRead duplex.old duplex.new
+            (WritesOn result [] self.old.sent self.new.sent piece.now []) }
         ensures rest { self.new.rest ≡ [] }
         ensures passed { self.new.passed ≡ self.old.passed }
         ensures waits { IsErrOf result Halt.WouldWait → D.waits }
