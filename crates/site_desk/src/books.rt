@@ -52,7 +52,7 @@ pub struct Book<
     alloc: Global,
     latest: Arc<HostSnap>,
     journal: Journal<D>,
-    published: Published<J, T, R>,
+    published: Box<Published<J, T, R>>,
     tie: Tie<K>,
 }
 
@@ -74,7 +74,7 @@ impl<
 
     ghost view = { λ b. record { known = b.tie; journal = b.journal } };
 
-    ghost invariant = { λ b. IsBook b.latest.value b.tie b.journal.entries b.published };
+    ghost invariant = { λ b. IsBook b.latest.value b.tie b.journal.entries b.published.value };
 }
 
 impl<
@@ -90,12 +90,12 @@ impl<
         alloc: Global,
         latest: Arc<HostSnap>,
         journal: &mut Option<Journal<D>>,
-        published: &mut Option<Published<J, T, R>>,
+        published: &mut Option<Box<Published<J, T, R>>>,
         tie: &mut Option<Tie<K>>,
     ) -> Book<J, K, D, T, R>
         requires limit { latest.value.limit ≡ 1000000 }
         requires journal { MatchOption journal.old ⊥ (λ journal. journal.entries ≡ latest.value.entries) }
-        requires published { published.old ≡ Some latest.value.entries }
+        requires published { MatchOption published.old ⊥ (λ boxed. boxed.value ≡ latest.value.entries) }
         requires tie { MatchOption tie.old ⊥ (λ known. IsHistoryOver known latest.value) }
         ensures known { tie.old ≡ Some result.known }
         ensures journal { journal.old ≡ Some result.journal }

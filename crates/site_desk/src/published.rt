@@ -1,5 +1,5 @@
 //! What is published of a desk: the list of its entries, with what is shown, and how many each seat made.
-ghost use Rattle.std.specs.Prelude.{◌≡◌, ◌+◌, ◌≤◌, MatchOption, Some};
+ghost use Rattle.std.specs.Prelude.{◌≡◌, ◌+◌, ◌≤◌, MatchOption};
 ghost use Rattle.change_undo.specs.Logs.{last_number, with_entry};
 
 use crate::names::DeskName;
@@ -14,12 +14,13 @@ use std::sync::{Wait, ledger};
 /// A receipt of a desk's log: the snapshot that has these entries.
 pub type Notice<J> = Receipt<Entry, J, HostSnap>;
 
-/// The entries of a desk, what is shown of them, and how many were made from its seats. Contracts see the entries.
+/// The entries of a desk, what is shown of them, and how many were made from its seats. Contracts see the entries. The publisher is boxed, since the
+/// toolchain proves no drop of a value whose type has a bound made of a parameter, but of a box it does.
 #[derive(Drop)]
 pub struct Published<J: DeskName, T: Absorb<Notice<J>, State = [Entry; 0]> + Drop, R: Wait + Drop> {
     opening: u64,
     count: ledger::Book<J>,
-    publisher: Publisher<Entry, J, HostSnap, T, R>,
+    publisher: Box<Publisher<Entry, J, HostSnap, T, R>>,
 }
 
 impl<J: DeskName, T: Absorb<Notice<J>, State = [Entry; 0]> + Drop, R: Wait + Drop> Model
@@ -30,9 +31,9 @@ impl<J: DeskName, T: Absorb<Notice<J>, State = [Entry; 0]> + Drop, R: Wait + Dro
 
     ghost Value = { Log };
 
-    ghost view = { λ p. p.publisher };
+    ghost view = { λ p. p.publisher.value };
 
-    ghost invariant = { λ p. IsCounted (last_number J.found) p.opening p.count.total p.publisher };
+    ghost invariant = { λ p. IsCounted (last_number J.found) p.opening p.count.total p.publisher.value };
 }
 
 impl<J: DeskName, T: Absorb<Notice<J>, State = [Entry; 0]> + Drop, R: Wait + Drop> Published<
@@ -45,11 +46,11 @@ impl<J: DeskName, T: Absorb<Notice<J>, State = [Entry; 0]> + Drop, R: Wait + Dro
     pub fn of(
         opening: u64,
         count: &mut Option<ledger::Book<J>>,
-        publisher: &mut Option<Publisher<Entry, J, HostSnap, T, R>>,
+        publisher: &mut Option<Box<Publisher<Entry, J, HostSnap, T, R>>>,
     ) -> Published<J, T, R>
         requires opening { opening ≡ last_number J.found }
         requires count { MatchOption count.old ⊥ (λ book. book.total ≡ 0) }
-        requires found { publisher.old ≡ Some J.found }
+        requires found { MatchOption publisher.old ⊥ (λ boxed. boxed.value ≡ J.found) }
         requires few { last_number J.found ≤ 1000000 }
         ensures { result ≡ J.found }
     {
