@@ -10,8 +10,8 @@ FOLDERS = ("tests", "tests/lib", "scripts", "bench", "examples")
 # The crates in which some lines of clauses are still over 120 columns.
 WIDE = (
     "byte_view", "chunk_reads", "blob_store", "http_wire", "range_reply", "shared_blocks", "site_state", "site_change", "touch_index", "change_undo",
-    "host_disk", "change_journal", "host_opening", "chunk_lru", "single_flight", "peer_ring", "peer_link", "chunk_group", "seen_lists", "site_desk",
-    "host_api", "command_line", "world_desk", "world_node", "world_read", "host_world", "core_tests",
+    "host_disk", "change_journal", "host_opening", "chunk_lru", "single_flight", "peer_ring", "peer_link", "chunk_group", "host_api", "command_line",
+    "world_read", "core_tests",
 )
 # The libraries with more than 110 functions: the layers of the journal are folders of one crate.
 LARGE = ("change_journal",)

@@ -3,16 +3,14 @@ ghost use Rattle.std.specs.Prelude.{◌≡◌, ◌≤◌, All, Err, IfErr, IfOk,
 ghost use Rattle.host_api.specs.Texts.{has_cell};
 ghost use Rattle.range_reply.specs.Conditions.{condition_of};
 ghost use Rattle.range_spec.specs.Chosen.{LiesWithin, intervals_in};
-ghost use Rattle.site_state.specs.States.{kept_at};
-ghost use Rattle.host_replies.specs.Versions as spec;
 ghost use Rattle.world_read.specs.Requests.{file_asked, if_range_values, plan_of};
 
 use byte_view::BlobInfo;
 use host_api::{Refusal, Version};
 use host_names::{Digest, FilePath, SiteName};
+use host_replies::file_of;
 use range_reply::{IfRange, ReplyPlan, plan};
 use range_spec::Asked;
-use site_change::ChangeRefusal;
 use site_state::{File, State};
 
 /// A GET of a file: the version of its site, its path, what its Range asks for, and the values of its If-Range fields.
@@ -25,24 +23,6 @@ pub struct FileRequest {
     pub if_range: Vec<Vec<u8>>,
 }
 
-/// The file that a kept deploy has at a path.
-fn kept_file<'a>(
-    state: &'a State,
-    site: &SiteName,
-    deploy: u64,
-    path: &FilePath,
-) -> Result<&'a File, Refusal>
-    ensures found { IfOk result (λ file. spec.kept_file (kept_at state.now site.now deploy) path.now ≡ Ok file.now) }
-    ensures refused { IfErr result (λ refusal. spec.kept_file (kept_at state.now site.now deploy) path.now ≡ Err refusal) }
-    ensures plain { IfErr result (λ refusal. has_cell refusal ≡ false) }
-{
-    let Some(tree) = state.kept(site, deploy) else {
-        return Err(Refusal::Change(ChangeRefusal::NoSuchDeploy));
-    };
-    tree.get(path)
-        .ok_or(Refusal::Change(ChangeRefusal::NoSuchFile))
-}
-
 impl FileRequest {
     /// The file that it asks for in a state, or the first reason why there is none.
     pub fn file<'a>(&self, state: &'a State) -> Result<&'a File, Refusal>
@@ -50,18 +30,7 @@ impl FileRequest {
         ensures refused { IfErr result (λ refusal. file_asked state.now self.now ≡ Err refusal) }
         ensures plain { IfErr result (λ refusal. has_cell refusal ≡ false) }
     {
-        match &self.version {
-            Version::Live => state
-                .file(&self.site, &self.path)
-                .ok_or(Refusal::Change(ChangeRefusal::NoSuchFile)),
-            Version::Alias(name) => {
-                let Some(deploy) = state.alias(&self.site, name) else {
-                    return Err(Refusal::Change(ChangeRefusal::NoSuchAlias));
-                };
-                kept_file(state, &self.site, deploy, &self.path)
-            }
-            Version::Kept(deploy) => kept_file(state, &self.site, *deploy, &self.path),
-        }
+        file_of(state, &self.site, &self.version, &self.path)
     }
 
     /// What its If-Range fields say of the file with this digest (RFC 9110, section 13.1.5).

@@ -53,7 +53,8 @@ impl Reply {
         requires sent { (answer_of self.now).withheld ≡ true → head_only ≡ true }
         requires counted { IsCounted out.old }
         ensures ran { (at : ℕ) → IsAmid (sent_text close head_only (answer_of self.now)) at out.old
-            → Ran D.saw NoRead duplex.old duplex.new (GoesOnFrom result (sent_text close head_only (answer_of self.now)) at out.new) }
+            → Ran D.saw NoRead duplex.old duplex.new
+            (GoesOnFrom result (sent_text close head_only (answer_of self.now)) at out.new) }
         ensures waits { IsErrOf result Halt.WouldWait → D.waits }
     {
         let head = self.head(etag, close);
@@ -101,7 +102,8 @@ impl Reply {
         requires sent { (answer_of self.now).withheld ≡ true → head_only ≡ true }
         requires counted { IsCounted out.old }
         ensures ran { (at : ℕ) → IsAmid (sent_text close head_only (answer_of self.now)) at out.old
-            → Ran D.saw NoRead duplex.old duplex.new (GoesOnFrom result (sent_text close head_only (answer_of self.now)) at out.new) }
+            → Ran D.saw NoRead duplex.old duplex.new
+            (GoesOnFrom result (sent_text close head_only (answer_of self.now)) at out.new) }
         ensures waits { IsErrOf result Halt.WouldWait → D.waits }
     {
         let Some(digest) = self.etag else {
