@@ -100,7 +100,7 @@ module _ {File : Type 0} (bytes : File → List ℕ) where
       let kept = stored bytes files in
       let none : get kept e.0 ≡ None = get-stored files e.0 ∙ ap (option_map bytes) (none_after e.0 files (sorted_head digest_cmp e.0 (keys_of files) rise)) in
       let more : len (stored bytes (e ∷ files)) ≡ len kept + 1 =
-          len-insert digest_cmp_total kept e.0 (bytes e.1) ∙ ap (λ (o : Option (List ℕ)). cond (is_some o) (len kept) (len kept + 1)) none in
+      len-insert digest_cmp_total kept e.0 (bytes e.1) ∙ ap (λ (o : Option (List ℕ)). cond (is_some o) (len kept) (len kept + 1)) none in
       omega (arith, more, len-stored files (sorted_tail digest_cmp e.0 (keys_of files) rise))
 
   -- files that differ at one digest

@@ -35,9 +35,7 @@ fn unexpected(refusal: Refusal) -> Error {
 
 /// Makes a command the next entry, and answers its number.
 fn change(server: &mut Server<MemShelf, MemDisk>, command: Command) -> Result<u64> {
-    server
-        .commit(command)
-        .map_err(|why| unexpected(why.into()))
+    server.commit(command).map_err(|why| unexpected(why.into()))
 }
 
 /// Uploads the bytes as the file at a path of a deploy.
@@ -100,7 +98,11 @@ pub(crate) fn keep(
     file: u64,
 ) -> Result<u64> {
     let end = file.saturating_add(1);
-    let deploy = open_listing(alloc, server, listing(alloc, false, file..end, Contents::Own)?)?;
+    let deploy = open_listing(
+        alloc,
+        server,
+        listing(alloc, false, file..end, Contents::Own)?,
+    )?;
     let mut planned = Vec::new(alloc);
     plan(alloc, &mut planned, deploy, file..end)?;
     upload_all(server, planned)?;
