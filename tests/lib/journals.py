@@ -7,26 +7,12 @@ import subprocess
 import tempfile
 import unittest
 
-from lib.client import SECONDS, TOP
+from lib.built_crates import BuiltCrate
+from lib.client import SECONDS
 import journal
 
-CRATE = TOP / "crates/journal_bench"
-PROGRAM = CRATE / "out/journal_bench"
+CRATE = BuiltCrate("journal_bench")
 FILES_AT_ONCE = 4
-
-
-def is_built():
-    """Whether the program is there, and no older than the code of any crate."""
-    if not PROGRAM.exists():
-        return False
-    sources = (file for folder in ("src", "specs", "proofs") for file in TOP.glob(f"crates/*/{folder}/**/*") if file.is_file())
-    return PROGRAM.stat().st_mtime >= max(file.stat().st_mtime for file in sources)
-
-
-def build():
-    """Proves and builds the program. What is built already keeps its time, so that it is set here."""
-    subprocess.run(["rt", "run", "--", "list"], cwd=CRATE, stdin=subprocess.DEVNULL, capture_output=True, check=True)
-    PROGRAM.touch()
 
 
 def told(file):
@@ -45,8 +31,7 @@ class Journals(unittest.TestCase):
 
     @classmethod
     def setUpClass(cls):
-        if not is_built():
-            build()
+        CRATE.build("list")
 
     def setUp(self):
         folder = tempfile.TemporaryDirectory()
@@ -55,7 +40,7 @@ class Journals(unittest.TestCase):
         self.file = self.folder / "journal"
 
     def run_program(self, *words, **how):
-        ran = subprocess.run([PROGRAM, *words], check=True, capture_output=True, text=True, timeout=SECONDS, **how)
+        ran = subprocess.run([CRATE.program, *words], check=True, capture_output=True, text=True, timeout=SECONDS, **how)
         return ran.stdout.strip()
 
     def open(self, path=None):

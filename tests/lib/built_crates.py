@@ -1,0 +1,26 @@
+"""Programs of crates that only tests and measurements run."""
+
+import subprocess
+
+from lib.client import TOP
+
+
+class BuiltCrate:
+    """The program of a crate, which is proved and built where that is needed."""
+
+    def __init__(self, name):
+        self.folder = TOP / "crates" / name
+        self.program = self.folder / "out" / name
+
+    def is_built(self):
+        """Whether the program is there, and no older than the code of any crate."""
+        if not self.program.exists():
+            return False
+        sources = (file for folder in ("src", "specs", "proofs") for file in TOP.glob(f"crates/*/{folder}/**/*") if file.is_file())
+        return self.program.stat().st_mtime >= max(file.stat().st_mtime for file in sources)
+
+    def build(self, *words):
+        """Proves and builds the program, and runs it with these words. What is built already keeps its time, so that it is set here."""
+        if not self.is_built():
+            subprocess.run(["rt", "run", "--", *words], cwd=self.folder, stdin=subprocess.DEVNULL, capture_output=True, check=True)
+            self.program.touch()
