@@ -6,7 +6,7 @@ use anyhow::{Result, anyhow};
 use host_names::Digest;
 use host_replies::Reply;
 use host_world::World;
-use http_wire::{Pair, Writing};
+use http_wire::{Outgoing, Pair, Writing};
 use std::alloc::Global;
 use world_read::FileRead;
 
@@ -18,7 +18,8 @@ fn digest_of(alloc: Global, reply: &Reply) -> Result<Digest>
         source: "".as_bytes(),
         sink: Writing(Vec::new(alloc)),
     };
-    match reply.send(&mut duplex, false, false) {
+    let mut out = Outgoing::new(alloc)?;
+    match reply.send(&mut duplex, &mut out, false, false) {
         Ok(()) => Ok(Digest::of_bytes(duplex.sink.0.as_slice())),
         Err(_) => Err(anyhow!("a reply isn't sent")),
     }
