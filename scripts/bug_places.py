@@ -10,22 +10,12 @@ import pathlib
 import re
 
 from bug_edits import Change
-from source_words import CLAUSES, CLOSING, OPENING, Source, in_one_line
+from source_words import CLAUSES, CLOSING, OPENING, Function, Source, in_one_line
 
 HEADS = {"if", "while", "for", "match"}
 NO_CALL = HEADS | {"in", "return", "let", "else", "as", "mut", "ref", "move", "loop", "fn"}
 TURNED = {"<": "<=", "<=": "<", ">": ">=", ">=": ">", "==": "!=", "!=": "=="}
 JOINED = {"&&": "||", "||": "&&"}
-
-
-@dataclasses.dataclass(frozen=True)
-class Function:
-    """A function, by its lines."""
-
-    name: str
-    first: int
-    last: int
-    has_namesake: bool
 
 
 @dataclasses.dataclass
@@ -45,10 +35,7 @@ class Places(Source):
         self.crate, self.enums = crate, enums
         self.places = []
         self.blocks, self.matches = [], []
-        bodies = list(self.bodies())
-        names = [self.word(parameters + 1) for *_, parameters in bodies]
-        for (start, end, parameters), name in zip(bodies, names):
-            self.owner = Function(name, self.line(parameters), self.line(end), names.count(name) > 1)
+        for (start, end, parameters), self.owner in zip(self.bodies(), self.functions()):
             self.look(start, end, parameters)
 
     def add(self, kind, at, changes):

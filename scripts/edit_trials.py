@@ -1,12 +1,16 @@
 """What the scripts share that try edits of the crates: the toolchain's own judge, and a copy of the crates to try them on."""
 
+import collections
 import importlib.machinery
 import importlib.util
 import os
 import pathlib
 import shutil
+import re
 import subprocess
 import sys
+
+from source_words import Source
 
 TOP = pathlib.Path(__file__).resolve().parent.parent
 
@@ -45,3 +49,68 @@ def kept_of(crate, room):
 def is_refusal(rt, outcome):
     """Whether the prover refused an edit, as the gate counts it: some versions of the toolchain say also whether it was at one of its limits."""
     return outcome is True or outcome in [getattr(rt, name) for name in ("REFUSED", "AT_LIMIT") if hasattr(rt, name)]
+
+
+class Wrong:
+    """An edit of a crate, as it reads there: the texts of the files that it changes, and the function in whose body it does, if it is one."""
+
+    def __init__(self, rt, crate, edit):
+        self.crate, self.edit = crate, edit
+        self.changed = rt.read_edit(edit, crate.folder)[0] or {}
+        self.function = self.function_changed()
+
+    def text_as_it_stands(self, file):
+        return pathlib.Path(self.crate.folder, file).read_text()
+
+    def function_changed(self):
+        if len(self.changed) != 1:
+            return None
+        [(file, new)] = self.changed.items()
+        old = self.text_as_it_stands(file).split("\n")
+        lines = [at for at, (one, other) in enumerate(zip(old, new.split("\n")), 1) if one != other]
+        if not file.startswith("src/") or len(old) != new.count("\n") + 1:
+            return None
+        functions = [one for one in Source(file, "\n".join(old)).functions() if one.body <= lines[0] and lines[-1] <= one.last]
+        return functions[0] if len(functions) == 1 and not functions[0].has_namesake else None
+
+    def put_into(self, texts):
+        """Puts what it changes into these texts of files, which have changes of other functions."""
+        [(file, new)] = self.changed.items()
+        old = self.text_as_it_stands(file).split("\n")
+        lines = texts.get(file, "\n".join(old)).split("\n")
+        for at, (one, other) in enumerate(zip(old, new.split("\n"))):
+            if one != other:
+                lines[at] = other
+        texts[file] = "\n".join(lines)
+
+
+def in_different_functions(wrongs):
+    """Lists of edits, each of which are in the bodies of different functions. Those that are in no body are in none."""
+    lists, had = [], collections.Counter()
+    for wrong in wrongs:
+        if wrong.function:
+            if had[wrong.function] == len(lists):
+                lists.append([])
+            lists[had[wrong.function]].append(wrong)
+            had[wrong.function] += 1
+    return lists
+
+
+def refused_together(rt, crate, wrongs, kept):
+    """Those of these edits, which are in different functions, that the prover refuses in one check: a function is proved from the contracts
+    of others alone, so each that isn't proved there is refused for its own edit. Of the others nothing is known."""
+    texts = {}
+    for wrong in wrongs:
+        wrong.put_into(texts)
+    lines = rt.checked(crate, texts, ["--jobs", "1"], kept).stdout.rstrip("\n").split("\n")
+    if not lines[-1].startswith("logic=not-proved") or any(rt.unread(line, texts) for line in lines):
+        return {}
+    return {wrong.edit: told for wrong in wrongs if (told := goal_of(wrong.function, crate, lines))}
+
+
+def goal_of(function, crate, lines):
+    """What the prover says first of a function that it doesn't prove, but for proofs that name what an edit took away."""
+    names = r"(note: )?(\./)?proofs/.*(has no field|is not in scope|has no `|was not admitted)"
+    told = [line for line in lines if function.is_at(line) and (": error" in line or line.startswith("note: ")) and not re.match(names, line)]
+    is_unproved = any(function.is_unproved_by(line, crate.name) for line in lines)
+    return told[0][:160] if told and is_unproved else ""

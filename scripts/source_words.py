@@ -1,5 +1,6 @@
 """The text of a source file word by word, as `rt fmt` lays it out, and where in it the bodies of functions are."""
 
+import dataclasses
 import pathlib
 import re
 
@@ -41,6 +42,31 @@ def pairs_of(words):
             pairs[at] = opened.pop()
             pairs[pairs[at]] = at
     return pairs
+
+
+@dataclasses.dataclass(frozen=True)
+class Function:
+    """A function of a file in src/: the lines where its head, its body and the end of both are."""
+
+    file: str
+    name: str
+    first: int
+    body: int
+    last: int
+    has_namesake: bool
+
+    def is_at(self, line):
+        """Whether a line of the prover is of this function: of its code, or of what is written of its proof."""
+        module = self.file.removeprefix("src/").removesuffix(".rt")
+        if at := re.match(r"(?:note: )?(?:\./)?(src/\S+?):(\d+):", line):
+            return at[1] == self.file and self.first <= int(at[2]) <= self.last
+        return bool(re.match(rf"(note: )?(\./)?proofs/{module}/(\S+/)?{self.name}/", line))
+
+    def is_unproved_by(self, line, crate):
+        """Whether a line of the prover says that this function, or a closure in it, isn't proved."""
+        module = self.file.removeprefix("src/").removesuffix(".rt").replace("/", "::")
+        found = re.match(rf"fn {crate}::{module}::(fn::)?(\w+::)?{self.name}(::\S+)?: (.*)", line)
+        return bool(found) and (found[4] == "not proved" or found[4].startswith("no proof: expected"))
 
 
 class Source:
@@ -90,6 +116,13 @@ class Source:
                 at, tested = (last or first or at) + 1, False
             else:
                 at += 1
+
+    def functions(self):
+        """The functions that have a body and are no tests, in their order."""
+        bodies = list(self.bodies())
+        names = [self.word(parameters + 1) for *_, parameters in bodies]
+        return [Function(self.file, name, self.line(head), self.line(body), self.line(end), names.count(name) > 1)
+                for (body, end, head), name in zip(bodies, names)]
 
     def after_block(self, at):
         while self.word(at) not in ("{", ";"):
