@@ -40,7 +40,7 @@ impl Default for Spec {
     }
 }
 
-/// The specs that one field asks for, in order: 1 to 16 of them, each with its last position not below its first.
+/// The specs that one field asks for, in order: 1 to 16 of them, none with its last position below its first.
 #[derive(Clone, Debug, PartialEq, Eq, Drop)]
 pub struct Specs {
     list: ArrayVec<Spec, 16>,
