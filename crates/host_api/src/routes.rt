@@ -210,7 +210,7 @@ fn route_at(
 ///
 /// The table of routes is long, and the proofs above this crate need only that it has one answer: its definition (`routed`) is opened here
 /// alone. The function isn't named `route`, since the toolchain refuses two names in a module that differ in case alone, and `Route` is
-/// one.
+/// one; nor is `ask_of` named `ask`.
 #[tactic(auto, unfolding(crate::specs::Routes::routed))]
 pub fn route_of(alloc: Global, method: &str, target: &str) -> Result<Route, Refusal>
     ensures ok { IfOk result (λ route. routed method.now target.now ≡ Ok route) }
