@@ -83,8 +83,8 @@ impl<H: RingHash + Copy + Drop, S: Source + Copy, L: PeerLink + Copy, C: Coin + 
 
     /// What a leader does: it looks into the caches once more, and then loads. It holds no lock while it loads.
     ///
-    /// Between the caller's look and its lead, the key's last flight may have ended. That flight's leader kept the chunk before it ended
-    /// the flight, so this look finds it, and the chunk isn't loaded again.
+    /// Between the caller's look and its lead, the key's last flight may have ended. Its leader keeps a chunk before it ends the flight, so this
+    /// look finds a chunk that was kept, and doesn't load it again.
     fn fill<R: Wait>(&self, rt: &R, key: &Digest) -> Outcome
         ensures named { IfOk result (λ chunk. digest_of chunk.value ≡ key.now) }
         ensures fault { IfErr result (λ fault. may_answer S.allows key.now fault ≡ true) }

@@ -84,8 +84,9 @@ impl<
     T: Absorb<Receipt<E, L, S>, State = [E; 0]> + Drop,
     R: Wait + Drop,
 > Publisher<E, L, S, T, R> {
-    /// The list, with its receipt and what is shown of it. It takes these out of options, since a caller that is generic in L can't pass
-    /// them by value: the toolchain proves no such call of a function with a bound made of L, as that of T is.
+    /// The list, with its receipt and what is shown of it. It takes these out of options, since a caller that is generic in L can't pass them by
+    /// value: the toolchain proves no call that passes values of a type parameter to a function with a bound made of that parameter, as the
+    /// bound of T is made of L.
     pub fn of(
         list: &mut Option<SeenList<E, L>>,
         last: &mut Option<Receipt<E, L, S>>,
