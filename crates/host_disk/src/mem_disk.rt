@@ -24,7 +24,7 @@ pub struct MemDisk {
 }
 
 impl MemDisk {
-    /// An empty disk with room for so many bytes.
+    /// An empty disk with room for `room` bytes.
     pub fn new(alloc: Global, room: usize) -> Result<MemDisk, AllocError>
         ensures empty { IfOk result (λ disk. ⟦<MemDisk as Disk>⟧.seen disk ≡ []) }
         ensures durable { IfOk result (λ disk. Only [] (⟦<MemDisk as Disk>⟧.may_leave disk)) }

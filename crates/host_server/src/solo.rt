@@ -46,8 +46,8 @@ fn run_in_memory<D: Steady, E: Sink>(alloc: Global, duplex: &mut D, errors: &mut
     }
 }
 
-/// Runs the program for the words after its name, and answers its exit status. `solo` serves one connection over an empty server; `solo
-/// --store DIR` serves one over the server that the folder keeps. If the status isn't 0, `errors` is told why; else nothing is written
+/// Runs the program for the words after its name, and answers its exit status. `solo` serves one connection over an empty server;
+/// `solo --store DIR` serves one over the server that the folder keeps. If the status isn't 0, `errors` is told why; else nothing is written
 /// there.
 ///
 /// Memory may run out while the words are read, whatever they are: no contract tells when it does.

@@ -8,7 +8,7 @@ use host_names::Digest;
 use std::alloc::{AllocError, Global};
 use world_node::{Call, Node, Outcome};
 
-/// So many nodes where nothing has happened.
+/// This many nodes at which nothing has happened.
 pub(crate) fn nodes_of(
     alloc: Global,
     cache: usize,

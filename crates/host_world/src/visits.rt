@@ -95,7 +95,7 @@ impl Visits {
     }
 }
 
-/// The reads of so many visitors, who have none yet.
+/// The reads of this many visitors, who have none yet.
 pub(crate) fn visits_of(alloc: Global, count: usize) -> Result<Vec<Visits>, AllocError>
     ensures { IfOk result (λ visits. visits.items ≡ replicate count []) }
 {

@@ -12,7 +12,7 @@ use std::marker::Model;
 pub enum Spec {
     /// An int-range: from the first position to the last, both included, or to the end.
     From(u64, Option<u64>),
-    /// A suffix-range: so many bytes at the end.
+    /// A suffix-range: the last bytes, as many as this number.
     Suffix(u64),
 }
 

@@ -30,8 +30,7 @@ pub fn a_beginning_is_a_call<T>()
     ensures joined { (old new : OpenFlights) (key : Digest) (flight : _) → Begins {T = T} old key (Join flight) new → Does old (Joined key (seen flight.value)) new }
 {}
 
-/// A flight is never joined if it isn't open, nor one with another number; none is led for a key that has one, nor led again once it has
-/// begun.
+/// No flight is joined that isn't open or has another number; none is led for a key that has one, or again once it has begun.
 pub fn wrong_answers_are_refused<T>()
     ensures joined { (key : Digest) (flight : _) (new : OpenFlights) → ¬ (Begins {T = T} no_flights key (Join flight) new) }
     ensures other { (old new : OpenFlights) (key : Digest) (open_one : OpenFlight) (flight : _) → map.get old.flights key ≡ Some open_one

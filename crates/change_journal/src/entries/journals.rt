@@ -53,10 +53,10 @@ pub struct NotOpened<D> {
 }
 
 impl<D: Disk> Journal<D> {
-    /// Opens the journal of a disk, and answers the entries that it holds. The disk is synced first. A disk without a journal gets one that
-    /// has no entries. Everything after the first gate that isn't open is cut away: it is what a stop left of an unfinished put. On a
-    /// modelled disk, a file is neither opened nor written to, whatever fault is told, if it is not a journal, or if a malformed record or
-    /// the 1,000,001st follows an open gate.
+    /// Opens the journal of a disk, and answers the entries that it holds. The disk is synced first. A disk on which no journal is finished
+    /// yet, such as an empty one, gets one without entries. Everything after the first gate that isn't open is cut away: it is what a stop
+    /// left of an unfinished put. On a modelled disk, a file is neither opened nor written to, whatever fault is told, if it is not a
+    /// journal, or if a malformed record or the 1,000,001st follows an open gate.
     pub fn open(alloc: Global, disk: D) -> Result<(Journal<D>, Log), NotOpened<D>>
         ensures entries { IfOk result (λ answer. (answer.0.entries ≡ answer.1) × (answer.0.broken ≡ false)) }
         ensures writable { IfOk result (λ answer. All IsWritable (own_entries answer.1)) }
