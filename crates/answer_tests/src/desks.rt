@@ -74,7 +74,7 @@ pub trait Desk {
             → why ≡ Refused.Refused reason seen
             → RefusesCommand command seen.snap.value.entries reason) };
 
-    /// So it does with the undo of a change.
+    /// Makes the undo of a change of a site the next entry of whatever the log is by then.
     fn undo(&self, site: &SiteName, change: u64) -> Result<Receipt, Refused>
         ensures entered { IfOk result (λ receipt.
             (before : Entries) × (receipt.snap.value.entries ≡ with_entry before (entry.Undo site.now change))) }
@@ -97,12 +97,12 @@ pub trait Desk {
             → why ≡ NotTaken.NotPublished (Refused.Refused reason seen)
             → RefusesCommand (command.Publish site.now deploy) seen.snap.value.entries reason) };
 
-    /// The listed digests that aren't uploaded by now.
+    /// The listed digests whose files aren't uploaded by now.
     fn missing(&self, alloc: Global, files: &Listing) -> Result<Items<Digest>, AllocError>
         ensures { LacksAs files.now.1 result };
 }
 
-/// What files are held by.
+/// Holds files.
 pub trait Files {
     fn hold(&self, info: Arc<BlobInfo>, first: usize, last: usize) -> Result<Hold, ReadFault>
         requires ordered { first ≤ last }

@@ -61,7 +61,7 @@ impl<V: Visits, D: Desk, G: Files> SharedHouse<V, D, G> {
         self.snap.len()
     }
 
-    /// Learns of what shows why there is no entry, if something does.
+    /// Learns of what shows why there is no entry, if there is such a thing.
     fn stop(&mut self, why: Refused) -> Stop
         ensures { StopsAs (V.visit self.old.visitor) why result (V.visit self.new.visitor) }
     {
@@ -194,8 +194,8 @@ impl<V: Visits, D: Desk, G: Files> Service for SharedHouse<V, D, G> {
         laws.goes_on (V.visit first.visitor) (V.visit mid.visitor) (V.visit last.visitor) };
 }
 
-/// The reply of a shared house to a request. Where that reads a file, it is over the state of one look, which comes after
-/// all that the house has seen and was told.
+/// The reply of a shared house to a request. If the request reads a file, the reply is over the state of one look, which comes after all
+/// that the house has seen and was told.
 pub fn answer_shared<V: Visits, D: Desk, G: Files>(
     alloc: Global,
     house: &mut SharedHouse<V, D, G>,

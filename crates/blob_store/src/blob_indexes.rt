@@ -13,7 +13,11 @@ use std::collections::BTreeMap;
 use std::marker::Model;
 use std::sync::Arc;
 
-/// What is kept of each file, under its digest, and the names of pieces of these files. Contracts see the bytes of each.
+/// The files that a store knows: what is kept of each, under its digest, and the names of their pieces. Contracts see the bytes of each
+/// file.
+///
+/// The names of pieces are kept here and not with the shelf. So they are always names of pieces of files that the shelf has whole, and no
+/// clause above speaks of them.
 #[derive(Drop)]
 pub struct BlobIndex {
     files: BTreeMap<Digest, Arc<BlobInfo>>,
@@ -64,15 +68,15 @@ impl BlobIndex {
         self.files.get(digest)
     }
 
-    /// The names of pieces of its files, but for those for which there was no memory.
+    /// The names of the pieces of its files, but for those that there was no memory to keep.
     pub(crate) fn pieces(&self) -> &StoredPieces
         ensures { AreKnownNames self.now result.now.names.keys }
     {
         &self.pieces
     }
 
-    /// Adds a file. A digest that is known keeps its file, and takes no memory. Without memory for the file nothing changes; where there is none
-    /// for the name of a piece, just that isn't kept.
+    /// Adds a file. A known digest keeps its file, and takes no memory. If there is no memory for the file, nothing changes; if there is
+    /// none for the name of a piece, only that name isn't kept, so that no upload fails for it.
     pub fn keep(&mut self, file: Arc<BlobInfo>) -> Result<(), AllocError>
         ensures ok { OnOk result (self.new ≡ with_file self.old file.value) }
         ensures err { OnErr result (self.new ≡ self.old) }
@@ -87,7 +91,7 @@ impl BlobIndex {
         Ok(())
     }
 
-    /// Keeps the names of the pieces of a known file, up to where there is no memory for them.
+    /// Keeps the names of the pieces of a known file, as far as there is memory for them.
     fn keep_names(&mut self, digest: &Digest)
         ensures { self.new ≡ self.old }
     {

@@ -36,7 +36,7 @@ pub enum UploadFault {
 }
 
 impl UploadFault {
-    /// What an upload answers for a fault of the shelf.
+    /// The fault of an upload whose shelf failed this way.
     pub(crate) fn of_shelf(fault: ShelfFault) -> UploadFault
         ensures device { (result ≡ upload_fault.Device) ↔ (fault ≡ shelf_fault.Device) }
         ensures memory { (result ≡ upload_fault.OutOfMemory) ↔ (fault ≡ shelf_fault.OutOfMemory) }
@@ -49,7 +49,8 @@ impl UploadFault {
     }
 }
 
-/// Files that were uploaded. What it knows of each stays in memory, and the bytes are on the shelf. Contracts see both.
+/// A store: the files that were uploaded. What it knows of each is in memory, and the bytes are on the shelf. Contracts see both. Its two
+/// halves can be used apart: what it knows (`BlobIndex`), and the files on the shelf (`Files`).
 #[derive(Drop)]
 pub struct Blobs<S> {
     known: BlobIndex,
@@ -66,7 +67,7 @@ impl<S> Model for Blobs<S> {
     ghost view = { λ blobs. record { known = blobs.known; shelf = blobs.files.shelf } };
 }
 
-/// A store that couldn't be opened: why, and its shelf as it is then.
+/// Why a store couldn't be opened, with its shelf as it is then: what is said of the fault is said of that shelf.
 #[derive(Drop)]
 pub struct NotOpened<S> {
     pub fault: OpenFault,
@@ -74,7 +75,7 @@ pub struct NotOpened<S> {
 }
 
 impl<S: Shelf> Blobs<S> {
-    /// A store over a shelf, of which it knows no file yet.
+    /// A store over a shelf. It knows no file yet.
     pub fn new(alloc: Global, shelf: S) -> Blobs<S>
         ensures none { result.known ≡ map.empty }
         ensures shelf { result.shelf ≡ shelf }
@@ -85,10 +86,10 @@ impl<S: Shelf> Blobs<S> {
         }
     }
 
-    /// A store over a shelf that may have files. Each wanted file is read whole, in the order of the digests, and those that
-    /// the shelf gave whole are known. One that is missing or damaged isn't known, and is a fault where it must be there: the
-    /// first such one. A digest that is wanted twice must be there if it must for either. A failure of the device is a
-    /// fault at any file, and so is a lack of memory. After a fault nothing more is asked for, and the shelf is handed back.
+    /// A store over a shelf that may have files. It reads each wanted file whole, in the order of the digests, and knows those that the
+    /// shelf gives whole. A missing or damaged file isn't known; the first one that must be there is a fault. If a digest is wanted twice,
+    /// its file must be there if either asks for that. A failure of the device is a fault at any file, and so is a lack of memory. After a
+    /// fault the store asks for nothing more, and the shelf is handed back.
     pub fn open(alloc: Global, shelf: S, wanted: &[Wanted]) -> Result<Blobs<S>, NotOpened<S>>
         ensures opened { IfOk result (λ blobs. IsOpened S.did shelf wanted.now blobs.known blobs.shelf) }
         ensures fault { IfErr result (λ stop. IsOpenFault S.did shelf wanted.now stop.fault stop.shelf) }
@@ -128,9 +129,9 @@ impl<S: Shelf> Blobs<S> {
         self.known.find(digest)
     }
 
-    /// Adds a file of at most `MAX_SIZE` bytes, and answers what is kept of it. A piece that the file has again is put once, and one that a known
-    /// file has isn't put, unless there was no memory to keep its name. Of a digest that is known nothing is put on the shelf. After a fault the
-    /// store knows what it knew.
+    /// Adds a file of at most `MAX_SIZE` bytes, and answers what is kept of it. A piece that the file has several times is put once; one
+    /// that a known file has isn't put, unless there was no memory to keep its name. Nothing is put for a known digest. After a fault the
+    /// store knows what it knew before.
     pub fn upload(&mut self, bytes: &[u8]) -> Result<Arc<BlobInfo>, UploadFault>
         ensures large { (result ≡ Err upload_fault.TooLarge) ↔ (16777216 < length bytes.now) }
         ensures info { IfOk result (λ info. map.get self.new.known (digest_of bytes.now) ≡ Some info.value) }
@@ -157,7 +158,9 @@ impl<S: Shelf> Blobs<S> {
         Ok(info)
     }
 
-    /// The chunk of a name, as the shelf gives it now, and checked: it has that name. What is known stays.
+    /// The chunk with this name, as the shelf gives it now, and checked: it has that name. What is known stays.
+    ///
+    /// The answer has the checked chunk and no bytes next to it. So bytes from a shelf are hashed once, and never used unchecked.
     pub fn chunk(&mut self, name: &Digest) -> Result<Chunk, ReadFault>
         ensures given { IfOk result (λ chunk. S.did self.old.shelf (Got (Part name.now) (Some chunk)) self.new.shelf) }
         ensures named { IfOk result (λ chunk. digest_of chunk ≡ name.now) }

@@ -15,8 +15,8 @@ impl<'a> Names<&'a [u8]> for AllBytes {
     ghost numbers = { λ bytes. bytes.now };
 }
 
-/// The calls of a shelf, each with what it was given and what it answered. Snapshots and tags have no bytes, so that nothing is kept when
-/// it runs.
+/// The calls of a shelf, each with what it was given and what it answered. Snapshots and tags have no bytes, so nothing is kept at run
+/// time.
 #[derive(Drop)]
 pub(crate) enum CallLog {
     Empty,

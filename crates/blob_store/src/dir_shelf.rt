@@ -14,11 +14,11 @@ use std::rt::Files;
 /// The bytes of the longest table: that of a file of 256 pieces.
 const MAX_TABLE: usize = 8 + 256 * 20;
 
-/// The name that everything is written under first.
+/// The name under which each file is written at first.
 const TEMPORARY: &str = "blob.tmp";
 
-/// A folder with a file for each piece and each table. It keeps what is put there as long as each of its answers is what was put last, or was
-/// there at first (`folders_keep`): that they are is relied on, and shown by tests.
+/// A folder with a file for each piece and each table. It keeps what is put there as long as each of its answers is what was put last under
+/// the name, or was there at first (`folders_keep`). That its answers are so is a premise, which tests support.
 #[derive(Drop)]
 pub struct DirShelf<'a, R> {
     rt: &'a R,
@@ -28,8 +28,8 @@ pub struct DirShelf<'a, R> {
     log: CallLog,
 }
 
-/// The bytes of the file of a path; none where nothing is there. What is no file, or has more bytes than the most, is not read, and told
-/// as no bytes, which neither a piece nor a table has.
+/// The bytes of the file at a path; none if nothing is there. Something that is not a file, or has more than `most` bytes, is not read: the
+/// answer is then no bytes, which are neither a piece nor a table.
 fn read_file<R: Files>(
     rt: &R,
     alloc: Global,
@@ -51,12 +51,12 @@ fn read_file<R: Files>(
     Ok(Some(bytes))
 }
 
-/// Makes the names in a folder last.
+/// Syncs a folder, so that the names in it last.
 fn sync_folder<R: Files>(rt: &R, folder: &str) -> io::Result<()> {
     File::open(rt, folder)?.sync_all()
 }
 
-/// Writes bytes under a temporary name, syncs them, and gives them their own name, from which they replace what was there.
+/// Writes bytes under the temporary name, syncs them, and renames the file to its own name, where it replaces what was there.
 fn write_file<R: Files>(rt: &R, temporary: &str, path: &str, bytes: &[u8]) -> io::Result<()> {
     let mut file = File::create(rt, temporary)?;
     file.write_all(bytes)?;
@@ -65,7 +65,7 @@ fn write_file<R: Files>(rt: &R, temporary: &str, path: &str, bytes: &[u8]) -> io
 }
 
 impl<'a, R: Files> DirShelf<'a, R> {
-    /// The shelf of a folder. It asks the system for nothing yet. No one else may write in the folder.
+    /// The shelf of a folder. It asks the system for nothing yet. Nobody else may write in the folder.
     pub fn new(rt: &'a R, alloc: Global, folder: &str) -> Result<DirShelf<'a, R>, AllocError>
         ensures { IfOk result (λ shelf. calls_of shelf.log ≡ []) }
     {
@@ -92,7 +92,7 @@ impl<'a, R: Files> DirShelf<'a, R> {
             .map_err(|_| ShelfFault::OutOfMemory)
     }
 
-    /// Writes the file of a name. Once it has written a table, the table's name lasts, and those of all files written before.
+    /// Writes the file of a name. Once a table is written, its name lasts, and so do those of all files written before.
     fn write(&self, name: ShelfName, bytes: &[u8]) -> Result<(), ShelfFault> {
         let path = self.path_of(name)?;
         let written = match name {

@@ -33,7 +33,7 @@ fn read_table<S: Shelf>(alloc: Global, shelf: &mut S, digest: Digest) -> Result<
     }
 }
 
-/// Reads the piece of a name, and adds it to those before it.
+/// Reads the piece of a name, and appends it to those before it.
 fn read_next<S: Shelf>(
     shelf: &mut S,
     name: Digest,
@@ -73,8 +73,8 @@ fn read_pieces<S: Shelf>(
     Ok(joined)
 }
 
-/// The file of a digest, which is read whole: its table, and each of its pieces. Kept of it is what is known of a file, and no
-/// bytes. A file that the shelf has no table of is missing; one that anything else is wrong with is damaged.
+/// Reads the file of a digest whole: its table, and each of its pieces. The answer is what is known of a file, without bytes. A file for
+/// which the shelf has no table is missing; if anything else is wrong with it, it is damaged.
 pub(crate) fn read_file<S: Shelf>(
     alloc: Global,
     shelf: &mut S,

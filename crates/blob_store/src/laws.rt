@@ -1,5 +1,5 @@
-//! Laws of tables and shelves, each the contract of a function that does nothing. Where one is of a shelf that keeps what is put there as long as it
-//! is honest, it asks that the shelf is honest at the end.
+//! Laws of tables and shelves, each the contract of a function that does nothing. A law of a shelf that keeps what is put there as long as
+//! it is honest assumes that the shelf is honest at the end.
 ghost use Rattle.std.specs.FinMap as map;
 ghost use Rattle.std.specs.Prelude.{◌≡◌, Bool, true, IsTrue, ℕ, ◌≤◌, List, [], ◌∷◌, All, None, Option, Some, ⊤, length};
 ghost use Rattle.std.specs.List.{Contains};
@@ -29,14 +29,15 @@ use crate::dir_shelf::DirShelf;
 use crate::shelves::Shelf;
 use std::rt::Files;
 
-/// What is written for a file that isn't too large can be read, and tells the file's size.
+/// The table of a file that isn't too large can be read, and tells the file's size.
 pub fn files_have_tables()
     ensures readable { (size : ℕ) (names : List Digest) → size ≤ 16777216 → length names ≡ pieces_of size → All (λ name. length name.0 ≡ 20) names → IsTable (text_of size names) }
     ensures size { (size : ℕ) (names : List Digest) → size ≤ 16777216 → size_of (text_of size names) ≡ size }
 {}
 
-/// A shelf that keeps what is put there, and that has the known files, has a file that was uploaded too, and the files that it had, where no two
-/// pieces, nor two files, share a digest and differ. An upload that fails loses none of these either.
+/// Assume a shelf that keeps what is put there and that has the known files, and that no two different pieces, nor two different files,
+/// share a digest. After an upload the shelf has the uploaded file and each file that it had. After an upload that fails it still has each
+/// file that it had.
 pub fn uploads_are_kept<S: Shelf>()
     ensures uploaded { (honest : S → Bool) (has : S → ShelfName → Option (List ℕ)) (known : Contents) (old new : S)
         (file : List ℕ) → Keeps S.did honest has → IsTrue (honest new) → Agree (things_of file) (things_of file)
@@ -51,7 +52,7 @@ pub fn uploads_are_kept<S: Shelf>()
         → HasFile has old file → HasFile has new file }
 {}
 
-/// Of a file that such a shelf has, each piece and the whole are read as they are, and neither is missing or damaged.
+/// If such a shelf has a file, each piece and the whole are read as they are, and neither is found missing or damaged.
 pub fn kept_files_are_read<S: Shelf>()
     ensures piece { (honest : S → Bool) (has : S → ShelfName → Option (List ℕ)) (old new : S) (file piece chunk : List ℕ) → Keeps S.did honest has → IsTrue (honest new) → HasFile has old file → Contains (cut file) piece
         → S.did old (Got (Part (digest_of piece)) (Some chunk)) new → chunk ≡ piece }
@@ -67,8 +68,8 @@ pub fn kept_files_are_read<S: Shelf>()
         → ¬ (IsFileFault S.did old (digest_of file) read_fault.Damaged new) }
 {}
 
-/// A store that is opened over such a shelf knows each wanted file that the shelf has, and no such file keeps it from being opened. The shelf has
-/// each file that it knows, and an opening, also one that fails, changes nothing there.
+/// A store that is opened over such a shelf knows each wanted file that the shelf has, and none of these files stops the opening. The shelf
+/// has each file that the store knows. An opening, even one that fails, changes nothing on the shelf.
 pub fn kept_files_are_known<S: Shelf>()
     ensures known { (honest : S → Bool) (has : S → ShelfName → Option (List ℕ)) (old new : S) (wanted : List Wanted) (known : Contents) (file : List ℕ) (must : Bool) → Keeps S.did honest has → IsTrue (honest new)
         → HasFile has old file → length file ≤ 16777216 → need_of wanted (digest_of file) ≡ Some must
@@ -91,17 +92,17 @@ pub fn shelves_in_memory_keep()
     ensures keeps { Keeps Does (λ shelf. true) found_in }
 {}
 
-/// A folder keeps what is put there as long as each of its answers is what was put last under the name, or was there at first. Of one that
-/// was asked for nothing yet that holds.
+/// A folder keeps what is put there as long as each of its answers is what was put last under the name, or was there at first. That holds
+/// of a folder that was asked for nothing yet.
 pub fn folders_keep<R: Files>()
     ensures keeps { (first : ShelfName → Option (List ℕ)) (gave : List Call → Bool)
         → Keeps ⟦<DirShelf<'static, R> as Shelf>⟧.did (λ shelf. are_true first gave (calls_of shelf.log)) (λ shelf. there_after first gave (calls_of shelf.log)) }
     ensures begins { (first : ShelfName → Option (List ℕ)) (gave : List Call → Bool) → IsTrue (are_true first gave []) }
 {}
 
-/// Of these relations each is refuted of one wrong answer, so none of them holds of everything. `missed`, `twice` and `again` are of what is put of a
-/// piece, `agrees` says that `Agree` holds of one file, and `keeps` that no shelf keeps what is put there of which nothing is known. `told` is
-/// of a folder that gives other bytes than those that were put there.
+/// Each of these relations is refuted for one wrong answer, so none of them holds of everything. `missed`, `twice` and `again` are about
+/// the puts of a piece; `agrees` says that `Agree` holds of one file; `keeps`, that a shelf of which nothing is known need not keep what is
+/// put there. `told` is about a folder that gives other bytes than were put there.
 pub fn wrong_answers_are_refused<S: Shelf>()
     ensures table { ¬ (IsTable []) }
     ensures spells { ¬ (Spells [] 0 []) }

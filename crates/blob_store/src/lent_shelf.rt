@@ -3,7 +3,7 @@ ghost use Rattle.std.specs.Prelude.{◌≡◌};
 
 use crate::shelves::{Shelf, ShelfFault, ShelfName};
 
-/// A shelf that its owner has again when this one is dropped. Each call is one of the shelf.
+/// A shelf on loan: its owner has it again once this value is dropped. Each call is a call of the shelf.
 #[derive(Drop)]
 pub struct LentShelf<'a, S> {
     shelf: &'a mut S,

@@ -29,7 +29,7 @@ impl MemShelf {
         }
     }
 
-    /// Keeps a copy of some bytes under a name. Without memory nothing changes.
+    /// Keeps a copy of some bytes under a name. If memory runs out, nothing changes.
     pub fn keep(&mut self, name: ShelfName, bytes: &[u8]) -> Result<(), AllocError>
         ensures ok { OnOk result (IsPutAt self.old self.new name bytes.now) }
         ensures err { OnErr result (HasTheSame self.old self.new) }

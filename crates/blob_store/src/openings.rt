@@ -27,7 +27,7 @@ pub enum OpenFault {
     /// The shelf has no table of a file that must be there.
     #[error("a file is missing")]
     MissingBlob(Digest),
-    /// The shelf has something as the table of a file that must be there, and doesn't give that file whole.
+    /// The shelf has a table for a file that must be there, but doesn't give that file whole.
     #[error("a file is damaged")]
     DamagedBlob(Digest),
     #[error("the device failed")]
@@ -36,7 +36,7 @@ pub enum OpenFault {
     OutOfMemory,
 }
 
-/// Whether a file must be there, after it was wanted before and is wanted once more.
+/// Whether a file must be there, by what was wanted of it before and by this one.
 fn must_be_there(one: &Wanted, before: Option<bool>) -> bool
     ensures { result ≡ must_of one.now before }
 {
@@ -59,7 +59,8 @@ fn in_order(alloc: Global, wanted: &[Wanted]) -> Result<BTreeMap<Digest, bool>, 
     Ok(order)
 }
 
-/// Reads a file whole, and adds it to those that are known. One that need not be there may be missing or damaged.
+/// Reads a file whole, and adds it to those that are known. A file that need not be there may be missing or damaged: it is then unknown,
+/// and can be uploaded again.
 fn take_file<S: Shelf>(
     alloc: Global,
     shelf: &mut S,

@@ -11,14 +11,14 @@ use crate::stored_pieces::StoredPieces;
 use byte_view::{BlobInfo, PIECE_SIZE};
 use host_names::Digest;
 
-/// Whether a name is one of these.
+/// Whether a name is among these.
 fn is_among(name: &Digest, names: &[Digest]) -> bool
     ensures { IsTrue result ↔ Contains names.now name.now }
 {
     names.contains(name)
 }
 
-/// Puts a piece on a shelf, unless its name is stored, or one of those before it.
+/// Puts a piece on a shelf, unless its name is stored or is among those before it.
 fn put_new<S: Shelf>(
     shelf: &mut S,
     stored: &StoredPieces,
@@ -37,7 +37,7 @@ fn put_new<S: Shelf>(
     shelf.put(ShelfName::Part(*name), piece)
 }
 
-/// Puts the pieces of a file on a shelf, of each name that isn't stored the first one, and its table after them.
+/// Puts a file on a shelf: its pieces, of each name that isn't stored the first one, and then its table.
 pub(crate) fn put_file<S: Shelf>(
     shelf: &mut S,
     stored: &StoredPieces,

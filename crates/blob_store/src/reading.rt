@@ -12,7 +12,7 @@ use byte_view::Chunk;
 use chunk_reads::ReadFault;
 use host_names::Digest;
 
-/// What a read answers for a fault of the shelf.
+/// The fault of a read whose shelf failed this way.
 pub(crate) fn of_shelf(fault: ShelfFault) -> ReadFault
     ensures device { fault ≡ shelf_fault.Device → result ≡ read_fault.Device }
     ensures memory { fault ≡ shelf_fault.OutOfMemory → result ≡ read_fault.OutOfMemory }

@@ -7,8 +7,8 @@ use crate::shelf_files::Files;
 use crate::shelves::{Shelf, ShelfFault, ShelfName};
 use std::sync::{Mutex, Wait};
 
-/// The shelf of files that threads share behind a lock. Each call waits for the lock, and has it for one call of the shelf alone: between two calls others
-/// have theirs. Of the shelf nothing is known then, so contracts see the calls that were made by this value.
+/// The shelf of files that threads share behind a lock. Each call waits for the lock and holds it for that call alone, so calls of other
+/// threads come in between. Nothing is known of the shelf then: contracts see the calls that were made by this value.
 #[derive(Drop)]
 pub struct SharedShelf<'a, R, S> {
     rt: &'a R,

@@ -46,8 +46,8 @@ impl<S: Shelf> Files<S> {
         &mut self.shelf
     }
 
-    /// Puts a file of at most `MAX_SIZE` bytes on the shelf, each piece once and then its table, and answers what is kept of it. The shelf is to
-    /// have the known files: a piece that one of these has isn't put, unless there was no memory to keep its name.
+    /// Puts a file of at most `MAX_SIZE` bytes on the shelf, each piece once and then its table, and answers what is kept of it. The shelf
+    /// has to have the known files: a piece that one of these has isn't put, unless there was no memory to keep its name.
     pub fn put(
         &mut self,
         known: &BlobIndex,
@@ -83,7 +83,9 @@ impl<S: Shelf> Files<S> {
         Ok(info)
     }
 
-    /// What the shelf has as the piece of a name, as it gives it now. It is not checked, and may be any bytes.
+    /// The bytes that the shelf gives now as the piece with this name. They aren't checked, and may be any bytes.
+    ///
+    /// Nodes that share a shelf need it: they check the piece after they have let go of the lock. Nothing else calls it.
     pub fn piece(&mut self, name: &Digest) -> Result<Option<Vec<u8>>, ReadFault>
         ensures given { IfOk result (λ bytes. S.did self.old.shelf (Got (Part name.now) (option_map (λ b. b.items) bytes)) self.new.shelf) }
         ensures fault { IfErr result (λ fault. IsChunkFault S.did self.old.shelf name.now fault self.new.shelf) }
@@ -96,7 +98,7 @@ impl<S: Shelf> Files<S> {
         }
     }
 
-    /// The chunk of a name, as the shelf gives it now, and checked: it has that name.
+    /// The chunk with this name, as the shelf gives it now, and checked: it has that name.
     pub fn chunk(&mut self, name: &Digest) -> Result<Chunk, ReadFault>
         ensures given { IfOk result (λ chunk. S.did self.old.shelf (Got (Part name.now) (Some chunk)) self.new.shelf) }
         ensures named { IfOk result (λ chunk. digest_of chunk ≡ name.now) }

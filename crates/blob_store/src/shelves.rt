@@ -6,7 +6,7 @@ ghost use Rattle.blob_store.specs.Calls.{Call, Put, PutFails, Got, GetFails};
 use host_names::Digest;
 use thiserror::Error;
 
-/// What a shelf has something under: a piece of a file by its own digest, and the table of a file by the file's.
+/// What a shelf keeps bytes under: a piece of a file has its own digest, and the table of a file the file's.
 #[derive(Clone, Copy, Debug, PartialEq, Eq)]
 pub enum ShelfName {
     Part(Digest),
@@ -24,10 +24,13 @@ pub enum ShelfFault {
 
 /// Keeps bytes under names. It is not trusted: what it gives need not be what was put there.
 pub trait Shelf {
-    /// How often its device has failed.
+    /// How often its device has failed. It grows at each call that reports such a failure, and at no call that succeeds. Clauses alone tell
+    /// it, since no code asks.
     ghost failures: { Self → ℕ };
 
-    /// What a call, with its answer, leads from and to.
+    /// What a call, with its answer, leads from and to. Each shelf chooses this relation: for a shelf in memory it says what is found
+    /// there, and for an unknown one it can say nothing, and needs no record. A store is proved over any such relation, so it can show a
+    /// call only by making it.
     ghost did: { Self → Call → Self → Type 0 };
 
     /// Puts bytes under a name.

@@ -6,7 +6,7 @@ use host_names::Digest;
 use std::alloc::Global;
 use std::collections::BTreeSet;
 
-/// The names of pieces of the files that a store knows. A name for which there was no memory is left out.
+/// The names of pieces of the files that a store knows. A name that there was no memory to keep is left out.
 #[derive(Drop)]
 pub(crate) struct StoredPieces {
     names: BTreeSet<Digest>,
@@ -29,7 +29,7 @@ impl StoredPieces {
         self.names.contains(name)
     }
 
-    /// Adds names. One for which there is no memory is left out.
+    /// Adds names. A name that there is no memory to keep is left out.
     pub(crate) fn add(&mut self, names: &[Digest])
         ensures added { (name : Name) → Contains self.new.names.keys name
             → Contains self.old.names.keys name ⊎ Contains names.now name }

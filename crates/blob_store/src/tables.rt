@@ -20,14 +20,14 @@ pub(crate) struct Table {
 /// Why a table can't be read.
 #[derive(Clone, Copy, Debug, PartialEq, Eq, Error)]
 pub(crate) enum TableFault {
-    /// No file has these bytes as its table.
+    /// No file has a table with these bytes.
     #[error("no file has this table")]
     Damaged,
     #[error("out of memory")]
     OutOfMemory,
 }
 
-/// The text of the table of a file: its size in 8 bytes, the highest first, and the 20 bytes of each name.
+/// The text of a file's table: its size in 8 bytes, most significant first, and the 20 bytes of each name.
 pub(crate) fn table_text(
     alloc: Global,
     size: usize,
@@ -42,7 +42,7 @@ pub(crate) fn table_text(
     Ok(text)
 }
 
-/// The size that a text tells, if it is that of a table.
+/// The size that a text tells, if a table has this text.
 #[tactic(auto, using(std::proofs::lemmas::Nat::be_bytes_8))]
 fn size_in(text: &[u8]) -> Option<usize>
     ensures table { IsSome result ↔ IsTable text.now }
@@ -78,8 +78,7 @@ fn names_in(alloc: Global, bytes: &[u8]) -> Result<Vec<Digest>, AllocError>
 }
 
 impl Table {
-    /// The table with this text. Memory is taken only for the names of a file of at most `MAX_SIZE` bytes, and none for the
-    /// empty file.
+    /// The table with this text. Only the names take memory, and only for a file of at most `MAX_SIZE` bytes that isn't empty.
     pub(crate) fn read(alloc: Global, text: &[u8]) -> Result<Table, TableFault>
         ensures read { IfOk result (λ table. Spells text.now table.size table.names.items) }
         ensures judged { IfErr result (λ fault. (fault ≡ OutOfMemory) ↔ IsTable text.now) }

@@ -1,4 +1,4 @@
-//! A file of records, each a body behind a gate: opened, mended, and put to. It knows nothing of entries.
+//! A file of records, each a body after a gate: the file is opened, mended, and put to. It knows nothing of entries.
 
 mod bodies;
 mod faults;

@@ -1,5 +1,5 @@
-//! The journal of a host: the entries of its history on a disk. On a modelled disk each is there whole or not at all, whenever the machine
-//! stops.
+//! The journal of a host: the entries of its history, on a disk. Whenever the machine stops, a modelled disk has each entry whole or not at
+//! all.
 #![tactic(auto)]
 
 mod entries;

@@ -26,8 +26,8 @@ fn first_touched<'a>(changes: &'a [Change], touched: &Touched) -> Option<&'a Cel
     None
 }
 
-/// The first cell that a plan changes and a later one touches. That of another site is passed over at once: cells of
-/// two sites never touch.
+/// The first cell that a plan changes and a later plan touches. A plan of another site is passed over at once: no cell belongs to two
+/// sites.
 fn touched_later<'a>(plan: &'a Plan, later: &Plan) -> Option<&'a Cell>
     ensures { option_copied result ≡ spec.first_touched plan.now (Some later.now) }
 {
@@ -38,7 +38,7 @@ fn touched_later<'a>(plan: &'a Plan, later: &Plan) -> Option<&'a Cell>
 }
 
 impl Records {
-    /// The first cell that a plan changes and the change of a later number touches, if that lives.
+    /// The first cell that a plan changes and the change with a later number touches, if that change lives.
     fn touched_by<'a>(&self, number: u64, plan: &'a Plan) -> Option<&'a Cell>
         ensures { option_copied result ≡ spec.first_touched plan.now (plan_of self.now number) }
     {
@@ -48,8 +48,8 @@ impl Records {
         }
     }
 
-    /// The first entry after a change that touches a cell which its plan changes, with the first such cell. Each number that
-    /// the index gives is tested, since keys may collide.
+    /// The first entry after a change that touches a cell which the change's plan changes, with the first such cell. Each number that the
+    /// index gives is tested by its change's plan, since keys may collide.
     fn kept_touch<'a>(&self, change: u64, plan: &'a Plan) -> Option<(u64, &'a Cell)>
         ensures { option_map (λ found. (found.0, found.1.now)) result ≡ spec.kept_touch plan.now (change + 1) (drop change self.now) }
     {

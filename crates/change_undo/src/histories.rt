@@ -29,9 +29,12 @@ pub const GREATEST_LIMIT: u64 = 1_000_000;
 // Clauses and documents have this number: whoever changes it changes them.
 const _: () = prove!(GREATEST_LIMIT == 1_000_000);
 
-/// The entries so far, and the state that the changes among them give that no undo names. Contracts see the limit,
-/// the entries, what each change that lives changed and touched, and the state. The state is always what those changes
-/// give when they run from nothing in the order of their numbers. Copies share the entries and what is kept of them.
+/// The entries so far, and the state that the changes among them give that no undo names: the changes that live. Contracts see the limit,
+/// the entries, what each live change changed and touched, and the state. The state is always what the live changes give when they run from
+/// nothing, in the order of their numbers. Copies share the entries and what is kept of them.
+///
+/// A history keeps no uploads. Its contracts speak of any uploads over which it is a history (`IsHistoryOver`), and a commit asks for such;
+/// it is then a history over all that have more, too (`histories_outlast_uploads`).
 #[derive(Drop)]
 pub struct History {
     limit: u64,
@@ -57,7 +60,7 @@ impl Model for History {
 }
 
 impl History {
-    /// A history without entries, which may have as many as the limit says.
+    /// A history without entries. It takes at most `limit` of them.
     pub fn new(alloc: Global, limit: u64) -> History
         requires some { 1 ≤ limit }
         requires bounded { limit ≤ 1000000 }
@@ -70,8 +73,8 @@ impl History {
         }
     }
 
-    /// The state: what the changes that no undo names give from nothing. `deploys_were_opened_by_their_entries` says what that
-    /// tells of its deploys.
+    /// The state: what the live changes give when they run from nothing. `deploys_were_opened_by_their_entries` says what that tells of its
+    /// deploys.
     pub fn state(&self) -> &State
         ensures value { result.now ≡ self.now.state }
         ensures over { (uploads : Contents) × IsHistoryOver uploads self.now }
@@ -79,7 +82,7 @@ impl History {
         &self.state
     }
 
-    /// The number of entries, of which there are no more than the limit says.
+    /// The number of entries, which is at most the limit.
     pub fn len(&self) -> u64
         ensures number { result ≡ last_number self.now.entries }
         ensures room { last_number self.now.entries ≤ self.now.limit }
@@ -89,28 +92,28 @@ impl History {
         self.records.len()
     }
 
-    /// Whether it has as many entries as its limit says.
+    /// Whether it has as many entries as its limit allows.
     pub fn is_full(&self) -> bool
         ensures { result ≡ nat_le self.now.limit (last_number self.now.entries) }
     {
         self.limit <= self.records.len()
     }
 
-    /// The entries. That takes no memory.
+    /// The entries. Takes no memory.
     pub fn log(&self) -> &Log
         ensures { result.now ≡ self.now.entries }
     {
         self.records.log()
     }
 
-    /// The entry of a number, from 1 on.
+    /// The entry with this number, from 1 on.
     pub fn entry(&self, number: u64) -> Option<&Entry>
         ensures { option_copied result ≡ Histories.entry_at self.now.entries number }
     {
         self.log().entry(number)
     }
 
-    /// The entry of a number, from 1 on, and whether an undo names it.
+    /// The entry with this number, from 1 on, and whether an undo names it.
     pub fn marked_entry(&self, number: u64) -> Option<(&Entry, bool)>
         ensures { option_map (λ found. (found.0.now, found.1)) result
             ≡ Histories.marked_entry self.now.entries number }
@@ -120,11 +123,10 @@ impl History {
         Some((entry, mark.is_undone))
     }
 
-    /// The clash of the change of a number: the number of the first later change that was not undone and reads or writes
-    /// a cell which that change changed; and the first such cell, in the order of cells. None where no later change does
-    /// so, and for each number that isn't that of a change, or that of one that was undone. Numbers count over all sites.
-    /// The work is two look-ups in an index for each changed cell, and one in the cells that the clash touches. It grows
-    /// with the logarithm of the entries.
+    /// The clash of the change with this number: the first later change that was not undone and reads or writes a cell which that change
+    /// changed, and the first such cell in the order of cells. None if no later change does so, and none for a number that is not that of a
+    /// change, or whose change was undone. Numbers count over all sites. The work is two look-ups in an index for each changed cell, and
+    /// one in the cells that the clash touches; it grows with the logarithm of the entries.
     pub fn clash(&self, change: u64) -> Option<(u64, &Cell)>
         ensures { (uploads : Contents) → IsHistoryOver uploads self.now
             → option_map (λ found. (found.0, found.1.now)) result ≡ Clashes.clash uploads self.now.entries change }
@@ -132,9 +134,8 @@ impl History {
         self.records.clash(change)
     }
 
-    /// What the change of a number changes and touches in its place among the changes that live, so that what was undone
-    /// has no part in it. None for each number that isn't that of a change, and for a change that was undone. That takes no
-    /// memory.
+    /// What the change with this number changes and touches in its place among the live changes; what was undone has no part in it. None
+    /// for a number that is not that of a change, and for a change that was undone. Takes no memory.
     pub fn record(&self, number: u64) -> Option<&Plan>
         ensures value { option_copied result ≡ Histories.recorded self.now number }
         ensures over { (uploads : Contents) → IsHistoryOver uploads self.now → IsRecorded uploads self.now.entries number (option_copied result) }
@@ -142,7 +143,7 @@ impl History {
         self.records.plan(number)
     }
 
-    /// Each file that is served or kept is among these uploads, over which the history is what it is.
+    /// Each served or kept file is among these uploads, over which this is a history.
     pub fn files_were_uploaded<U: Uploads>(&self, uploads: &U)
         requires { IsHistoryOver (U.contents uploads.now) self.now }
         ensures { AreUploaded (U.contents uploads.now) self.now.state }
@@ -150,8 +151,8 @@ impl History {
         uploads_are_digested(uploads);
     }
 
-    /// Commits a command as the next entry, with these uploads, over which the history is what it is. Answers its number.
-    /// On an error nothing changes.
+    /// Commits a command as the next entry, and answers the entry's number. It has to be a history over these uploads. On an error nothing
+    /// changes.
     pub fn commit<U: Uploads>(&mut self, uploads: &U, command: Command) -> Result<u64, ChangeError>
         requires over { IsHistoryOver (U.contents uploads.now) self.old }
         ensures refused { IsRefusedBy (Histories.commit_refusal (U.contents uploads.now) self.old.limit self.old.entries self.old.state command) result }
@@ -174,11 +175,14 @@ impl History {
         Ok(number)
     }
 
-    /// Undoes the change of a number, which belongs to this site, by the next entry. Answers that entry's number. Each cell
-    /// that the change changed has then what it had before the change, and every other cell what it has now. Where a later
-    /// change that was not undone reads or writes what this one changed, the undo is refused by its clash. On an error
-    /// nothing changes. The work is that of `clash`, that of `State::set_cells` with these cells, one write of the index with
-    /// the cells that the change touched, and that of a copy of the entries' marks and of the index.
+    /// Undoes the change with this number, which belongs to this site, by the next entry, and answers that entry's number. Each cell that
+    /// the change changed then has what it had before the change, and every other cell what it has now. If a later change that was not
+    /// undone reads or writes what this one changed, the undo is refused, and names that clash. On an error nothing changes. The work is
+    /// that of `clash`, that of `State::set_cells` with these cells, one write of the index with the cells that the change touched, and a
+    /// copy of the marks and of the index.
+    ///
+    /// What is written back is in the change's plan. It is what the other live changes give from nothing, since no later one reads or
+    /// writes those cells.
     pub fn undo(&mut self, site: &SiteName, change: u64) -> Result<u64, ChangeError>
         ensures refused { (uploads : Contents) → IsHistoryOver uploads self.old
             → Histories.IsUndoRefusedBy (Histories.undo_refusal uploads self.old.limit self.old.entries site.now change) result }
@@ -200,8 +204,7 @@ impl History {
         Ok(number)
     }
 
-    /// A copy. Neither sees what is done to the other. The work is that of `State::copy`, and a count for some ten thousand
-    /// entries.
+    /// A copy. Neither sees what is done to the other. The work is that of `State::copy`, and a count for each ten thousand entries or so.
     pub fn copy(&self) -> Result<History, AllocError>
         ensures { IfOk result (λ copy. copy ≡ self.now) }
     {

@@ -20,8 +20,11 @@ use std::alloc::{AllocError, Global};
 use std::marker::Model;
 use touch_index::Index;
 
-/// Entries, numbered from 1, each with its mark. Contracts see them together. By the index the changes that live and may
-/// touch a cell are found without a look at each. Copies share all three.
+/// Entries, numbered from 1, each with its mark. Contracts see them together. The index finds the live changes that may touch a cell,
+/// without a look at each change. Copies share all three.
+///
+/// The marks are in a list of their own: an undo changes one mark and no entry. So the entries can be lent as they are (`History::log`),
+/// and none is ever copied.
 #[derive(Drop)]
 pub(crate) struct Records {
     log: Log,
@@ -45,7 +48,7 @@ impl Model for Records {
     ghost invariant = { λ r. BelongTogether r.log r.marks.items r.index };
 }
 
-/// What the change of a number, from 1 on, changes in its place; nothing where it has no plan.
+/// What the change with this number, from 1 on, changes in its place; nothing if it has no plan.
 fn changes_in(marks: &SharedList<Mark>, number: u64) -> &[Change]
     requires some { 0 < number }
     ensures { result.now ≡ changes_of (plan_in (slice_get marks.now.items (number - 1))) }
@@ -87,7 +90,7 @@ impl Records {
         self.log.len()
     }
 
-    /// The mark of the entry of a number, from 1 on.
+    /// The mark of the entry with this number, from 1 on.
     pub(crate) fn mark(&self, number: u64) -> Option<&Mark>
         ensures { option_copied result ≡ mark_at self.now number }
     {
@@ -97,7 +100,7 @@ impl Records {
         self.marks.get(number as usize - 1)
     }
 
-    /// What the change of a number, from 1 on, changes and touches in its place, if it lives.
+    /// What the change with this number, from 1 on, changes and touches in its place, if it lives.
     pub(crate) fn plan(&self, number: u64) -> Option<&Plan>
         ensures { option_copied result ≡ plan_of self.now number }
     {
@@ -114,8 +117,8 @@ impl Records {
         &self.index
     }
 
-    /// Appends a change under the next number, with its plan, and writes into the state what the plan leaves. Without
-    /// memory nothing changes.
+    /// Appends a change under the next number, with its plan, and writes into the state what the plan leaves. If memory runs out, nothing
+    /// changes.
     pub(crate) fn append_change(
         &mut self,
         number: u64,
@@ -141,7 +144,7 @@ impl Records {
         Ok(())
     }
 
-    /// The marks after the undo of the change of this number. They are a copy, so that an undo can still fail.
+    /// The marks after the undo of the change with this number. They are a copy, so that an undo can still fail.
     fn marks_after_undo(&self, change: u64) -> Result<SharedList<Mark>, AllocError>
         requires some { 0 < change }
         requires within { change ≤ length self.now }
@@ -153,7 +156,7 @@ impl Records {
         Ok(marks)
     }
 
-    /// The index after the undo of the change of this number. It is a copy as well.
+    /// The index after the undo of the change with this number. It is a copy as well.
     fn index_after_undo(&self, change: u64) -> Result<Index, AllocError>
         requires some { 0 < change }
         ensures { IfOk result (λ index. IsIndexOf (with_undone (change - 1) self.now) index) }
@@ -165,8 +168,8 @@ impl Records {
         }
     }
 
-    /// Appends the undo of the change of this number, marks that change, and gives each cell that it changed what it had
-    /// before. Without memory nothing changes.
+    /// Appends the undo of the change with this number, marks that change, and gives each cell that it changed what the cell had before. If
+    /// memory runs out, nothing changes.
     pub(crate) fn append_undo(
         &mut self,
         site: &SiteName,

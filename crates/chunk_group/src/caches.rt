@@ -12,7 +12,7 @@ use host_names::Digest;
 use std::alloc::AllocError;
 use std::sync::Arc;
 
-/// The two caches, and the coin that says which of the chunks that peers gave are kept.
+/// The two caches, and the coin that says which chunks from peers are kept.
 #[derive(Drop)]
 pub(crate) struct Caches<C> {
     cache: ChunkCache,
@@ -49,8 +49,8 @@ impl<C: Coin> Caches<C> {
         }
     }
 
-    /// Keeps a chunk that was loaded: what the source gave in main, and what a peer gave in hot where the coin draws 0. Where
-    /// there is no memory for that, it isn't kept.
+    /// Keeps a chunk that was loaded: in main if the source gave it; in hot if a peer gave it and the coin draws 0. If there is no memory
+    /// for that, the chunk isn't kept.
     pub(crate) fn keep(&mut self, giver: Giver, chunk: &Arc<Chunk>)
         ensures { IsKept C.drew giver chunk.now.value self.old self.new }
     {

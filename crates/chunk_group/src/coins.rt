@@ -1,4 +1,4 @@
-//! What decides about the chunks that peers give.
+//! The coin that decides which chunks from peers are kept.
 ghost use Rattle.std.specs.Prelude.{◌<◌, ◌≡◌};
 
 /// Draws a number for each chunk that a peer gave.
@@ -22,7 +22,7 @@ pub struct Counter {
 }
 
 impl Counter {
-    /// It draws 0 first.
+    /// A counter that draws 0 first.
     pub fn new() -> Counter
         ensures { result.next ≡ 0 }
     {

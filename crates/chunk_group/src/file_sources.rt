@@ -8,7 +8,7 @@ use byte_view::Chunk;
 use chunk_reads::ReadFault;
 use host_names::Digest;
 
-/// Gives the pieces of the files on a shelf, each checked once. It may answer each fault for each key.
+/// Gives the pieces of the files on a shelf, each checked once. It may answer any fault for any key.
 #[derive(Drop)]
 pub struct FileSource<S> {
     pub(crate) files: Files<S>,

@@ -20,7 +20,7 @@ use single_flight::{Flights, Loads};
 use std::alloc::{AllocError, Global};
 use std::sync::{Arc, Mutex, Wait};
 
-/// A node of a group, for threads: what they read chunks through. Each call works with a copy of the source and of the link.
+/// A node of a group that threads read chunks through. Each call works with a copy of the source and of the link.
 #[derive(Drop)]
 pub struct Group<H: RingHash + Drop, S: Source, L, C>
 where
@@ -39,7 +39,7 @@ impl<H: RingHash + Copy + Drop, S: Source + Copy, L: PeerLink + Copy, C: Coin + 
     L,
     C,
 > {
-    /// The node at a place in a ring. Nothing is in its caches yet, which count at most the limit together, in bytes.
+    /// The node at a place in a ring. Its caches are empty. Together they count at most `limit`, in bytes.
     pub fn new(
         alloc: Global,
         limit: usize,
@@ -71,7 +71,7 @@ impl<H: RingHash + Copy + Drop, S: Source + Copy, L: PeerLink + Copy, C: Coin + 
         looked.map_err(|_| ReadFault::OutOfMemory)
     }
 
-    /// A share of a chunk that was given, which is kept as the rule says.
+    /// A share of a chunk that was given. The chunk is kept by the rule of `Caches::keep`.
     fn share<R: Wait>(&self, rt: &R, giver: Giver, chunk: Chunk) -> Outcome
         ensures same { IfOk result (λ share. share.value ≡ chunk) }
         ensures fault { IfErr result (λ fault. fault ≡ OutOfMemory) }
@@ -81,7 +81,10 @@ impl<H: RingHash + Copy + Drop, S: Source + Copy, L: PeerLink + Copy, C: Coin + 
         Ok(share)
     }
 
-    /// What a leader does: it looks once more, and then loads. It holds no lock while it loads.
+    /// What a leader does: it looks into the caches once more, and then loads. It holds no lock while it loads.
+    ///
+    /// Between the caller's look and its lead, the key's last flight may have ended. Its leader keeps a chunk before it ends the flight, so this
+    /// look finds a chunk that was kept, and doesn't load it again.
     fn fill<R: Wait>(&self, rt: &R, key: &Digest) -> Outcome
         ensures named { IfOk result (λ chunk. digest_of chunk.value ≡ key.now) }
         ensures fault { IfErr result (λ fault. may_answer S.allows key.now fault ≡ true) }
@@ -107,8 +110,8 @@ impl<H: RingHash + Copy + Drop, S: Source + Copy, L: PeerLink + Copy, C: Coin + 
         self.share(rt, Giver::Source, chunk)
     }
 
-    /// A share of the chunk of a key: from the caches, or else from the load of it that is in flight, or else loaded: from the peer that
-    /// owns it, or else from the source. No lock is held during a load.
+    /// A share of the chunk of a key: from the caches, or from the load of it that is in flight; else it is loaded, from the peer that owns
+    /// it, or else from the source. No lock is held during a load.
     pub fn get<R: Wait>(&self, rt: &R, key: &Digest) -> Result<Arc<Chunk>, ReadFault>
         ensures named { IfOk result (λ chunk. digest_of chunk.value ≡ key.now) }
         ensures fault { IfErr result (λ fault. may_answer S.allows key.now fault ≡ true) }
@@ -123,7 +126,7 @@ impl<H: RingHash + Copy + Drop, S: Source + Copy, L: PeerLink + Copy, C: Coin + 
         }
     }
 
-    /// The same, but who leads the load asks the source alone.
+    /// The same, but a leader asks the source alone.
     fn get_alone<R: Wait>(&self, rt: &R, key: &Digest) -> Result<Arc<Chunk>, ReadFault>
         ensures named { IfOk result (λ chunk. digest_of chunk.value ≡ key.now) }
         ensures fault { IfErr result (λ fault. may_answer S.allows key.now fault ≡ true) }
@@ -140,8 +143,8 @@ impl<H: RingHash + Copy + Drop, S: Source + Copy, L: PeerLink + Copy, C: Coin + 
         }
     }
 
-    /// A stretch of a file, from its first to its last byte, with the chunks that it meets. Each is read once, and has the name and
-    /// the length of its piece.
+    /// A stretch of a file, from its first to its last byte, with the chunks that it meets. Each chunk is read once, and has the name and
+    /// the length of its piece. The call may wait, and takes a handle for that; so a `Group` is no `Holder`.
     pub fn hold<R: Wait>(
         &self,
         rt: &R,
@@ -159,8 +162,8 @@ impl<H: RingHash + Copy + Drop, S: Source + Copy, L: PeerLink + Copy, C: Coin + 
     }
 }
 
-/// What a peer is given: a chunk from the caches, or from the load of it that is in flight, or from the source, as `get` gives it; for each
-/// fault nothing. It asks no peer.
+/// What a peer is given: a chunk from the caches, from the load of it that is in flight, or from the source, as `get` gives it; nothing if
+/// there is a fault. It asks no peer.
 impl<H: RingHash + Copy + Drop, S: Source + Copy, L: PeerLink + Copy, C: Coin + Drop> LocalChunks
     for Group<H, S, L, C> {
     fn local<R: Wait>(&self, rt: &R, key: &Digest) -> Option<Arc<Chunk>> {
@@ -168,7 +171,7 @@ impl<H: RingHash + Copy + Drop, S: Source + Copy, L: PeerLink + Copy, C: Coin + 
     }
 }
 
-/// A group that is read through by one thread, which may wait.
+/// A group that one thread reads through. The thread may wait.
 #[derive(Drop)]
 struct Reading<'a, R, H: RingHash + Drop, S: Source, L, C>
 where

@@ -26,13 +26,14 @@ use blob_store::Shelf;
 use peer_link::PeerLink;
 use peer_ring::RingHash;
 
-/// A shelf has what is in an empty cache, so that what is said of such shelves is said of a node that is new.
+/// Every shelf has what is in an empty cache, so what is said of shelves that have what is in the cache holds for a new node.
 pub fn an_empty_cache_is_on_each_shelf<S: Shelf>()
     ensures { (has : S → ShelfName → Option (List ℕ)) (shelf : S) (limit : ℕ) → HasCached has (record { shelf = shelf; cache = empty limit }) }
 {}
 
-/// A chunk that a cache has is what a read of its name gives, and nobody is asked for it. Of the others each is refuted of one wrong answer,
-/// so none of these relations holds of everything: of no names no read fails, and without a fault that a source may give no piece is missing.
+/// If a cache has a chunk, a read of its name gives that chunk, and nobody is asked for it. Each of the other relations is refuted for one
+/// wrong answer, so none of them holds of everything: a read of no names doesn't fail, and no piece is missing without a fault that a
+/// source may give.
 pub fn wrong_answers_are_refused<H: RingHash, S: Source, L: PeerLink, C: Coin, T: Shelf>()
     ensures hit { (ring : Peers H) (me : ℕ) (old new : Node S L C) (key : Digest) (chunk other : List ℕ) → held key old.caches.cache ≡ Some chunk
         → Fills S.loaded L.fetched C.drew (Owns H.hashed ring) me old key (Ok other) new → other ≡ chunk }

@@ -1,4 +1,4 @@
-//! How a node loads what its caches haven't.
+//! How a node loads what its caches don't have.
 ghost use Rattle.std.specs.Prelude.{◌≡◌, true, Err, IfErr, IfOk, MatchOption, Ok, Some};
 ghost use Rattle.host_names.specs.Digests.{digest_of};
 ghost use Rattle.chunk_group.specs.declared.loads.Giver.TheVariants as giver;

@@ -22,7 +22,8 @@ use std::sync::Arc;
 /// What the cache counts at most, in bytes: 64 MiB.
 const CACHE_LIMIT: usize = 67_108_864;
 
-/// The files of a node that is alone. Contracts see the shelf, and the cache that its chunks are read through.
+/// The files of a node that is alone: its ring has one name, its link no peer, and its source is the shelf. Contracts see the shelf, and
+/// the cache through which its chunks are read, since nothing else of the node can be told apart.
 #[derive(Drop)]
 pub struct NodeFiles<S> {
     group: SoloGroup<DigestHash, FileSource<S>, NoLink, Counter>,
@@ -52,8 +53,7 @@ fn lone_ring(alloc: Global) -> Result<Ring<DigestHash>, AllocError>
 }
 
 impl<S: Shelf> NodeFiles<S> {
-    /// The files of a shelf, with nothing in the cache yet. Where there is no memory for the ring or the cache, they
-    /// are handed back.
+    /// The files of a shelf. The cache is empty. If there is no memory for the ring or for the cache, the files are handed back.
     pub fn new(alloc: Global, files: Files<S>) -> Result<NodeFiles<S>, Files<S>>
         ensures new { IfOk result (λ node. node ≡ record { shelf = files.shelf; cache = empty 67108864 }) }
         ensures back { IfErr result (λ back. back ≡ files) }
@@ -69,7 +69,7 @@ impl<S: Shelf> NodeFiles<S> {
         Ok(NodeFiles { group })
     }
 
-    /// The files on its shelf, to which uploads go: what is written doesn't go through the cache.
+    /// The files on its shelf. Uploads go there and past the cache, so the first read of each piece still checks what the shelf has of it.
     pub fn files_mut(&mut self) -> &mut Files<S>
         ensures* lends { sem 𝓛 (Lends (the_row S.row) (files.the_row S.row) self.entry result (λ files. with_shelf files.shelf self.old)) }
         ensures value { result.now.shelf ≡ self.old.shelf }
@@ -78,8 +78,11 @@ impl<S: Shelf> NodeFiles<S> {
         &mut source.files
     }
 
-    /// A stretch of a file, from its first to its last byte, with the chunks that it meets. They are read in turn, each from the cache or
-    /// else from the shelf, and each has the name and the length of its piece.
+    /// A stretch of a file, from its first to its last byte, with the chunks that it meets. They are read in turn, from the cache or else
+    /// from the shelf, and each has the name and the length of its piece.
+    ///
+    /// A chunk in the cache isn't looked for on the shelf. So a file that is lost or damaged after it was read is sent as it was, as long
+    /// as its chunks are in the cache; they were checked on their way in, and their type keeps them so.
     pub fn hold(
         &mut self,
         info: Arc<BlobInfo>,

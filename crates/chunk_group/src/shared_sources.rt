@@ -10,8 +10,8 @@ use host_names::Digest;
 use std::alloc::AllocError;
 use std::sync::{Mutex, Wait};
 
-/// Gives the pieces of the files on a shelf that nodes share. A lock guards the shelf, and is held for one call of it. Each piece is checked
-/// once, after that call. It may answer each fault for each key.
+/// Gives the pieces of the files on a shelf that nodes share. A lock guards the shelf and is held for one call of it. Each piece is checked
+/// once, after that call, so that no node waits for another one's hash. It may answer any fault for any key.
 pub struct SharedSource<'a, R, S> {
     rt: &'a R,
     files: &'a Mutex<Files<S>>,

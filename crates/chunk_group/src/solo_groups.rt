@@ -52,7 +52,7 @@ impl<S: Source, L: PeerLink, C: Coin> Node<S, L, C> {
     }
 }
 
-/// A node of a group, for one thread: what it reads chunks through.
+/// A node of a group that one thread reads chunks through.
 #[derive(Drop)]
 pub struct SoloGroup<H: RingHash + Drop, S, L, C> {
     alloc: Global,
@@ -66,7 +66,7 @@ impl<H: RingHash + Copy + Drop, S: Source + Drop, L: PeerLink + Drop, C: Coin + 
     L,
     C,
 > {
-    /// The node at a place in a ring. Nothing is in its caches yet, which count at most the limit together, in bytes.
+    /// The node at a place in a ring. Its caches are empty. Together they count at most `limit`, in bytes.
     pub fn new(
         alloc: Global,
         limit: usize,
@@ -112,8 +112,8 @@ impl<H: RingHash + Copy + Drop, S: Source, L: PeerLink, C: Coin> SoloGroup<H, S,
         }
     }
 
-    /// A share of the chunk of a key: from the caches, or else from the peer that owns it, or else from the source. What the source
-    /// gave goes into main, and what a peer gave into hot where the coin draws 0. Where there is no memory for that, it isn't kept.
+    /// A share of the chunk of a key: from the caches, or else from the peer that owns it, or else from the source. What the source gave
+    /// goes into main, and what a peer gave into hot if the coin draws 0. If there is no memory for that, the chunk isn't kept.
     pub fn get(&mut self, key: &Digest) -> Result<Arc<Chunk>, ReadFault>
         ensures named { IfOk result (λ chunk. digest_of chunk.value ≡ key.now) }
         ensures chunk { IfOk result (λ chunk. Fills S.loaded L.fetched C.drew (Owns H.hashed self.old.place.ring) self.old.place.me self.old.node key.now (Ok chunk.value) self.new.node) }
@@ -128,7 +128,7 @@ impl<H: RingHash + Copy + Drop, S: Source, L: PeerLink, C: Coin> SoloGroup<H, S,
         }
     }
 
-    /// A stretch of a file, from its first to its last byte, with the chunks that it meets. Each is read once, and has the name and
+    /// A stretch of a file, from its first to its last byte, with the chunks that it meets. Each chunk is read once, and has the name and
     /// the length of its piece.
     pub fn hold(
         &mut self,
@@ -155,7 +155,7 @@ impl<H: RingHash + Copy + Drop, S: Source, L: PeerLink, C: Coin> ChunkReader
     }
 }
 
-/// Files are read through the caches, and from who is asked else.
+/// Files are read through the caches; what these don't have comes from the owner of its key, or else from the source.
 impl<H: RingHash + Copy + Drop, S: Source, L: PeerLink, C: Coin> Holder for SoloGroup<H, S, L, C> {
     ghost gave = { λ old hold new. ReadsInTurn (ReadsOf S.loaded L.fetched C.drew H.hashed) old hold.chunks new };
 

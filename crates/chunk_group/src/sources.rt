@@ -14,7 +14,9 @@ use std::sync::Arc;
 /// What a read of a chunk comes to.
 pub type Outcome = Result<Arc<Chunk>, ReadFault>;
 
-/// Where a node has those chunks from that no peer gives it. It is not trusted: what it gives may be the chunk of another name.
+/// Gives a node the chunks that no peer gives it. It is not trusted: it may give the chunk of another name.
+///
+/// It gives a checked chunk, as a store does, and no bytes: so these are hashed once. A peer gives bytes, since the node has to check them.
 pub trait Source {
     ghost use Rattle.std.specs.Prelude.{Bool, List, Result, ℕ};
     ghost use Rattle.host_names.specs.declared.digests.Digest.{Digest};

@@ -20,8 +20,8 @@ pub enum Which {
     Hot,
 }
 
-/// Two caches of chunks. They count 40 bytes for each entry and the bytes of its chunk, and together at most the
-/// limit. Contracts see the chunks of each, those that were used last first.
+/// Two caches of chunks under one limit. Each entry counts 40, whatever the allocator takes for it, and the bytes of its chunk. Contracts
+/// see the chunks of each cache, the last used first.
 #[derive(Drop)]
 pub struct ChunkCache {
     limit: usize,
@@ -39,8 +39,7 @@ impl Model for ChunkCache {
     ghost invariant = { λ cache. AreWithin cache.limit cache.main cache.hot };
 }
 
-/// Removes chunks, the last of hot where that counts more than an eighth of main, else the last of main, until the
-/// rest is within the limit.
+/// Removes chunks until the rest is within the limit: the last of hot if hot counts more than an eighth of main, else the last of main.
 fn evict(main: &mut ChunkList, hot: &mut ChunkList, limit: usize)
     requires { total (together limit main.old hot.old) < 2 ^ 127 }
     ensures main { main.new ≡ recent (evicted (together limit main.old hot.old)).main main.old.room }
@@ -71,8 +70,7 @@ impl ChunkCache {
         })
     }
 
-    /// What the entries of main and those of hot count, in bytes. Together they are within the limit, and
-    /// neither has a name twice.
+    /// What the entries of main and of hot count, in bytes. Together they are within the limit, and neither has a name twice.
     pub fn sizes(&self) -> (usize, usize)
         ensures counted { result ≡ (size_of self.now.main, size_of self.now.hot) }
         ensures within { total self.now ≤ self.now.limit }
@@ -81,8 +79,8 @@ impl ChunkCache {
         (self.main.size() as usize, self.hot.size() as usize)
     }
 
-    /// A share of the chunk of a name, from main, else from hot. It becomes the first of its cache. Without memory for
-    /// the share nothing changes.
+    /// A share of the chunk of a name, from main or else from hot. The chunk becomes the first of its cache. If there is no memory for the
+    /// share, nothing changes.
     pub fn get(&mut self, name: &Digest) -> Result<Option<Arc<Chunk>>, AllocError>
         ensures found { IfOk result (λ share. option_map (λ chunk. chunk.value) share ≡ held name.now self.old) }
         ensures named { IfOk result (λ share. IfSome share (λ chunk. digest_of chunk.value ≡ name.now)) }
@@ -96,9 +94,9 @@ impl ChunkCache {
         }
     }
 
-    /// Adds a chunk to one of the caches, as its first, and evicts what is over the limit, which may be that chunk too.
-    /// Where that cache has its name, the chunk that is held becomes the first, and nothing else changes. Without
-    /// memory nothing changes.
+    /// Adds a chunk to one of the caches, as its first, and evicts what is over the limit. That may be this chunk too: one that counts more
+    /// than the limit is evicted by the same rule, after all older chunks of its list. If the cache has the chunk's name, the chunk that it
+    /// holds becomes the first, and nothing else changes. If memory runs out, nothing changes.
     pub fn add(&mut self, which: Which, chunk: Arc<Chunk>) -> Result<(), AllocError>
         ensures ok { OnOk result (self.new ≡ added which chunk.value self.old) }
         ensures present { IsSome (found (digest_of chunk.value) (chunks_in which self.old)) → IsOk result }

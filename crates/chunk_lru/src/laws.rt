@@ -6,7 +6,7 @@ ghost use Rattle.chunk_lru.specs.Evictions.{EvictsFewest};
 ghost use Rattle.chunk_lru.specs.Recent.{HaveOwnNames};
 ghost use Rattle.chunk_lru.specs.Rules.{total};
 
-/// Where the caches count too much, the fewest chunks go that the rule of the victim names in turn. Else none goes.
+/// If the caches count too much, the fewest chunks are evicted, in the order in which the rule of the victim names them. Otherwise none is.
 pub fn the_fewest_chunks_are_evicted()
     ensures { (cache : Cache) → EvictsFewest cache }
 {}
@@ -17,7 +17,7 @@ pub fn caches_stay_within_their_limit()
     ensures within { (limit : ℕ) (calls : List Call) → total (after_all calls (empty limit)) ≤ limit }
 {}
 
-/// A chunk that is there twice has no name of its own.
+/// If a chunk is there twice, the names aren't distinct.
 pub fn wrong_answers_are_refused()
     ensures own_names { (chunk : List ℕ) → ¬ (HaveOwnNames (chunk ∷ chunk ∷ [])) }
 {}

@@ -13,6 +13,9 @@ use std::num::NonZeroUsize;
 use std::sync::Arc;
 
 /// Chunks under the bytes of their names, and what they count together.
+///
+/// The keys are bytes, since `Digest` has no `Hash`. They are hashed with a fixed seed, so that runs repeat: whoever uploads chunks whose
+/// names collide in that hash can make look-ups slow.
 #[derive(Drop)]
 pub(crate) struct ChunkList {
     chunks: LruCache<[u8; 20], Arc<Chunk>>,
@@ -30,7 +33,8 @@ impl Model for ChunkList {
     ghost invariant = { λ list. AreNamed (λ share. share.value) list.chunks.entries × (list.size ≡ size_of (chunks_of (λ share. share.value) list.chunks.entries)) };
 }
 
-/// What an entry counts: 40, and the bytes of its chunk.
+/// What an entry counts: 40, and the bytes of its chunk. Sums of these have 128 bits, since with the entry that was just inserted the
+/// caches may be over the limit, which may be any `usize`.
 fn weight(chunk: &Chunk) -> u128
     ensures value { result ≡ 40 + length chunk.now }
     ensures bound { result < 2 ^ 65 }
@@ -39,7 +43,7 @@ fn weight(chunk: &Chunk) -> u128
 }
 
 impl ChunkList {
-    /// No chunks yet, of at most so many.
+    /// An empty list with room for this many chunks.
     pub(crate) fn new(alloc: Global, room: NonZeroUsize) -> Result<ChunkList, AllocError>
         ensures { IfOk result (λ list. list ≡ recent [] (non_zero_usize_get room)) }
     {
@@ -95,7 +99,7 @@ impl ChunkList {
         Ok(())
     }
 
-    /// Adds a chunk as the first. Where its name is there, the chunk that is held becomes the first in its place.
+    /// Adds a chunk as the first. If its name is there, the chunk that is held becomes the first instead.
     pub(crate) fn add(&mut self, chunk: Arc<Chunk>) -> Result<(), AllocError>
         requires room { length self.old.chunks < self.old.room }
         requires size { size_of self.old.chunks < 2 ^ 127 }

@@ -2,13 +2,13 @@
 
 use thiserror::Error;
 
-/// Why something can't be read from where chunks are.
+/// Why a chunk or a file can't be read.
 #[derive(Clone, Copy, Debug, PartialEq, Eq, Error)]
 pub enum ReadFault {
     #[error("the shelf doesn't have it")]
     Missing,
-    /// The shelf gave other bytes than those of what is read; where a file is read whole, also no bytes for a piece that its
-    /// table names.
+    /// The shelf gave other bytes than those of the chunk or the file; or, where a file is read whole, no bytes for a piece that its table
+    /// names.
     #[error("the shelf has other bytes")]
     Damaged,
     #[error("the device failed")]

@@ -15,7 +15,7 @@ pub trait Holder {
     // What it is where it couldn't hold a stretch of a file, from its first to its last byte, and what it is then.
     ghost failed: { Self → List ℕ → ℕ → ℕ → Fault → Self → Type 0 };
 
-    /// A stretch of a file, from its first to its last byte, with the chunks that it meets.
+    /// A stretch of a file, with the chunks that it meets. It is given by its first and its last byte, both included, as in a Range field.
     fn hold(&mut self, info: Arc<BlobInfo>, first: usize, last: usize) -> Result<Hold, ReadFault>
         requires ordered { first ≤ last }
         requires within { last < length info.value }

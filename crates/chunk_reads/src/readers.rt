@@ -24,7 +24,7 @@ pub trait ChunkReader {
         ensures read { MatchResult result (λ chunk. reads self.old name.now (Ok chunk.value) self.new) (λ fault. reads self.old name.now (Err fault) self.new) };
 }
 
-/// Reads the chunk of a name, and puts it behind those before it.
+/// Reads the chunk of a name, and appends it to those before it.
 fn push_chunk<N: ChunkReader>(
     reader: &mut N,
     name: Digest,
@@ -54,8 +54,11 @@ fn read_chunks<N: ChunkReader>(
     Ok(chunks)
 }
 
-/// A stretch of a file, from its first to its last byte, with the chunks that it meets. Each is read once, and has its piece's name
-/// and length.
+/// A stretch of a file, from its first to its last byte, both included, with the chunks that it meets. Each chunk is read once, and has the
+/// name and the length of its piece.
+///
+/// A chunk of another length counts as damaged. Chunks with the names of the pieces have their lengths, unless two byte strings share a
+/// digest: so no chunk has to be believed, and no proof has to assume that digests differ.
 pub fn hold_stretch<N: ChunkReader>(
     alloc: Global,
     reader: &mut N,

@@ -3,8 +3,8 @@ ghost use Rattle.std.specs.Prelude.{◌∷◌, ◌++◌, [], None, Option, Some,
 ghost use Rattle.clap.specs.Words.{Text};
 ghost use Rattle.command_line.specs.CommandLine.{AskForSolo};
 
-/// `solo` takes one folder at most: without words, or with the mark after which there is no option, it has none; `--store=` gives one,
-/// whatever it is called. A second one, or none behind `--store`, asks for nothing.
+/// `solo` takes at most one folder. Without further words, or with `--` alone, it has none; `--store=` gives one, whatever the folder's
+/// name. A second folder, or no folder after `--store`, asks for nothing.
 pub fn solo_takes_one_folder()
     ensures alone { AskForSolo (codes "solo" ∷ []) None }
     ensures marked { AskForSolo (codes "solo" ∷ codes "--" ∷ []) None }

@@ -60,7 +60,7 @@ const NOT_TAKEN: &str = "filehost: these arguments are not taken\n";
 pub enum Wanted {
     /// Serve one connection on standard input and standard output.
     Solo {
-        /// The folder in which the host is kept, if it is kept in one.
+        /// The folder that keeps the host, if one does.
         store: Option<String>,
     },
 }
@@ -68,7 +68,7 @@ pub enum Wanted {
 /// Why the command line asks for nothing that the program does.
 #[derive(Debug, Drop, thiserror::Error)]
 pub enum Refusal {
-    /// A mistake in the words, or a wish for help or the version: the text to show.
+    /// The words have a mistake, or ask for help or the version. This is the text to show.
     #[error("{0}")]
     Shown(String),
     /// Memory ran out.
@@ -86,8 +86,8 @@ impl From<AllocError> for Refusal {
 
 /// Reads the words after the program's name.
 ///
-/// Where they ask for nothing that the program does, that is answered, with the text to show, unless memory runs out. Its
-/// contract can't say that memory suffices: `clap` excludes `OutOfMemory` for no words.
+/// If they ask for nothing that the program does, the answer has the text to show, unless memory runs out. The contract can't say that
+/// memory suffices: `clap` excludes `OutOfMemory` for no words.
 pub fn read<S: AsStr>(alloc: Global, words: &[S]) -> Result<Wanted, Refusal>
     ensures { Reads (map S.text words.now) result }
 {
@@ -127,7 +127,7 @@ fn make_refusal(alloc: Global, error: &Error) -> Refusal
     }
 }
 
-/// The text of an error of the parse. `clap` doesn't promise that its own says anything.
+/// The text of a mistake in the words. `clap` doesn't promise that its own text says anything.
 fn text_of(alloc: Global, error: &Error) -> Result<String, AllocError>
     ensures { IfOk result (λ text. string_bytes text ≢ []) }
 {

@@ -56,10 +56,9 @@ fn answer_by<H: House>(alloc: Global, house: &mut H, head: &Head, body: &[u8]) -
     }
 }
 
-/// The reply to a request, and what is done for it by calls of the house: one look, and what the request asks for, over
-/// what the look shows. A request that asks for nothing is told why, and no call is made. Where there is no memory the
-/// reply says so; what was done before remains: an entry, an opening without its publishing, an upload. Each reason
-/// against a request is found before memory is taken for it.
+/// The reply to a request, and what calls of the house do for it: one look, and then what the request asks for, over what the look shows. A
+/// request that asks for nothing is told why, and no call is made. If memory runs out the reply says so; what was done before remains: an
+/// entry, an opening without its publish, an upload. Each reason against a request is found before memory is taken for it.
 pub fn answer<H: House>(alloc: Global, house: &mut H, head: &Head, body: &[u8]) -> Reply
     ensures by { AnswersBy H.calls H.gave H.failed house.old head.now body.now (answer_of result) house.new }
     ensures replied { H.answers house.old head.now body.now (answer_of result) house.new }

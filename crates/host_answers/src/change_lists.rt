@@ -15,7 +15,7 @@ use std::alloc::{AllocError, Global};
 /// How many entries of a site are shown.
 const MOST_LINES: usize = 1_000;
 
-/// The line of the entry of a number, if it is the site's.
+/// The line of the entry with this number, if it is the site's.
 fn line<H: House>(house: &H, site: &SiteName, number: u64) -> Option<ChangeLine>
     ensures { result ≡ spec.line_at (H.calls.seen house.now).entries site.now number }
 {

@@ -1,4 +1,4 @@
-//! Commands and undos: what is made an entry, and what is told of it.
+//! Commands and undos: they become entries, and replies tell of these.
 ghost use Rattle.std.specs.Prelude.{◌≡◌, Bool, None, Some, Ok};
 ghost use Rattle.site_state.specs.Listings.{Listed};
 ghost use Rattle.host_answers.specs.Deploys.{IsOpening, opened_by};
@@ -32,7 +32,7 @@ pub(crate) fn undo<H: House>(alloc: Global, house: &mut H, site: &SiteName, chan
     tell_entry(alloc, done)
 }
 
-/// The reply to a command that opens nothing, which becomes an entry. No more follows.
+/// The reply to a command that opens nothing. It becomes an entry, and nothing more follows.
 fn commit<H: House>(alloc: Global, house: &mut H, command: Command) -> Reply
     requires { opened_by command ≡ None }
     ensures { ChangesBy H.calls house.old command (answer_of result) house.new }
@@ -58,7 +58,7 @@ fn tell_publishing(alloc: Global, id: u64, done: Result<u64, Stop>) -> Reply
     }
 }
 
-/// The reply where a deploy was opened, which is published if it is to publish itself and lacks nothing.
+/// The reply after a deploy was opened. The deploy is published if it is to publish itself and lacks nothing.
 fn publish<H: House>(
     alloc: Global,
     house: &mut H,
@@ -83,7 +83,7 @@ fn publish<H: House>(
     )
 }
 
-/// What a deploy lacks that the entry of this number opened.
+/// What the deploy lacks that the entry with this number opened.
 fn lacking<H: House>(alloc: Global, house: &H, id: u64) -> Result<Items<Digest>, AllocError>
     requires { (command : Change) × IsOpening command
         × (entry_at (H.calls.seen house.now).entries id ≡ Some (entry.Change command)) }
@@ -97,7 +97,10 @@ fn lacking<H: House>(alloc: Global, house: &H, id: u64) -> Result<Items<Digest>,
     house.missing(alloc, files)
 }
 
-/// The reply where an entry opened a deploy of a site.
+/// The reply after an entry opened a deploy of a site.
+///
+/// If there is no memory to list what the deploy lacks, the entry stands. The contract tells this as an opening for whose reply there was
+/// no memory: what is lacking is a list, whether or not it was made.
 fn follow<H: House>(alloc: Global, house: &mut H, site: SiteName, id: u64, auto: bool) -> Reply
     requires { (command : Change) × IsOpening command
         × (entry_at (H.calls.seen house.old).entries id ≡ Some (entry.Change command)) }
@@ -112,7 +115,7 @@ fn follow<H: House>(alloc: Global, house: &mut H, site: SiteName, id: u64, auto:
     }
 }
 
-/// The reply to an opening: it becomes an entry first, and is asked then what it lacks.
+/// The reply to an opening. It becomes an entry first; then the house is asked what the deploy lacks.
 fn open<H: House>(alloc: Global, house: &mut H, site: SiteName, files: Listing, auto: bool) -> Reply
     ensures { ChangesBy H.calls house.old (command.Open site files auto) (answer_of result) house.new }
 {
@@ -123,7 +126,7 @@ fn open<H: House>(alloc: Global, house: &mut H, site: SiteName, files: Listing, 
     }
 }
 
-/// The reply to a command, which becomes an entry; after an opening more may follow.
+/// The reply to a command. It becomes an entry, and after an opening more may follow.
 pub(crate) fn change<H: House>(alloc: Global, house: &mut H, command: Command) -> Reply
     ensures { ChangesBy H.calls house.old command (answer_of result) house.new }
 {

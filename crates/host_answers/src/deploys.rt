@@ -1,4 +1,4 @@
-//! Deploys: whose they are, and what is told of them.
+//! Deploys: the site that each belongs to, and what is told of them.
 ghost use Rattle.std.specs.Prelude.{◌≡◌};
 ghost use Rattle.change_undo.specs.Logs.{entry_at};
 ghost use Rattle.site_state.specs.States.{draft_at, kept_at};
@@ -17,7 +17,7 @@ use host_replies::Reply;
 use site_change::Command;
 use std::alloc::{AllocError, Global};
 
-/// The site of the deploy of a number, which is that of the entry that opened it.
+/// The site of the deploy with this number: that of the entry that opened it.
 pub(crate) fn site_of_deploy(log: &Log, number: u64) -> Option<SiteName>
     ensures { result ≡ spec.site_of_deploy (entry_at log.now number) }
 {

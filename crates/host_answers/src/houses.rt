@@ -17,8 +17,13 @@ use site_change::Command;
 use site_state::{Listing, State};
 use std::alloc::{AllocError, Global};
 
-/// What requests are answered over: a history that is looked at and changed, and files that are held. A look shows one
-/// state and its entries, which are lent until the next look or entry.
+/// What requests are answered over: a history that is looked at and changed, and files that are held. A look shows one state and its
+/// entries, which are lent until the next look or entry.
+///
+/// What each call does is the house's own relation. So `answer` is proved once, over a house of one thread and over one whose history others
+/// change. The state may change between a look and an entry, so an entry is told by what is shown after it.
+///
+/// Each house has to be a `Service` by an impl of its own: the language takes no impl of another crate's trait for every type.
 pub trait House: Holder {
     // What each of its calls does.
     ghost calls: { Calls Self };
@@ -41,7 +46,7 @@ pub trait House: Holder {
     fn log(&self) -> &Log
         ensures { result.now ≡ (calls.seen self.now).entries };
 
-    /// The entry of a number, from 1 on, and whether an undo names it, as it is shown.
+    /// The entry with this number, from 1 on, as it is shown, and whether an undo names it.
     fn marked_entry(&self, number: u64) -> Option<(&Entry, bool)>
         ensures { option_map (λ found. (found.0.now, found.1)) result
             ≡ marked_entry (calls.seen self.now).entries number };
@@ -50,7 +55,7 @@ pub trait House: Holder {
     fn missing(&self, alloc: Global, files: &Listing) -> Result<Items<Digest>, AllocError>
         ensures { calls.misses self.now files.now.1 result };
 
-    /// Makes a command the next entry, and answers its number. What is shown then has that entry.
+    /// Makes a command the next entry, and answers its number. The entry is shown from then on.
     fn commit(&mut self, command: Command) -> Result<u64, Stop>
         ensures did { calls.commits self.old command result self.new }
         ensures shown { IfOk result (λ number.

@@ -1,4 +1,4 @@
-//! What follows of answers by calls of a house. Each function does nothing: its contract is the law.
+//! Laws of answers by calls of a house. Each function does nothing: its contract is the law.
 ghost use Rattle.std.specs.Prelude.{◌≡◌, ℕ, List, Result, true};
 ghost use Rattle.http_wire.specs.Requests.{RequestParts};
 ghost use Rattle.host_api.specs.declared.refusals.Refusal.{Refusal};
@@ -10,15 +10,15 @@ ghost use Rattle.host_answers.specs.Reads.{ReadsBy};
 use crate::houses::House;
 use chunk_reads::Holder;
 
-/// Only to HEAD is a body told by its length alone.
+/// Only a reply to HEAD tells a body by its length alone.
 pub fn bodies_are_withheld_from_heads_alone<H: House>()
     ensures { (old new : H) (parts : RequestParts) (body : List ℕ) (answer : Answer)
         → AnswersBy H.calls H.gave H.failed old parts body answer new → answer.withheld ≡ true
         → is_head parts ≡ true }
 {}
 
-/// The reply to the reading of a file is of the file itself, or says that it can't be read; unless a chunk that was held
-/// differs from a piece of the file that has the same digest.
+/// The reply to a read of a file is of the file itself, or says that it can't be read; unless a held chunk differs from a piece of the file
+/// that has the same digest.
 pub fn replies_to_reads_are_of_their_files<H: Holder>()
     ensures { (old new : H) (parts : RequestParts) (path : List ℕ) (found : Result (List ℕ) Refusal)
         (answer : Answer) → ReadsBy H.gave H.failed old parts path found answer new

@@ -1,4 +1,4 @@
-//! The reading of files.
+//! Reads of files.
 ghost use Rattle.std.specs.Prelude.{◌≡◌, ◌≢◌, ◌⊎◌, All, codes, IfErr, IfOk, OnOk, length};
 ghost use Rattle.range_spec.specs.Chosen.{LiesWithin, intervals_in};
 ghost use Rattle.range_spec.specs.declared.grammar.Asked.{Asked as Range};
@@ -60,7 +60,7 @@ fn plan_asked(head: &Head, info: &BlobInfo) -> ReplyPlan
     plan(info, &range_asked(head), condition(head, info.digest()))
 }
 
-/// What is kept of a file, where something of it is to be sent.
+/// What is kept of a file, if something of it is to be sent.
 fn wanted(info: &Arc<BlobInfo>, plan: &ReplyPlan) -> Result<Arc<BlobInfo>, Refusal>
     ensures ok { IfOk result (λ wanted. wanted.value ≡ info.now.value) }
     ensures some { OnOk result (plan.now ≢ None416) }
@@ -74,7 +74,7 @@ fn wanted(info: &Arc<BlobInfo>, plan: &ReplyPlan) -> Result<Arc<BlobInfo>, Refus
     }
 }
 
-/// Why a file can't be read, as it is told.
+/// The refusal of a read that failed this way.
 fn refusal_of_read(why: ReadFault) -> Refusal
     ensures { result ≡ spec.refusal_of_read why }
 {
@@ -104,7 +104,7 @@ fn send<H: Holder>(
     }
 }
 
-/// The reply to HEAD, for which nothing of the file is held.
+/// The reply to HEAD. Nothing of the file is held and no plan is made for it: what needs no memory is judged first.
 fn unread(path: &FilePath, info: &Arc<BlobInfo>) -> Reply
     ensures { (answer_of result ≡ unread_answer (type_of path.now) info.now.value)
         ⊎ (answer_of result ≡ refused_answer OutOfMemory) }
@@ -115,7 +115,7 @@ fn unread(path: &FilePath, info: &Arc<BlobInfo>) -> Reply
     }
 }
 
-/// The reply with the file that a version of the site has at a path, as the Range of the request asks, or that there is
+/// The reply to a read: the file that a version of the site has at a path, as the request's Range asks for it, or the refusal if there is
 /// none.
 pub(crate) fn read<H: House>(
     alloc: Global,

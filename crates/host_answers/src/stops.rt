@@ -3,7 +3,7 @@
 use host_api::Refusal;
 use site_change::ChangeRefusal;
 
-/// Why a change, or the undo of one, is not made the next entry.
+/// Why a change, or the undo of one, doesn't become the next entry.
 #[derive(Debug, Drop, PartialEq, Eq)]
 pub enum Stop {
     /// The device of the journal failed at an earlier request.

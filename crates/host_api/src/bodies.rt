@@ -13,11 +13,11 @@ use host_names::{AliasName, FilePath, SiteName};
 use site_change::Command;
 use std::alloc::Global;
 
-/// What a request asks for. A number of a deploy or a change is 0, which names nothing, where the request writes none
-/// that an entry can have.
+/// What a request asks for. The number of a deploy or a change is 0, which names nothing, if the request writes no number that an entry can
+/// have.
 #[derive(Drop)]
 pub enum Ask {
-    /// The file that a version of a site has at a path.
+    /// The file at a path of a version of a site.
     Read {
         site: SiteName,
         version: Version,
@@ -38,15 +38,15 @@ pub enum Ask {
     Deploy {
         deploy: u64,
     },
-    /// That a deploy which was published whole be removed, in the site that has it.
+    /// The removal of a kept deploy, in the site that has it.
     RemoveDeploy {
         deploy: u64,
     },
-    /// That an open deploy be cancelled, in the site that has it.
+    /// The cancelling of an open deploy, in the site that has it.
     Cancel {
         deploy: u64,
     },
-    /// That the body be the file of this path of a deploy.
+    /// The upload of the body as the file at this path of a deploy.
     Upload {
         deploy: u64,
         path: FilePath,

@@ -52,7 +52,7 @@ pub fn word_of(command: &Command) -> Word
 /// An entry, as the list of changes shows it.
 #[derive(Debug, Drop)]
 pub enum ChangeLine {
-    /// A change, which is live where no undo names it.
+    /// A change. It is live if no undo names it.
     Change {
         entry: u64,
         kind: Word,
@@ -65,10 +65,10 @@ pub enum ChangeLine {
     },
 }
 
-// So many bytes hold what is around the lines of a list.
+// What is around the lines of a list fits in this many bytes.
 const ROOM: usize = 14;
 
-// So many bytes hold a line and a comma, whatever its numbers are.
+// A line and a comma fit in this many bytes, whatever the numbers are.
 const LINE_ROOM: usize = 71;
 
 // Appends a line.

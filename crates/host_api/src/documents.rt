@@ -10,7 +10,7 @@ use serde_json::Value;
 use std::alloc::Global;
 use std::str;
 
-/// The value that a body is. A body that is no object has no members.
+/// The JSON value of a body. A body that is not an object has no members.
 #[tactic(auto, using(crate::proofs::ObjectBodies::object_of_text, crate::proofs::ObjectBodies::object_of_bytes, crate::proofs::ObjectBodies::text_is_utf8))]
 pub(crate) fn document(alloc: Global, body: &[u8]) -> Result<Value, Refusal>
     ensures ok { IfOk result (λ value. object_of body.now ≡ as_object (view value)) }

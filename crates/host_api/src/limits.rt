@@ -30,7 +30,8 @@ fn is_upload(target: &str) -> bool
     is_deploy_file(find(path_of(target)))
 }
 
-/// The greatest length of the body of a request, in bytes.
+/// The greatest length of the body of a request, in bytes. The proofs above this crate need only that there is one such number: its
+/// definition is opened here alone.
 #[tactic(auto, unfolding(crate::specs::Limits::body_limit))]
 pub fn body_limit(method: &str, target: &str) -> u64
     ensures { result ≡ spec.body_limit method.now target.now }

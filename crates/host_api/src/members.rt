@@ -7,7 +7,7 @@ ghost use Rattle.host_api.specs.Bodies as spec;
 use crate::numbers::{GREATEST_NUMBER, number_of};
 use serde_json::{Number, Value};
 
-// A number as that of an entry, or 0 where an entry cannot have it.
+// A number as that of an entry; 0 if no entry can have it.
 fn entry_number(number: &Number) -> u64
     ensures { result ≡ spec.entry_number (number_view number.now) }
 {
@@ -38,7 +38,7 @@ fn text_in(value: &Value) -> Option<&str>
     }
 }
 
-/// The number that a body has as its member of this name; 0 where it is none that an entry can have.
+/// The number in the member of this name; 0 if no entry can have it.
 #[tactic(auto, using(crate::proofs::ObjectBodies::get_in_object))]
 pub(crate) fn number_member(body: &Value, name: &str) -> Option<u64>
     ensures { result
@@ -47,7 +47,7 @@ pub(crate) fn number_member(body: &Value, name: &str) -> Option<u64>
     number_in(body.get(name)?)
 }
 
-/// The text that a body has as its member of this name.
+/// The text in the member of this name.
 #[tactic(auto, using(crate::proofs::ObjectBodies::get_in_object))]
 pub(crate) fn text_member<'a>(body: &'a Value, name: &str) -> Option<&'a str>
     ensures { option_map (λ text. text.now) result

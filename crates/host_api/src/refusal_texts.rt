@@ -15,7 +15,7 @@ use serde_json::Value;
 use site_change::ChangeRefusal;
 use std::alloc::{AllocError, Global};
 
-/// So many bytes hold the text of a refusal that names no cell, also where it names an alias of 63 bytes.
+/// The text of a refusal that names no cell fits in this many bytes, also if it names an alias of 63 bytes.
 pub const SHORT_TEXT: usize = 100;
 
 // Appends a member that comes before the name of a refusal: its key, and its value as a string.
@@ -71,7 +71,7 @@ fn plain_text(refusal: &Refusal) -> ArrayString<SHORT_TEXT>
     text
 }
 
-/// The text of a refusal, which takes no memory; but none where it names a cell, whose path may be long.
+/// The text of a refusal; none if it names a cell, whose path may be long. Takes no memory.
 pub fn short_text(refusal: &Refusal) -> Option<ArrayString<SHORT_TEXT>>
     ensures { MatchOption result (has_cell refusal.now ≡ true) (λ text. text.bytes ≡ refused_text refusal.now) }
 {

@@ -13,7 +13,7 @@ use std::alloc::AllocError;
 pub enum HeadRefusal {
     /// The head is too long, or has too many fields.
     HeadTooLarge,
-    /// The head is not one that is answered.
+    /// The head breaks the grammar, or is one that the host doesn't answer.
     BadHead,
     /// The body has a transfer coding.
     CodingRefused,
@@ -26,13 +26,13 @@ pub enum HeadRefusal {
 /// Why a request is refused. A reply names the reason.
 #[derive(Debug, Drop, PartialEq, Eq)]
 pub enum Refusal {
-    /// A change, or the undo of one, is refused; or what a request reads or uploads to is not there.
+    /// A change, or the undo of one, is refused; or what a request reads or uploads to isn't there.
     Change(ChangeRefusal),
-    /// The text is no name of a site or an alias.
+    /// The text is not the name of a site or an alias.
     BadName,
-    /// The text is no path.
+    /// The text is not a path.
     BadPath,
-    /// The text is no digest.
+    /// The text is not a digest.
     BadDigest,
     /// The body is not what the route takes.
     BadBody,
@@ -40,25 +40,25 @@ pub enum Refusal {
     NotListed,
     /// The deploy lists another digest at the path.
     WrongDigest,
-    /// The file has more bytes than one may have.
+    /// The file has more bytes than a file may have.
     TooLarge,
     /// The store doesn't have all chunks of the file.
     Missing,
-    /// What the store has of the file isn't the file.
+    /// The bytes that the store has for the file are not the file's.
     Damaged,
     /// The device of the store failed.
     Device,
     /// There was no memory for the request.
     OutOfMemory,
-    /// The device of the journal failed at an earlier request, and nothing is changed until it is opened again.
+    /// The device of the journal failed at an earlier request. Nothing is changed until the journal is opened again.
     Broken,
-    /// The target is on no route.
+    /// No route fits the target.
     NoRoute,
     /// The resource does not have the method.
     BadMethod(Resource),
     /// The head of the request is refused.
     Head(HeadRefusal),
-    /// The file, which has so many bytes, has none of the range.
+    /// The file, which has this many bytes, has none of the range.
     NotSatisfiable(u64),
 }
 
@@ -104,7 +104,7 @@ fn shown_of_head(reason: HeadRefusal) -> (&'static str, StatusCode)
 }
 
 impl Refusal {
-    // What a reply says of it: its name, and the status code.
+    // What a reply says of a refusal: its name, and the status code.
     fn shown(&self) -> (&'static str, StatusCode)
         ensures name { result.0.now ≡ name_of self.now }
         ensures short { length result.0.now ≤ 14 }
@@ -131,7 +131,7 @@ impl Refusal {
         }
     }
 
-    /// The name that a reply gives to it.
+    /// The name that a reply gives to the refusal.
     pub fn name(&self) -> &'static str
         ensures value { result.now ≡ name_of self.now }
         ensures short { length result.now ≤ 14 }

@@ -35,7 +35,7 @@ pub(crate) enum ResourceKind {
     OfSite(SiteResource),
     /// Something of an alias.
     OfAlias(AliasResource),
-    /// Something of a deploy, of which the target doesn't name the site.
+    /// Something of a deploy. The target doesn't name the site.
     OfDeploy(DeployResource),
 }
 

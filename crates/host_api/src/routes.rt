@@ -17,11 +17,13 @@ use host_names::{AliasName, SiteName};
 use site_change::Command;
 use std::alloc::Global;
 
-/// The route of a request, with what its target says. A number of a deploy is 0, which names nothing, where the target
-/// writes none.
+/// The route of a request, with what its target says. The number of a deploy is 0, which names nothing, if the target writes no number that
+/// an entry can have.
+///
+/// A request is read in two steps: its route, by the method and the target; and then its body, as that route takes it.
 #[derive(Drop)]
 pub enum Route {
-    /// The target says all that is asked for, whatever the body is.
+    /// The target says all that is asked for, whatever the body says.
     Ready(Ask),
     /// Opens a deploy, which the body describes.
     Open { site: SiteName },
@@ -205,6 +207,10 @@ fn route_at(
 }
 
 /// The route of a method and a target, or the first reason why there is none.
+///
+/// The table of routes is long, and the proofs above this crate need only that it has one answer: its definition (`routed`) is opened here
+/// alone. The function isn't named `route`, since the toolchain refuses two names in a module that differ in case alone, and `Route` is
+/// one; nor is `ask_of` named `ask`.
 #[tactic(auto, unfolding(crate::specs::Routes::routed))]
 pub fn route_of(alloc: Global, method: &str, target: &str) -> Result<Route, Refusal>
     ensures ok { IfOk result (λ route. routed method.now target.now ≡ Ok route) }

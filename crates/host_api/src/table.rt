@@ -128,7 +128,7 @@ fn found_in<'t>(rows: &[Row], path: &'t str) -> Option<(Resource, Bindings<'t>)>
     None
 }
 
-/// What the first pattern that the path fits is for, with what is in its open places.
+/// What the first pattern stands for that the path fits, with what is in its open places.
 pub fn find<'t>(path: &'t str) -> Option<(Resource, Bindings<'t>)>
     ensures value { option_map found_of result ≡ spec.found_in spec.rows path.now }
     ensures led { IfSome result (λ found. IsTrue (is_rest found.1.rest.now)) }

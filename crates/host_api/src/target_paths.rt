@@ -22,7 +22,7 @@ fn may_escape(text: &str) -> bool
     text.as_bytes().contains(&b'%')
 }
 
-// The bytes of a text, its escapes decoded (RFC 3986, section 2.1); but none where they are more than a path has.
+// The bytes of a text, its escapes decoded (RFC 3986, section 2.1); none if they are more than a path has.
 fn decode(text: &str) -> Option<ArrayVec<u8, LONGEST>>
     ensures { MatchOption result (LONGEST < length (percent.percent_decode text.now)) (λ bytes. bytes.items ≡ percent.percent_decode text.now) }
 {
@@ -42,7 +42,7 @@ fn ends_with_slash(text: &str) -> bool
     text.ends_with('/')
 }
 
-// The name of a folder's page; but none where it is longer than a path.
+// The name of a folder's page; none if it is longer than a path.
 fn index_of(folder: &str) -> Option<ArrayString<LONGEST>>
     ensures { MatchOption result (LONGEST < length (folder.now ++ codes "index.html")) (λ page. page.bytes ≡ folder.now ++ codes "index.html") }
 {

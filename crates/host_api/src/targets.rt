@@ -45,7 +45,7 @@ pub fn path_of(target: &str) -> &str
     cut_at(target, '?').0
 }
 
-/// Whether there is a `#` in the path, which then is none: a target has no fragment (RFC 3986, section 3.5).
+/// Whether the path has a `#`, and so is malformed: a target has no fragment (RFC 3986, section 3.5).
 pub fn has_hash(path: &str) -> bool
     ensures { result ≡ spec.has_hash path.now }
 {
@@ -109,8 +109,8 @@ fn with_segment<'t>(part: &Part, segment: &'t str, found: Bindings<'t>) -> Bindi
     }
 }
 
-/// What is in the open places of a pattern, where the text fits it: segments of these parts, each after a
-/// slash, and then nothing, or a rest that begins with a slash.
+/// What is in the open places of a pattern, if the text fits it: a segment for each of these parts, each after a slash, and then nothing,
+/// or a rest that begins with a slash.
 pub fn fit<'t>(parts: &[Part], has_rest: bool, text: &'t str) -> Option<Bindings<'t>>
     ensures value { option_map bindings_of result ≡ spec.fit (map part_of parts.now) has_rest text.now }
     ensures led { IfSome result (λ b. IsTrue (is_rest b.rest.now)) }

@@ -14,7 +14,7 @@ use std::alloc::{AllocError, Global};
 /// The state of a deploy.
 #[derive(Drop)]
 pub enum DeployState {
-    /// It is open, and these of its files were not uploaded.
+    /// It is open, and these of its files were not uploaded yet.
     Open { required: Items<Digest> },
     /// It was published whole, and its files are kept.
     Kept,
@@ -72,10 +72,10 @@ pub enum Told {
     Refused(Refusal),
 }
 
-// So many bytes hold what a text says besides its list of digests.
+// The text of a reply without its list of digests fits in this many bytes.
 const ROOM: usize = 132;
 
-// So many bytes hold a digest of a list: its digits, the quotes and a comma.
+// A digest of a list fits in this many bytes: its digits, the quotes and a comma.
 const DIGEST_ROOM: usize = 43;
 
 // An empty text, with room for a list of digests and for what is around it.

@@ -8,6 +8,6 @@ pub enum Version {
     Live,
     /// The deploy that the alias names.
     Alias(AliasName),
-    /// The deploy of this number, which was published whole; 0, which names nothing, where the target writes none.
+    /// The kept deploy with this number; 0, which names nothing, if the target writes no number that an entry can have.
     Kept(u64),
 }

@@ -13,8 +13,8 @@ use crate::pasts::Past;
 use std::alloc::{AllocError, Global};
 use std::snapshot::Snapshot;
 
-/// A disk in memory, proved to be one. It takes all its memory when it is made: room for its bytes, and for where 16 writes
-/// between two syncs were. A call that finds no room there fails.
+/// A disk in memory, which is proved to be one. It takes all its memory when it is made: room for its bytes, and for the places of 16
+/// writes between two syncs. A call that finds no room there fails.
 #[derive(Drop)]
 pub struct MemDisk {
     content: Content,
@@ -24,7 +24,7 @@ pub struct MemDisk {
 }
 
 impl MemDisk {
-    /// An empty disk with room for so many bytes.
+    /// An empty disk with room for `room` bytes.
     pub fn new(alloc: Global, room: usize) -> Result<MemDisk, AllocError>
         ensures empty { IfOk result (λ disk. ⟦<MemDisk as Disk>⟧.seen disk ≡ []) }
         ensures durable { IfOk result (λ disk. Only [] (⟦<MemDisk as Disk>⟧.may_leave disk)) }

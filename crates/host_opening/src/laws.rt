@@ -12,18 +12,18 @@ ghost use Rattle.host_opening.specs.WantedFiles.{AreWanted, IsPublished, Lists};
 ghost use Rattle.host_opening.specs.declared.replays.ReplayFault.{ReplayFault};
 ghost use Rattle.host_opening.specs.declared.replays.ReplayFault.TheVariants.{NotLegal};
 
-/// Where each entry is accepted in turn and there are no more than the limit says, none is told that isn't legal.
+/// If each entry is accepted in turn, and there are no more than the limit, no entry is reported as not legal.
 pub fn a_legal_log_is_replayed()
     ensures { (uploads : Contents) (limit : ℕ) (log : Log) (n : ℕ) → IsLegal uploads log → last_number log ≤ limit → ¬ (StopsAt uploads limit log (NotLegal n)) }
 {}
 
-/// The history of the entries of a history is that history again, over the same uploads: its entries, its limit and its state.
+/// A replay of the entries of a history over the same uploads gives that history again: its entries, its limit and its state.
 pub fn a_replayed_history_is_the_same()
     ensures { (uploads : Contents) (past opened : Past) → IsHistoryOver uploads past → IsReplayed uploads past.limit past.entries opened
         → (opened.entries ≡ past.entries) × (opened.limit ≡ past.limit) × (opened.state ≡ past.state) }
 {}
 
-/// Of no entries no file is wanted, listed or published, and none of them stops an opening.
+/// Without entries no file is wanted, listed or published, and nothing stops the opening.
 pub fn nothing_is_wanted_of_no_entries()
     ensures wanted { (one : Wanted) (more : List Wanted) → ¬ (AreWanted empty_log (one ∷ more)) }
     ensures listed { (site : SiteName) (n : ℕ) (digest : Digest) → ¬ (Lists empty_log site n digest) }

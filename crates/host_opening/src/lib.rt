@@ -1,4 +1,4 @@
-//! What an opening needs of the entries of a history: which files they want, and the history itself.
+//! What an opening makes of the entries of a history: which files they want, and the history itself.
 #![tactic(auto)]
 
 pub mod laws;

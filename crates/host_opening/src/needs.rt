@@ -9,7 +9,7 @@ use host_names::{Digest, FilePath};
 use std::alloc::AllocError;
 use std::collections::BTreeMap;
 
-/// Whether a file must be there, after it was needed before and is needed once more.
+/// Whether a file must be there, by what was needed of it before and by one more need.
 fn must_be_there(must: bool, before: Option<bool>) -> bool
     ensures { Some result ≡ more (Some must) before }
 {
@@ -19,7 +19,7 @@ fn must_be_there(must: bool, before: Option<bool>) -> bool
     }
 }
 
-/// Needs the digest that is listed, if one is.
+/// Adds a need of the listed digest, if one is listed.
 fn add_listed(
     needs: &mut BTreeMap<Digest, bool>,
     listed: &Option<Digest>,
@@ -37,7 +37,7 @@ fn add_listed(
     }
 }
 
-/// Needs each digest that is listed.
+/// Adds a need of each listed digest.
 pub(crate) fn add_files(
     needs: &mut BTreeMap<Digest, bool>,
     files: &[(FilePath, Option<Digest>)],

@@ -4,7 +4,7 @@ ghost use Rattle.change_undo.specs.Logs.{entry_at, last_number};
 
 use change_undo::{Entry, Log};
 
-/// The entry of a number, from 1 on, that there is.
+/// The entry with this number, from 1 on. There must be one.
 pub(crate) fn entry_of(log: &Log, number: u64) -> &Entry
     requires some { 1 ≤ number }
     requires within { number ≤ last_number log.now }

@@ -22,7 +22,7 @@ pub enum ReplayFault {
     OutOfMemory,
 }
 
-/// What is told where an entry of a number was not appended.
+/// The fault of a replay in which the entry with this number wasn't appended.
 fn fault_at(number: u64, error: ChangeError) -> ReplayFault
     ensures { result ≡ Rattle.host_opening.specs.Replays.fault_at number error }
 {
@@ -32,7 +32,7 @@ fn fault_at(number: u64, error: ChangeError) -> ReplayFault
     }
 }
 
-/// Appends a copy of an entry to a history, with these uploads, over which the history is what it is.
+/// Appends a copy of an entry to a history, which is one over these uploads.
 fn append<U: Uploads>(history: &mut History, entry: &Entry, uploads: &U) -> Result<(), ChangeError>
     requires over { IsHistoryOver (U.contents uploads.now) history.old }
     ensures entries { OnOk result (history.new.entries ≡ with_entry history.old.entries entry.now) }
@@ -55,8 +55,8 @@ fn append<U: Uploads>(history: &mut History, entry: &Entry, uploads: &U) -> Resu
     }
 }
 
-/// The history of these entries over these uploads, which may have as many as the limit says: each entry is accepted in
-/// turn. Else the number of the first one that isn't, whether it is refused or the history is full before it.
+/// The history of these entries over these uploads, of at most `limit` entries: each entry is accepted in turn. Else the number of the
+/// first one that isn't, because it is refused or because the history is full before it.
 pub fn replay<U: Uploads>(
     alloc: Global,
     log: &Log,

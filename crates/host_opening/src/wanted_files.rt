@@ -19,7 +19,7 @@ use site_change::Command;
 use std::alloc::{AllocError, Global};
 use std::collections::{BTreeMap, BTreeSet};
 
-/// Needs what the entry of a number lists, if it opens a deploy.
+/// Adds the needs of the entry with this number, if it opens a deploy: what the deploy lists.
 fn add_entry(
     needs: &mut BTreeMap<Digest, bool>,
     log: &Log,
@@ -67,9 +67,9 @@ fn listed(alloc: Global, needs: &BTreeMap<Digest, bool>) -> Result<Vec<Wanted>, 
     Ok(wanted)
 }
 
-/// The files with which a store has to be opened, for a history of these entries: each digest that a deploy lists which an
-/// entry opens, once, in the order of digests. Its file must be there where an entry publishes or restores such a deploy,
-/// whether that is undone or not. The work is a look-up for each entry and for each path that is listed.
+/// The files that a store has to be opened with, for a history of these entries: each digest that an opened deploy lists, once, in the
+/// order of digests. A file must be there if an entry publishes or restores such a deploy, whether or not that entry was undone. The work
+/// is a look-up for each entry and for each listed path.
 pub fn wanted(alloc: Global, log: &Log) -> Result<Vec<Wanted>, AllocError>
     ensures { IfOk result (λ wanted. AreWanted log.now wanted.items) }
 {

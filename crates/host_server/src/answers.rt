@@ -15,9 +15,12 @@ use host_disk::Disk;
 use host_replies::Reply;
 use std::alloc::Global;
 
-/// The reply to a request, and what it does to the host. Where there is no memory the reply says so; then the request
-/// may have done nothing, or what it does first (an Open without its publish, an upload), or all that it does. Where the
-/// device fails while an entry is put into the journal, the reply says so, and the host doesn't get that entry.
+/// The reply to a request, and what it does to the host. If memory runs out the reply says so; the request may then have done nothing, its
+/// first part (an opening without its publish, an upload), or everything. If the device fails while an entry is put into the journal, the
+/// reply says so, and the host doesn't get that entry.
+///
+/// The contract speaks of the journal's disk (`IsPut`, `IsPutInVain`), and not of its entries alone: so it says what a crash leaves after
+/// each reply. It also names an entry whose put failed, since the disk may have it though the host doesn't.
 pub fn answer<S: Shelf, D: Disk>(
     alloc: Global,
     request: Request,

@@ -1,4 +1,4 @@
-//! What a run says where its store can't be opened, and the status that it ends with.
+//! What a run says if its store can't be opened, and its exit status then.
 ghost use Rattle.std.specs.Prelude.{◌≡◌, ◌+◌, ◌≤◌, ◌++◌, codes, length};
 ghost use Rattle.arrayvec.specs.ArrayString.{array_string_len};
 ghost use Rattle.host_server.specs.OpeningLines as spec;
@@ -8,10 +8,10 @@ use crate::openings::OpenFault;
 use arrayvec::ArrayString;
 use http_wire::decimal_text;
 
-/// So many bytes hold each line.
+/// Each line fits in this many bytes.
 const LONGEST: usize = 80;
 
-/// The name of a fault, before what is at fault.
+/// The text of a fault, before the number or name of what is at fault.
 fn name_of(fault: &OpenFault) -> &'static str
     ensures name { result.now ≡ spec.name_of fault.now }
     ensures short { length result.now ≤ 25 }
@@ -28,7 +28,7 @@ fn name_of(fault: &OpenFault) -> &'static str
     }
 }
 
-/// Appends which record, entry or file is at fault.
+/// Appends the number or the name of the record, entry or file at fault.
 fn push_detail(line: &mut ArrayString<LONGEST>, fault: &OpenFault)
     requires room { array_string_len line.old + 40 ≤ LONGEST }
     ensures bytes { line.new.bytes ≡ line.old.bytes ++ detail_of fault.now }
@@ -45,7 +45,7 @@ fn push_detail(line: &mut ArrayString<LONGEST>, fault: &OpenFault)
     }
 }
 
-/// The line that says why a store can't be opened. It takes no memory.
+/// The line that says why a store can't be opened. Takes no memory.
 pub(crate) fn line_of(fault: &OpenFault) -> ArrayString<LONGEST>
     ensures { result.bytes ≡ opening_line fault.now }
 {
@@ -57,7 +57,7 @@ pub(crate) fn line_of(fault: &OpenFault) -> ArrayString<LONGEST>
     line
 }
 
-/// The exit status where a store can't be opened.
+/// The exit status if a store can't be opened.
 pub(crate) fn status_of(fault: &OpenFault) -> u8
     ensures { result ≡ opening_status fault.now }
 {

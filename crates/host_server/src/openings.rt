@@ -1,4 +1,4 @@
-//! Openings: a host is made again of a journal's entries and the files on a shelf.
+//! Openings: a host is rebuilt from a journal's entries and the files on a shelf.
 ghost use Rattle.std.specs.Prelude.{◌≡◌, ◌⊎◌, ◌<◌, ◌≤◌, ℕ, IfErr, IfOk, IsTrue, List, MatchResult, Some, length};
 ghost use Rattle.change_journal.specs.file.Failures.{MayFailReading};
 ghost use Rattle.change_journal.specs.entries.Held.{Keeps};
@@ -27,17 +27,17 @@ use std::alloc::{AllocError, Global};
 /// Why a server can't be opened.
 #[derive(Clone, Copy, Debug, PartialEq, Eq)]
 pub enum OpenFault {
-    /// The disk has a file that is no journal.
+    /// The disk holds something, and it isn't a journal.
     BadHeader,
-    /// The record of this number in the journal is none.
+    /// The record of this number in the journal is malformed, or is the 1,000,001st.
     BadRecord(u64),
     /// The entry of this number isn't accepted after those before it.
     NotLegal(u64),
     /// The device of the journal failed.
     JournalDevice,
-    /// The shelf has no table of a file that a published deploy lists.
+    /// The shelf has no table for a file that a published deploy lists.
     MissingBlob(Digest),
-    /// The shelf has a table of such a file, and not all of the file.
+    /// The shelf has a table for such a file, but not the whole file.
     DamagedBlob(Digest),
     /// The device of the shelf failed.
     BlobsDevice,
@@ -52,7 +52,7 @@ impl From<AllocError> for OpenFault {
     }
 }
 
-/// A server that couldn't be opened: why, and its disk and its shelf as they are then.
+/// Why a server couldn't be opened, with its disk and its shelf as they are then.
 #[derive(Drop)]
 pub struct NotOpened<S, D> {
     pub fault: OpenFault,
@@ -60,14 +60,14 @@ pub struct NotOpened<S, D> {
     pub shelf: S,
 }
 
-/// A host that couldn't be made of a shelf: why, and the shelf as it is then.
+/// Why no host could be made over a shelf, with the shelf as it is then.
 #[derive(Drop)]
 pub(crate) struct NoHost<S> {
     pub(crate) fault: OpenFault,
     pub(crate) shelf: S,
 }
 
-/// What an opening answers for a fault of the journal.
+/// The fault of an opening whose journal can't be opened.
 pub(crate) fn of_journal(fault: change_journal::OpenFault) -> OpenFault
     ensures { result ≡ spec.of_journal fault }
 {
@@ -79,7 +79,7 @@ pub(crate) fn of_journal(fault: change_journal::OpenFault) -> OpenFault
     }
 }
 
-/// What it answers for a fault of the files.
+/// The fault of an opening whose files can't be opened.
 fn of_blobs(fault: blob_store::OpenFault) -> OpenFault
     ensures { result ≡ spec.of_blobs fault }
 {
@@ -91,7 +91,7 @@ fn of_blobs(fault: blob_store::OpenFault) -> OpenFault
     }
 }
 
-/// What it answers where the entries aren't accepted in turn.
+/// The fault of an opening whose entries aren't accepted in turn.
 fn of_replay(fault: ReplayFault) -> OpenFault
     ensures { result ≡ spec.of_replay fault }
 {
@@ -101,7 +101,7 @@ fn of_replay(fault: ReplayFault) -> OpenFault
     }
 }
 
-/// The files of a shelf that are wanted for these entries.
+/// The files on a shelf that these entries want.
 fn open_blobs<S: Shelf>(alloc: Global, log: &Log, shelf: S) -> Result<Blobs<S>, NoHost<S>>
     ensures opened { IfOk result (λ blobs. HasFiles S.did shelf log.now blobs.known blobs.shelf) }
     ensures fault { IfErr result (λ stop. spec.IsFilesFault S.did shelf log.now stop.fault stop.shelf) }
@@ -124,7 +124,7 @@ fn open_blobs<S: Shelf>(alloc: Global, log: &Log, shelf: S) -> Result<Blobs<S>, 
     }
 }
 
-/// The files with a cache; where there is no memory for it, their shelf is handed back.
+/// The files, to be read through a cache. If there is no memory for the cache, their shelf is handed back.
 fn with_cache<S: Shelf>(alloc: Global, files: Files<S>) -> Result<NodeFiles<S>, NoHost<S>>
     ensures made { IfOk result (λ node. node ≡ record { shelf = files.shelf; cache = empty 67108864 }) }
     ensures fault { IfErr result (λ stop. (stop.fault ≡ OutOfMemory) × (stop.shelf ≡ files.shelf)) }
@@ -138,7 +138,7 @@ fn with_cache<S: Shelf>(alloc: Global, files: Files<S>) -> Result<NodeFiles<S>, 
     }
 }
 
-/// The host of these entries, and the files on the shelf, with nothing in their cache yet.
+/// The host of these entries, and its files on the shelf. Nothing is in their cache yet.
 pub(crate) fn open_host<S: Shelf>(
     alloc: Global,
     log: &Log,
@@ -171,8 +171,8 @@ pub(crate) fn open_host<S: Shelf>(
 }
 
 impl<S: Shelf, D: Disk> Server<S, D> {
-    /// Opens the journal of a disk, and then the files on a shelf that its entries want; last, each entry is accepted in turn,
-    /// of as many as the limit says. The first fault ends it, and the disk and the shelf are handed back.
+    /// Opens the journal of a disk, then the files on a shelf that its entries want, and then the history, in which each entry has to be
+    /// accepted in turn; it takes at most `limit` entries. The first fault ends the opening, and the disk and the shelf are handed back.
     pub fn open(alloc: Global, disk: D, shelf: S, limit: u64) -> Result<Self, NotOpened<S, D>>
         requires some { 1 ≤ limit }
         requires bounded { limit ≤ 1000000 }

@@ -1,4 +1,4 @@
-//! What ends a run of the program: its exit status, and what is said.
+//! How a run of the program ends: its exit status, and what it says on standard error.
 ghost use Rattle.std.specs.Prelude.{◌≡◌};
 ghost use Rattle.host_server.specs.Asks.{IsAnswer};
 ghost use Rattle.host_server.specs.Solo.{IsSaid, IsServed, SaysEnd, status_of};
@@ -10,15 +10,15 @@ use host_disk::Disk;
 use http_wire::{Sink, Steady, write_all};
 use std::alloc::Global;
 
-/// The exit status where the connection has ended.
+/// The exit status if the connection has ended.
 const DONE: u8 = 0;
 
-/// The exit status where input, output or memory failed.
+/// The exit status if input, output or memory failed.
 pub(crate) const FAILED: u8 = 2;
 
 pub(crate) const OUT_OF_MEMORY: &str = "filehost: out of memory\n";
 
-/// Says why a run fails, as far as it can be said, and gives the exit status.
+/// Writes why a run fails, as far as that can be written, and answers the exit status.
 pub(crate) fn fail<E: Sink>(errors: &mut E, status: u8, why: &str) -> u8
     ensures status { result ≡ status }
     ensures said { IsSaid E.may_fail why.now (E.held errors.old) (E.held errors.new) }
@@ -27,7 +27,7 @@ pub(crate) fn fail<E: Sink>(errors: &mut E, status: u8, why: &str) -> u8
     status
 }
 
-/// The exit status where the connection ended so; a fault is said.
+/// The exit status after a connection that ended this way. A fault is written to `errors`.
 fn status_after<E: Sink>(errors: &mut E, ended: Result<(), ConnectionFault>) -> u8
     ensures status { result ≡ status_of ended }
     ensures said { SaysEnd E.may_fail ended (E.held errors.old) (E.held errors.new) }
@@ -40,7 +40,7 @@ fn status_after<E: Sink>(errors: &mut E, ended: Result<(), ConnectionFault>) -> 
     }
 }
 
-/// Serves one connection over a server, and gives the exit status; where it isn't 0, why is said.
+/// Serves one connection over a server, and answers the exit status. If it isn't 0, `errors` is told why.
 pub(crate) fn serve_server<S: Shelf + Drop, D: Disk + Drop, X: Steady, E: Sink>(
     alloc: Global,
     server: Server<S, D>,

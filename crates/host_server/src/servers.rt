@@ -11,7 +11,10 @@ use chunk_group::NodeFiles;
 use host_disk::Disk;
 use std::alloc::{AllocError, Global};
 
-/// A host on one thread, the journal of its entries, if it has one, and the shelf that its files are on, which are read through a cache.
+/// A host on one thread, the journal of its entries, if it has one, and its files: they are on a shelf, and read through a cache.
+///
+/// The host and the files are two parts, since different words describe them: the meaning of a change is said of the host alone, and only
+/// reads and uploads speak of the shelf.
 #[derive(Drop)]
 pub struct Server<S, D: Disk> {
     pub(crate) house: SoloHouse,
@@ -21,8 +24,8 @@ pub struct Server<S, D: Disk> {
 }
 
 impl<S: Shelf + Drop, D: Disk> Server<S, D> {
-    /// A server without entries, known files and a journal over a shelf. It may have as many entries as the limit says, and has nothing in
-    /// its cache yet, which takes memory.
+    /// A server over a shelf, without entries, known files or a journal. It takes at most `limit` entries. Its cache is empty, and is all
+    /// that takes memory.
     pub fn new(alloc: Global, shelf: S, limit: u64) -> Result<Server<S, D>, AllocError>
         requires some { 1 ≤ limit }
         requires bounded { limit ≤ 1000000 }
@@ -49,7 +52,7 @@ impl<S: Shelf + Drop, D: Disk> Server<S, D> {
 }
 
 impl<S: Shelf, D: Disk> Server<S, D> {
-    /// Whether its journal's device failed while an entry was put.
+    /// Whether the device of its journal failed during a put.
     pub fn is_broken(&self) -> bool
         ensures { result ≡ is_broken self.now.journal }
     {

@@ -1,4 +1,7 @@
-//! A server as a house: what requests are answered over.
+//! A server as a house: its calls, by which requests are answered.
+//!
+//! What a server answers is a row of these calls (`AnswersBy`). That such a row gives what is said of a request (`IsAnswer`) is proved
+//! once, for any row, so `answer` has a body of two lines.
 ghost use Rattle.host_answers.specs.Answers.{AnswersBy};
 ghost use Rattle.host_answers.proofs.Withheld.{withheld_to_head};
 ghost use Rattle.host_server.specs.Growth.{grew, grows_then, itself};

@@ -16,10 +16,10 @@ use std::convert::AsStr;
 use std::fs::File;
 use std::rt::Files;
 
-/// The exit status where the words ask for nothing that the program does.
+/// The exit status if the words ask for nothing that the program does.
 const NOT_TAKEN: u8 = 1;
 
-/// Says why the words ask for nothing that the program does, or that memory ran out, and gives the exit status.
+/// Writes that the words ask for nothing that the program does, or that memory ran out, and answers the exit status.
 fn refuse<E: Sink>(errors: &mut E, refusal: Refusal) -> u8
     ensures { (words : List (List ℕ)) → Reads words (Err refusal)
         → IsNotServed E.may_fail words result (E.held errors.old) (E.held errors.new) }
@@ -30,7 +30,7 @@ fn refuse<E: Sink>(errors: &mut E, refusal: Refusal) -> u8
     }
 }
 
-/// Serves one connection over an empty server in memory, and gives the exit status; or there is no memory for the server.
+/// Serves one connection over an empty server in memory, and answers the exit status. There may be no memory for the server.
 fn run_in_memory<D: Steady, E: Sink>(alloc: Global, duplex: &mut D, errors: &mut E) -> u8
     ensures { IsEmptyServed ⟦<MemDisk as Disk>⟧ D.Duplex E.may_fail result
         duplex.old duplex.new (E.held errors.old) (E.held errors.new) }
@@ -46,11 +46,14 @@ fn run_in_memory<D: Steady, E: Sink>(alloc: Global, duplex: &mut D, errors: &mut
     }
 }
 
-/// Runs the program for the words after its name, and answers its exit status: `solo` serves one connection, over
-/// an empty server; `solo --store DIR` over the server that the folder keeps. Where the status isn't 0, `errors` is told why; else
-/// nothing is written there.
+/// Runs the program for the words after its name, and answers its exit status. `solo` serves one connection over an empty server;
+/// `solo --store DIR` serves one over the server that the folder keeps. If the status isn't 0, `errors` is told why; else nothing is written
+/// there.
 ///
 /// Memory may run out while the words are read, whatever they are: no contract tells when it does.
+///
+/// The contract speaks of the stream before and after, and not of its bytes alone: so it also says when the run reads, and that the stream
+/// is left as it was if no store is opened.
 pub fn run_solo<R: Files<File = File>, S: AsStr, D: Steady, E: Sink>(
     rt: &R,
     alloc: Global,

@@ -19,8 +19,8 @@ use std::rt::Files;
 /// The name of the journal's file in a folder.
 const JOURNAL: &str = "journal";
 
-/// Serves one connection over the store of a disk and a shelf, and gives the exit status. Where it isn't 0, `errors` is told why:
-/// the store can't be opened, and nothing is answered; or the connection failed.
+/// Serves one connection over the store of a disk and a shelf, and answers the exit status. If it isn't 0, `errors` is told why: either the
+/// store can't be opened, and nothing is answered, or the connection failed.
 pub fn run_store<S: Shelf + Drop, D: Disk + Drop, X: Steady, E: Sink>(
     alloc: Global,
     disk: D,
@@ -37,14 +37,14 @@ pub fn run_store<S: Shelf + Drop, D: Disk + Drop, X: Steady, E: Sink>(
     }
 }
 
-/// Says why a store can't be opened, and gives the exit status.
+/// Writes why a store can't be opened, and answers the exit status.
 fn refuse<E: Sink>(errors: &mut E, fault: &OpenFault) -> u8
     ensures { SaysFault E.may_fail fault.now result (E.held errors.old) (E.held errors.new) }
 {
     fail(errors, status_of(fault), line_of(fault).as_str())
 }
 
-/// The disk and the shelf in a folder, which has to be there.
+/// The disk and the shelf in an existing folder.
 fn open_folder<'a, R: Files<File = File>>(
     rt: &'a R,
     alloc: Global,

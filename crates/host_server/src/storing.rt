@@ -17,7 +17,9 @@ use host_api::Refusal;
 use host_disk::Disk;
 use host_names::{Digest, FilePath, SiteName};
 
-/// Why a store doesn't take an upload, as it is told.
+/// The refusal of an upload that can't be stored.
+///
+/// Over a connection no upload is too large here: its body is refused first, by its length (`BodyTooLarge`).
 fn refusal_of_upload(why: UploadFault) -> Refusal
     ensures { result ≡ spec.refusal_of_upload why }
 {
@@ -29,7 +31,8 @@ fn refusal_of_upload(why: UploadFault) -> Refusal
 }
 
 impl<S: Shelf, D: Disk> Server<S, D> {
-    /// Stores the bytes of an upload, and knows them from then on. Of those that are known nothing is stored, and no piece that a known file has.
+    /// Stores the bytes of an upload; from then on they are known. Nothing is stored for bytes that are known, nor for a piece that a known
+    /// file has. Too many bytes are refused even if their digest is known, which only a collision could bring.
     fn keep(&mut self, digest: Digest, bytes: &[u8]) -> Result<(), Refusal>
         requires { digest ≡ digest_of bytes.now }
         ensures stored { OnOk result
@@ -56,8 +59,11 @@ impl<S: Shelf, D: Disk> Server<S, D> {
         Ok(())
     }
 
-    /// Takes bytes as the file at a path of a deploy of a site, and publishes the deploy if it is ready then. Where that
-    /// fails, the upload remains.
+    /// Takes bytes as the file at a path of a deploy of a site, and publishes the deploy if it is ready then. If that fails, the upload
+    /// remains.
+    ///
+    /// The bytes are hashed once, and not at all if the deploy lists nothing at the path: the digest judges the upload, and the file is
+    /// stored under it. Unless they are known, each piece is then hashed for its own name.
     pub(crate) fn store(
         &mut self,
         site: &SiteName,

@@ -15,8 +15,8 @@ use change_undo::laws::{
     histories_outlast_uploads,
 };
 
-/// After every list of steps, however those of the desk, of the nodes and of the visitors are mixed: the desk's log is legal, and no look goes back;
-/// each answer is the reply over the state of the log of its look; and nodes share their flights.
+/// After every list of steps, however those of the desk, the nodes and the visitors are mixed: the desk's log is legal, and no look goes
+/// back; each answer is the reply over the state of the log of its look; and the readers of a node share its flights.
 pub fn worlds_stay_lawful()
     ensures lawful { (world : WorldState) → IsReached world → IsLawful world.desk }
     ensures right { (world : WorldState) → IsReached world → AreRight world }
@@ -26,9 +26,9 @@ pub fn worlds_stay_lawful()
     a_beginning_of_a_legal_log_is_legal();
 }
 
-/// After every list of steps, where all is published: to undo a change whose effects no later live change touches leaves exactly the state of the
-/// history without it; every other undo is refused with its reason, and changes nothing. Every answered read gives the bytes of the state of one
-/// such history, and none older than its visitor had seen.
+/// After every list of steps, once all is published: the undo of a change whose effects no later live change touches leaves exactly the
+/// state of the history without that change; every other undo is refused with its reason, and changes nothing. Every answered read gives
+/// the bytes of the state of one such history, which is no older than what its visitor had seen.
 pub fn the_headline()
     ensures undone { (world new : WorldState) (site : Site) (k : ℕ) → IsSettled world
         → IsFree world.desk site k → Happens world (step.Undo site k) new

@@ -8,7 +8,7 @@ use host_names::Digest;
 use std::alloc::{AllocError, Global};
 use world_node::{Call, Node, Outcome};
 
-/// So many nodes where nothing has happened.
+/// This many nodes at which nothing has happened.
 pub(crate) fn nodes_of(
     alloc: Global,
     cache: usize,
@@ -24,7 +24,7 @@ pub(crate) fn nodes_of(
     Ok(nodes)
 }
 
-/// A visitor does this at its node. Without memory nothing changes.
+/// A visitor does this at its node. If memory runs out, nothing changes.
 pub(crate) fn call_at(nodes: &mut Vec<Node>, visitor: usize, call: &Call) -> Result<(), AllocError>
     ensures ok { OnOk result (nodes.new.items ≡ stepped visitor (node.called visitor call.now) nodes.old.items) }
     ensures err { OnErr result (nodes.new.items ≡ nodes.old.items) }
@@ -37,7 +37,7 @@ pub(crate) fn call_at(nodes: &mut Vec<Node>, visitor: usize, call: &Call) -> Res
     Ok(())
 }
 
-/// A visitor takes what there is for it at its node. Without memory nothing changes.
+/// A visitor takes what is ready for it at its node. If memory runs out, nothing changes.
 pub(crate) fn take_at(nodes: &mut Vec<Node>, visitor: usize) -> Result<(), AllocError>
     ensures ok { OnOk result (nodes.new.items ≡ stepped visitor (node.Take visitor) nodes.old.items) }
     ensures err { OnErr result (nodes.new.items ≡ nodes.old.items) }
@@ -64,7 +64,7 @@ pub(crate) fn want_at(nodes: &mut Vec<Node>, visitor: usize, name: Option<Digest
     }
 }
 
-/// What there is for a visitor at its node.
+/// What is ready for a visitor at its node.
 pub(crate) fn ready_at(
     nodes: &[Node],
     visitor: usize,

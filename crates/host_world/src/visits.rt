@@ -10,7 +10,7 @@ use std::sync::Arc;
 use world_desk::Desk;
 use world_read::{FileRead, Reading};
 
-/// The reads of a visitor, in the order in which they began. Where the last one waits for a chunk, that is the one in hand.
+/// The reads of a visitor, in the order in which they began. If the last one waits for a chunk, it is the read in hand.
 #[derive(Drop)]
 pub(crate) struct Visits {
     reads: Vec<FileRead>,
@@ -52,7 +52,7 @@ impl Visits {
         }
     }
 
-    /// What the reading of the read in hand is with what there is for its visitor, if there is a read in hand.
+    /// What the read in hand becomes with what is ready for its visitor, if there is a read in hand.
     pub(crate) fn next(
         &self,
         alloc: Global,
@@ -77,7 +77,7 @@ impl Visits {
         }
     }
 
-    /// Its visitor looks, and begins a read with that. Without memory nothing changes.
+    /// Its visitor looks, and begins a read with that. If memory runs out, nothing changes.
     pub(crate) fn begin(
         &mut self,
         desk: &mut Desk,
@@ -95,7 +95,7 @@ impl Visits {
     }
 }
 
-/// The reads of so many visitors, who have none yet.
+/// The reads of this many visitors, who have none yet.
 pub(crate) fn visits_of(alloc: Global, count: usize) -> Result<Vec<Visits>, AllocError>
     ensures { IfOk result (λ visits. visits.items ≡ replicate count []) }
 {
@@ -106,7 +106,7 @@ pub(crate) fn visits_of(alloc: Global, count: usize) -> Result<Vec<Visits>, Allo
     Ok(visits)
 }
 
-/// A visitor looks, and begins a read with that. Without memory nothing changes.
+/// A visitor looks, and begins a read with that. If memory runs out, nothing changes.
 pub(crate) fn begin_at(
     visits: &mut Vec<Visits>,
     desk: &mut Desk,

@@ -18,7 +18,7 @@ use world_desk::Desk;
 use world_node::Node;
 use world_read::{FileRead, FileRequest, Reading};
 
-/// A desk, nodes, and visitors. Each visitor stands on the node at the place of its number modulo how many nodes there are.
+/// A desk, nodes, and visitors. Each visitor uses one node: the one whose place is the visitor's number modulo the number of nodes.
 #[derive(Drop)]
 pub struct World {
     alloc: Global,
@@ -41,8 +41,8 @@ impl Model for World {
 }
 
 impl World {
-    /// A world in which nothing has happened, with so many nodes and visitors. Its log may have so many entries, and the caches of each node may
-    /// count so many bytes.
+    /// A world in which nothing has happened, with this many nodes and visitors, and with the limit of its log, in entries, and that of the
+    /// caches of each node, in bytes. It takes these limits, so that its laws hold for any.
     pub fn new(
         alloc: Global,
         entries: u64,
@@ -70,7 +70,7 @@ impl World {
         self.desk.visitors()
     }
 
-    /// The logs of the looks of a visitor, in order. That takes no memory.
+    /// The logs of the looks of a visitor, in order. Takes no memory.
     pub fn looks(&self, visitor: usize) -> &[Log]
         requires { visitor < length self.now.desk.visitors }
         ensures { IfSome (slice_get self.now.desk.visitors visitor) (λ v. result.now ≡ v.looks) }
@@ -78,7 +78,7 @@ impl World {
         self.desk.looks(visitor)
     }
 
-    /// The reads of a visitor, in the order in which they began, if there is one of this number. That takes no memory.
+    /// The reads of a visitor, in the order in which they began, if there is a visitor with this number. Takes no memory.
     pub fn reads(&self, visitor: usize) -> Option<&[FileRead]>
         ensures { option_map (λ reads. reads.now) result ≡ slice_get self.now.reads visitor }
     {
@@ -88,7 +88,7 @@ impl World {
         }
     }
 
-    /// A visitor looks, and its read of a file begins. Without memory nothing changes.
+    /// A visitor looks, and its read of a file begins. If memory runs out, nothing changes.
     fn begin(&mut self, visitor: usize, request: &Arc<FileRequest>) -> Result<(), AllocError>
         requires { visitor < length self.old.reads }
         ensures ok { OnOk result (EntersFree self.old visitor (Some request.now.value) self.new) }
@@ -102,7 +102,7 @@ impl World {
         Ok(())
     }
 
-    /// A visitor with no read in hand looks, and asks for a file or for none. Without memory nothing changes.
+    /// A visitor with no read in hand looks, and asks for a file or for none. If memory runs out, nothing changes.
     fn enter(
         &mut self,
         visitor: usize,
@@ -124,7 +124,8 @@ impl World {
         }
     }
 
-    /// The read in hand of a visitor goes on with this reading, and its visitor has taken what there was for it. Without memory nothing changes.
+    /// The read in hand of a visitor goes on with this reading, and the visitor has taken what was ready for it. If memory runs out,
+    /// nothing changes.
     fn go_on(&mut self, visitor: usize, reading: Reading) -> Result<(), AllocError>
         requires { visitor < length self.old.reads }
         ensures ok { OnOk result (self.new ≡ went_on visitor reading self.old) }
@@ -137,7 +138,7 @@ impl World {
         Ok(())
     }
 
-    /// A visitor takes what there is for it at its node, and its read in hand goes on with that. Without memory nothing changes.
+    /// A visitor takes what is ready for it at its node, and its read in hand goes on with that. If memory runs out, nothing changes.
     fn take(&mut self, visitor: usize) -> Result<(), AllocError>
         ensures ok { OnOk result (Happens self.old (step.Take visitor) self.new) }
         ensures err { OnErr result (self.new ≡ self.old) }
@@ -156,7 +157,7 @@ impl World {
         Ok(())
     }
 
-    /// One step. Without memory nothing changes.
+    /// One step. If memory runs out, nothing changes.
     fn step(&mut self, step: &Step) -> Result<(), AllocError>
         ensures ok { OnOk result (Happens self.old step.now self.new) }
         ensures err { OnErr result (self.new ≡ self.old) }
@@ -173,7 +174,7 @@ impl World {
         }
     }
 
-    /// Takes these steps, one after another, up to where there is no memory.
+    /// Takes these steps, one after another, until memory runs out.
     fn take_steps(&mut self, steps: &[Step]) -> Result<(), AllocError>
         ensures ok { OnOk result (Runs self.old steps.now self.new) }
         ensures err { OnErr result
@@ -185,8 +186,8 @@ impl World {
         Ok(())
     }
 
-    /// Takes these steps, one after another: all of them, or, where memory is short, those before the one that found none. Where some steps led to
-    /// the world from the one in which nothing has happened, it stays lawful.
+    /// Takes these steps, one after another: either all of them, or those before the first for which memory ran out. A world that steps led
+    /// to from the one in which nothing has happened stays lawful.
     pub fn run(&mut self, steps: &[Step]) -> Result<(), AllocError>
         ensures ok { OnOk result (Runs self.old steps.now self.new) }
         ensures err { OnErr result

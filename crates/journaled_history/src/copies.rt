@@ -24,8 +24,8 @@ use host_names::SiteName;
 use site_change::{ChangeError, ChangeRefusal, Command, decide};
 use std::alloc::Global;
 
-/// Why there is no copy of the history with this command as its next entry, where there was no memory for a copy: the
-/// first reason against the command, or else that.
+/// The answer to a command for which there was no memory to copy the history: the first reason against the command, or that memory ran out
+/// if there is none.
 fn without_copy<U: Uploads>(
     alloc: Global,
     history: &History,
@@ -47,8 +47,8 @@ fn without_copy<U: Uploads>(
     }
 }
 
-/// Why there is no copy of the history with the undo of this change, where there was no memory for a copy: the first reason
-/// against the undo, or else that.
+/// The answer to an undo for which there was no memory to copy the history: the first reason against the undo, or that memory ran out if
+/// there is none.
 fn why_not_undone(history: &History, site: &SiteName, change: u64) -> ChangeError
     ensures { (uploads : Contents) → IsHistoryOver uploads history.now
         → IsUndoRefusedBy {A = ℕ}
@@ -61,7 +61,7 @@ fn why_not_undone(history: &History, site: &SiteName, change: u64) -> ChangeErro
     }
 }
 
-/// What is accepted has a number from 1 to 1,000,000, and lists at most 10,000 paths. It does nothing.
+/// An accepted command or undo has numbers from 1 to 1,000,000, and lists at most 10,000 paths. It does nothing.
 fn accepted_is_in_range(history: &History)
     ensures commands { (uploads : Contents) (command : Change)
         → Histories.commit_refusal uploads history.now.limit history.now.entries history.now.state command ≡ None
@@ -120,7 +120,8 @@ pub fn with_undo(history: &History, site: &SiteName, change: u64) -> Result<Hist
     Ok(next)
 }
 
-/// Puts the last entry of a history into the journal, which has those before it.
+/// Puts the last entry of a history into the journal, which has the entries before it. Its error is a type of its own, since each owner of
+/// a history tells it in other words.
 pub fn put_last<D: Disk>(
     alloc: Global,
     journal: &mut Journal<D>,

@@ -2,7 +2,7 @@
 
 use std::alloc::AllocError;
 
-/// Why the last entry of a history is not put into its journal.
+/// Why the last entry of a history isn't put into its journal.
 #[derive(Debug, Drop, PartialEq, Eq)]
 pub enum EntryFault {
     /// There was no memory for it.

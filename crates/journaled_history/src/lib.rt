@@ -1,4 +1,5 @@
-//! A history with a journal: the next entry is made beside the old history, and is put into the journal before it is the history's.
+//! A history with a journal. The next entry is made on a copy of the history and put into the journal; only then does the copy take the
+//! place of the history. Each owner of a history does so: the program's host, and the book of a desk.
 #![tactic(auto)]
 
 mod copies;

@@ -10,10 +10,10 @@ use host_names::Digest;
 use http_wire::{Outgoing, Steady, read_answer, write_get};
 use std::alloc::Global;
 
-/// How many bytes a peer's answer has at most: those of the longest chunk.
+/// The most bytes of a peer's answer: those of the longest chunk.
 pub const CHUNK_LIMIT: u64 = 65536;
 
-/// Asks the peer at the other end of a stream for a chunk, by one request, and gives the bytes that it answers, whatever they are: at most
+/// Asks the peer at the other end of a stream for a chunk, by one request, and answers the bytes that it sends, whatever they are: at most
 /// as many as a chunk has.
 pub fn ask<D: Steady>(alloc: Global, duplex: &mut D, key: &Digest) -> Result<Vec<u8>, PeerFault>
     ensures asked { OnOk result

@@ -6,7 +6,7 @@ ghost use Rattle.peer_link.specs.Bodies.{lent_parts};
 use byte_view::BodyParts;
 use std::marker::Model;
 
-/// A body of one part, which is lent, or of none. A contract sees the list of its parts.
+/// A body of one lent part, or of none. Contracts see the list of its parts.
 #[derive(Drop)]
 pub(crate) struct LentBody<'a> {
     bytes: Option<&'a [u8]>,

@@ -4,7 +4,7 @@ ghost use Rattle.std.specs.Prelude.{MatchResult, None, Some};
 use host_names::Digest;
 use thiserror::Error;
 
-/// A peer gave no bytes, whatever the cause: it has none, it can't be reached, or there is no memory for them.
+/// A peer gave no bytes, for whatever cause: it has none, it can't be reached, or there is no memory for them.
 #[derive(Clone, Copy, Debug, PartialEq, Eq, Error)]
 #[error("the peer gave no bytes")]
 pub struct PeerFault;

@@ -19,7 +19,7 @@ use std::alloc::{AllocError, Global};
 use std::sync::{Arc, Wait};
 use thiserror::Error;
 
-/// How many requests of a peer a connection answers.
+/// How many requests of a peer one connection answers.
 const MOST_REQUESTS: u32 = 100;
 
 /// Gives the chunks that a node has by itself: no peer is asked.
@@ -32,7 +32,7 @@ pub trait LocalChunks {
 /// Why the connection of a peer ended before its stream did.
 #[derive(Clone, Copy, Debug, PartialEq, Eq, Error)]
 pub enum ServeFault {
-    /// A head is not one that is answered, or it announces a body.
+    /// A head is malformed, or announces a body.
     #[error("a peer sent no request that is answered")]
     BadHead,
     /// A read failed.
@@ -71,7 +71,7 @@ fn head_of(status: StatusCode) -> ReplyHead<'static>
     }
 }
 
-// Answers with the bytes of a chunk, which go out as they lie.
+// Answers with the bytes of a chunk, which aren't copied.
 fn write_chunk<D: Steady>(
     duplex: &mut D,
     out: &mut Outgoing,
@@ -109,8 +109,9 @@ fn asked_key(head: &Head) -> Option<Digest>
     }
 }
 
-/// Answers one request of a peer from the chunks that a node has by itself: 200 with the bytes of the chunk, which go out as they lie; or 404
-/// without a body, for another method, for a path that is none of a chunk, and for a chunk that it hasn't. To write it takes no memory.
+/// Answers one request of a peer from the chunks that a node has by itself: 200 with the bytes of the chunk, which aren't copied; or 404
+/// without a body, for another method, for a path that isn't a chunk's, and for a chunk that the node doesn't have. Writing takes no
+/// memory.
 pub fn answer_peer<R: Wait, D: Steady, C: LocalChunks>(
     rt: &R,
     duplex: &mut D,
@@ -154,13 +155,13 @@ fn request(read: Result<Head, HeadFault>) -> Result<Option<Head>, ServeFault>
     }
 }
 
-// Whether the connection ends after this request: the request asks for that, or is of HTTP/1.0.
+// Whether the connection ends after this request: the request asks for that, or its version is HTTP/1.0.
 fn is_last(head: &Head) -> bool {
     head.asks_close() || head.version() != Version::HTTP_11
 }
 
-/// Answers the requests of a peer, one after another, at most 100 of them: as `answer_peer` does each. It ends where the stream does, after a
-/// request that asks for that or is of HTTP/1.0, and at a head that is none or announces a body, which it doesn't answer.
+/// Answers the requests of a peer, one after another and at most 100 of them, each as `answer_peer` does. It ends with the stream, after a
+/// request that asks for that or has version HTTP/1.0, and at a head that is malformed or announces a body, which gets no answer.
 ///
 /// It is handed no link: whatever a peer asks, no other peer is asked for it.
 pub fn serve_peer<R: Wait, D: Steady, C: LocalChunks>(

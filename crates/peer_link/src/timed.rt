@@ -6,7 +6,7 @@ use std::io::{ErrorKind, Read, Write};
 use std::net::TcpStream;
 use std::time::{Clock, Duration, Instant};
 
-/// How often a call is made again that a signal cut short.
+/// How often a call is repeated that a signal interrupted.
 const MOST_TRIES: u32 = 16;
 
 /// How long something may take, from its beginning on.
@@ -18,13 +18,13 @@ pub(crate) struct Budget<'a, R> {
 }
 
 impl<'a, R: Clock> Budget<'a, R> {
-    /// So long from now on, if the clock tells the time.
+    /// This long from now on, if the clock tells the time.
     pub(crate) fn new(rt: &'a R, whole: Duration) -> Option<Budget<'a, R>> {
         let begun = Instant::now(rt).ok()?;
         Some(Budget { rt, begun, whole })
     }
 
-    /// What is left of it: none where it is over.
+    /// What is left of it; none once it is over.
     pub(crate) fn left(&self) -> Option<Duration> {
         let spent = self.begun.elapsed(self.rt).ok()?;
         let left = self.whole.checked_sub(spent)?;

@@ -9,7 +9,7 @@ pub fn a_hash_has_at_most_one_owner()
     ensures { (points : List Point) (hash p q : ℕ) → IsOwner points hash p → IsOwner points hash q → p ≡ q }
 {}
 
-/// Who owns a hash stays so where the points come in another order.
+/// The owner of a hash doesn't depend on the order of the points.
 pub fn owners_ignore_the_order_of_points()
     ensures { (points others : List Point) (hash peer : ℕ) → IsPermutation points others → IsOwner points hash peer → IsOwner others hash peer }
 {}

@@ -9,14 +9,14 @@ use std::cmp::Reverse;
 /// How many points each peer has.
 pub(crate) const POINTS: usize = 50;
 
-/// A place on the ring, and whose it is. Points are ordered by their hashes, and at one hash the later peer is first.
+/// A place on the ring, and the peer that it belongs to. Points are ordered by their hashes; at one hash the later peer is first.
 #[derive(Clone, Copy, Debug, PartialEq, Eq, PartialOrd, Ord)]
 pub(crate) struct Point {
     pub(crate) hash: u32,
     pub(crate) peer: Reverse<usize>,
 }
 
-/// A peer's point of a number.
+/// The point of a peer with this number.
 fn numbered_point<H: RingHash>(
     alloc: Global,
     hash: &H,

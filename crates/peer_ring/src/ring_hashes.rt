@@ -16,7 +16,7 @@ pub trait RingHash {
         ensures { result ≡ hashed self.now bytes.now };
 }
 
-/// The first four bytes of the SHA-1 digest (FIPS 180-4), the highest first.
+/// The first four bytes of the SHA-1 digest (FIPS 180-4), most significant first.
 #[derive(Clone, Copy, Debug)]
 pub struct DigestHash;
 

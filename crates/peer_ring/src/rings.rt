@@ -26,8 +26,8 @@ pub enum RingFault {
     OutOfMemory,
 }
 
-/// One to eight peers on a ring, each with 50 points. Contracts see the hash and the names of the peers; the points are
-/// always theirs.
+/// One to eight peers on a ring, each with 50 points. Contracts see the hash and the names of the peers, and the points are always theirs.
+/// So whoever is given a ring knows the owner of each key by the names alone, and whoever connects to an owner has its name from the ring.
 #[derive(Drop)]
 pub struct Ring<H: RingHash + Drop> {
     hash: H,
@@ -78,7 +78,7 @@ fn copied(alloc: Global, names: &[&str]) -> Result<Vec<String>, AllocError>
     Ok(copies)
 }
 
-/// Whose the next point is from a hash on, around the ring.
+/// The peer of the first point from a hash on, around the ring.
 fn owner_among(points: &[Point], hash: u32) -> usize
     requires sorted { IsSorted point_cmp points.now }
     requires some { 0 < length points.now }
@@ -93,7 +93,7 @@ fn owner_among(points: &[Point], hash: u32) -> usize
 }
 
 impl<H: RingHash + Copy + Drop> Ring<H> {
-    /// The ring of the peers of these names, which are known by their places among them.
+    /// The ring of the peers with these names. A peer is known by its place among them.
     pub fn new(alloc: Global, names: &[&str], hash: &H) -> Result<Ring<H>, RingFault>
         ensures none { (result ≡ Err NoPeers) ↔ (length names.now ≡ 0) }
         ensures many { (result ≡ Err TooManyPeers) ↔ (8 < length names.now) }

@@ -12,7 +12,7 @@ use std::marker::Model;
 pub enum Spec {
     /// An int-range: from the first position to the last, both included, or to the end.
     From(u64, Option<u64>),
-    /// A suffix-range: so many bytes at the end.
+    /// A suffix-range: the last bytes, as many as this number.
     Suffix(u64),
 }
 
@@ -40,7 +40,7 @@ impl Default for Spec {
     }
 }
 
-/// The specs that one field asks for, in order: 1 to 16 of them, each with its last position not below its first.
+/// The specs that one field asks for, in order: 1 to 16 of them, none with its last position below its first.
 #[derive(Clone, Debug, PartialEq, Eq, Drop)]
 pub struct Specs {
     list: ArrayVec<Spec, 16>,

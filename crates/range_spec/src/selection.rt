@@ -65,8 +65,8 @@ impl Spec {
     }
 }
 
-/// Which bytes of a file of `size` bytes the specs choose: those of each spec that can be satisfied, cut to the file.
-/// The whole file is chosen where it is empty, and where several intervals have more bytes together than it has.
+/// Which bytes of a file of `size` bytes the specs choose: those of each spec that can be satisfied, cut to the file. If the file is empty,
+/// or if several intervals together have more bytes than the file, the whole file is chosen.
 pub fn select(specs: &Specs, size: u64) -> Choice
     ensures choice { result ≡ chosen specs.now size }
     ensures within { All (LiesWithin size) (intervals_in result) }
@@ -101,7 +101,7 @@ fn satisfiable(specs: &[Spec], size: u64) -> ArrayVec<(u64, u64), 16>
     intervals
 }
 
-/// Whether the intervals have `size` bytes together at most.
+/// Whether the intervals together have at most `size` bytes.
 fn fits(intervals: &[(u64, u64)], size: u64) -> bool
     requires { All (LiesWithin size) intervals.now }
     ensures { IsTrue result ↔ (sum_by size_of intervals.now ≤ size) }

@@ -9,8 +9,10 @@ use crate::rules::{Law, Link};
 use logbook::Seen;
 use std::marker::{Model, PhantomData};
 
-/// A front of a list: its items up to some place, as they were seen. It has no items at run time, only how many there are. Contracts see
-/// the items.
+/// A front of a list: its first items, as they were seen. It has no items at run time, only how many there are. Contracts see the items.
+///
+/// Fronts are copied and learnt as often as one likes, by readers, receipts and owners, and the shorter of two fronts of one list is the
+/// beginning of the longer. The notes of `left_right` are no substitute: one reader uses a note up, and two notes can't be compared.
 #[derive(Drop)]
 pub struct Front<E, L: ListName<E>> {
     count: u64,
@@ -69,7 +71,7 @@ impl<E, L: ListName<E>> Front<E, L> {
         }
     }
 
-    /// Goes over to another front, if that is no shorter, and says whether it did. The other front begins with this one.
+    /// Goes over to another front, if that is no shorter, and answers whether it did. This front is a beginning of the other then.
     pub fn follow(&mut self, other: &Front<E, L>) -> bool
         ensures when { result ≡ nat_le (length self.old) (length other.now) }
         ensures followed { MatchBool result (self.new ≡ other.now) (self.new ≡ self.old) }
@@ -97,7 +99,7 @@ impl<E, L: ListName<E>> Front<E, L> {
         }
     }
 
-    /// Another front that is no shorter begins with this one. It does nothing.
+    /// This front is a beginning of another one that is no shorter. It does nothing.
     pub(crate) fn begins(&self, other: &Front<E, L>)
         requires { length self.now ≤ length other.now }
         ensures { IsPrefix self.now other.now }

@@ -5,7 +5,7 @@ ghost use mathlib.Core.List.{IsPrefix};
 use crate::fronts::Front;
 use crate::names::ListName;
 
-/// Of two fronts of one list one begins with the other: the shorter is the beginning of the longer.
+/// The shorter of two fronts of one list is the beginning of the longer.
 pub fn one_of_two_fronts_begins_the_other<E, L: ListName<E>>(one: &Front<E, L>, other: &Front<E, L>)
     ensures shorter { length one.now ≤ length other.now → IsPrefix one.now other.now }
     ensures either { IsPrefix one.now other.now ⊎ IsPrefix other.now one.now }

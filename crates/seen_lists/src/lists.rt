@@ -11,7 +11,8 @@ use logbook::{Offer, Pen, Seen, Start, Word};
 use std::marker::{Model, PhantomData};
 use std::sync::Wait;
 
-/// For a case that can't be met while nobody else has the list: it never returns.
+/// For a case that can't occur while nobody else has the list: it never returns. `NewList::new` alone has such a case, since it has no pen
+/// yet.
 fn never<R: Wait>(rt: &R)
     ensures { ⊥ }
 {
@@ -19,7 +20,7 @@ fn never<R: Wait>(rt: &R)
     unreachable!()
 }
 
-/// A list to which nothing was pushed yet, and which has no name. Contracts see the book of its log, which no other list has.
+/// A list without items and without a name. Contracts see the book of its log, which no other list has.
 #[derive(Drop)]
 pub struct NewList<E> {
     head: Word<Link<E>, u64, Law>,
@@ -56,7 +57,7 @@ impl<E> NewList<E> {
         NewList { head, pen, seen }
     }
 
-    /// The list under its name. It begins with the items that were found, and is told how many those are.
+    /// The list under its name. It begins with the items that were found; `found` is how many there are.
     pub fn named<L: ListName<E>>(self, found: u64) -> SeenList<E, L>
         requires book { self ≡ L.book }
         requires found { found ≡ length L.found }
@@ -74,7 +75,8 @@ impl<E> NewList<E> {
     }
 }
 
-/// A list, which its owner alone grows. It has no items at run time, only how many there are. Contracts see the items.
+/// A list that its owner alone grows. It has no items at run time, only how many there are. Contracts see the items. Whoever needs them at
+/// run time keeps them: an owner in a history, a reader in a snapshot.
 #[derive(Drop)]
 pub struct SeenList<E, L: ListName<E>> {
     entries: u64,
@@ -157,7 +159,7 @@ impl<E, L: ListName<E>> SeenList<E, L> {
         *front = self.front();
     }
 
-    /// A front of the list is a beginning of it. Nothing is changed.
+    /// A front of the list is a beginning of it. Nothing changes.
     fn has(&mut self, front: &Front<E, L>)
         ensures same { self.new ≡ self.old }
         ensures front { IsPrefix front.now self.old }

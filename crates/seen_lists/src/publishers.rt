@@ -45,7 +45,7 @@ impl<E, S: Listed<E> + Drop> Owners<E, S> {
     }
 }
 
-/// A list, the receipt of all its items, and what is shown of it, which is the same. Contracts see the items.
+/// A list, the receipt of all its items, and what is shown of it, which has the same items. Contracts see the items.
 #[derive(Drop)]
 pub struct Publisher<
     E,
@@ -85,7 +85,8 @@ impl<
     R: Wait + Drop,
 > Publisher<E, L, S, T, R> {
     /// The list, with its receipt and what is shown of it. It takes these out of options, since a caller that is generic in L can't pass them by
-    /// value: the bound of T is made of L.
+    /// value: the toolchain proves no call that passes values of a type parameter to a function with a bound made of that parameter, as the
+    /// bound of T is made of L.
     pub fn of(
         list: &mut Option<SeenList<E, L>>,
         last: &mut Option<Receipt<E, L, S>>,
@@ -111,7 +112,7 @@ impl<
         &self.last
     }
 
-    /// Pushes an item, shows the snapshot that has it, and gives the receipt of that.
+    /// Pushes an item, shows the snapshot that has it, and answers that snapshot's receipt.
     pub fn push(&mut self, rt: &impl Wait, item: &E, owners: Owners<E, S>) -> Receipt<E, L, S>
         requires room { length self.old < 2 ^ 62 }
         requires next { owners ≡ self.old ++ item.now ∷ [] }

@@ -7,14 +7,14 @@ use std::alloc::AllocError;
 use std::marker::Model;
 use std::sync::Arc;
 
-/// What a snapshot is of: the items that the list had when it was taken. For clauses alone.
+/// A snapshot of a list: the items that the list had when it was taken. For clauses alone.
 pub trait Listed<E> {
     ghost use Rattle.std.specs.Prelude.{List};
 
     ghost items: { Self → List E };
 }
 
-/// A snapshot, and the front of the list that had its items. Contracts see the items.
+/// A snapshot, and the front of the list that had the snapshot's items. Contracts see the items.
 #[derive(Drop)]
 pub struct Receipt<E, L: ListName<E>, S: Listed<E> + Drop> {
     snap: Arc<S>,
@@ -61,7 +61,7 @@ impl<E, L: ListName<E>, S: Listed<E> + Drop> Receipt<E, L, S> {
         &self.front
     }
 
-    /// A second owner of the snapshot. There is none where it has as many owners as it can have.
+    /// A second owner of the snapshot. It fails if the snapshot has as many owners as it can have.
     pub fn again(&self) -> Result<Receipt<E, L, S>, AllocError>
         ensures { IfOk result (λ copy. copy ≡ self.now) }
     {

@@ -65,7 +65,7 @@ impl<E, L: ListName<E>, S: Listed<E> + Drop> Absorb<Receipt<E, L, S>> for Shown<
     }
 }
 
-/// Appends an operation. Where there is no room for it, it is tried again.
+/// Appends an operation. While there is no room for it, this is tried again.
 fn append<O: Drop, T: Absorb<O> + Drop, R: Wait + Drop>(
     rt: &impl Wait,
     shown: &mut WriteHandle<T, O, R>,
@@ -85,7 +85,7 @@ fn append<O: Drop, T: Absorb<O> + Drop, R: Wait + Drop>(
     unreachable!()
 }
 
-/// Publishes one operation. Where there is no memory for it, it is tried again.
+/// Publishes one operation. While there is no memory for it, this is tried again.
 pub fn publish<O: Drop, T: Absorb<O> + Drop, R: Wait + Drop>(
     rt: &impl Wait,
     shown: &mut WriteHandle<T, O, R>,

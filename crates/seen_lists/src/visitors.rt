@@ -19,8 +19,9 @@ use std::sync::Arc;
 pub enum LookFault {
     /// The snapshot has as many owners as it can have.
     OutOfMemory,
-    /// What is shown is shorter than a front that was learnt. So it is while the item that this front has is not shown yet, and where the owner of
-    /// the list is gone.
+    /// What is shown is shorter than a front that was learnt: the front's last item isn't shown yet, or the owner of the list is gone. No
+    /// clause excludes this, since what `left_right` reads is known by its type alone. An owner who shows each item before handing out a
+    /// front of it excludes it as long as the owner is there.
     Behind,
 }
 
@@ -35,8 +36,8 @@ impl From<AllocError> for LookFault {
     }
 }
 
-/// A visitor, with the front of the most that it saw or learnt, and the receipt of the longest snapshot that it was given. Contracts see the items of
-/// both.
+/// A visitor, with the front of the most that it saw or learnt, and the receipt of the longest snapshot that it was given. Contracts see
+/// the items of both. By that receipt a look has a snapshot to give even if less is shown, or nothing any more.
 #[derive(Drop)]
 pub struct Visitor<E, L: ListName<E>, S: Listed<E> + Drop> {
     reader: ReadHandle<Shown<E, L, S>>,
@@ -83,7 +84,7 @@ impl<E, L: ListName<E>, S: Listed<E> + Drop> Visitor<E, L, S> {
         }
     }
 
-    /// A second visitor, who knows what this one does. There is none where all places for visitors are taken, or there is no memory.
+    /// A second visitor, who knows what this one does. It fails if all places for visitors are taken, or if there is no memory.
     pub fn again(&self) -> Result<Visitor<E, L, S>, AllocError>
         ensures { IfOk result (λ copy. copy ≡ self.now) }
     {
@@ -94,15 +95,16 @@ impl<E, L: ListName<E>, S: Listed<E> + Drop> Visitor<E, L, S> {
         })
     }
 
-    /// The front of all that it saw or learnt.
+    /// The front of all that it saw or learnt. Handing it out and learning it take no memory, so a connection can carry what it saw from
+    /// one worker to the next. A front has no snapshot.
     pub fn front(&self) -> Front<E, L>
         ensures { result ≡ self.now.known }
     {
         self.front.again()
     }
 
-    /// Looks at what is shown: the snapshot of the most that is shown, was seen or was learnt. It gives none where it learnt a front that is longer
-    /// than what is shown and than each snapshot that it has.
+    /// Looks at what is shown. Answers the snapshot of the most that is shown, was seen or was learnt; none if it learnt a front that is
+    /// longer than what is shown and than each snapshot that it has.
     pub fn look(&mut self) -> Result<Arc<S>, LookFault>
         ensures seen { IfOk result (λ snap. self.new ≡ sees (S.items snap.value)) }
         ensures kept { IsPrefix self.old.known self.new.known }
@@ -131,7 +133,7 @@ impl<E, L: ListName<E>, S: Listed<E> + Drop> Visitor<E, L, S> {
         }
     }
 
-    /// Goes over to a receipt, and gives its snapshot.
+    /// Goes over to a receipt, and answers its snapshot.
     fn go_over(&mut self, next: Receipt<E, L, S>) -> Result<Arc<S>, AllocError>
         ensures seen { IfOk result (λ snap. S.items snap.value ≡ next) }
         ensures ok { OnOk result (self.new ≡ sees next) }
@@ -154,7 +156,8 @@ impl<E, L: ListName<E>, S: Listed<E> + Drop> Visitor<E, L, S> {
         Ok(Arc::try_clone(self.last.snap())?)
     }
 
-    /// Learns a receipt.
+    /// Learns a receipt, and takes over its owner of the snapshot. Whoever wants to keep the receipt makes a second owner first, and that
+    /// alone can fail.
     pub fn learn(&mut self, receipt: Receipt<E, L, S>)
         ensures longer { self.new.known ≡ longer_of self.old.known receipt }
         ensures held { self.new.held ≡ longer_of self.old.held receipt }

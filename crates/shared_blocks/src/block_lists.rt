@@ -97,8 +97,8 @@ impl<T: Drop> BlockList<T> {
         Ok(())
     }
 
-    /// Writes an item over the one at a place, from 0 on. On an error nothing changes. Where the place is in a full block, that
-    /// block is copied.
+    /// Writes an item over the one at a place, from 0 on. On an error nothing changes. If the place is in a full block, that block is
+    /// copied.
     pub(crate) fn set(&mut self, place: usize, item: T) -> Result<(), AllocError>
     where
         T: Clone,
@@ -120,7 +120,7 @@ impl<T: Drop> BlockList<T> {
         Ok(())
     }
 
-    /// A copy, which shares all full blocks. It counts each of them.
+    /// A copy. It shares all full blocks, and counts one owner more for each.
     pub(crate) fn copy(&self) -> Result<BlockList<T>, AllocError>
     where
         T: Clone,

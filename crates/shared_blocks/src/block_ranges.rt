@@ -111,7 +111,7 @@ fn pairs_within<'a, K: Ord + Drop, V: Drop, S: Span<K>>(
     &rest[..count]
 }
 
-/// Those of the pairs of some blocks whose keys are in a span, where each block starts before it: they are in the last.
+/// Those of the pairs of some blocks whose keys are in a span, if each block starts before the span: they are in the last block.
 fn front_within<'a, K: Ord + Drop, V: Drop, S: Span<K>>(
     blocks: &'a [Block<(K, V)>],
     span: &S,
@@ -126,8 +126,8 @@ fn front_within<'a, K: Ord + Drop, V: Drop, S: Span<K>>(
     }
 }
 
-/// Those of the pairs of some blocks whose keys are in a span, where no block starts before it: whole blocks, and the pairs
-/// of the last one that are.
+/// Those of the pairs of some blocks whose keys are in a span, if no block starts before the span: whole blocks, and then pairs of one
+/// block.
 fn rest_within<'a, K: Ord + Drop, V: Drop, S: Span<K>>(
     blocks: &'a [Block<(K, V)>],
     span: &S,

@@ -23,8 +23,8 @@ pub(crate) fn first_key<K: Drop, V: Drop>(blocks: &[Block<(K, V)>]) -> Option<&K
     Some(&pair.0)
 }
 
-/// How the pairs that a write makes of a block are cut: into full blocks where they go on after the block's last key, as
-/// they do where keys come in their order.
+/// How the pairs that a write makes of a block are cut: into full blocks if they go on after the block's last key, as they do when keys
+/// come in their order.
 pub(crate) fn cut_of<K: Ord + Drop, V: Drop>(block: &[(K, V)], merged: &[(K, V)]) -> Cut {
     match (block.last(), merged.last()) {
         (Some(before), Some(after)) if after.0.cmp(&before.0).is_le() => Cut::Even,
@@ -32,7 +32,7 @@ pub(crate) fn cut_of<K: Ord + Drop, V: Drop>(block: &[(K, V)], merged: &[(K, V)]
     }
 }
 
-/// Adds a block with the edits that are below the limit written over it. A block into which none falls is shared.
+/// Adds a block with the edits below the limit written over it. A block into which no edit falls is shared.
 fn write_block<K: Ord + Clone + Drop, V: Clone + Drop>(
     written: &mut Vec<Block<(K, V)>>,
     block: &Block<(K, V)>,
@@ -59,7 +59,7 @@ fn write_block<K: Ord + Clone + Drop, V: Clone + Drop>(
     push_items(written, merged, cut)
 }
 
-/// Writes over each block the edits that are below the next one. Where there is no block, all edits are left.
+/// Writes over each block the edits that are below the next one. If there is no block, all edits are left.
 fn write_blocks<K: Ord + Clone + Drop, V: Clone + Drop>(
     written: &mut Vec<Block<(K, V)>>,
     blocks: &[Block<(K, V)>],
@@ -99,7 +99,7 @@ fn edited_block<K: Ord + Clone + Drop, V: Clone + Drop>(
     merge_block(alloc, block, edits, first_key(no_blocks.as_slice()))
 }
 
-/// The pairs that edits give where there are none.
+/// The pairs that edits give by themselves, over no pairs.
 fn merge_rest<K: Ord + Clone + Drop, V: Clone + Drop>(
     alloc: Global,
     edits: &mut VecDeque<Edit<K, V>>,
@@ -113,7 +113,7 @@ fn merge_rest<K: Ord + Clone + Drop, V: Clone + Drop>(
     edited_block(alloc, no_pairs.as_slice(), edits)
 }
 
-/// The blocks with these edits written over them. Where there are none, blocks of what the edits give.
+/// The blocks with these edits written over them. If there are no blocks, new ones with what the edits give.
 pub(crate) fn written_blocks<K: Ord + Clone + Drop, V: Clone + Drop>(
     alloc: Global,
     blocks: &[Block<(K, V)>],

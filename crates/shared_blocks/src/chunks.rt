@@ -7,9 +7,10 @@ use crate::blocks::Block;
 use std::alloc::AllocError;
 use std::marker::Model;
 
-/// Blocks of pairs in a row, as many as a block has pairs at most. Contracts see the pairs. Copies share them. A write
-/// copies the handles of one chunk, a count for each, which takes less time than the copy of a block's pairs; a copy of a
-/// map of 1,000,000 pairs counts 61 chunks that are full.
+/// Blocks of pairs in a row, at most as many as a block has pairs. Contracts see the pairs. Copies share them.
+///
+/// A write copies the handles of one chunk, a count for each, which takes less time than copying the pairs of a block. A copy of a map of
+/// 1,000,000 pairs counts some hundred chunks (61 if all are full); with one level of blocks it would count ten thousand.
 #[derive(Drop)]
 pub(crate) struct Chunk<K, V> {
     blocks: Block<Block<(K, V)>>,

@@ -7,8 +7,8 @@ use crate::blocks::{BLOCK_LIMIT, Block, MOST_BLOCKS, item_at, with_item};
 use std::alloc::{AllocError, Global};
 use std::marker::Model;
 
-/// A list whose copies share all blocks that are full, and the handles of these blocks, where they fill a block of handles.
-/// Contracts see its items, and whether there is room for one more.
+/// A list whose copies share all full blocks, and each full block of the handles of these. Contracts see its items, and whether there is
+/// room for one more.
 #[derive(Drop)]
 pub struct SharedList<T> {
     full: BlockList<Block<T>>,
@@ -120,8 +120,8 @@ impl<T: Drop> SharedList<T> {
         Ok(())
     }
 
-    /// A copy, which shares all full blocks. The work is one count for each block of handles, 128 * 128 items, and copies of
-    /// the handles and of the items that fill no block yet.
+    /// A copy. It shares all full blocks. The work is one count for each block of handles, which is 128 * 128 items, and copies of the
+    /// handles and of the items that fill no block yet.
     pub fn copy(&self) -> Result<SharedList<T>, AllocError>
     where
         T: Clone,

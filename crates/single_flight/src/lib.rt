@@ -1,4 +1,4 @@
-//! Loads that are shared: of one key at most one is in flight, and who asks for it meanwhile joins that.
+//! Shared loads: at most one load of a key is in flight, and whoever asks for the key meanwhile joins it.
 #![tactic(auto)]
 
 pub mod laws;

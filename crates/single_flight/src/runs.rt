@@ -7,7 +7,8 @@ use std::alloc::{AllocError, Global};
 use std::marker::PhantomData;
 use std::sync::{Arc, Mutex, Wait};
 
-/// Which outcomes a load of a key may have. For clauses alone: nothing calls it.
+/// Which outcomes a load of a key may have. For clauses alone: nothing calls it. The caller implements it for a type of its own and not for
+/// the type of outcomes, so that an owner of flights can be generic over it.
 pub trait Loads<T: Clone> {
     ghost use Rattle.std.specs.Prelude.{◌≡◌, Bool, true};
     ghost use Rattle.host_names.specs.declared.digests.Digest.{Digest};
@@ -17,7 +18,8 @@ pub trait Loads<T: Clone> {
     ghost clones_fit: { (key : Digest) (outcome share : T) → T.is_clone outcome share → fits key outcome ≡ true → fits key share ≡ true };
 }
 
-/// The outcome of a flight. Who reads it in another thread knows it by its type alone: it is one of a load of the key.
+/// The outcome of a flight, with its key. Another thread set it, so whoever reads it knows it by its type alone: it is an outcome that a
+/// load of this key may have.
 #[derive(Drop)]
 struct Landed<T: Clone + Drop, L: Loads<T>> {
     key: Digest,
@@ -63,7 +65,7 @@ fn joined<T: Clone + Drop, L: Loads<T>, R: Wait, F: FnOnce() -> T + Drop>(
     if landed.is_of(key) {
         landed.share()
     } else {
-        // The flight is the key's, but no clause says so of what was set in it.
+        // The key is the same, since the flight is the key's. But no clause could say so of what another thread set, so this case loads.
         Ok(load())
     }
 }
@@ -76,8 +78,12 @@ impl<T: Clone + Drop, L: Loads<T>> Flights<T, L> {
         }
     }
 
-    /// Loads, sets the outcome for who has joined the flight, and then ends it. Who joins it between the two
-    /// has the outcome at once.
+    /// Loads, sets the outcome for those who joined, and then ends the flight. Whoever begins between the two joins the flight and has its
+    /// outcome at once; so a caller who was given an outcome, such as a fault, may be given it again at its next call.
+    ///
+    /// The leader always sets the outcome, even if nobody has joined, and takes its own share first: each flight makes a share, and one
+    /// call of the system, which wakes the joiners. The leader waits for nothing but the lock of the table: it alone sets the outcome, and
+    /// holds no lock meanwhile.
     fn led<R: Wait, F: FnOnce() -> T + Drop>(
         &self,
         rt: &R,
@@ -100,8 +106,8 @@ impl<T: Clone + Drop, L: Loads<T>> Flights<T, L> {
         share
     }
 
-    /// Loads a key, or waits for the load of it that is in flight. Leader and joiners share the outcome, its fault
-    /// included; each may lack the memory for its own share. No lock is held during the load.
+    /// Loads a key, or waits for the load of it that is in flight. The leader and the joiners share the outcome, even a fault; each may
+    /// lack the memory for its own share. No lock is held during the load.
     pub fn run<R: Wait, F: FnOnce() -> T + Drop>(
         &self,
         rt: &R,

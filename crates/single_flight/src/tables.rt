@@ -10,7 +10,11 @@ use std::collections::BTreeMap;
 use std::marker::Model;
 use std::sync::{Arc, OnceLock};
 
-/// A load of a key that callers share: its number in its table, and where its outcome is set, once.
+/// A load of a key that callers share: its number in its table, and the cell in which its outcome is set, once.
+///
+/// Key and number are next to the cell, where nobody can change them. So a table can't hand out an ended flight as a new one, nor the
+/// flight of another key, and a joiner has the number of the flight that is open. No clause could say that `OnceLock::new` makes a new
+/// cell.
 #[derive(Drop)]
 pub struct Flight<T> {
     key: Digest,
@@ -38,7 +42,7 @@ impl<T> Flight<T> {
         self.number
     }
 
-    /// What the outcome is set in, and waited for.
+    /// The cell in which the outcome is set, and waited for.
     pub fn outcome(&self) -> &OnceLock<T>
         ensures { result.now ≡ self.now.outcome }
     {
@@ -46,22 +50,22 @@ impl<T> Flight<T> {
     }
 }
 
-/// The lead of a flight. It can't be dropped: whoever has it spends it by `FlightTable::finish`. To set the outcome is up to
-/// him: a flight whose outcome is never set keeps its joiners waiting.
+/// The lead of a flight. It can't be dropped: its owner has to give it back by `FlightTable::finish`, and so gives it back once. The owner
+/// also has to set the outcome: a flight whose outcome is never set keeps its joiners waiting.
 pub struct Lead<T> {
     flight: Arc<Flight<T>>,
 }
 
 /// How a caller takes part in a flight.
 pub enum Begun<T> {
-    /// It has begun one, and leads it.
+    /// The caller has begun a flight, and leads it.
     Lead(Lead<T>),
-    /// This one was open.
+    /// The caller joins this flight, which was open.
     Join(Arc<Flight<T>>),
 }
 
-/// The flights that are open: of each key at most one. The table numbers its flights from 0 on in the order in which they begin, so of
-/// two the later has the greater number. Contracts see the number and the outcome's cell of each that is open, under its key, and how many
+/// The open flights, at most one of each key. The table numbers its flights from 0 on, in the order in which they begin, so the later of
+/// two has the greater number. Contracts see the number and the outcome's cell of each open flight, under its key, and how many flights
 /// have begun. Each flight is of the key that it is kept under.
 #[derive(Drop)]
 pub struct FlightTable<T> {
@@ -105,7 +109,7 @@ impl<T: Drop> FlightTable<T> {
         }
     }
 
-    /// Opens a flight of a key, which had none.
+    /// Opens a flight of a key that has none.
     fn open(&mut self, key: Digest) -> Result<Lead<T>, AllocError>
         ensures key { IfOk result (λ lead. lead.flight.value.key ≡ key) }
         ensures number { IfOk result (λ lead. lead.flight.value.number ≡ self.old.begun) }
@@ -120,8 +124,9 @@ impl<T: Drop> FlightTable<T> {
         Ok(Lead { flight })
     }
 
-    /// Joins the flight of a key, or begins it where none is open. Where its outcome will be set is there from then on.
-    /// Without memory nothing changes. A table that has numbered 2^64 - 1 flights answers as one without memory; none gets there.
+    /// Joins the flight of a key, or begins one if none is open. The cell for its outcome is made here, so its leader never lacks memory to
+    /// set that. If memory runs out, nothing changes. Numbers are 64 bits wide and none is given twice, so a table that has begun 2^64 - 1
+    /// flights answers as if memory had run out; no run gets there.
     pub fn begin(&mut self, key: &Digest) -> Result<Begun<T>, AllocError>
         ensures ok { IfOk result (λ begun. Begins self.old key.now begun self.new) }
         ensures err { OnErr result (self.new ≡ self.old) }
@@ -132,7 +137,8 @@ impl<T: Drop> FlightTable<T> {
         }
     }
 
-    /// Ends the flight of the lead's key in this table, and hands out the lead's flight. Its number isn't given again.
+    /// Ends the flight of the lead's key in this table, and hands out the lead's flight. The flight's number isn't given again. Nothing is
+    /// asked of the lead: that it is of this very table can't be known once the table is behind a lock.
     pub fn finish(&mut self, lead: Lead<T>) -> Arc<Flight<T>>
         ensures ended { self.new ≡ record self.old { flights = map.remove self.old.flights lead.flight.value.key } }
         ensures flight { result ≡ lead.flight }

@@ -26,7 +26,7 @@ use std::cmp::Ordering;
 /// A cell, and what is written into it.
 pub(crate) type Write = (Cell, Option<Value>);
 
-/// What changes where this is written into one cell.
+/// What changes if this is written into one cell.
 fn change_one(
     alloc: Global,
     state: &State,
@@ -41,7 +41,7 @@ fn change_one(
     Ok(changes)
 }
 
-/// What changes where these are written into two cells, of which the first comes first.
+/// What changes if these are written into two cells, given in their order.
 fn change_two(
     alloc: Global,
     state: &State,
@@ -76,7 +76,7 @@ pub(crate) fn plan_one(
     Ok(Plan::new(changes, Touched::new(site, touched)))
 }
 
-/// What the cancelling of an open deploy changes and touches.
+/// What cancelling an open deploy changes and touches.
 pub(crate) fn cancel(
     alloc: Global,
     state: &State,
@@ -96,7 +96,7 @@ pub(crate) fn cancel(
     Ok(plan_one(alloc, state, site, (draft, None), touched)?)
 }
 
-/// What the removal of a file changes and touches.
+/// What removing a file changes and touches.
 pub(crate) fn remove(
     alloc: Global,
     state: &State,
@@ -116,7 +116,7 @@ pub(crate) fn remove(
     Ok(plan_one(alloc, state, site, (live, None), touched)?)
 }
 
-/// What changes where these are written into two cells.
+/// What changes if these are written into two cells, given in any order.
 fn change_both(
     alloc: Global,
     state: &State,
@@ -135,7 +135,7 @@ fn change_both(
     }
 }
 
-/// What changes where this file is served at one path no longer, but at another.
+/// What changes if this file is served at another path instead of this one.
 fn change_paths(
     alloc: Global,
     state: &State,
@@ -155,7 +155,7 @@ fn change_paths(
     change_both(alloc, state, (left, None), (reached, Some(file)))
 }
 
-/// What the renaming of a file changes and touches.
+/// What renaming a file changes and touches.
 pub(crate) fn rename(
     alloc: Global,
     state: &State,
@@ -182,7 +182,7 @@ pub(crate) fn rename(
     Ok(Plan::new(changes, Touched::new(site, touched)))
 }
 
-/// What the moving of an alias to a kept deploy changes and touches.
+/// What moving an alias to a kept deploy changes and touches.
 pub(crate) fn move_alias(
     alloc: Global,
     state: &State,
@@ -206,7 +206,7 @@ pub(crate) fn move_alias(
     Ok(plan_one(alloc, state, site, write, touched)?)
 }
 
-/// What the removal of an alias changes and touches.
+/// What removing an alias changes and touches.
 pub(crate) fn remove_alias(
     alloc: Global,
     state: &State,
@@ -226,7 +226,7 @@ pub(crate) fn remove_alias(
     Ok(plan_one(alloc, state, site, (alias, None), touched)?)
 }
 
-/// What the removal of a kept deploy changes and touches.
+/// What removing a kept deploy changes and touches.
 pub(crate) fn remove_deploy(
     alloc: Global,
     state: &State,

@@ -7,17 +7,17 @@ use host_names::{AliasName, FilePath, SiteName};
 use site_state::Listing;
 use std::alloc::AllocError;
 
-/// A change that is asked for. The number of the entry that it becomes is told with it.
+/// A change that is asked for. The number of the entry that it becomes is passed along with it.
 #[derive(Drop)]
 pub enum Command {
-    /// Opens a deploy of what is listed, whose number is the entry's own.
+    /// Opens a deploy that lists these files. The deploy's number is that of the entry.
     Open {
         site: SiteName,
         files: Listing,
         auto: bool,
     },
-    /// Makes the files of an open deploy those that the site serves, and no others; of a patch, serves its files and removes
-    /// those that it lists to be removed, and leaves all others.
+    /// Publishes an open deploy: the site serves its files and no others. A patch adds the files that it lists, removes those that it lists
+    /// as removed, and leaves all others.
     Publish {
         site: SiteName,
         number: u64,
@@ -27,12 +27,12 @@ pub enum Command {
         site: SiteName,
         number: u64,
     },
-    /// Serves nothing at a path any more.
+    /// Removes the file at a path.
     Remove {
         site: SiteName,
         path: FilePath,
     },
-    /// Serves the file of one path at another, where nothing is served.
+    /// Moves the file at one path to another, where nothing is served.
     Rename {
         site: SiteName,
         source: FilePath,
@@ -49,13 +49,12 @@ pub enum Command {
         site: SiteName,
         name: AliasName,
     },
-    /// Makes the files of a kept deploy those that the site serves, and no others; where no such deploy is kept, publishes
-    /// the open one of that number.
+    /// Serves the files of a kept deploy, and no others. If no such deploy is kept, publishes the open one with that number.
     Restore {
         site: SiteName,
         number: u64,
     },
-    /// Keeps a deploy no longer, which no alias names.
+    /// Removes a kept deploy that no alias names.
     RemoveDeploy {
         site: SiteName,
         number: u64,
@@ -81,7 +80,7 @@ impl Command {
     }
 }
 
-/// The opening of a deploy that lists the same.
+/// The opening of a deploy that lists the same files.
 fn opening(site: SiteName, files: &Listing, auto: bool) -> Result<Command, AllocError>
     ensures { IfOk result (λ command. command ≡ Open site files.now auto) }
 {
@@ -89,7 +88,7 @@ fn opening(site: SiteName, files: &Listing, auto: bool) -> Result<Command, Alloc
     Ok(Command::Open { site, files, auto })
 }
 
-/// The renaming of a path to another.
+/// The renaming of one path to another.
 fn renaming(site: SiteName, source: &FilePath, target: &FilePath) -> Result<Command, AllocError>
     ensures { IfOk result (λ command. command ≡ Rename site source.now target.now) }
 {

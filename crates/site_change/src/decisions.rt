@@ -1,4 +1,4 @@
-//! Deciding a command: whether it is refused, and else what it changes and touches.
+//! Deciding a command: whether it is refused, and if not, what it changes and touches.
 ghost use Rattle.std.specs.Prelude.{◌≡◌, IfOk, OnOk, Some, None, nat_lt, length, if◌then◌else◌};
 ghost use Rattle.host_names.specs.declared.cells.Cell.TheVariants as cell;
 ghost use Rattle.site_state.specs.Changes.{AreOfKindOn};
@@ -106,9 +106,9 @@ fn decision<U: Uploads>(
     }
 }
 
-/// Decides a command that would become the entry of this number: what it changes in the state, with what was
-/// uploaded, and what it touches, or why it is refused. Each file that is served or kept has to be among the uploads. It is
-/// out of memory only where it isn't refused.
+/// Decides a command that would become the entry with this number. Answers what it changes and touches in this state, with these uploads,
+/// or why it is refused. Each file that is served or kept has to be among the uploads. Memory can run out only if the command isn't
+/// refused.
 pub fn decide<U: Uploads>(
     alloc: Global,
     state: &State,

@@ -27,41 +27,39 @@ ghost use Rattle.site_change.specs.declared.refusals.ChangeRefusal.{ChangeRefusa
 ghost use Rattle.site_change.specs.declared.touched.Touched.{Touched};
 ghost use Rattle.host_names.specs.declared.digests.Digest.{Digest};
 
-/// All that a command reads or writes is what it touches. In two states that have the same there, it gets the
-/// same answer, touches the same cells, and leaves the same in them; every other cell stays as it was, and what
-/// it changes lies within what it touches.
+/// A command reads and writes only what it touches. In two states that agree there, it gets the same answer, touches the same cells, and
+/// leaves the same in them. Every other cell stays as it was, and what the command changes lies within what it touches.
 pub fn commands_are_local()
     ensures { (command : Command) (number : ℕ) (state : State) (uploads : Contents) →
         IsLocal command number state uploads }
 {}
 
-/// A change can be left out of a row of accepted commands where no later one touches a cell that it changed: the
-/// later ones are then accepted as before, and the state differs in those cells alone, each of which has what
-/// was there before the change.
+/// A change can be left out of a row of accepted commands if no later one touches a cell that it changed. The later ones are then accepted
+/// as before, and the state differs in those cells alone: each has what was there before the change.
 pub fn a_change_can_be_left_out()
     ensures { (uploads : Contents) (state : State) (change : ℕ × Command) (later : List (ℕ × Command)) →
         LeavesOut uploads state change later }
 {}
 
-/// A row of commands that was accepted stays accepted, with the same state after it, as more is uploaded.
+/// A row of accepted commands stays accepted when more is uploaded, and leads to the same state.
 pub fn accepted_stays_accepted()
     ensures { (uploads more : Contents) (state : State) (commands : List (ℕ × Command)) →
         KeepsRunning uploads more state commands }
 {}
 
-/// Uploads are within themselves, within those with one file more, and within what those are within that they are within.
+/// `IsWithin` is reflexive and transitive, and uploads are within the same uploads with one file more.
 pub fn uploads_are_within_more()
     ensures itself { (uploads : Contents) → IsWithin uploads uploads }
     ensures file { (uploads : Contents) (bytes : List ℕ) → IsWithin uploads (with_file uploads bytes) }
     ensures on { (uploads more most : Contents) → IsWithin uploads more → IsWithin more most → IsWithin uploads most }
 {}
 
-/// Two files that were uploaded to one place are the same exactly where their digests are. Of other files nothing is said.
+/// Two files that were uploaded to one place are the same if and only if their digests are. Nothing is said of other files.
 pub fn uploaded_files_are_told_by_their_digests()
     ensures { (uploads : Contents) (a b : List ℕ) → IsUploaded uploads a → IsUploaded uploads b → (digest_of a ≡ digest_of b) ↔ (a ≡ b) }
 {}
 
-/// Where each file that is served or kept was uploaded, so it is after a command that is accepted, and after a row of them.
+/// If each served or kept file was uploaded, that is so after an accepted command, and after a row of them.
 pub fn accepted_commands_leave_uploaded_files()
     ensures command { (command : Command) (number : ℕ) (state : State) (uploads : Contents) → AreDigested uploads → AreUploaded uploads state
         → refusal command number state uploads ≡ None → AreUploaded uploads (applied command number state uploads) }
@@ -69,7 +67,7 @@ pub fn accepted_commands_leave_uploaded_files()
         → run_from uploads state commands ≡ Some after → AreUploaded uploads after }
 {}
 
-/// A command changes a cell exactly where the state after it has something else there than the state before it.
+/// A command changes exactly the cells in which the states before and after it differ.
 pub fn changes_are_where_the_states_differ()
     ensures { (command : Command) (number : ℕ) (state : State) (uploads : Contents) (c : Cell) →
         (changes command number state uploads c ≡ true) ↔ (map.get state c ≢ map.get (applied command number state uploads) c) }
@@ -81,8 +79,8 @@ pub fn an_opening_touches_its_draft_alone()
         (touches (Open site files auto) number state c ≡ true) ↔ (c ≡ cell.Draft site number) }
 {}
 
-/// A publish touches the draft of its number. Of a full deploy it touches besides the kept deploy of that number and each
-/// path of its site, whether a file is there or not; of a patch the listed paths; where there is no such draft, nothing else.
+/// A publish touches the draft of its number. A full deploy's publish also touches the kept deploy of that number and each path of its
+/// site, whether or not a file is there; a patch's also touches the listed paths. If there is no such draft, it touches nothing else.
 pub fn a_publish_touches_its_deploy_alone()
     ensures opened { (site : SiteName) (m number : ℕ) (state : State) (draft : Draft) (c : Cell) →
         draft_at state site m ≡ Some draft → draft.files.0 ≡ false →
@@ -94,27 +92,26 @@ pub fn a_publish_touches_its_deploy_alone()
         (touches (Publish site m) number state c ≡ true) ↔ (c ≡ cell.Draft site m) }
 {}
 
-/// What an accepted publish of a patch leaves. At each path for which the patch lists a digest, the site serves the bytes
-/// that were uploaded under it; where it lists a removal, nothing; and where it lists nothing, what it served before. The
-/// draft is gone. What else there is stays as it was: other sites, kept deploys, aliases and other drafts; no deploy is kept.
+/// What an accepted publish of a patch leaves. Where the patch lists a digest, the site serves the bytes that were uploaded under it; where
+/// it lists a removal, nothing; and at every other path, what it served before. The draft is gone, and no deploy is kept. All else stays:
+/// other sites, kept deploys, aliases and other drafts.
 pub fn a_published_patch_changes_what_it_lists()
     ensures { (site : SiteName) (m number : ℕ) (state : State) (uploads : Contents) (draft : Draft) →
         draft_at state site m ≡ Some draft → draft.files.0 ≡ true → refusal (Publish site m) number state uploads ≡ None →
         LeavesPatch site m uploads draft.files.1 state (applied (Publish site m) number state uploads) }
 {}
 
-/// What an accepted publish of a full deploy leaves. At each path that it lists the site serves the bytes that were uploaded
-/// under the listed digest, and at every other path nothing. The files that it serves are kept under the deploy's number, and
-/// the draft is gone. What else there is stays as it was: other sites, other kept deploys, aliases and other drafts.
+/// What an accepted publish of a full deploy leaves. At each listed path the site serves the bytes that were uploaded under the listed
+/// digest, and at every other path nothing. The files that it serves are kept under the deploy's number, and the draft is gone. All else
+/// stays: other sites, other kept deploys, aliases and other drafts.
 pub fn a_published_deploy_is_served_and_kept()
     ensures { (site : SiteName) (m number : ℕ) (state : State) (uploads : Contents) (draft : Draft) →
         draft_at state site m ≡ Some draft → draft.files.0 ≡ false → refusal (Publish site m) number state uploads ≡ None →
         LeavesDeploy site m uploads draft.files.1 state (applied (Publish site m) number state uploads) }
 {}
 
-/// A restoring touches the draft and the kept deploy of its number. Where a deploy is kept, or a full one open, it touches
-/// besides each path of its site, whether a file is there or not; where a patch is open, the listed paths; where there is
-/// neither, nothing else.
+/// A restore touches the draft and the kept deploy of its number. If a deploy is kept, or a full one is open, it also touches each path of
+/// its site, whether or not a file is there; if a patch is open, the listed paths; if there is neither, nothing else.
 pub fn a_restoring_touches_its_deploy_alone()
     ensures kept { (site : SiteName) (m number : ℕ) (state : State) (tree : Paths (List ℕ)) (c : Cell) →
         kept_at state site m ≡ Some tree →
@@ -131,16 +128,15 @@ pub fn a_restoring_touches_its_deploy_alone()
         (touches (Restore site m) number state c ≡ true) ↔ ((c ≡ cell.Draft site m) ⊎ (c ≡ cell.Kept site m)) }
 {}
 
-/// The removal of a deploy touches it and each alias of its site, whether it is there or not.
+/// The removal of a deploy touches the deploy and each alias of its site, whether or not that alias is there.
 pub fn the_removal_of_a_deploy_touches_it_and_the_aliases()
     ensures { (site : SiteName) (m number : ℕ) (state : State) (c : Cell) →
         (touches (RemoveDeploy site m) number state c ≡ true)
         ↔ ((c ≡ cell.Kept site m) ⊎ ((name : AliasName) × (c ≡ cell.Alias site name))) }
 {}
 
-/// What the commands of few cells touch, each those of its row and no others: the cancelling of a deploy its draft; a
-/// removal its path; a renaming both paths; the moving of an alias that alias and the kept deploy, which it reads; and the
-/// removal of an alias that alias.
+/// What the commands of few cells touch, which is all that they touch: a cancel its draft; a removal its path; a rename both paths; the
+/// move of an alias that alias and the kept deploy, which it reads; and the removal of an alias that alias.
 pub fn commands_of_few_cells_touch_them_alone()
     ensures cancelled { (site : SiteName) (m number : ℕ) (state : State) (c : Cell) →
         (touches (Cancel site m) number state c ≡ true) ↔ (c ≡ cell.Draft site m) }
@@ -154,7 +150,7 @@ pub fn commands_of_few_cells_touch_them_alone()
         (touches (RemoveAlias site name) number state c ≡ true) ↔ (c ≡ cell.Alias site name) }
 {}
 
-/// Of these relations each is refuted of one wrong answer, so none of them holds of everything.
+/// Each of these relations is refuted for one wrong answer, so none of them holds of everything.
 pub fn wrong_answers_are_refused()
     ensures difference { (state : State) (change : Change) (more : List Change) → ¬ (IsDifference state state (change ∷ more)) }
     ensures touched { (touched : Touched) (site : SiteName) → ¬ (AreTouched site (λ c. not (is_touched touched c)) touched) }
@@ -168,7 +164,7 @@ pub fn wrong_answers_are_refused()
     ensures within { (contents : Contents) (digest : Digest) (bytes : List ℕ) → ¬ (IsWithin (map.insert contents digest bytes) map.empty) }
 {}
 
-/// A reason to refuse is neither left out, made up, nor told as want of memory.
+/// No reason to refuse is left out, made up, or reported as out of memory.
 pub fn refusals_have_a_reason()
     ensures accepted { (reason : ChangeRefusal) → ¬ (IsRefusedBy {A = ℕ} (Some reason) (Ok 0)) }
     ensures refused { (reason : ChangeRefusal) → ¬ (IsRefusedBy {A = ℕ} None (Err (Refused reason))) }

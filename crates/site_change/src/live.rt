@@ -1,4 +1,4 @@
-//! The changes of the files that a site serves, from those that are there to those of a tree.
+//! The changes that turn the files that a site serves into those of a tree.
 ghost use Rattle.std.specs.Prelude.{◌≡◌, IfOk, MatchOption, [], true};
 ghost use Rattle.host_names.specs.Cells.{cell_cmp};
 ghost use Rattle.host_names.specs.declared.cells.Cell.TheVariants as cell;
@@ -39,7 +39,7 @@ fn compare_paths(site: &SiteName, entry: &Entry, listed: &Listed) -> Ordering
     }
 }
 
-/// Whether what is in a cell is this file, as far as digests tell.
+/// Whether the value of a cell is this file, by its digest.
 fn is_file(held: &Value, file: &File) -> bool
     ensures { result ≡ value_alike held.now (value.Live file.now) }
 {
@@ -49,7 +49,7 @@ fn is_file(held: &Value, file: &File) -> bool
     }
 }
 
-/// The file is no longer there.
+/// The file is removed.
 fn removed(entry: &Entry) -> Result<Change, AllocError>
     ensures { IfOk result (λ change. change ≡ record { cell = entry.now.0; before = Some entry.now.1; after = None }) }
 {
@@ -60,7 +60,7 @@ fn removed(entry: &Entry) -> Result<Change, AllocError>
     })
 }
 
-/// The file wasn't there before.
+/// A file is added.
 fn added(site: &SiteName, listed: &Listed) -> Result<Change, AllocError>
     ensures { IfOk result
         (λ change. change
@@ -73,7 +73,7 @@ fn added(site: &SiteName, listed: &Listed) -> Result<Change, AllocError>
     })
 }
 
-/// Another file is there.
+/// The file is replaced by another.
 fn replaced(entry: &Entry, file: &File) -> Result<Change, AllocError>
     ensures { IfOk result
         (λ change. change
@@ -86,7 +86,7 @@ fn replaced(entry: &Entry, file: &File) -> Result<Change, AllocError>
     })
 }
 
-/// What changes where the one file is there and the other is to be.
+/// What changes if one file is there and the other is to be.
 fn rewritten(entry: &Entry, file: &File) -> Result<Option<Change>, AllocError>
     requires { Comparable (Some entry.now.1) (Some (value.Live file.now)) }
     ensures { IfOk result (λ change. change ≡ change_at entry.now.0 (Some entry.now.1) (Some (value.Live file.now))) }
@@ -98,7 +98,7 @@ fn rewritten(entry: &Entry, file: &File) -> Result<Option<Change>, AllocError>
 }
 
 impl<'a> Step<'a> {
-    /// The first step along two lists that are in the order of the paths; none where both are at their ends.
+    /// The first step along two lists that are in the order of paths; none if both are at their ends.
     fn next(
         site: &SiteName,
         live: Range<'a, Cell, Value>,
@@ -125,8 +125,8 @@ impl<'a> Step<'a> {
     }
 }
 
-/// The changes of a site's live cells, from the files that are there to those of a tree, both in the order of
-/// the paths. Each list is gone through once.
+/// The changes of a site's live cells that turn the files that are there into those of a tree. Both lists are in the order of paths, and
+/// each is gone through once.
 pub fn live_changes<'a>(
     alloc: Global,
     site: &SiteName,

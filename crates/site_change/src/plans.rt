@@ -9,8 +9,8 @@ use host_names::Cell;
 use site_state::{Change, State, Value};
 use std::alloc::AllocError;
 
-/// What a command changes and touches, in the state and with the number for which it was decided. A plan is not carried
-/// out yet. Each cell that it changes is among those that it touches.
+/// What a command changes and touches, in the state and with the number for which it was decided. Nothing is carried out yet. Each cell
+/// that it changes is among those that it touches.
 #[derive(Drop)]
 pub struct Plan {
     /// The cells that it changes, in their order, each with two different values.
@@ -20,7 +20,7 @@ pub struct Plan {
 }
 
 impl Plan {
-    /// A plan of these changes, which has no room for more.
+    /// A plan of these changes. It has no room for more, since a history keeps it.
     pub(crate) fn new(changes: Vec<Change>, touched: Touched) -> Plan
         ensures changes { result.changes.items ≡ changes.items }
         ensures touched { result.touched ≡ touched }
@@ -41,7 +41,7 @@ pub fn push_some(changes: &mut Vec<Change>, change: Option<Change>) -> Result<()
     }
 }
 
-/// Whether what is in a cell is what will be there, as far as digests tell.
+/// Whether a cell already holds what will be there, by the digests of files.
 fn is_same(before: Option<&Value>, after: &Option<Value>) -> bool
     ensures { result ≡ are_alike (option_copied before.entry) after.now }
 {
@@ -61,7 +61,7 @@ fn copy_of(held: Option<&Value>) -> Result<Option<Value>, AllocError>
     }
 }
 
-/// What changes where this is written into a cell.
+/// What changes if this is written into a cell.
 pub fn change_in(
     state: &State,
     cell: Cell,
@@ -82,7 +82,7 @@ pub fn change_in(
     }))
 }
 
-/// Adds what changes where this is written into a cell, if anything does, after the others.
+/// Appends what changes if this is written into a cell, if anything does.
 pub fn push_change(
     changes: &mut Vec<Change>,
     state: &State,

@@ -27,7 +27,7 @@ use host_names::{Cell, CellRef, Digest, FilePath, SiteName};
 use site_state::{Change, Draft, Listing, State, Tree, Value, least_missing};
 use std::alloc::{AllocError, Global};
 
-/// What changes where a site comes to serve the files of this tree, and no others, as the deploy of this number.
+/// What changes if a site comes to serve the files of this tree, and no others, as the deploy with this number.
 fn tree_changes(
     alloc: Global,
     state: &State,
@@ -51,7 +51,7 @@ fn tree_changes(
     Ok(changes)
 }
 
-/// What changes where these files are published, of which none is missing.
+/// What changes if these files are published, of which none is missing.
 fn full_changes<U: Uploads>(
     alloc: Global,
     state: &State,
@@ -71,7 +71,7 @@ fn full_changes<U: Uploads>(
     tree_changes(alloc, state, site, number, tree)
 }
 
-/// A file, as the value of its cell; nothing for none.
+/// The uploaded file as the value of its cell; nothing where a removal is listed.
 fn served<U: Uploads>(uploads: &U, listed: &Option<Digest>) -> Result<Option<Value>, AllocError>
     requires { if_lacking (U.contents uploads.now) listed.now ≡ None }
     ensures { IfOk result (λ v. v ≡ option_map value.Live (changes.file_at (U.contents uploads.now) listed.now)) }
@@ -104,7 +104,7 @@ fn listed_changes<U: Uploads>(
     Ok(changes)
 }
 
-/// What changes where a patch is published, of which no file is missing.
+/// What changes if a patch is published, of which no file is missing.
 fn patch_changes<U: Uploads>(
     alloc: Global,
     state: &State,
@@ -130,7 +130,7 @@ fn patch_changes<U: Uploads>(
     Ok(changes)
 }
 
-/// What the publishing of this draft changes, or why it is refused.
+/// What publishing this draft changes, or why it is refused.
 fn open_changes<U: Uploads>(
     alloc: Global,
     state: &State,
@@ -156,7 +156,7 @@ fn open_changes<U: Uploads>(
     }
 }
 
-/// What the publishing of this draft touches.
+/// What publishing this draft touches.
 fn touched_by_publishing(site: &SiteName, number: u64, draft: &Draft) -> Result<Touched, AllocError>
     ensures { IfOk result (AreTouched site.now
         (λ c. same_cell c (cell.Draft site.now number) || publish_touches site.now number (Some draft.now) c)) }
@@ -169,7 +169,7 @@ fn touched_by_publishing(site: &SiteName, number: u64, draft: &Draft) -> Result<
     }
 }
 
-/// What the publishing of this draft changes and touches.
+/// What publishing this draft changes and touches.
 fn publish_open<U: Uploads>(
     alloc: Global,
     state: &State,
@@ -189,7 +189,7 @@ fn publish_open<U: Uploads>(
     Ok(Plan::new(changes, touched))
 }
 
-/// What the publishing of an open deploy changes and touches.
+/// What publishing an open deploy changes and touches.
 pub(crate) fn publish<U: Uploads>(
     alloc: Global,
     state: &State,
@@ -209,7 +209,7 @@ pub(crate) fn publish<U: Uploads>(
     }
 }
 
-/// What changes and is touched where a site comes to serve the files of a kept deploy again.
+/// What serving the files of a kept deploy again changes and touches.
 fn serve_kept(
     alloc: Global,
     state: &State,
@@ -226,7 +226,7 @@ fn serve_kept(
     Ok(Plan::new(changes, touched))
 }
 
-/// What the restoring of this draft touches: what its publishing does, and that no such deploy is kept.
+/// What restoring this draft touches: what publishing it does, and the kept deploy with its number, which must not be there.
 fn touched_by_restoring(site: &SiteName, number: u64, draft: &Draft) -> Result<Touched, AllocError>
     ensures { IfOk result (AreTouched site.now
         (λ c. same_cell c (cell.Draft site.now number)
@@ -240,7 +240,7 @@ fn touched_by_restoring(site: &SiteName, number: u64, draft: &Draft) -> Result<T
     }
 }
 
-/// What the restoring of this draft changes and touches.
+/// What restoring this draft changes and touches.
 fn restore_open<U: Uploads>(
     alloc: Global,
     state: &State,
@@ -263,7 +263,7 @@ fn restore_open<U: Uploads>(
     Ok(Plan::new(changes, touched))
 }
 
-/// What the restoring of a deploy changes and touches.
+/// What restoring a deploy changes and touches.
 pub(crate) fn restore<U: Uploads>(
     alloc: Global,
     state: &State,

@@ -15,10 +15,10 @@ pub enum ChangeRefusal {
     /// There is no open deploy of that number.
     #[error("no such draft")]
     NoSuchDraft,
-    /// A file of the deploy was not uploaded; of several the one of the least digest is named.
+    /// A file of the deploy was not uploaded. If there are several, this is the least of their digests.
     #[error("not complete")]
     NotComplete(Digest),
-    /// There is no deploy of that number that is kept, or, where an open one will do, open.
+    /// No deploy with that number is kept, nor open where an open one will do.
     #[error("no such deploy")]
     NoSuchDeploy,
     /// There is no file at that path.
@@ -33,7 +33,7 @@ pub enum ChangeRefusal {
     /// There is no such alias.
     #[error("no such alias")]
     NoSuchAlias,
-    /// An alias names the deploy; of several the least is told.
+    /// An alias names the deploy. If there are several, this is the first by name.
     #[error("the deploy is in use")]
     DeployInUse(AliasName),
     /// There is no entry of that number, or it belongs to another site.

@@ -18,7 +18,8 @@ pub struct Touched {
     pub cells: TouchedCells,
 }
 
-/// Cells of one site.
+/// Cells of one site, in one of few shapes, told by the numbers, names and paths that make them up. All paths of a site are such a shape,
+/// and all its aliases are, and a patch shares the listing of its draft: so what a command touches is told in constant space.
 #[derive(Drop)]
 pub enum TouchedCells {
     /// A path.

@@ -21,7 +21,7 @@ fn file_of<U: Uploads>(uploads: &U, digest: &Digest) -> Result<File, AllocError>
     }
 }
 
-/// The uploaded file that is listed; none where a removal is.
+/// The uploaded file that is listed; none if a removal is listed.
 pub(crate) fn file_at<U: Uploads>(
     uploads: &U,
     listed: &Option<Digest>,
@@ -35,7 +35,7 @@ pub(crate) fn file_at<U: Uploads>(
     }
 }
 
-/// Adds a file at a path, if there is one, after the others.
+/// Appends a file at a path, if there is one.
 fn push_file(
     entries: &mut Vec<(FilePath, File)>,
     path: &FilePath,

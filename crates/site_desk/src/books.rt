@@ -38,9 +38,12 @@ fn last_entry(history: &History) -> &Entry
     history.entry(history.len()).unwrap()
 }
 
-/// The history of a desk, its journal, what is published of it, and what is known of the uploads. Contracts see these uploads and the journal. The
-/// journal's entries are those of the history, of what is shown and of the last receipt; there are as many as were there when the desk was opened and
-/// as were made from its seats. The history is what these entries give over the uploads.
+/// A desk's book: its history, its journal, what is published of it, and what is known of the uploads. Contracts see these uploads and the
+/// journal. The history, what is shown and the last receipt have the journal's entries: as many as were there when the desk was opened and
+/// were made from its seats. The history is what these entries give over the uploads.
+///
+/// The history is in the latest snapshot. A change works on a copy of it, so that there is one copy for each change, and readers have marks
+/// and clashes too. What contracts see of the journal includes its disk: a broken journal says what its disk may hold.
 #[derive(Drop)]
 pub struct Book<
     J: DeskName,
@@ -84,8 +87,8 @@ impl<
     T: Absorb<Notice<J>, State = [Entry; 0]> + Drop,
     R: Wait + Drop,
 > Book<J, K, D, T, R> {
-    /// The book of the snapshot of a history, which has the entries that were there when the desk was opened. It takes the other parts out of options,
-    /// since a caller that is generic in J can't pass them by value: the bound of T is made of J.
+    /// The book of the snapshot of a history, which has the entries of the desk's opening. It takes the other parts out of options, since a
+    /// caller that is generic in J can't pass them by value: the bound of T is made of J.
     pub fn of(
         alloc: Global,
         latest: Arc<HostSnap>,
@@ -134,7 +137,7 @@ impl<
         self.latest.history()
     }
 
-    /// What is told where the history answers so.
+    /// The error of the book for an error of the history.
     fn told(&self, error: ChangeError) -> DeskError<Notice<J>>
         ensures { IsToldAs self.now.journal.entries error result }
     {
@@ -156,7 +159,7 @@ impl<
         stock.tell(&mut self.tie);
     }
 
-    /// The entries that were there at the opening, and those that were made from this seat, are no more than there are. Nothing is changed.
+    /// The entries of the opening and those made from this seat are together no more than all entries. Nothing changes.
     pub fn audit(&mut self, mine: &mut Seat<J>)
         ensures same { self.new ≡ self.old }
         ensures made { mine.new ≡ mine.old }
@@ -165,7 +168,7 @@ impl<
         self.published.audit(mine);
     }
 
-    /// If all seats were given back, the entries are those that were there at the opening and those that were made from the seats. Nothing is changed.
+    /// If all seats were given back, all entries are those of the opening and those made from the seats. Nothing changes.
     pub fn tally(&mut self, all: &mut Returned<J>)
         ensures same { self.new ≡ self.old }
         ensures seats { all.new ≡ all.old }
@@ -175,8 +178,8 @@ impl<
         self.published.tally(all);
     }
 
-    /// Commits a command as the next entry, over the uploads that are known, from a seat: the entry is put into the journal, and then shown. Gives the
-    /// receipt of it.
+    /// Commits a command as the next entry, from a seat, over the known uploads. The entry is put into the journal and then shown. Answers
+    /// its receipt.
     pub fn commit<U: Uploads>(
         &mut self,
         rt: &impl Wait,
@@ -201,7 +204,7 @@ impl<
         }
     }
 
-    /// Undoes a change of this site by the next entry, from a seat: the entry is put into the journal, and then shown. Gives the receipt of it.
+    /// Undoes a change of this site by the next entry, from a seat. The entry is put into the journal and then shown. Answers its receipt.
     pub fn undo(
         &mut self,
         rt: &impl Wait,
@@ -225,7 +228,11 @@ impl<
         }
     }
 
-    /// Takes a history with one entry more: the entry is put into the journal, and then shown. All that takes memory comes before the entry is put.
+    /// Takes a history with one entry more: the entry is put into the journal, and then shown. All that takes memory comes before the entry
+    /// is put.
+    ///
+    /// While there is no room or no memory to show it, that is tried again, and no clause says that there will be. Whoever opens a book
+    /// shows the first receipt once more: that leaves room for what is shown later.
     fn enter(
         &mut self,
         rt: &impl Wait,

@@ -14,8 +14,8 @@ use std::sync::{Wait, ledger};
 /// A receipt of a desk's log: the snapshot that has these entries.
 pub type Notice<J> = Receipt<Entry, J, HostSnap>;
 
-/// The entries of a desk, what is shown of them, and how many were made from its seats. Contracts see the entries. The publisher is boxed, since the
-/// toolchain proves no drop of a value whose type has a bound made of a parameter, but of a box it does.
+/// The entries of a desk, what is shown of them, and how many were made from its seats. Contracts see the entries. The publisher is boxed:
+/// the toolchain proves the drop of a box, but not that of a value whose type has a bound made of a parameter.
 #[derive(Drop)]
 pub struct Published<J: DeskName, T: Absorb<Notice<J>, State = [Entry; 0]> + Drop, R: Wait + Drop> {
     opening: u64,
@@ -41,8 +41,8 @@ impl<J: DeskName, T: Absorb<Notice<J>, State = [Entry; 0]> + Drop, R: Wait + Dro
     T,
     R,
 > {
-    /// The entries that were there at the opening, with a ledger in which nothing is counted yet. It takes both out of options, since a caller that is
-    /// generic in J can't pass them by value: the bound of T is made of J.
+    /// The entries of the opening, with a ledger that has counted nothing yet. It takes both out of options, since a caller that is generic
+    /// in J can't pass them by value: the bound of T is made of J.
     pub fn of(
         opening: u64,
         count: &mut Option<ledger::Book<J>>,
@@ -86,7 +86,7 @@ impl<J: DeskName, T: Absorb<Notice<J>, State = [Entry; 0]> + Drop, R: Wait + Dro
         self.publisher.push(rt, entry, owners)
     }
 
-    /// The entries that were there at the opening, and those that were made from this seat, are no more than there are. Nothing is changed.
+    /// The entries of the opening and those made from this seat are together no more than all entries. Nothing changes.
     pub(crate) fn audit(&mut self, mine: &mut Seat<J>)
         ensures same { self.new ≡ self.old }
         ensures made { mine.new ≡ mine.old }
@@ -95,7 +95,7 @@ impl<J: DeskName, T: Absorb<Notice<J>, State = [Entry; 0]> + Drop, R: Wait + Dro
         mine.audit(&mut self.count);
     }
 
-    /// If all seats were given back, the entries are those that were there at the opening and those that were made from the seats. Nothing is changed.
+    /// If all seats were given back, all entries are those of the opening and those made from the seats. Nothing changes.
     pub(crate) fn tally(&mut self, all: &mut Returned<J>)
         ensures same { self.new ≡ self.old }
         ensures seats { all.new ≡ all.old }

@@ -10,7 +10,7 @@ use std::alloc::{AllocError, Global};
 use std::marker::Model;
 use std::sync::Arc;
 
-/// A history as it is at one moment. It doesn't change any more. Contracts see what the history is.
+/// A history as it is at one moment; it never changes. Contracts see what the history is.
 #[derive(Drop)]
 pub struct HostSnap {
     history: History,
@@ -32,7 +32,7 @@ impl Listed<Entry> for HostSnap {
 }
 
 impl HostSnap {
-    /// What a history is now, to be shared.
+    /// What a history is now, ready to be shared.
     pub fn shared(alloc: Global, history: History) -> Result<Arc<HostSnap>, AllocError>
         ensures { IfOk result (λ snap. snap.value ≡ history) }
     {

@@ -16,8 +16,8 @@ use std::sync::Arc;
 /// More files than there is memory for.
 const MOST: u64 = 1 << 61;
 
-/// Files that are known, each in a list that only grows. The list is in clauses alone: whoever has seen a front of it knows some of these files.
-/// Contracts see the bytes of each.
+/// Known files, kept in a list that only grows. The list is in clauses alone: whoever has seen a front of it knows some of these files.
+/// Contracts see the bytes of each file.
 #[derive(Drop)]
 pub struct Stock<K: ListName<BlobInfo>> {
     index: BlobIndex,
@@ -39,7 +39,7 @@ impl<K: ListName<BlobInfo>> Model for Stock<K> {
     ghost invariant = { λ s. s.index ≡ contents_of s.list };
 }
 
-/// What is known of a stock's files by somebody who learns of them from time to time. Contracts see the bytes of each file that is known.
+/// What somebody knows of a stock's files who learns of them from time to time. Contracts see the bytes of each known file.
 #[derive(Drop)]
 pub struct Tie<K: ListName<BlobInfo>> {
     front: Front<BlobInfo, K>,
@@ -58,7 +58,7 @@ impl<K: ListName<BlobInfo>> Model for Tie<K> {
 }
 
 impl<K: ListName<BlobInfo>> Stock<K> {
-    /// The files that an index knows, which are those of the list.
+    /// The files of an index, which are those of the list.
     pub fn of(index: BlobIndex, list: SeenList<BlobInfo, K>) -> Stock<K>
         requires { index ≡ contents_of list }
         ensures { result ≡ index }
@@ -73,7 +73,7 @@ impl<K: ListName<BlobInfo>> Stock<K> {
         &self.index
     }
 
-    /// Adds a file. A digest that is known keeps its file, and takes no memory. Without memory nothing changes.
+    /// Adds a file. A known digest keeps its file, and takes no memory. If memory runs out, nothing changes.
     pub fn keep(&mut self, file: Arc<BlobInfo>) -> Result<(), AllocError>
         ensures ok { OnOk result (self.new ≡ with_file self.old file.value) }
         ensures err { OnErr result (self.new ≡ self.old) }
@@ -90,7 +90,7 @@ impl<K: ListName<BlobInfo>> Stock<K> {
         Ok(())
     }
 
-    /// What is known to somebody who knows all files so far.
+    /// What somebody knows who knows all files so far.
     pub fn tie(&self) -> Tie<K>
         ensures { result ≡ self.now }
     {
@@ -99,7 +99,7 @@ impl<K: ListName<BlobInfo>> Stock<K> {
         }
     }
 
-    /// Tells somebody of all files so far. What was known is among them.
+    /// Tells somebody of all files so far. What was known before is among them.
     pub fn tell(&mut self, tie: &mut Tie<K>)
         ensures same { self.new ≡ self.old }
         ensures told { tie.new ≡ self.old }

@@ -11,7 +11,7 @@ use host_names::Cell;
 use shared_blocks::SharedMap;
 use std::alloc::{AllocError, Global};
 
-/// What changes in one cell. That nothing is there counts as a value.
+/// What changes in one cell. An empty cell has the value `None`.
 #[derive(Drop)]
 pub struct Change {
     /// The cell.

@@ -15,7 +15,7 @@ fn is_lacking<U: Uploads>(uploads: &U, digest: &Digest) -> bool
     uploads.find(digest).is_none()
 }
 
-/// The digest that is listed, if it is lacking.
+/// The listed digest, if its file was not uploaded.
 fn if_lacking<U: Uploads>(uploads: &U, listed: &Option<Digest>) -> Option<Digest>
     ensures { result ≡ Missing.if_lacking (U.contents uploads.now) listed.now }
 {
@@ -36,7 +36,7 @@ fn push_some(digests: &mut Vec<Digest>, digest: Option<Digest>) -> Result<(), Al
     }
 }
 
-/// The digests that are listed and lacking, as they are listed.
+/// The listed digests whose files were not uploaded, in the order of the listing.
 fn lacking<U: Uploads>(
     alloc: Global,
     files: &[(FilePath, Option<Digest>)],
@@ -53,8 +53,7 @@ fn lacking<U: Uploads>(
     Ok(digests)
 }
 
-/// The digests of the listed files that were not uploaded, in their order, each once. That takes memory only where there
-/// is one.
+/// The digests of the listed files that were not uploaded, in their order, each once. Takes memory only if there is one.
 pub fn missing<U: Uploads>(
     alloc: Global,
     files: &Listing,
@@ -71,7 +70,7 @@ pub fn missing<U: Uploads>(
     Ok(digests)
 }
 
-/// The lesser of two digests, where there are two.
+/// The lesser of two digests, if there are two.
 fn lesser(a: Option<Digest>, b: Option<Digest>) -> Option<Digest>
     ensures { result ≡ Missing.lesser a b }
 {
@@ -93,8 +92,8 @@ pub fn least_missing<U: Uploads>(draft: &Draft, uploads: &U) -> Option<Digest>
     least
 }
 
-/// The first place at which a deploy lists a file that was not uploaded; the number of its places where there is none.
-/// The search begins at a place before which nothing is lacking. Takes no memory.
+/// The first place at which a deploy lists a file that was not uploaded; the number of its places if there is none. The search begins at
+/// `from`, before which nothing may be missing. Takes no memory.
 pub fn first_lacking<U: Uploads>(draft: &Draft, uploads: &U, from: usize) -> usize
     requires { from ≤ first_lacking_of (U.contents uploads.now) draft.now.files.1 }
     ensures first { result ≡ first_lacking_of (U.contents uploads.now) draft.now.files.1 }

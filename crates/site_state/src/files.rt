@@ -10,7 +10,7 @@ use std::alloc::AllocError;
 use std::marker::Model;
 use std::sync::Arc;
 
-/// An uploaded file: what is kept of it without its bytes, shared with what else holds it. Contracts see its bytes.
+/// An uploaded file: its `BlobInfo`, without bytes, shared with all else that holds the file. Contracts see the bytes.
 #[derive(Drop)]
 pub struct File {
     info: Arc<BlobInfo>,
@@ -34,7 +34,7 @@ impl File {
         File { info }
     }
 
-    /// What is kept of it without its bytes, which can be shared.
+    /// What is kept of the file without its bytes. It can be shared.
     pub fn info(&self) -> &Arc<BlobInfo>
         ensures { result.now.value ≡ self.now }
     {
@@ -65,7 +65,8 @@ impl Clone for File {
     }
 }
 
-/// By their digests alone. Files of one place of uploads that have one digest are the same.
+/// By their digests alone. In the uploads of one store each file is under its own digest, so files with the same digest have the same bytes
+/// there, and no clause needs a premise on SHA-1.
 impl PartialEq for File {
     ghost eq = { one_digest };
 

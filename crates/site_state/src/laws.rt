@@ -15,19 +15,18 @@ ghost use Rattle.site_state.specs.States.{AreOfKind, State};
 ghost use Rattle.site_state.specs.declared.changes.Side.TheVariants.{Before, After};
 ghost use Rattle.site_state.specs.declared.values.Value.TheVariants as value;
 
-/// The least missing digest is listed and lacking, and no other such is below it; there is none only where nothing is
-/// missing.
+/// The least missing digest is listed and missing, and no lesser digest is. There is none only if nothing is missing.
 pub fn the_least_missing_digest_is_least()
     ensures { (uploads : Contents) (files : Paths (Option Digest)) → IsLeastMissing uploads files (least_missing_of uploads files) }
 {}
 
-/// The alias that is found for a deploy names it, and no alias before it by name does; none is found only where no
-/// alias of the site names the deploy.
+/// The alias that is found for a deploy names it, and no alias before it by name does. None is found only if no alias of the site names the
+/// deploy.
 pub fn the_alias_for_a_deploy_is_least()
     ensures { (state : State) (site : SiteName) (m : ℕ) → IsLeastAlias state site m (alias_for state site m) }
 {}
 
-/// No relation that the contracts of states name holds of everything: each is refuted of one wrong answer.
+/// Each relation that the contracts of states name is refuted for one wrong answer, so none of them holds of everything.
 pub fn wrong_answers_are_refused()
     ensures least_alias { (site : SiteName) (m : ℕ) (name : AliasName) → ¬ (IsLeastAlias map.empty site m (Some name)) }
     ensures by_path { ¬ (IsByPath {X = ℕ} (([], 0) ∷ ([], 0) ∷ [])) }

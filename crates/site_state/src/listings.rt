@@ -13,13 +13,15 @@ use std::alloc::AllocError;
 use std::marker::Model;
 use thiserror::Error;
 
-/// A listing removes a file and is no patch.
+/// A listing that is no patch removes a file.
 #[derive(Clone, Copy, Debug, PartialEq, Eq, Error)]
 #[error("only a patch removes files")]
 pub struct NotAPatch;
 
-/// At each of some paths the digest of a file, or, in a patch alone, that no file is to be there. Contracts see whether it
-/// is a patch, and the list of the pairs, by path. Copies share the pairs.
+/// What a deploy lists: at each of some paths the digest of a file, or, in a patch alone, that the file there is removed. Contracts see
+/// whether it is a patch, and the list of the pairs, by path. Copies share the pairs.
+///
+/// That only a patch removes files is kept by this type. So a command, a draft and a state keep it too, and no call has to ask for it.
 #[derive(Drop)]
 pub struct Listing {
     is_patch: bool,
@@ -58,7 +60,7 @@ fn is_lawful(is_patch: bool, entries: &[(FilePath, Option<Digest>)]) -> bool
 impl Listing {
     ghost use Rattle.site_state.specs.Listings.{is_lawful};
 
-    /// A listing of these pairs, unless it removes a file and is no patch.
+    /// A listing of these pairs, unless it removes a file and isn't a patch.
     pub fn new(is_patch: bool, paths: PathMap<Option<Digest>>) -> Result<Listing, NotAPatch>
         ensures lawful { IsOk result ↔ IsTrue (is_lawful is_patch paths) }
         ensures kept { IfOk result (λ listing. listing ≡ (is_patch, paths)) }
@@ -69,7 +71,7 @@ impl Listing {
         Ok(Listing { is_patch, paths })
     }
 
-    /// Whether it is a patch: its paths are changed where it is published, and all others stay.
+    /// Whether it is a patch: publishing it changes its paths, and leaves all others.
     pub fn is_patch(&self) -> bool
         ensures { result ≡ self.now.0 }
     {

@@ -14,8 +14,7 @@ use shared_blocks::{Range, SharedMap};
 use std::alloc::{AllocError, Global};
 use std::marker::Model;
 
-/// What is in each cell. Contracts see a finite map. Each value is of its cell's kind, and each alias names a
-/// deploy of its site that is kept.
+/// What is in each cell. Contracts see a finite map. Each value is of its cell's kind, and each alias names a kept deploy of its site.
 #[derive(Drop)]
 pub struct State {
     alloc: Global,
@@ -112,7 +111,8 @@ impl State {
         self.cells.range(&AliasesOf(site))
     }
 
-    /// The first alias of a site, by name, that names the deploy of a number.
+    /// The first alias of a site, by name, that names the deploy with this number. It is looked for among the aliases of the site, which
+    /// are side by side.
     pub fn alias_for(&self, site: &SiteName, number: u64) -> Option<&AliasName>
         ensures { option_copied result ≡ alias_for self.now site.now number }
     {
@@ -137,15 +137,14 @@ impl State {
         let _ = &self.cells;
     }
 
-    /// What is in each cell is of the cell's kind.
+    /// Each cell has a value of the cell's kind, or none.
     pub fn values_are_of_kind(&self)
         ensures { AreOfKind self.now }
     {
         let _ = &self.cells;
     }
 
-    /// Whether this may be written into a cell: it is of the cell's kind, or nothing, and each alias names a kept
-    /// deploy afterwards.
+    /// Whether this may be written into a cell: it is of the cell's kind, or nothing, and each alias then still names a kept deploy.
     pub fn may_write(&self, cell: &Cell, value: &Option<Value>) -> bool
         ensures of_kind { result ≡ true → IsTrue (may_stand cell.now value.now) }
         ensures named { result ≡ true → AliasesNamed (with_cell self.now cell.now value.now) }
@@ -167,8 +166,10 @@ impl State {
         }
     }
 
-    /// Writes into one cell a value of its kind, or nothing. On an error nothing changes. Nothing into an empty cell takes
-    /// no memory.
+    /// Writes into one cell a value of its kind, or nothing. Each alias must still name a kept deploy of its site then, since the type
+    /// keeps both; `may_write` tells whether this holds. On an error nothing changes. Clearing an empty cell takes no memory; a removal
+    /// may, since a block that a copy shares can't be written in place. Only tests write single cells so far: a command meets these
+    /// conditions by its plan, and writes all its cells at once.
     pub fn set_cell(&mut self, cell: Cell, value: Option<Value>) -> Result<(), AllocError>
         requires of_kind { IsTrue (may_stand cell value) }
         requires named { AliasesNamed (with_cell self.old cell value) }
@@ -182,9 +183,9 @@ impl State {
         self.cells.write(cell, value)
     }
 
-    /// Writes into the cell of each change, in their order, what the change has on a side: a value of the cell's kind, or
-    /// nothing. All are written, or, out of memory, none. Where the cells strictly rise, the work is that of one
-    /// `SharedMap::write_all`; in another order it is that of a copy, and of a write for each change.
+    /// Writes into the cell of each change, in their order, what the change has on a side: a value of the cell's kind, or nothing. Either
+    /// all are written, or, if memory runs out, none. If the cells strictly rise, the work is that of one `SharedMap::write_all`; in any
+    /// other order it is that of a copy, and of a write for each change.
     pub fn set_cells(&mut self, changes: &[Change], side: Side) -> Result<(), AllocError>
         requires of_kind { AreOfKindOn side changes.now }
         requires named { AliasesNamed (with_cells self.old (writes side changes.now)) }
@@ -199,7 +200,7 @@ impl State {
         Ok(())
     }
 
-    /// A copy, which shares all that neither writes into later. The work is a count for some ten thousand cells.
+    /// A copy. It shares all that neither writes into later. The work is a count for each ten thousand cells or so.
     pub fn copy(&self) -> Result<State, AllocError>
         ensures { IfOk result (λ copy. copy ≡ self.now) }
     {

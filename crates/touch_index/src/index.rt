@@ -15,7 +15,7 @@ use site_state::Change;
 use std::alloc::{AllocError, Global};
 use std::marker::Model;
 
-/// Which changes are posted under which keys. Contracts see the postings. Copies share what neither has changed.
+/// Which changes are posted under which keys: an inverted index. Contracts see the postings. Copies share what neither has changed.
 #[derive(Drop)]
 pub struct Index {
     postings: SharedMap<Posting, ()>,
@@ -90,7 +90,7 @@ impl Index {
         self.written(alloc, touched, number, Some(()))
     }
 
-    /// The index without the change of this number, which touched these cells. The work is as with it.
+    /// The index without the change of this number, which touched these cells. The work is that of `with`.
     pub fn without(
         &self,
         alloc: Global,

@@ -1,5 +1,5 @@
-//! Keys: numbers of 64 bits under which changes are posted. Each cell has a key, and so has each wildcard: all paths, or all
-//! aliases, of a site.
+//! Keys: numbers of 64 bits under which changes are posted. Each cell has a key. So has each wildcard, which stands for all paths, or all
+//! aliases, of a site: a change that touches all of them is posted once.
 ghost use Rattle.std.specs.Prelude.{◌≡◌, ◌++◌, ◌∷◌, [], true, IfOk, OnOk};
 ghost use Rattle.std.specs.List.Sorted.{IsStrictlySortedBy};
 ghost use Rattle.std.specs.Ordering.{nat_cmp};
@@ -13,8 +13,8 @@ use site_change::{Touched, TouchedCells};
 use site_state::Listing;
 use std::alloc::{AllocError, Global};
 
-/// The key of a text of a site: the first eight bytes of a SHA-1 (FIPS 180-4). Keys may collide, by chance or because
-/// someone has looked for it: whoever finds a number under a key tests whether its change touches the cell.
+/// The key of a text of a site: the first eight bytes of a SHA-1 (FIPS 180-4). Two texts may have the same key, by chance or by someone's
+/// work. So whoever finds a number under a key asks the plan of its change whether the change touches the cell.
 fn text_key(site: &SiteName, kind: u8, text: &str) -> u64
     ensures { result ≡ spec.text_key site.now kind text.now }
 {
@@ -28,8 +28,8 @@ fn text_key(site: &SiteName, kind: u8, text: &str) -> u64
     ])
 }
 
-/// The key of a deploy's number. It is no hash, so that what is posted for deploys of near numbers is near in the index, and
-/// the site is not in it, since numbers count over all sites.
+/// The key of a deploy's number. It is not a hash, so that postings for deploys with near numbers are near each other in the index; and the
+/// site is not in it, since numbers count over all sites.
 fn number_key(kind: u64, number: u64) -> u64
     ensures { result ≡ spec.number_key kind number }
 {

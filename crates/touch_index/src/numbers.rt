@@ -2,7 +2,7 @@
 ghost use Rattle.std.specs.Prelude.{◌||◌, Bool, ℕ};
 ghost use Rattle.touch_index.specs.Next.{IsNext};
 
-/// The lesser of two numbers, if there are any: what passes one of two tests next, of what passes each.
+/// The lesser of two numbers, if there are any: what next passes one of two tests, by what next passes each.
 pub(crate) fn lesser(one: Option<u64>, other: Option<u64>) -> Option<u64>
     ensures { (f g : ℕ → Bool) (after : ℕ) → IsNext f after one → IsNext g after other → IsNext (λ i. f i || g i) after result }
 {

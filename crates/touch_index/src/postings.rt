@@ -2,8 +2,8 @@
 
 use shared_blocks::Span;
 
-/// The change of this number is posted under this key. Postings are ordered by key, then by number, so that the changes
-/// under one key are side by side.
+/// The change with this number is posted under this key. Postings are ordered by key and then by number, so that the changes under one key
+/// are side by side. A posting takes 16 bytes.
 #[derive(Clone, Copy, PartialEq, Eq, PartialOrd, Ord)]
 pub struct Posting {
     pub key: u64,

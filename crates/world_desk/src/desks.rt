@@ -18,7 +18,7 @@ use std::alloc::{AllocError, Global};
 use std::marker::Model;
 use std::sync::Arc;
 
-/// The desk's history, what is shown of it, what was uploaded, and what visitors have seen. Contracts see the logs, with the contents of the
+/// A desk: its history, what is shown of it, what was uploaded, and what visitors have seen. Contracts see the logs and the contents of the
 /// uploads. Both histories are legal over these, and their states are what their logs give.
 #[derive(Drop)]
 pub struct Desk {
@@ -52,7 +52,7 @@ impl Model for Desk {
     ghost invariant = { λ d. IsHistoryOver d.uploads d.history × IsHistoryOver d.uploads d.shown };
 }
 
-/// Adds a file to what was uploaded. Without memory nothing changes.
+/// Adds a file to the uploads. If memory runs out, nothing changes.
 fn keep(alloc: Global, uploads: &mut BlobIndex, bytes: &[u8]) -> Result<(), AllocError>
     ensures ok { OnOk result (uploads.new ≡ with_upload uploads.old bytes.now) }
     ensures err { OnErr result (uploads.new ≡ uploads.old) }
@@ -65,7 +65,7 @@ fn keep(alloc: Global, uploads: &mut BlobIndex, bytes: &[u8]) -> Result<(), Allo
 }
 
 impl Desk {
-    /// A desk at which nothing has happened, for so many visitors; its log may have as many entries as the limit says.
+    /// A desk at which nothing has happened, for this many visitors. Its log takes at most `limit` entries.
     pub fn new(alloc: Global, limit: u64, visitors: usize) -> Result<Desk, AllocError>
         requires some { 1 ≤ limit }
         requires bounded { limit ≤ 1000000 }
@@ -80,7 +80,7 @@ impl Desk {
         })
     }
 
-    /// The logs of the looks of a visitor, in order. That takes no memory.
+    /// The logs of the looks of a visitor, in order. Takes no memory.
     pub fn looks(&self, visitor: usize) -> &[Log]
         requires { visitor < length self.now.visitors }
         ensures { IfSome (slice_get self.now.visitors visitor) (λ v. result.now ≡ v.looks) }
@@ -96,7 +96,7 @@ impl Desk {
         self.visitors.len()
     }
 
-    /// How many looks a visitor has had; 0 where there is none of this number.
+    /// How many looks a visitor has had; 0 if there is none with this number.
     pub fn look_count(&self, visitor: usize) -> usize
         ensures { result ≡ look_count self.now visitor }
     {
@@ -120,7 +120,7 @@ impl Desk {
         self.shown.len() == self.history.len()
     }
 
-    /// A command is committed, where it may be and no entry is unpublished. Without memory nothing changes.
+    /// Commits a command, if it isn't refused and no entry is unpublished. If memory runs out, nothing changes.
     pub fn commit(&mut self, command: &Command) -> Result<(), AllocError>
         ensures ok { OnOk result (self.new ≡ happens self.old (step.Ask (entry.Change command.now))) }
         ensures err { OnErr result (self.new ≡ self.old) }
@@ -131,7 +131,7 @@ impl Desk {
         Ok(())
     }
 
-    /// A change is undone, where it may be and no entry is unpublished. Without memory nothing changes.
+    /// Undoes a change, if that isn't refused and no entry is unpublished. If memory runs out, nothing changes.
     pub fn undo(&mut self, site: &SiteName, change: u64) -> Result<(), AllocError>
         ensures ok { OnOk result (self.new ≡ happens self.old (step.Ask (entry.Undo site.now change))) }
         ensures err { OnErr result (self.new ≡ self.old) }
@@ -142,7 +142,7 @@ impl Desk {
         Ok(())
     }
 
-    /// What the desk has is shown. Without memory nothing changes.
+    /// Shows what the desk has. If memory runs out, nothing changes.
     pub fn publish(&mut self) -> Result<(), AllocError>
         ensures ok { OnOk result (self.new ≡ happens self.old step.Publish) }
         ensures err { OnErr result (self.new ≡ self.old) }
@@ -151,7 +151,7 @@ impl Desk {
         Ok(())
     }
 
-    /// A visitor looks, if there is one of this number. Without memory nothing changes.
+    /// A visitor looks, if there is one with this number. If memory runs out, nothing changes.
     pub fn enter(&mut self, visitor: usize) -> Result<(), AllocError>
         ensures ok { OnOk result (self.new ≡ happens self.old (step.Enter visitor)) }
         ensures err { OnErr result (self.new ≡ self.old) }
@@ -159,7 +159,7 @@ impl Desk {
         show_to(&mut self.visitors, visitor, Sight::Look, self.shown.log())
     }
 
-    /// A visitor is told of what is shown, if there is one of this number. Without memory nothing changes.
+    /// A visitor is told of what is shown, if there is one with this number. If memory runs out, nothing changes.
     pub fn learn(&mut self, visitor: usize) -> Result<(), AllocError>
         ensures ok { OnOk result (self.new ≡ happens self.old (step.Learn visitor)) }
         ensures err { OnErr result (self.new ≡ self.old) }
@@ -172,7 +172,7 @@ impl Desk {
         )
     }
 
-    /// A file is uploaded, unless it has more than 16,777,216 bytes. Without memory nothing changes.
+    /// Uploads a file, unless it has more than 16,777,216 bytes. If memory runs out, nothing changes.
     pub fn upload(&mut self, bytes: &[u8]) -> Result<(), AllocError>
         ensures ok { OnOk result (self.new ≡ happens self.old (step.Upload bytes.now)) }
         ensures err { OnErr result (self.new ≡ self.old) }

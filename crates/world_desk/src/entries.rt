@@ -10,7 +10,7 @@ use host_names::SiteName;
 use site_change::{ChangeError, Command};
 use std::alloc::AllocError;
 
-/// Asks for a command. It becomes the next entry where it may be one. Without memory nothing changes.
+/// Asks for a command. It becomes the next entry if it isn't refused. If memory runs out, nothing changes.
 pub(crate) fn ask_commit(
     history: &mut History,
     uploads: &BlobIndex,
@@ -30,7 +30,7 @@ pub(crate) fn ask_commit(
     }
 }
 
-/// Asks for an undo. It becomes the next entry where it may be one. Without memory nothing changes.
+/// Asks for an undo. It becomes the next entry if it isn't refused. If memory runs out, nothing changes.
 pub(crate) fn ask_undo(
     history: &mut History,
     uploads: &BlobIndex,

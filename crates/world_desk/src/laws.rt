@@ -7,8 +7,8 @@ ghost use Rattle.world_desk.specs.Undoing.{IsFree, IsUndoRefused, LeavesOut, Und
 
 use change_undo::laws::{an_allowed_undo_leaves_a_legal_history, histories_outlast_uploads};
 
-/// After every list of steps the desk's log is legal, what is shown is a beginning of it that lacks one entry at most, and no visitor's look goes
-/// back.
+/// After every list of steps the desk's log is legal, what is shown is a beginning of it that lacks at most one entry, and no visitor's
+/// look goes back.
 pub fn desks_stay_lawful()
     ensures start { (limit visitors : ℕ) → IsLawful (start limit visitors) }
     ensures step { (desk : DeskState) (step : DeskStep) → IsLawful desk → IsLawful (happens desk step) }
@@ -18,8 +18,11 @@ pub fn desks_stay_lawful()
     histories_outlast_uploads();
 }
 
-/// Where all is shown, to undo a change whose effects no later live change touches, by its own site, leaves exactly the state of the log without
-/// that change, if there is room. Every other undo is refused by its first reason, and changes nothing.
+/// If all is shown, the undo of a change by its own site, whose effects no later live change touches, leaves exactly the state of the log
+/// without that change, if there is room. Every other undo is refused for its first reason, and changes nothing.
+///
+/// Which undos leave their change out is said twice: by what the change touched and what later ones touch (`IsFree`), in no word of the
+/// function that refuses; and by the reason of that function. `free` says that both are one.
 pub fn an_undo_leaves_its_change_out()
     ensures undone { (desk : DeskState) (site : Site) (k : ℕ) → IsLawful desk → is_published desk ≡ true
         → IsFree desk site k → LeavesOut site k desk (after_undo desk site k) }

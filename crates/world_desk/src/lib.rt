@@ -1,5 +1,5 @@
-//! What is shared of a desk, with what its visitors have seen, step by step, with no thread and no lock: its log, the log that is shown, and
-//! what was uploaded.
+//! What a desk shares, step by step, with no thread and no lock: its log, the log that is shown, what was uploaded, and what its visitors
+//! have seen.
 #![tactic(auto)]
 
 mod desks;

@@ -63,7 +63,7 @@ impl Visitor {
     }
 }
 
-/// So many visitors, who have seen nothing yet.
+/// This many visitors, who have seen nothing yet.
 pub(crate) fn visitors_of(alloc: Global, count: usize) -> Result<Vec<Visitor>, AllocError>
     ensures { IfOk result (λ visitors. visitors.items ≡ replicate count unseen) }
 {
@@ -74,7 +74,7 @@ pub(crate) fn visitors_of(alloc: Global, count: usize) -> Result<Vec<Visitor>, A
     Ok(visitors)
 }
 
-/// A visitor sees what is shown, if there is one of this number. Without memory nothing changes.
+/// A visitor sees what is shown, if there is one with this number. If memory runs out, nothing changes.
 pub(crate) fn show_to(
     visitors: &mut Vec<Visitor>,
     visitor: usize,

@@ -1,16 +1,16 @@
 //! What readers do at their node.
 use chunk_lru::Which;
 
-/// One atomic action of a reader who wants a chunk. One that doesn't fit how far the reader is changes nothing.
+/// One atomic action of a reader who wants a chunk. A call that the reader can't make now changes nothing.
 #[derive(Drop)]
 pub enum Call {
     /// It looks into the caches.
     Look,
-    /// After a miss it leads a flight, or joins the one of the key that is open.
+    /// After a miss it leads a flight, or joins the open flight of the key.
     Begin,
-    /// As a leader it is answered by a peer or the source: with any bytes, or with a fault.
+    /// As a leader it gets the answer of a peer or of the source: any bytes, or a fault.
     Answer(Option<Vec<u8>>),
-    /// As a leader it puts the chunk that it has loaded into one of the caches.
+    /// As a leader it puts the chunk that it loaded into one of the caches.
     Add(Which),
     /// As a leader it sets the outcome of its flight.
     Settle,

@@ -6,12 +6,15 @@ use crate::outcomes::Outcome;
 use host_names::Digest;
 
 /// A flight. Its number is its place in the list of all that ever began at the node.
+///
+/// A node keeps this list in place of a `FlightTable`: a lead can't be dropped, so a world with an open flight could not be dropped either.
+/// That the table does the same is a law (`flights_go_as_in_a_table`).
 #[derive(Drop)]
 pub struct Flight {
     pub key: Digest,
-    /// What it came to, once that is set.
+    /// What it came to, once that was set.
     pub outcome: Option<Outcome>,
-    /// Whether it wasn't ended yet.
+    /// Whether it has not ended yet.
     pub is_open: bool,
 }
 
@@ -23,7 +26,7 @@ impl Flight {
         self.is_open && *key == self.key
     }
 
-    /// It comes to this, if it has come to nothing yet.
+    /// It comes to this, unless it has come to something already.
     fn settle(&mut self, outcome: Outcome)
         ensures { self.new ≡ settled outcome self.old }
     {
@@ -33,7 +36,7 @@ impl Flight {
     }
 }
 
-/// The flight of a number ends, if there is one.
+/// The flight with this number ends, if there is one.
 pub(crate) fn end(flights: &mut Vec<Flight>, number: usize)
     ensures { flights.new.items ≡ flight_changed number ended flights.old.items }
 {
@@ -43,7 +46,7 @@ pub(crate) fn end(flights: &mut Vec<Flight>, number: usize)
     }
 }
 
-/// The flight of a number comes to this, if there is one that has come to nothing yet.
+/// The flight with this number comes to this, if there is one that has come to nothing yet.
 pub(crate) fn settle(flights: &mut Vec<Flight>, number: usize, outcome: Outcome)
     ensures { flights.new.items ≡ flight_changed number (settled outcome) flights.old.items }
 {

@@ -7,21 +7,21 @@ ghost use Rattle.world_node.specs.Nodes.{NodeStep, after_all, ended, flight_chan
 ghost use Rattle.world_node.specs.Tables.{AreOfATable, numbered, table_of};
 ghost use Rattle.world_node.specs.declared.flights.Flight.{Flight};
 
-/// After every list of steps at most one flight of a key is open.
+/// After every list of steps at most one flight of each key is open.
 pub fn one_flight_of_a_key_is_open()
     ensures { (limit readers : ℕ) (steps : List NodeStep)
         → OpenOnce (after_all steps (start limit readers)).flights }
 {}
 
-/// After every list of steps, whoever led or joined a flight has got what that flight came to, and each chunk that was got has the name that was
-/// wanted, whatever peers and sources answered.
+/// After every list of steps, whoever led or joined a flight and got something got what that flight came to; and each chunk that was got
+/// has the name that was wanted, whatever peers and sources answered.
 pub fn a_joiner_gets_what_its_leader_gets()
     ensures { (limit readers : ℕ) (steps : List NodeStep) → ReadersAgree (after_all steps (start limit readers)) }
 {}
 
-/// A node begins, joins and ends flights as a `FlightTable` does that has begun the same ones, whichever cells that has for their outcomes. Where no
-/// flight of a key is open, one is led, with the next number; else the one that is open is joined; and one that ends is open no more. So after every
-/// list of steps the flights are those of a table after some calls.
+/// A node begins, joins and ends flights as a `FlightTable` does that has begun the same ones, whatever cells it has for their outcomes. If
+/// no flight of a key is open, one is led, with the next number; otherwise the open one is joined; and a flight that ends is open no more.
+/// So after every list of steps the flights are those of a table after some calls.
 pub fn flights_go_as_in_a_table()
     ensures led { (cells : ℕ → ℕ) (flights : List Flight) (key : Digest) → open_flight key flights ≡ None
         → Does (table_of cells flights) (Led key (numbered cells (length flights)))

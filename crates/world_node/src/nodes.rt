@@ -13,7 +13,8 @@ use std::alloc::{AllocError, Global};
 use std::marker::Model;
 use std::sync::Arc;
 
-/// A node: its caches, all its flights, and its readers, who are numbered from 0 on. A call that doesn't fit its reader's phase changes nothing.
+/// A node: its caches, all its flights, and its readers, who are numbered from 0 on. A call that doesn't fit its reader's phase changes
+/// nothing.
 #[derive(Drop)]
 pub struct Node {
     alloc: Global,
@@ -30,7 +31,7 @@ impl Model for Node {
     ghost view = { λ n. record { cache = n.cache; flights = n.flights.items; readers = n.readers.items } };
 }
 
-/// So many readers, who want nothing.
+/// This many readers, who want nothing.
 fn readers_of(alloc: Global, count: usize) -> Result<Vec<Reader>, AllocError>
     ensures { IfOk result (λ readers. readers.items ≡ replicate count idle) }
 {
@@ -64,7 +65,7 @@ impl Node {
         }
     }
 
-    /// A reader leads a flight of the key that the caches had not, or joins the one that is open. Without memory nothing changes.
+    /// A reader leads a flight of the key that the caches didn't have, or joins the open one. If memory runs out, nothing changes.
     fn begin(&mut self, number: usize) -> Result<(), AllocError>
         ensures ok { OnOk result (self.new ≡ happens self.old (step.Begin number)) }
         ensures err { OnErr result (self.new ≡ self.old) }
@@ -95,7 +96,7 @@ impl Node {
         Ok(())
     }
 
-    /// A reader looks into the caches. Without memory nothing changes.
+    /// A reader looks into the caches. If memory runs out, nothing changes.
     fn look(&mut self, number: usize) -> Result<(), AllocError>
         ensures ok { OnOk result (self.new ≡ happens self.old (step.Look number)) }
         ensures err { OnErr result (self.new ≡ self.old) }
@@ -127,7 +128,7 @@ impl Node {
         }
     }
 
-    /// A leader puts its chunk into one of the caches. Without memory nothing changes.
+    /// A leader puts its chunk into one of the caches. If memory runs out, nothing changes.
     fn add(&mut self, number: usize, which: Which) -> Result<(), AllocError>
         ensures ok { OnOk result (self.new ≡ happens self.old (step.Add number which)) }
         ensures err { OnErr result (self.new ≡ self.old) }
@@ -146,7 +147,7 @@ impl Node {
         Ok(())
     }
 
-    /// A leader sets the outcome of its flight. Without memory nothing changes.
+    /// A leader sets the outcome of its flight. If memory runs out, nothing changes.
     fn settle(&mut self, number: usize) -> Result<(), AllocError>
         ensures ok { OnOk result (self.new ≡ happens self.old (step.Settle number)) }
         ensures err { OnErr result (self.new ≡ self.old) }
@@ -164,7 +165,7 @@ impl Node {
         Ok(())
     }
 
-    /// A reader takes what is there for it. Without memory nothing changes.
+    /// A reader takes what is ready for it. If memory runs out, nothing changes.
     pub fn take(&mut self, number: usize) -> Result<(), AllocError>
         ensures ok { OnOk result (self.new ≡ happens self.old (step.Take number)) }
         ensures err { OnErr result (self.new ≡ self.old) }
@@ -181,7 +182,7 @@ impl Node {
         Ok(())
     }
 
-    /// A leader is answered. Without memory nothing changes.
+    /// A leader gets an answer. If memory runs out, nothing changes.
     fn answer(&mut self, number: usize, answer: &Option<Vec<u8>>) -> Result<(), AllocError>
         ensures ok { OnOk result (self.new ≡
             happens self.old (step.Answer number (option_map (λ bytes. bytes.items) answer.now))) }
@@ -200,7 +201,7 @@ impl Node {
         Ok(())
     }
 
-    /// A reader does this. Without memory nothing changes.
+    /// A reader does this. If memory runs out, nothing changes.
     pub fn call(&mut self, number: usize, call: &Call) -> Result<(), AllocError>
         ensures ok { OnOk result (self.new ≡ happens self.old (called number call.now)) }
         ensures err { OnErr result (self.new ≡ self.old) }
@@ -216,7 +217,7 @@ impl Node {
         Ok(())
     }
 
-    /// What is there for a reader: the key of the chunk, the number of the flight that it is of, if it is of one, and a share of the outcome.
+    /// What is ready for a reader: the key of the chunk, the number of its flight, if it is of one, and a share of the outcome.
     pub fn ready(
         &self,
         number: usize,

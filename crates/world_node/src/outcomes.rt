@@ -8,7 +8,8 @@ use std::alloc::{AllocError, Global};
 use std::marker::Model;
 use std::sync::Arc;
 
-/// The chunk of the flight's key, or a fault. Contracts see the chunk's bytes.
+/// The chunk of the flight's key, or a fault. A fault has no kind: which fault a read is told is outside what the laws of worlds say.
+/// Contracts see the chunk's bytes.
 #[derive(Drop)]
 pub struct Outcome {
     chunk: Option<Arc<Chunk>>,
@@ -46,7 +47,7 @@ impl Outcome {
         self.chunk.is_none()
     }
 
-    /// A share of its chunk, if it is none.
+    /// A share of its chunk; none if it is a fault.
     pub fn chunk(&self) -> Result<Option<Arc<Chunk>>, AllocError>
         ensures { IfOk result (λ chunk. option_map (λ it. it.value) chunk ≡ self.now) }
     {
@@ -56,7 +57,7 @@ impl Outcome {
         }
     }
 
-    /// A share of the same.
+    /// A share of the same outcome.
     pub(crate) fn share(&self) -> Result<Outcome, AllocError>
         ensures { IfOk result (λ other. other ≡ self.now) }
     {
@@ -69,7 +70,7 @@ impl Outcome {
     }
 }
 
-/// What bytes that were given for a key are.
+/// The outcome of bytes that were given for a key.
 fn check_bytes(alloc: Global, key: Digest, bytes: Vec<u8>) -> Result<Outcome, AllocError>
     ensures { IfOk result (λ outcome. outcome ≡ checked key (Some bytes.items)) }
 {
@@ -79,7 +80,7 @@ fn check_bytes(alloc: Global, key: Digest, bytes: Vec<u8>) -> Result<Outcome, Al
     }
 }
 
-/// What an answer is for a key.
+/// The outcome of an answer for a key.
 pub(crate) fn check(
     alloc: Global,
     key: Digest,

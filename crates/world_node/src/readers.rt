@@ -15,23 +15,23 @@ use std::sync::Arc;
 pub enum Phase {
     /// It wants none.
     Idle,
-    /// It is to look into the caches.
+    /// It has to look into the caches.
     Wants(Digest),
-    /// The caches had it not.
+    /// The caches didn't have the chunk.
     Missed(Digest),
-    /// It leads this flight, and is to look once more.
+    /// It leads this flight, and has to look once more.
     Looks(usize, Digest),
     /// It leads this flight, and loads.
     Loads(usize, Digest),
     /// It leads this flight, and has what it loaded.
     Holds(usize, Digest, Outcome),
-    /// It leads this flight, and is to set this outcome.
+    /// It leads this flight, and has to set this outcome.
     Sets(usize, Digest, Outcome),
-    /// It has set the outcome of the flight that it leads, and is to end that.
+    /// It has set the outcome of the flight that it leads, and has to end the flight.
     Ends(usize, Digest),
-    /// It takes the outcome of this flight, once that is set.
+    /// It takes the outcome of this flight, once that was set.
     Joins(usize, Digest),
-    /// It has found this, and is to take it.
+    /// It has found this, and has to take it.
     Has(Digest, Outcome),
 }
 
@@ -39,7 +39,7 @@ pub enum Phase {
 #[derive(Drop)]
 pub struct Got {
     pub key: Digest,
-    /// The flight that it led or joined; none where the caches had the chunk.
+    /// The flight that it led or joined; none if the caches had the chunk.
     pub flight: Option<usize>,
     pub outcome: Outcome,
 }
@@ -98,7 +98,7 @@ impl Reader {
         }
     }
 
-    /// The key that the caches had not, if it is to lead or join a flight of it.
+    /// The key that the caches didn't have, if it has to lead or join a flight of that.
     pub(crate) fn missed(&self) -> Option<Digest>
         ensures { result ≡ missed_key self.now.phase }
     {
@@ -108,7 +108,7 @@ impl Reader {
         }
     }
 
-    /// The key that it is to look for in the caches, with the flight that it leads.
+    /// The key that it has to look for in the caches, with the flight that it leads.
     pub(crate) fn asks(&self) -> Option<(Option<usize>, Digest)>
         ensures { result ≡ asked_key self.now.phase }
     {
@@ -133,7 +133,7 @@ impl Reader {
         }
     }
 
-    /// The flight that it leads and is to set the outcome of, with its key and that.
+    /// The flight that it leads and whose outcome it has to set, with its key and that outcome.
     pub(crate) fn sets(&self) -> Result<Option<(usize, Digest, Outcome)>, AllocError>
         ensures { IfOk result (λ sets. sets ≡ outcome_to_set self.now.phase) }
     {
@@ -155,7 +155,7 @@ impl Reader {
         }
     }
 
-    /// What is there for it: the key, the flight, and the outcome.
+    /// What is ready for it: the key, the flight, and the outcome.
     pub(crate) fn ready(
         &self,
         flights: &[Flight],
@@ -175,7 +175,7 @@ impl Reader {
         }
     }
 
-    /// The flight that it is to end, with its key.
+    /// The flight that it has to end, with its key.
     pub(crate) fn ends(&self) -> Option<(usize, Digest)>
         ensures { result ≡ ended_flight self.now.phase }
     {

@@ -6,8 +6,8 @@ ghost use Rattle.host_replies.specs.Replies.{Answer};
 ghost use Rattle.world_read.specs.Reads.{Begins, Failed, FileReading, GoesOnWith, IsRight, IsStage};
 ghost use Rattle.world_read.specs.declared.requests.FileRequest.{FileRequest as Request};
 
-/// Whatever chunks a read takes: where none of them differs from a piece of its file that has its name, an answer is the reply over the whole file.
-/// Where there is no file the answer is the refusal. Without a fault no such read fails.
+/// Whatever chunks a read takes: if none of them differs from a piece of its file that has its name, an answer is the reply over the whole
+/// file. If there is no file, the answer is the refusal. Without a fault no such read fails.
 pub fn answers_are_right()
     ensures begun { (request : Request) (found : Result (List ℕ) Refusal) (content : Result FileReading Answer)
         → Begins request found content → IsRight request found content }

@@ -48,7 +48,7 @@ impl Model for Reading {
     ghost invariant = { λ r. IsSentStage (stage_of r.stage) };
 }
 
-/// A read: what was asked for, the place of its look among those of its visitor, and its file, or the reply where there is none.
+/// A read: what was asked for, the number of the look among those of its visitor, and the file, or the reply if there is none.
 #[derive(Drop)]
 pub struct FileRead {
     request: Arc<FileRequest>,
@@ -160,7 +160,7 @@ impl Reading {
     }
 }
 
-/// The reading of the file that is asked for, which has no chunk yet; or the reply where there is none.
+/// The reading of the file that is asked for, which has no chunk yet; or the reply if there is no file.
 fn begun(
     alloc: Global,
     request: &FileRequest,
@@ -175,7 +175,7 @@ fn begun(
 }
 
 impl FileRead {
-    /// A read that begins with a look of this place, in the state that the look's log gives.
+    /// A read that begins with this look, in the state that the look's log gives.
     pub fn begin(
         alloc: Global,
         request: &Arc<FileRequest>,
@@ -215,7 +215,7 @@ impl FileRead {
         }
     }
 
-    /// Its reply, if it is answered. The body of that is there to be sent.
+    /// Its reply, if it is answered. The reply's body is ready to be sent.
     pub fn reply(&self) -> Option<&Reply>
         ensures value { option_map (λ reply. answer_of reply.now) result ≡ answer_in self.now.content }
         ensures sent { IfSome result (λ reply. (answer_of reply.now).withheld ≡ false) }
@@ -229,7 +229,7 @@ impl FileRead {
         }
     }
 
-    /// What its reading is with one chunk more, or a fault, if it waits for a chunk.
+    /// What its reading becomes with one chunk more, or with a fault, if it waits for a chunk.
     pub fn next(
         &self,
         alloc: Global,

@@ -1,5 +1,6 @@
 //! Takes lists of steps in a world, and tells what visitors then have: it reads a line for each step, and prints one for each line that asks for that.
-//! tests/test_worlds.py has the lines, and compares what is told with a plain model.
+//! tests/test_worlds.py draws the lists, and compares what is told with a plain model: so the plain models of histories and of replies serve it
+//! too, and no model has to be proved.
 #![tactic(auto)]
 
 mod played;

@@ -4,11 +4,11 @@ use super::prepared::Prepared;
 use change_undo::Log;
 use std::snapshot::Snapshot;
 
-/// The entries of a journal. A snapshot has no bytes, so that nothing is kept of them when it runs.
+/// The entries of a journal. A snapshot has no bytes, so nothing of them is kept at run time.
 #[derive(Drop)]
 pub(crate) enum Held {
-    /// Those that were found when it was opened.
+    /// The entries found when the journal was opened.
     Found(Snapshot<Log>),
-    /// One more, which was put.
+    /// One entry more, which was put.
     Put(Snapshot<Held>, Snapshot<Prepared>),
 }

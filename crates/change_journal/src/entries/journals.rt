@@ -24,11 +24,11 @@ use std::alloc::Global;
 use std::marker::Model;
 use std::snapshot::Snapshot;
 
-/// What stands behind the gate of a file: `FHJRNL` and the version.
+/// The header, which follows the first gate of the file: `FHJRNL` and the version.
 const HEADER: [u8; 7] = *b"FHJRNL\x01";
 
-/// The journal of a history: its entries, on a disk. Contracts see the entries, whether the device failed while one was put, and the
-/// disk. Unless it did, whatever a crash leaves of a modelled disk holds these entries.
+/// The journal of a history: its entries, on a disk. Contracts see the entries, the disk, and whether the device failed during a put.
+/// Unless it failed, whatever a crash leaves of a modelled disk holds these entries.
 #[derive(Drop)]
 pub struct Journal<D: Disk> {
     records: Records<D>,
@@ -45,7 +45,7 @@ impl<D: Disk> Model for Journal<D> {
     ghost invariant = { λ j. IsSound D.is_modelled D.may_leave j.records (entries_of j.held) };
 }
 
-/// A journal that couldn't be opened: why, and its disk as it is then.
+/// Why a journal couldn't be opened, with its disk as it is then.
 #[derive(Drop)]
 pub struct NotOpened<D> {
     pub fault: OpenFault,
@@ -53,10 +53,10 @@ pub struct NotOpened<D> {
 }
 
 impl<D: Disk> Journal<D> {
-    /// Opens the journal of a disk, and answers the entries that it holds. It begins with a sync. A disk that holds no journal yet gets
-    /// one without entries. All that stands behind the first gate that isn't open is cut away: after a stop, what it left of an entry
-    /// that was being put. On a modelled disk: where the file is no journal, or behind an open gate has what is no record or the 1,000,001st,
-    /// it isn't opened and nothing is written, whatever the fault.
+    /// Opens the journal of a disk, and answers the entries that it holds. The disk is synced first. A disk on which no journal is finished
+    /// yet, such as an empty one, gets one without entries. Everything after the first gate that isn't open is cut away: it is what a stop
+    /// left of an unfinished put. On a modelled disk, a file is neither opened nor written to, whatever fault is told, if it is not a
+    /// journal, or if a malformed record or the 1,000,001st follows an open gate.
     pub fn open(alloc: Global, disk: D) -> Result<(Journal<D>, Log), NotOpened<D>>
         ensures entries { IfOk result (λ answer. (answer.0.entries ≡ answer.1) × (answer.0.broken ≡ false)) }
         ensures writable { IfOk result (λ answer. All IsWritable (own_entries answer.1)) }
@@ -89,7 +89,7 @@ impl<D: Disk> Journal<D> {
         }
     }
 
-    /// Whether the device failed while an entry was put. Then nothing more is put, and the journal has to be opened again.
+    /// Whether the device failed during a put. A broken journal puts nothing more, and has to be opened again.
     pub fn is_broken(&self) -> bool
         ensures value { result ≡ self.now.broken }
         ensures writable { All IsWritable (own_entries self.now.entries) }
@@ -99,9 +99,9 @@ impl<D: Disk> Journal<D> {
         self.records.is_broken()
     }
 
-    /// Puts an entry after the others. Unless the journal is broken, it has fewer than 1,000,000. After Ok, whatever a crash leaves of a
-    /// modelled disk holds it. Where the device fails the disk may hold it or not, and
-    /// from then on each put answers `Broken` and does nothing. It takes no memory.
+    /// Puts an entry after the others. Unless the journal is broken, it must have fewer than 1,000,000 entries: a history that accepts one
+    /// more has no more than that, by its limit. After Ok, whatever a crash leaves of a modelled disk holds the entry. If the device fails,
+    /// the disk may or may not hold it, and each later put answers `Broken` and does nothing. It takes no memory.
     pub fn put(&mut self, prepared: Prepared) -> Result<(), PutFault>
         requires few { self.old.broken ≡ false → last_number self.old.entries < 1000000 }
         ensures entries { MatchResult result (λ _. self.new.entries ≡ with_entry self.old.entries prepared) (λ _. self.new.entries ≡ self.old.entries) }

@@ -19,7 +19,7 @@ ghost use Rattle.change_journal.specs.declared.file.records.PutFault.TheVariants
 
 use host_disk::Disk;
 
-/// An entry has a text exactly where each part of it is valid and in its range, and then it has one.
+/// An entry has a text if and only if each of its parts is valid and in its range, and it has one text alone.
 pub fn an_entry_has_one_spelling()
     ensures some { (entry : Entry) → IsWritable entry → (bytes : List ℕ) × Spells bytes entry }
     ensures one { (entry : Entry) (a b : List ℕ) → Spells a entry → Spells b entry → a ≡ b }
@@ -31,7 +31,7 @@ pub fn no_bytes_spell_two_entries()
     ensures { (bytes : List ℕ) (a b : Entry) → Spells bytes a → Spells bytes b → a ≡ b }
 {}
 
-/// An entry that has a text can be made ready to be put: its numbers and its paths are within what `prepare` takes.
+/// An entry that has a text can be prepared: `prepare` takes its numbers and its paths.
 pub fn an_entry_with_a_text_is_in_range()
     ensures { (entry : Entry) → IsWritable entry → IsInRange entry }
 {}
@@ -41,8 +41,8 @@ pub fn a_file_holds_one_list()
     ensures { (file : List ℕ) (a b : Log) → HoldsEntries a file → HoldsEntries b file → a ≡ b }
 {}
 
-/// While an entry is put after others, the gate of its record decides which entries the file holds: those, or those and that entry
-/// where the gate is open. So whatever a stop leaves holds the one list or the other.
+/// While an entry is put after others, the gate of its record decides what the file holds: that entry too if the gate is open, else the
+/// others alone. So whatever a stop leaves holds one list or the other.
 pub fn a_file_holds_an_entry_whose_gate_is_open()
     ensures open_gate { (log : Log) (entry : Entry) (rest : List ℕ) → All IsWritable (own_entries (with_entry log entry))
         → HoldsEntries (with_entry log entry) (opened (texts log) ++ 1 ∷ (framed (entry_text entry) ++ 0 ∷ rest)) }
@@ -52,14 +52,14 @@ pub fn a_file_holds_an_entry_whose_gate_is_open()
         → HoldsEntries log file ⊎ HoldsEntries (with_entry log entry) file }
 {}
 
-/// An opening finds the entries before the first gate that isn't open, whatever stands behind it.
+/// An opening finds the entries before the first gate that isn't open, whatever follows that gate.
 pub fn an_opening_ends_at_a_gate_that_is_not_open()
     ensures { (found log : Log) (gate : ℕ) (rest : List ℕ) → All IsWritable (own_entries found) → All IsWritable (own_entries log) → gate ≢ 1
         → IsFound (texts found) (opened (texts log) ++ gate ∷ rest) → found ≡ log }
 {}
 
-/// While an entry is put, its gate is open only where its record stands whole behind it, with a gate of 0. Where the gate is written
-/// before the record is synced, a crash may leave it open with no record.
+/// While an entry is put, its gate is open only if its whole record follows it, with a gate of 0. If the gate were written before the
+/// record is synced, a crash could leave it open with no record.
 pub fn an_open_gate_has_its_record()
     ensures whole { (log : Log) (entry : Entry) (rest : List ℕ) → MayHoldNext log entry (opened (texts log) ++ 1 ∷ rest)
         → (behind : List ℕ) × (rest ≡ framed (entry_text entry) ++ 0 ∷ behind) }
@@ -68,8 +68,8 @@ pub fn an_open_gate_has_its_record()
         × (MayHoldNext log entry c → ⊥) }
 {}
 
-/// No relation that the contracts of journals name holds of everything: each is refuted of one wrong answer. `kept` says that a file which
-/// holds no more entries than it may is refused for none of its records.
+/// Each relation that the contracts of journals name is refuted for one wrong answer, so none of them holds of everything. `kept` says that
+/// no record is refused of a file that holds no more entries than it may.
 pub fn wrong_answers_are_refused<D: Disk>()
     ensures exactly { ¬ (IsExactly [] (0 ∷ []) (λ c. ⊥)) }
     ensures nothing_else { ¬ (IsExactly [] [] (λ c. ⊤)) }

@@ -10,7 +10,7 @@ use std::alloc::{AllocError, Global};
 use std::marker::Model;
 use std::snapshot::Snapshot;
 
-/// An entry that is ready to be put, as the bytes of its record and the gate of the next one. Contracts see the entry.
+/// An entry that is ready to be put: the bytes of its record, and the gate of the next one. Contracts see the entry.
 #[derive(Drop)]
 pub struct Prepared {
     bytes: Vec<u8>,

@@ -1,9 +1,8 @@
-//! What the bodies of a file are handed to: the seam between the file, which is lists of bytes, and what these bytes mean.
+//! The seam between the file, which is lists of bytes, and what these bytes mean.
 //!
-//! `openings::open_file` hands each body, in order, to a `Bodies`. For entries, `has self bodies` says that these bodies are the
-//! texts of the entries taken so far, each of which has a text, and `is_lawful before body` says that the body spells an entry,
-//! whatever is before it. The position that `open_file` answers makes `Records`, whose `put` takes the bytes of a record:
-//! `framed body ++ 0`.
+//! `openings::open_file` hands each body, in order, to a `Bodies`. For entries, `has self bodies` says that the bodies are the texts of the
+//! entries taken so far, each of which has a text; `is_lawful before body` says that the body spells an entry, whatever came before it. The
+//! position that `open_file` answers makes `Records`, whose `put` takes the bytes of a record: `framed body ++ 0`.
 ghost use Rattle.std.specs.Prelude.{IsErrOf, List, OnOk, [], ◌∷◌, ◌++◌, ℕ};
 ghost use Rattle.change_journal.specs.declared.file.bodies.BodyFault.TheVariants.{Bad};
 

@@ -11,7 +11,7 @@ pub enum OpenFault {
     /// The file isn't a journal.
     #[error("the file is no journal")]
     BadHeader,
-    /// The record with this number is none, or is the 1,000,001st.
+    /// The record with this number, from 1 on, is malformed, or is the 1,000,001st.
     #[error("record {0} of the journal is bad")]
     BadRecord(u64),
     #[error("the device failed")]

@@ -4,7 +4,7 @@ ghost use Rattle.change_journal.specs.file.Frames.{framed};
 
 use std::alloc::{AllocError, Global};
 
-/// A body behind its length, and the gate of the next record, which is shut.
+/// A body after its length, and then the gate of the next record, which is shut.
 pub(crate) fn framed_body(alloc: Global, body: &[u8]) -> Result<Vec<u8>, AllocError>
     requires { length body.now ≤ 10470070 }
     ensures { IfOk result (λ bytes. bytes.items ≡ framed body.now ++ 0 ∷ []) }

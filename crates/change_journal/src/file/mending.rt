@@ -6,7 +6,7 @@ ghost use Rattle.change_journal.specs.file.Openings.{HasShut, HasSomeGate, IsExa
 use super::synced::{cut_synced, write_synced};
 use host_disk::{DeviceFault, Disk};
 
-/// Shuts the gate at an offset, where it isn't shut by a 0.
+/// Shuts the gate at an offset by a 0, unless it is 0 already.
 fn shut_gate<D: Disk>(disk: &mut D, at: usize, gate: u8) -> Result<(), DeviceFault>
     ensures shut { IsTrue D.is_modelled → (front rest : List ℕ) → at ≡ length front → D.seen disk.old
         ≡ front ++ gate ∷ rest → Only (D.seen disk.old) (D.may_leave disk.old)
@@ -22,7 +22,7 @@ fn shut_gate<D: Disk>(disk: &mut D, at: usize, gate: u8) -> Result<(), DeviceFau
     Ok(())
 }
 
-/// Cuts what follows a gate of 0.
+/// Cuts off what follows a gate of 0.
 pub(crate) fn cut_behind<D: Disk>(disk: &mut D, at: usize, size: usize) -> Result<(), DeviceFault>
     requires { at + 1 < 2 ^ 64 }
     ensures cut { IsTrue D.is_modelled → (front rest : List ℕ) → at ≡ length front → size ≡ length (D.seen disk.old)
@@ -39,7 +39,7 @@ pub(crate) fn cut_behind<D: Disk>(disk: &mut D, at: usize, size: usize) -> Resul
     Ok(())
 }
 
-/// Shuts the gate that ends a file's records, and cuts what follows it.
+/// Shuts the gate that ends a file's records, and cuts off what follows it.
 pub(crate) fn mend<D: Disk>(
     disk: &mut D,
     at: usize,

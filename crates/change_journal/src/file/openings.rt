@@ -18,7 +18,7 @@ use super::walks::walk_records;
 use host_disk::{DeviceFault, Disk};
 use std::alloc::Global;
 
-/// Hands on the bodies of a file with an opened header, and mends the end of its records. Says where the next record goes.
+/// Hands on the bodies of a file with an opened header, and mends the end of its records. Answers where the next record goes.
 fn open_records<D: Disk, B: Bodies>(
     alloc: Global,
     disk: &mut D,
@@ -59,7 +59,7 @@ fn open_records<D: Disk, B: Bodies>(
     Ok(end.position)
 }
 
-/// Makes a file without records of a new one. Says where the first record goes.
+/// Makes a new file a file without records. Answers where the first record goes.
 fn open_new<D: Disk>(
     disk: &mut D,
     header: &[u8],
@@ -82,7 +82,7 @@ fn open_new<D: Disk>(
     Ok(Position::first(header))
 }
 
-/// Hands on the bodies of a file that starts so, and mends it.
+/// Hands on the bodies of a file that starts this way, and mends it.
 fn open_started<D: Disk, B: Bodies>(
     alloc: Global,
     disk: &mut D,
@@ -175,8 +175,8 @@ fn open_measured<D: Disk, B: Bodies>(
     open_started(alloc, disk, header, start, size, bodies)
 }
 
-/// Hands on the bodies of a file with this header and mends it, or makes such a file of a new one. Says where the next record goes.
-/// Where the file has another header, nothing is written.
+/// Hands on the bodies of a file with this header and mends it, or makes a new file a file without records. Answers where the next record
+/// goes. Nothing is written to a file with another header.
 pub(crate) fn open_file<D: Disk, B: Bodies>(
     alloc: Global,
     disk: &mut D,

@@ -10,7 +10,8 @@ pub(crate) const MOST_RECORDS: usize = 1_000_000;
 /// The most bytes of a body: as many as the longest text of an entry has.
 pub(crate) const LONGEST_BODY: usize = 10_470_070;
 
-/// Where a gate is, and how many records stand before it.
+/// The offset of a gate, and how many records precede it: at most 1,000,000, so that the offset is bounded. So the journal refuses a
+/// 1,000,001st record as `BadRecord`, before a history would refuse its entry for exceeding the limit.
 #[derive(Clone, Copy)]
 pub(crate) struct Position {
     pub gate: usize,
@@ -20,7 +21,7 @@ pub(crate) struct Position {
 }
 
 impl Position {
-    /// Where the first gate behind the header is.
+    /// The offset of the first gate after the header.
     pub(crate) fn first(header: &[u8]) -> Position
         requires { length header.now ≤ 64 }
         ensures { (result.gate ≡ length header.now + 1) × (result.count ≡ 0) }
@@ -31,14 +32,14 @@ impl Position {
         }
     }
 
-    /// The fault that the record behind this position is none.
+    /// The fault of an opening that finds no valid record after this position.
     pub(crate) fn bad_record(self) -> OpenFault
         ensures { result ≡ BadRecord (self.count + 1) }
     {
         OpenFault::BadRecord(self.count as u64 + 1)
     }
 
-    /// Where the next gate is, behind a record with a body of so many bytes.
+    /// The position after a record whose body has this many bytes.
     pub(crate) fn after(self, body: usize) -> Position
         requires few { self.count < 1000000 }
         requires short { body ≤ 10470070 }

@@ -11,8 +11,8 @@ use std::alloc::Global;
 /// The most bytes that are read ahead.
 const MOST_AHEAD: usize = 1 << 16;
 
-/// A disk of which a read takes more than is asked for, so that many short reads in a row are few of the disk. Each other call is
-/// one of the disk.
+/// A disk that is read ahead: a read takes more than was asked for, so that many short reads in a row are few reads of the disk. Every
+/// other call is passed on.
 #[derive(Drop)]
 pub(crate) struct ReadAhead<D: Disk> {
     disk: D,
@@ -24,7 +24,7 @@ pub(crate) struct ReadAhead<D: Disk> {
 }
 
 impl<D: Disk> ReadAhead<D> {
-    /// Reads a disk ahead. Without memory to do so, each call is one of the disk.
+    /// Reads a disk ahead. If there is no memory for that, each call is passed on.
     pub(crate) fn new(alloc: Global, disk: D) -> ReadAhead<D>
         ensures { result.disk ≡ disk }
     {
@@ -43,7 +43,7 @@ impl<D: Disk> ReadAhead<D> {
         self.disk
     }
 
-    /// So many bytes from an offset on, where they were read.
+    /// This many bytes from an offset on, if they were read.
     fn held(&self, at: usize, len: usize) -> Option<&[u8]>
         ensures read { IsTrue D.is_modelled → IfSome result (λ bytes. IsRead (D.seen self.now.disk) at bytes.now) }
         ensures len { IfSome result (λ bytes. length bytes.now ≡ len) }
@@ -53,7 +53,7 @@ impl<D: Disk> ReadAhead<D> {
         part_of(ahead, from, len)
     }
 
-    /// Copies bytes from an offset on, where they were read, and says whether they were.
+    /// Copies the bytes from an offset on, if they were read, and answers whether they were.
     fn give(&self, at: usize, bytes: &mut [u8]) -> bool
         ensures { IsTrue D.is_modelled → IsTrue result → IsRead (D.seen self.now.disk) at bytes.new }
     {
@@ -74,7 +74,7 @@ impl<D: Disk> ReadAhead<D> {
         self.len = 0;
     }
 
-    /// Reads the bytes from an offset on, as many as are there and have room.
+    /// Reads the bytes from an offset on: as many as there are and the buffer has room for.
     fn fill(&mut self, at: usize) -> Result<(), DeviceFault>
         ensures same { IsTrue D.is_modelled
             → IsUnchanged D.seen D.may_leave D.moment D.left_since self.old.disk self.new.disk }
@@ -94,7 +94,7 @@ impl<D: Disk> ReadAhead<D> {
         Ok(())
     }
 
-    /// Reads ahead from an offset on, where so many bytes have room and were not read.
+    /// Reads ahead from an offset on, if this many bytes have room in the buffer and were not read.
     fn read_on(&mut self, at: usize, len: usize) -> Result<(), DeviceFault>
         ensures same { IsTrue D.is_modelled
             → IsUnchanged D.seen D.may_leave D.moment D.left_since self.old.disk self.new.disk }
@@ -109,7 +109,7 @@ impl<D: Disk> ReadAhead<D> {
     }
 }
 
-/// So many bytes from an offset on, where they are there.
+/// This many bytes from an offset on, if there are that many.
 fn part_of(bytes: &[u8], from: usize, len: usize) -> Option<&[u8]>
     ensures part { IfSome result (λ part. part.now ≡ take len (drop from bytes.now)) }
     ensures within { IfSome result (λ _. from + len ≤ length bytes.now) }
@@ -117,7 +117,7 @@ fn part_of(bytes: &[u8], from: usize, len: usize) -> Option<&[u8]>
     bytes.get(from..)?.get(..len)
 }
 
-/// Reads so many bytes from an offset on into the front of others.
+/// Reads this many bytes from an offset on into the front of a slice.
 pub(crate) fn read_front<D: Disk>(
     disk: &mut D,
     at: usize,
@@ -159,7 +159,7 @@ fn read_into<D: Disk>(
     read_front(disk, at, len, buffer)
 }
 
-/// A buffer for what is read ahead, which has no room where there is no memory.
+/// A buffer for what is read ahead. It has no room if there is no memory.
 fn empty_buffer(alloc: Global) -> Vec<u8> {
     let mut buffer = Vec::new(alloc);
     let _ = buffer.resize(MOST_AHEAD, 0);

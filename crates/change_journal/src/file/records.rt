@@ -29,7 +29,7 @@ pub(crate) struct Records<D> {
     broken: bool,
 }
 
-/// Puts a record behind the gate that ends the file, and opens that gate. The bytes end in the gate of the next record.
+/// Puts a record after the gate that ends the file, and opens that gate. The bytes end with the gate of the next record.
 fn put_record<D: Disk>(disk: &mut D, gate: usize, bytes: &[u8]) -> Result<(), DeviceFault>
     requires { gate + 1 < 2 ^ 64 }
     ensures stored { IsTrue D.is_modelled → (header : List ℕ) (bodies : List (List ℕ)) (body : List ℕ)
@@ -72,7 +72,7 @@ impl<D: Disk> Records<D> {
         self.disk
     }
 
-    /// Puts a body behind the others, by the bytes of its record, which end in the gate of the next one. Once the device has failed
+    /// Puts a body after the others, given as the bytes of its record, which end with the gate of the next one. Once the device has failed
     /// here, each further call answers `Broken` and does nothing.
     pub(crate) fn put(&mut self, bytes: &[u8]) -> Result<(), PutFault>
         requires few { self.old.broken ≡ false → self.old.position.count < 1000000 }

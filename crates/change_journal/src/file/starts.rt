@@ -18,7 +18,7 @@ use host_disk::{DeviceFault, Disk};
 /// The most bytes of a header.
 pub(crate) const LONGEST_HEADER: usize = 64;
 
-/// The most bytes of a header and of the gate behind it.
+/// The most bytes of a header and of the gate after it.
 const LONGEST_FRONT: usize = 65;
 
 /// How a file starts.
@@ -28,9 +28,9 @@ pub(crate) enum Start {
     Short,
     /// Its first byte is 0.
     Unopened,
-    /// Its header is there with nothing behind it but a gate of 0, and its own gate is neither shut by a 0 nor open.
+    /// Its header is there, followed by a gate of 0 and nothing else, and its own gate is neither 0 nor open.
     HalfOpened,
-    /// Its header is there, its own gate is open, and so is there a gate behind the header.
+    /// Its header is there, its own gate is open, and a gate follows the header.
     Opened,
 }
 
@@ -42,7 +42,7 @@ fn is_same(bytes: &[u8], others: &[u8]) -> bool
     bytes == others
 }
 
-/// Whether the header stands behind the gate of a file.
+/// Whether the header follows the gate of a file.
 fn has_header<D: Disk>(disk: &mut D, header: &[u8]) -> Result<bool, DeviceFault>
     requires { length header.now ≤ 64 }
     ensures right { IsTrue D.is_modelled → IfOk result (λ right. IsTrue right → drop 1 (D.seen disk.old)
@@ -79,7 +79,7 @@ fn copy_to_front(bytes: &[u8], buffer: &mut [u8])
     buffer[..bytes.len()].copy_from_slice(bytes);
 }
 
-/// The header, a gate of 0 behind it, and any bytes.
+/// The header, a gate of 0, and any bytes after it.
 fn front_of(header: &[u8]) -> [u8; LONGEST_FRONT]
     requires { length header.now ≤ 64 }
     ensures { take (length header.now + 1) result ≡ header.now ++ 0 ∷ [] }
@@ -89,7 +89,7 @@ fn front_of(header: &[u8]) -> [u8; LONGEST_FRONT]
     front
 }
 
-/// Writes the header and the first record's gate behind a gate of 0.
+/// Writes the header and the first record's gate after a gate of 0.
 fn write_header<D: Disk>(disk: &mut D, header: &[u8]) -> Result<(), DeviceFault>
     requires { length header.now ≤ 64 }
     ensures written { IsTrue D.is_modelled → D.seen disk.old ≡ 0 ∷ []
@@ -115,7 +115,7 @@ fn open_header<D: Disk>(disk: &mut D) -> Result<(), DeviceFault>
     write_synced(disk, 0, &[1])
 }
 
-/// Writes the header of a new file, which is a gate of 0.
+/// Writes the header into a new file, which is one gate of 0, and opens that gate.
 fn make_header<D: Disk>(disk: &mut D, header: &[u8]) -> Result<(), DeviceFault>
     requires { length header.now ≤ 64 }
     ensures made { IsTrue D.is_modelled → D.seen disk.old ≡ 0 ∷ []
@@ -129,7 +129,7 @@ fn make_header<D: Disk>(disk: &mut D, header: &[u8]) -> Result<(), DeviceFault>
     open_header(disk)
 }
 
-/// Makes a file without records of one that has one byte or none.
+/// Makes a file of one byte or none a file without records.
 fn begin_short<D: Disk>(disk: &mut D, header: &[u8]) -> Result<(), DeviceFault>
     requires { length header.now ≤ 64 }
     ensures made { IsTrue D.is_modelled → length (D.seen disk.old) ≤ 1
@@ -143,7 +143,7 @@ fn begin_short<D: Disk>(disk: &mut D, header: &[u8]) -> Result<(), DeviceFault>
     make_header(disk, header)
 }
 
-/// Makes a file without records of one whose first byte is 0.
+/// Makes a file whose first byte is 0 a file without records.
 fn begin_unopened<D: Disk>(disk: &mut D, header: &[u8], size: usize) -> Result<(), DeviceFault>
     requires { length header.now ≤ 64 }
     ensures made { IsTrue D.is_modelled → size ≡ length (D.seen disk.old) → (rest : List ℕ) → D.seen disk.old
@@ -158,7 +158,7 @@ fn begin_unopened<D: Disk>(disk: &mut D, header: &[u8], size: usize) -> Result<(
     make_header(disk, header)
 }
 
-/// Makes a file without records of a new one, by how it starts.
+/// Makes a new file a file without records, by how it starts.
 pub(crate) fn begin<D: Disk>(
     disk: &mut D,
     header: &[u8],
@@ -183,7 +183,7 @@ pub(crate) fn begin<D: Disk>(
     }
 }
 
-/// Looks whether a file is a new one whose gate a stop has left half open. Its gate is neither 0 nor 1, and a header stands behind it.
+/// Whether a file is a new one whose gate a stop left half open: its gate is neither 0 nor 1, and a header follows it.
 fn look_at_half<D: Disk>(disk: &mut D, header: &[u8], size: usize) -> Result<Start, OpenFault>
     requires { length header.now + 2 ≤ size }
     ensures start { IsTrue D.is_modelled → size ≡ length (D.seen disk.old) → (gate : ℕ) → 2 ≤ gate → D.seen disk.old
@@ -208,7 +208,7 @@ fn look_at_half<D: Disk>(disk: &mut D, header: &[u8], size: usize) -> Result<Sta
     Ok(Start::HalfOpened)
 }
 
-/// Looks at what stands behind the gate of a file, which isn't 0.
+/// How a file starts whose gate isn't 0, by what follows that gate.
 fn look_behind<D: Disk>(
     disk: &mut D,
     header: &[u8],
@@ -242,7 +242,7 @@ fn look_behind<D: Disk>(
     look_at_half(disk, header, size)
 }
 
-/// Looks how a file starts.
+/// How a file starts.
 pub(crate) fn look<D: Disk>(disk: &mut D, header: &[u8], size: usize) -> Result<Start, OpenFault>
     requires { length header.now ≤ 64 }
     ensures start { IsTrue D.is_modelled → size ≡ length (D.seen disk.old)

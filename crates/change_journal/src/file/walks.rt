@@ -27,7 +27,7 @@ pub(crate) fn read_gate<D: Disk>(disk: &mut D, at: usize) -> Result<u8, DeviceFa
     Ok(gate[0])
 }
 
-/// The length that 4 bytes tell, the highest first.
+/// The length that 4 bytes write, most significant byte first.
 #[tactic(auto, using(std::proofs::lemmas::Nat::be_bytes_4))]
 fn told_length(bytes: [u8; 4]) -> usize
     ensures told { to_be_bytes w32 result ≡ bytes }
@@ -51,7 +51,7 @@ fn read_length<D: Disk>(disk: &mut D, at: usize) -> Result<usize, DeviceFault>
     Ok(told_length(size))
 }
 
-/// Reads so many bytes from an offset on, in place of what was read before.
+/// Reads this many bytes from an offset on, in place of those read before.
 fn read_body<D: Disk>(
     disk: &mut D,
     at: usize,
@@ -73,7 +73,7 @@ fn read_body<D: Disk>(
     Ok(())
 }
 
-/// The length of the body behind the open gate at a position.
+/// The length of the body after the open gate at a position.
 fn record_length<D: Disk>(disk: &mut D, size: usize, position: Position) -> Result<usize, OpenFault>
     requires { position.gate < size }
     ensures length { IsTrue D.is_modelled → IfOk result (λ n. drop (position.gate + 1) (D.seen disk.old)
@@ -102,7 +102,7 @@ fn record_length<D: Disk>(disk: &mut D, size: usize, position: Position) -> Resu
     Ok(length)
 }
 
-/// Reads the body behind the open gate at a position.
+/// Reads the body after the open gate at a position.
 fn read_record<D: Disk>(
     disk: &mut D,
     size: usize,
@@ -128,7 +128,7 @@ fn read_record<D: Disk>(
     read_body(disk, position.gate + 5, length, body)
 }
 
-/// Hands on a body that was read behind the gate at a position.
+/// Hands on the body that was read after the gate at a position.
 fn take_body<B: Bodies>(bodies: &mut B, body: &[u8], position: Position) -> Result<(), OpenFault>
     ensures taken { (had : List (List ℕ)) → B.has bodies.old had
         → OnOk result (B.has bodies.new (had ++ body.now ∷ [])) }
@@ -145,14 +145,14 @@ fn take_body<B: Bodies>(bodies: &mut B, body: &[u8], position: Position) -> Resu
     })
 }
 
-/// Where a walk ended: a position, and its gate, which isn't open.
+/// Where a walk ended: a position whose gate isn't open, and that gate.
 #[derive(Clone, Copy)]
 pub(crate) struct End {
     pub position: Position,
     pub gate: u8,
 }
 
-/// Reads the gate at a position. Where it is open, the body behind it is read and handed on.
+/// Reads the gate at a position. If it is open, reads the body after it and hands that on.
 fn hand_on<D: Disk, B: Bodies>(
     disk: &mut D,
     size: usize,
@@ -194,7 +194,7 @@ fn hand_on<D: Disk, B: Bodies>(
     Ok(None)
 }
 
-/// Hands on the bodies of a file with an opened header, up to the first gate that isn't open. Says where that is.
+/// Hands on the bodies of a file with an opened header, up to the first gate that isn't open. Answers where that is.
 pub(crate) fn walk_records<D: Disk, B: Bodies>(
     alloc: Global,
     disk: &mut D,

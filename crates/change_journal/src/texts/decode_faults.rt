@@ -7,7 +7,7 @@ use thiserror::Error;
 /// Why no entry was read.
 #[derive(Clone, Copy, Debug, PartialEq, Eq, Error)]
 pub enum DecodeFault {
-    /// The bytes are the text of no entry.
+    /// The bytes are not the text of any entry.
     #[error("this is not the text of an entry")]
     BadEntry,
     /// No memory for the entry.

@@ -1,4 +1,4 @@
-//! Entries, read.
+//! Entries, read from their texts.
 ghost use Rattle.std.specs.Prelude.{◌≡◌, IfOk, IfErr, IsErrOf, IsSome, MatchResult};
 ghost use Rattle.site_state.specs.Files.{IsByPath};
 ghost use Rattle.change_undo.specs.declared.entries.Entry as entries;
@@ -17,7 +17,7 @@ use site_change::Command;
 use site_state::{Listing, PathMap};
 use std::alloc::Global;
 
-/// The entry of a kind that says a site and a number alone, if it is one.
+/// The entry of a kind that has a site and a number alone, if the kind is such a one.
 #[tactic(auto, unfolding(crate::specs::texts::Reading::of_kind))]
 fn of_kind(kind: u8, site: SiteName, number: u64) -> Option<Entry>
     ensures { Finds (λ entry. entry) result (Reading.of_kind kind site number) }
@@ -172,7 +172,8 @@ fn entry_of(alloc: Global, bytes: &[u8]) -> Result<Entry, DecodeFault>
     }
 }
 
-/// The entry that the bytes spell, all of them. Memory is taken for paths, and for the list of an opening, alone.
+/// The entry that all these bytes spell. Only paths and the list of an opening take memory. If memory runs out while an entry with paths is
+/// read, that is answered, even if the bytes after them would make the text malformed.
 pub fn decode(alloc: Global, bytes: &[u8]) -> Result<Entry, DecodeFault>
     ensures spelled { IfOk result (λ entry. Spells bytes.now entry) }
     ensures found { (entry : entries.Entry) → Spells bytes.now entry → MatchResult result (λ read. read ≡ entry) (λ fault. fault ≡ DecodeFault.OutOfMemory) }

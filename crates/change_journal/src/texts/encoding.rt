@@ -1,4 +1,4 @@
-//! Entries, written.
+//! Entries, written as texts.
 ghost use Rattle.std.specs.Prelude.{◌≡◌, ◌∷◌, ◌++◌, ◌≤◌, [], length, IfOk, OnOk, IsTrue, take};
 ghost use Rattle.std.specs.Int.{w32, to_be_bytes};
 ghost use Rattle.std.specs.List.{flat_map, AllByRecursion};
@@ -71,7 +71,7 @@ fn put_files(out: &mut Vec<u8>, files: &[(FilePath, Option<Digest>)]) -> Result<
     Ok(())
 }
 
-/// The sum of 1 for a patch and of 2 for a deploy that is published by itself.
+/// The flags of an opening: 1 for a patch, plus 2 for a deploy that publishes itself.
 fn flags(is_patch: bool, auto: bool) -> u8
     ensures { result ≡ Rattle.change_journal.specs.texts.Spells.flags is_patch auto }
 {
@@ -103,7 +103,7 @@ fn put_start(out: &mut Vec<u8>, kind: u8, site: &SiteName) -> Result<(), AllocEr
     put_name(out, &site.0)
 }
 
-/// An entry that says a site and a number alone.
+/// An entry that has a site and a number alone.
 fn put_numbered(out: &mut Vec<u8>, kind: u8, site: &SiteName, number: u64) -> Result<(), AllocError>
     ensures lawful { OnOk result (IsName site.now.0) }
     ensures bytes { OnOk result (out.new.items ≡ out.old.items ++ (kind ∷ (name_text site.now.0 ++ number_text number))) }
@@ -203,7 +203,7 @@ fn put_entry(out: &mut Vec<u8>, entry: &Entry) -> Result<(), AllocError>
     }
 }
 
-/// The text of an entry whose numbers are from 1 to 1,000,000 and which lists at most 10,000 paths: at most 10,470,070 bytes.
+/// The text of an entry whose numbers are from 1 to 1,000,000 and which lists at most 10,000 paths. It has at most 10,470,070 bytes.
 pub fn encode(alloc: Global, entry: &Entry) -> Result<Vec<u8>, AllocError>
     requires { IsInRange entry.now }
     ensures spelled { IfOk result (λ text. Spells text.items entry.now) }

@@ -15,7 +15,7 @@ const GREATEST_NUMBER: u64 = 1_000_000;
 /// The most paths of one entry.
 const MOST_PATHS: u32 = 10_000;
 
-/// The first bytes, this many, and those after them.
+/// The first `len` bytes, and those after them.
 fn field_at(bytes: &[u8], len: usize) -> Option<(&[u8], &[u8])>
     ensures { Finds (λ x. (x.0.now, x.1.now)) result (Reading.field_at len bytes.now) }
 {
@@ -59,7 +59,7 @@ fn u64_at(bytes: &[u8]) -> Option<(u64, &[u8])>
     Some((number, rest))
 }
 
-/// The name that a text is.
+/// The name that a text spells.
 fn name_of(text: &[u8]) -> Option<Name>
     ensures { Finds (λ name. name) result (Reading.name_of text.now) }
 {
@@ -113,7 +113,7 @@ fn text_at(bytes: &[u8]) -> Option<(&str, &[u8])>
     }
 }
 
-/// The path that a text is, with its slash.
+/// The path that a text spells, with its leading slash and in UTF-8. Any other bytes spell no path here, so that an entry has one text.
 fn path_of(alloc: Global, text: &str) -> Result<FilePath, DecodeFault>
     ensures value { Gives (λ path. path) result (Reading.path_of text.now) }
     ensures memory { IsErrOf result DecodeFault.OutOfMemory → IsSome (Reading.path_of text.now) }
@@ -181,7 +181,7 @@ pub(crate) fn count_at(bytes: &[u8]) -> Option<(u32, &[u8])>
     Some((count, rest))
 }
 
-/// The number that these bytes are.
+/// The number that these bytes spell.
 #[tactic(auto, unfolding(crate::specs::texts::Reading::whole_number))]
 pub(crate) fn whole_number(bytes: &[u8]) -> Option<u64>
     ensures { Finds (λ n. n) result (Reading.whole_number bytes.now) }
@@ -194,7 +194,7 @@ pub(crate) fn whole_number(bytes: &[u8]) -> Option<u64>
     }
 }
 
-/// The alias that these bytes are.
+/// The alias that these bytes spell.
 #[tactic(auto, unfolding(crate::specs::texts::Reading::whole_alias))]
 pub(crate) fn whole_alias(bytes: &[u8]) -> Option<AliasName>
     ensures { Finds (λ name. name) result (Reading.whole_alias bytes.now) }
@@ -203,7 +203,7 @@ pub(crate) fn whole_alias(bytes: &[u8]) -> Option<AliasName>
     if rest.is_empty() { Some(name) } else { None }
 }
 
-/// The path that these bytes are.
+/// The path that these bytes spell.
 #[tactic(auto, unfolding(crate::specs::texts::Reading::whole_path))]
 pub(crate) fn whole_path(alloc: Global, bytes: &[u8]) -> Result<FilePath, DecodeFault>
     ensures value { Gives (λ path. path) result (Reading.whole_path bytes.now) }

@@ -25,7 +25,7 @@ fn listed_at(
     Ok(((path, digest), rest))
 }
 
-/// So many paths, each with what is listed there.
+/// The paths, as many as `count` says, each with what is listed there.
 fn files_at(
     alloc: Global,
     count: u32,

@@ -1,4 +1,4 @@
-//! Commands, undos and publishings of a host, and what is forgotten of deploys by them.
+//! Commands, undos and publishes of a host, and what it then forgets of deploys.
 ghost use Rattle.std.specs.Prelude.{◌≡◌, false, IfOk, IsTrue, OnErr, OnOk};
 ghost use Rattle.change_undo.specs.declared.entries.Entry.TheVariants as entry;
 ghost use Rattle.host_server.specs.Entries.{IsEntered, IsRefusedAs, IsUndoRefusedAs};
@@ -17,7 +17,7 @@ use host_disk::Disk;
 use host_names::SiteName;
 use site_change::Command;
 
-/// The number of the deploy that a command leaves published or cancelled, if it does that.
+/// The number of the deploy that a command publishes or cancels, if it is one of these.
 fn closed_by(command: &Command) -> Option<u64> {
     match command {
         Command::Publish { number, .. } | Command::Cancel { number, .. } => Some(*number),
@@ -26,8 +26,8 @@ fn closed_by(command: &Command) -> Option<u64> {
 }
 
 impl SoloHouse {
-    /// Commits a command as the next entry, which is put into the journal first, and answers its number. On an error it
-    /// has no such entry.
+    /// Commits a command as the next entry, and answers its number. The entry is put into the journal first. On an error the host doesn't
+    /// get it.
     pub(crate) fn commit<D: Disk>(
         &mut self,
         journal: &mut Option<Journal<D>>,
@@ -48,8 +48,8 @@ impl SoloHouse {
         Ok(number)
     }
 
-    /// Undoes a change of this site by the next entry, which is put into the journal first, and answers its number. On
-    /// an error it has no such entry.
+    /// Undoes a change of this site by the next entry, and answers that entry's number. The entry is put into the journal first. On an
+    /// error the host doesn't get it.
     pub(crate) fn undo<D: Disk>(
         &mut self,
         journal: &mut Option<Journal<D>>,
@@ -70,7 +70,7 @@ impl SoloHouse {
         Ok(number)
     }
 
-    /// Publishes a deploy if it is ready, and answers the entry that did. On an error it stays open.
+    /// Publishes a deploy if it is ready, and answers the number of the entry that did. On an error the deploy stays open.
     pub(crate) fn publish_if_ready<D: Disk>(
         &mut self,
         journal: &mut Option<Journal<D>>,

@@ -5,7 +5,7 @@ use host_api::Refusal;
 use journaled_history::EntryFault;
 use site_change::{ChangeError, ChangeRefusal};
 
-/// Why a change, or the undo of one, is not made the next entry.
+/// Why a change, or the undo of one, doesn't become the next entry.
 #[derive(Debug, Drop, PartialEq, Eq)]
 pub(crate) enum EntryError {
     /// It is refused.

@@ -30,8 +30,8 @@ use std::alloc::{AllocError, Global};
 use std::marker::Model;
 use std::sync::Arc;
 
-/// A host on one thread. Contracts see its entries, their limit, and its uploads; the state is what these give. The
-/// readiness of its deploys is kept for speed alone.
+/// A host on one thread. Contracts see its entries, their limit, and its uploads; the state is what these give. How ready its deploys are
+/// is kept for speed alone.
 #[derive(Drop)]
 pub struct SoloHouse {
     pub(super) alloc: Global,
@@ -57,7 +57,7 @@ impl Model for SoloHouse {
 }
 
 impl SoloHouse {
-    /// A host without entries, which may have as many as the limit says.
+    /// A host without entries. It takes at most `limit` of them.
     pub fn new(alloc: Global, limit: u64) -> SoloHouse
         requires some { 1 ≤ limit }
         requires bounded { limit ≤ 1000000 }
@@ -71,7 +71,7 @@ impl SoloHouse {
         }
     }
 
-    /// The host of a history, which is what it is over these uploads.
+    /// The host of a history and its uploads.
     pub(crate) fn of(alloc: Global, history: History, uploads: BlobIndex) -> SoloHouse
         requires over { IsHistoryOver uploads history }
         ensures { result ≡ host_of history uploads }
@@ -84,7 +84,7 @@ impl SoloHouse {
         }
     }
 
-    /// The state: what the changes that no undo names give, from nothing.
+    /// The state: what the changes that no undo names give when they run from nothing.
     pub fn state(&self) -> &State
         ensures value { result.now ≡ state_of self.now }
         ensures run { run self.now.uploads self.now.entries ≡ Some result.now }
@@ -93,21 +93,21 @@ impl SoloHouse {
         self.history.state()
     }
 
-    /// What holds of every host: each entry was allowed in its place. It does nothing.
+    /// A law of every host: each entry was allowed in its place. It does nothing.
     pub(crate) fn lawful(&self)
         ensures { IsLawful self.now }
     {
         let _ = &self.history;
     }
 
-    /// The entries. That takes no memory.
+    /// The entries. Takes no memory.
     pub fn log(&self) -> &Log
         ensures { result.now ≡ self.now.entries }
     {
         self.history.log()
     }
 
-    /// The entry of a number, from 1 on, and whether an undo names it.
+    /// The entry with this number, from 1 on, and whether an undo names it.
     pub(crate) fn marked_entry(&self, number: u64) -> Option<(&Entry, bool)>
         ensures { option_map (λ found. (found.0.now, found.1)) result ≡ marked_entry self.now.entries number }
     {
@@ -121,8 +121,8 @@ impl SoloHouse {
         &self.uploads
     }
 
-    /// Makes a command the next entry, which is put into the journal first, and answers its number. On an error it has no
-    /// such entry.
+    /// Makes a command the next entry, and answers its number. The entry is put into the journal first. On an error the host doesn't get
+    /// it.
     pub(super) fn enter<D: Disk>(
         &mut self,
         journal: &mut Option<Journal<D>>,
@@ -175,8 +175,8 @@ impl SoloHouse {
         Ok(self.history.len())
     }
 
-    /// Makes the undo of a change of this site the next entry, which is put into the journal first, and answers its
-    /// number. On an error it has no such entry.
+    /// Makes the undo of a change of this site the next entry, and answers its number. The entry is put into the journal first. On an error
+    /// the host doesn't get it.
     pub(super) fn enter_undo<D: Disk>(
         &mut self,
         journal: &mut Option<Journal<D>>,
@@ -231,8 +231,7 @@ impl SoloHouse {
         Ok(self.history.len())
     }
 
-    /// Adds a file to the uploads. A digest that is known keeps its file, and takes no memory. Without memory nothing
-    /// changes.
+    /// Adds a file to the uploads. A known digest keeps its file, and takes no memory. If memory runs out, nothing changes.
     pub(crate) fn keep(&mut self, file: Arc<BlobInfo>) -> Result<(), AllocError>
         ensures ok { OnOk result (self.new ≡ with_upload self.old file.value) }
         ensures err { OnErr result (self.new ≡ self.old) }
@@ -254,7 +253,7 @@ impl SoloHouse {
         }
     }
 
-    /// Forgets how far the files of a deploy were uploaded, if one is no longer open.
+    /// Forgets how far the files of a deploy were uploaded, if the deploy is no longer open.
     pub(super) fn forget(&mut self, closed: Option<u64>)
         ensures { self.new ≡ self.old }
     {

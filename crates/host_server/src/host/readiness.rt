@@ -10,9 +10,8 @@ use site_state::{Draft, first_lacking};
 use std::alloc::Global;
 use std::collections::BTreeMap;
 
-/// For open deploys, by their numbers, a place in what they list before which nothing is lacking. Each check of a deploy
-/// goes on from there, so that all of them together go over its files once. A place that there is no memory for is not
-/// kept, and its deploy is checked from the start.
+/// For each open deploy, by its number: a place in its listing before which nothing is missing. A check of the deploy starts there, so all
+/// its checks together go over its files once. If there is no memory for a place, none is kept, and the deploy is checked from the start.
 #[derive(Drop)]
 pub(super) struct Readiness {
     places: BTreeMap<u64, usize>,
@@ -28,14 +27,14 @@ impl Readiness {
         }
     }
 
-    /// The place that is kept for the deploy of a number; the first where none is.
+    /// The place kept for the deploy with this number; the first place if none is kept.
     fn place(&self, number: u64) -> usize
         ensures { result ≡ place_of self.now.places number }
     {
         self.places.get(&number).copied().unwrap_or(0)
     }
 
-    /// Whether nothing that the draft of a number lists is lacking.
+    /// Whether everything is uploaded that the draft with this number lists.
     pub(super) fn is_complete<U: Uploads>(
         &mut self,
         uploads: &U,
@@ -53,7 +52,7 @@ impl Readiness {
         place == draft.files.entries().len()
     }
 
-    /// Keeps no place for the deploy of a number.
+    /// Drops the place of the deploy with this number.
     pub(super) fn forget(&mut self, number: u64)
         ensures forgotten { place_of self.new.places number ≡ 0 }
         ensures others { (n : ℕ) → n ≢ number → place_of self.new.places n ≡ place_of self.old.places n }

@@ -9,7 +9,7 @@ use host_names::{Digest, FilePath, SiteName};
 use site_change::ChangeRefusal;
 use site_state::State;
 
-/// The digest that a deploy, which is open or kept, lists at a path; none where it removes the file.
+/// The digest that an open or kept deploy lists at a path; none if it removes the file there.
 fn listed_at(state: &State, site: &SiteName, number: u64, path: &FilePath) -> Option<Option<Digest>>
     ensures { result ≡ Outcomes.listed_at (draft_at state.now site.now number) (kept_at state.now site.now number)
         path.now }
@@ -21,8 +21,8 @@ fn listed_at(state: &State, site: &SiteName, number: u64, path: &FilePath) -> Op
     Some(tree.get(path).map(|file| file.digest()))
 }
 
-/// Whether the bytes may be uploaded as the file of a path of a deploy: the digest that it lists, which is theirs. It
-/// takes no memory.
+/// Whether bytes may be uploaded as the file at a path of a deploy. Answers the digest that the deploy lists there, which is that of the
+/// bytes. Takes no memory.
 pub(crate) fn judge_upload(
     state: &State,
     site: &SiteName,

@@ -1,4 +1,4 @@
-//! What follows for files that are read through a cache. Each function does nothing: its contract is the law.
+//! Laws of files that are read through a cache. Each function does nothing: its contract is the law.
 ghost use Rattle.std.specs.Prelude.{◌≡◌, ◌⊎◌, ◌<◌, ◌≤◌, Bool, IsTrue, ℕ, List, Option};
 ghost use Rattle.std.specs.List.{Contains};
 ghost use Rattle.byte_view.specs.Cuts.{cut};
@@ -13,7 +13,7 @@ ghost use Rattle.chunk_group.specs.Cached.{AllCached, CachedShelf, FailedOfNode,
 
 use blob_store::Shelf;
 
-/// A read never lowers the count of the failures of the shelf's device, and blames the device only where that grew.
+/// A read never lowers the shelf's count of device failures, and reports `Device` only if that count grew.
 pub fn cached_reads_count_failures<S: Shelf>()
     ensures read { (old new : CachedShelf S) (file content_type : List ℕ) (plan : Choice) (body : SentFile)
         → IsRead (GaveOfNode S.did S.failures) old file plan content_type body new
@@ -26,8 +26,9 @@ pub fn cached_reads_count_failures<S: Shelf>()
         → S.failures old.shelf < S.failures new.shelf }
 {}
 
-/// Over a shelf that keeps what is put there, and that has what is in the cache, what is read of a file that it has is of the file itself, and it is
-/// neither missing nor damaged. A read, also one that fails, changes nothing on the shelf, which then has what is in the cache, too.
+/// Assume a shelf that keeps what is put there, and that has what is in the cache. A read of a file on that shelf gives the file's own
+/// bytes, and never finds the file missing or damaged. A read, even one that fails, changes nothing on the shelf, which still has what is
+/// in the cache.
 pub fn cached_files_are_sent<S: Shelf>()
     ensures exact { (honest : S → Bool) (has : S → ShelfName → Option (List ℕ)) (old new : CachedShelf S)
         (file content_type : List ℕ) (plan : Choice) (body : SentFile) → Keeps S.did honest has
@@ -61,8 +62,8 @@ pub fn cached_files_are_sent<S: Shelf>()
         → HasCached has new }
 {}
 
-/// Over such a shelf, and where the file read is on it: what is in the cache after a read, also after one that fails, was there before, or is a piece
-/// of that file.
+/// Assume such a shelf, and a file on it. Each chunk in the cache after a read of the file, even one that fails, was there before or is a
+/// piece of the file.
 pub fn caches_have_pieces_of_files_read<S: Shelf>()
     ensures read { (honest : S → Bool) (has : S → ShelfName → Option (List ℕ)) (old new : CachedShelf S)
         (file content_type : List ℕ) (plan : Choice) (body : SentFile) → Keeps S.did honest has

@@ -48,8 +48,8 @@ use blob_store::Shelf;
 use host_disk::{Disk, MemDisk};
 use http_wire::Duplex;
 
-/// Of these relations each is refuted of one wrong answer, so none of them holds of everything. `range` says that a
-/// head asks for one list of ranges. An answer that a file is missing or damaged is none by which it is read back (`IsReadBack`).
+/// Each of these relations is refuted for one wrong answer, so none of them holds of everything. `range` says that a head asks for one list
+/// of ranges. An answer that a file is missing or damaged doesn't read it back (`IsReadBack`).
 pub fn wrong_answers_are_refused<S: Shelf, D: Disk>()
     ensures missing { (parts : RequestParts) (path file : List ℕ)
         → ¬ (IsReadBack parts path file (refused_answer reason.Missing)) }

@@ -1,4 +1,4 @@
-//! What follows of servers whose shelf keeps what is put there. The function does nothing: its contract is the law.
+//! A law of servers whose shelf keeps what is put there. The function does nothing: its contract is the law.
 ghost use Rattle.std.specs.Prelude.{◌≡◌, ◌≢◌, Bool, IsTrue, ℕ, List, Option, Ok};
 ghost use Rattle.std.specs.FinMap as map;
 ghost use Rattle.host_names.specs.declared.names.SiteName.{SiteName as Site};
@@ -22,12 +22,12 @@ ghost use Rattle.host_server.specs.declared.servers.Server.{Server};
 use blob_store::Shelf;
 use host_disk::Disk;
 
-/// Where the shelf keeps what is put there as long as it is honest, and it is at the end, it has each file that is known, and what is in the cache is of
-/// such files, from an empty server on, or one that is opened, and after each request, unless an upload has a piece or a digest that other bytes of it or of
-/// a known file have too. What is then answered to the
-/// reading of a file is of the file itself, or says that it has nothing of the range, that the device failed, or that there was no memory; it is never
-/// told as missing or damaged. So it is over a connection, whose requests are answered one after
-/// another: a shelf that is honest after it was so before.
+/// Assume a shelf that keeps what is put there as long as it is honest, and that is honest at the end. Assume also that no upload shares
+/// the digest of a piece, or of the whole, with other bytes of it or of a known file. Then the shelf has each known file, and the cache has
+/// chunks of such files alone: in an empty server, in one that was opened, and after each request. So the answer to a read of a file is of
+/// the file itself, or says that the file has nothing of the range, that the device failed, or that memory ran out; it never says that the
+/// file is missing or damaged. The same holds over a connection, which answers its requests one after another: a shelf that is honest after
+/// a request was honest before it.
 pub fn uploads_are_read_back<S: Shelf, D: Disk>()
     ensures empty { (has : S → ShelfName → Option (List ℕ)) (server : Server S D D.Disk) (limit : ℕ)
         → server.house.uploads ≡ map.empty → server.files.cache ≡ empty limit → HasKnown has server }
