@@ -77,7 +77,8 @@ pub fn read_body<D: Steady>(
     duplex: &mut D,
     count: u64,
 ) -> Result<Vec<u8>, BodyFault>
-    ensures { Ran D.saw (AwaitsBody buffer.old count) duplex.old duplex.new (ReadsBody result count buffer.old buffer.new) }
+    ensures { Ran D.saw (AwaitsBody buffer.old count) duplex.old duplex.new
+        (ReadsBody result count buffer.old buffer.new) }
 {
     let mut body = Vec::new(buffer.allocator());
     match fill_body(buffer, duplex, &mut body, count as usize) {

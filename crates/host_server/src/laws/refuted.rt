@@ -88,8 +88,9 @@ pub fn wrong_calls_are_refused<S: Shelf, D: Disk>()
         → ¬ (CommitsAt old command (Ok number) new) }
     ensures undoes { (old new : Server S D D.Disk) (site : SiteName) (k number : ℕ)
         → is_broken old.journal ≡ true → ¬ (UndoesAt old site k (Ok number) new) }
-    ensures uploads { (old new : Server S D D.Disk) (site : SiteName) (n : ℕ) (path bytes : List ℕ) (done : Uploaded)
-        → is_broken old.journal ≡ true → ¬ (UploadsAt S.did S.failures old site n path bytes (Ok done) new) }
+    ensures uploads { (old new : Server S D D.Disk) (site : SiteName) (n : ℕ)
+        (path bytes : List ℕ) (done : Uploaded) → is_broken old.journal ≡ true
+        → ¬ (UploadsAt S.did S.failures old site n path bytes (Ok done) new) }
 {}
 
 /// The same of what a host and its journal do.
