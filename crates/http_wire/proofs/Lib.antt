@@ -4,6 +4,7 @@ pub mod Numerals
 pub mod Parsing
 pub mod Phrases
 pub mod HeadLines
+pub mod LineEnds
 pub mod ReplyPieces
 pub mod RequestLines
 pub mod Searches

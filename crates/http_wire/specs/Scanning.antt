@@ -1,5 +1,5 @@
 -- How the end of a head is found, byte by byte.
-use Rattle.std.specs.Prelude.{◌≡◌, ℕ, ◌≤◌, Bool, true, false, List, [], ◌∷◌, ◌++◌, length, drop, Option, Some, None, ◌==◌, if◌then◌else◌}
+use Rattle.std.specs.Prelude.{◌≡◌, ℕ, ◌-◌, ◌≤◌, Bool, true, false, List, [], ◌∷◌, ◌++◌, length, drop, Option, Some, None, ◌==◌, if◌then◌else◌}
 use Rattle.http_wire.specs.declared.scans.State.{State}
 use Rattle.http_wire.specs.declared.scans.State.TheVariants.{Before, BeforeReturn, Text, Between, BetweenReturn, Done}
 use Rattle.http_wire.specs.HeadText.{line_feed, carriage_return}
@@ -30,3 +30,9 @@ rest_from s (b ∷ bytes) = if is_done s then Some (b ∷ bytes) else rest_from 
 pub record HasSearched (bytes : List ℕ) (state : State) (scanned : ℕ) : Type 0 where
   pub within : scanned ≤ length bytes
   pub same : (more : List ℕ) → rest_from Before (bytes ++ more) ≡ rest_from state (drop scanned bytes ++ more)
+
+-- a search of these bytes that began in one state is in another, and has this rest of them before it
+pub record ScansTo (begun : State) (bytes : List ℕ) (state : State) (rest : List ℕ) : Type 0 where
+  pub within : length rest ≤ length bytes
+  pub is_rest : rest ≡ drop (length bytes - length rest) bytes
+  pub same : (more : List ℕ) → rest_from begun (bytes ++ more) ≡ rest_from state (rest ++ more)

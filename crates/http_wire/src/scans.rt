@@ -1,6 +1,8 @@
 //! Where a head ends.
 ghost use Rattle.std.specs.Prelude.{◌≡◌, ℕ, ◌≤◌, ◌⊎◌, List, ◌++◌, length, drop, true};
-ghost use Rattle.http_wire.specs.Scanning.{HasSearched, step_of, is_done, rest_from};
+ghost use Rattle.http_wire.specs.Scanning.{HasSearched, ScansTo, step_of, is_done, rest_from};
+
+use memchr::memchr;
 
 /// What the bytes of a head read so far end in.
 #[derive(Clone, Copy, Debug, PartialEq, Eq)]
@@ -72,18 +74,34 @@ impl Search {
     }
 }
 
-/// Goes on through `bytes` up to the head's end, and answers the state there and how many bytes that took.
+// The bytes without those at their front that leave the state as it is: within a line of text, those before its end.
+fn after_text(state: State, bytes: &[u8]) -> &[u8]
+    ensures { ScansTo state bytes.now state result.now }
+{
+    match state {
+        State::Text => match memchr(b'\n', bytes) {
+            Some(end) => &bytes[end..],
+            None => &[],
+        },
+        _ => bytes,
+    }
+}
+
+/// Goes on through `bytes` up to the head's end, and answers the state there and how many bytes that took. Within a line it looks for the
+/// line's end alone, many bytes at once.
 pub fn scan(state: State, bytes: &[u8]) -> (State, usize)
     ensures within { result.1 ≤ length bytes.now }
     ensures through { (is_done result.0 ≡ true) ⊎ (result.1 ≡ length bytes.now) }
     ensures same { (more : List ℕ) → rest_from state (bytes.now ++ more) ≡ rest_from result.0 (drop result.1 bytes.now ++ more) }
 {
     let mut state = state;
-    for (at, byte) in bytes.iter().enumerate() {
+    let mut rest = bytes;
+    while let Some((byte, others)) = rest.split_first() {
         if state.is_done() {
-            return (state, at);
+            return (state, bytes.len() - rest.len());
         }
         state = state.step(*byte);
+        rest = after_text(state, others);
     }
     (state, bytes.len())
 }

@@ -158,11 +158,11 @@ impl<'a> Iterator for Parts<'a> {
     ghost remaining = { λ parts. at_most (length parts) };
 
     fn next(&mut self) -> Option<Part<'a>> {
-        let Some(part) = self.queue.take() else {
-            return None;
-        };
-        self.length -= part.bytes().len() as u64;
-        Some(part)
+        let part = self.queue.take();
+        if let Some(part) = &part {
+            self.length -= part.bytes().len() as u64;
+        }
+        part
     }
 }
 

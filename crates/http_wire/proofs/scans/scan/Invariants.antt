@@ -1,6 +1,9 @@
-use Rattle.std.proofs.Common.{◌≡◌, List, ℕ, ◌++◌, drop}
-use Rattle.http_wire.specs.Scanning.{rest_from}
+use Rattle.std.proofs.Common.{length}
+use Rattle.http_wire.specs.Scanning.{ScansTo}
 use Rattle.http_wire.proofs.scans.scan.Given as goal
 
-abbrev pub invariant-loop-at : goal.invariant-loop-at
-invariant-loop-at l = (more : List ℕ) → rest_from l.fn.state (l.bytes ++ more) ≡ rest_from l.state (drop l.at l.bytes ++ more)
+abbrev pub invariant-loop-byte : goal.invariant-loop-byte
+invariant-loop-byte l = ScansTo l.fn.state l.bytes l.state l.rest
+
+abbrev pub decreases-loop-byte : goal.decreases-loop-byte
+decreases-loop-byte l = length l.rest
