@@ -1,7 +1,9 @@
 //! Reads of files.
-ghost use Rattle.std.specs.Prelude.{◌≡◌, ◌≢◌, ◌⊎◌, All, codes, IfErr, IfOk, OnOk, length};
+ghost use Rattle.std.specs.Prelude.{◌≡◌, ◌≢◌, ◌⊎◌, All, MatchOption, codes, IfErr, IfOk, OnOk, length};
 ghost use Rattle.range_spec.specs.Chosen.{LiesWithin, intervals_in};
+ghost use Rattle.range_spec.specs.Understood.{IsUnderstoodAs};
 ghost use Rattle.range_spec.specs.declared.grammar.Asked.{Asked as Range};
+ghost use Rattle.range_spec.specs.declared.grammar.Asked.TheVariants.{Ignore};
 ghost use Rattle.range_spec.specs.declared.selection.Choice.TheVariants.{None416};
 ghost use Rattle.range_reply.specs.Conditions.{condition_of};
 ghost use Rattle.http_wire.specs.Fields.{values_of};
@@ -22,21 +24,22 @@ use host_names::{Digest, FilePath, SiteName};
 use host_replies::{Reply, file_of, file_type, is_head_only};
 use http_wire::Head;
 use range_reply::{IfRange, ReplyPlan, plan, read_body};
-use range_spec::{Asked, Choice, parse};
+use range_spec::{Choice, parse};
 use std::alloc::Global;
 use std::sync::Arc;
 
-/// What a request asks for by its Range (RFC 9110, section 14.2): of a GET with one such field.
-fn range_asked(head: &Head) -> Asked
-    ensures { AsksRange head.now result }
+/// The value of a request's Range field, if it is a GET with one such field (RFC 9110, section 14.2).
+fn range_value(head: &Head) -> Option<&[u8]>
+    ensures { MatchOption result (AsksRange head.now Ignore)
+        (λ value. (range : Range) → IsUnderstoodAs value.now range → AsksRange head.now range) }
 {
     if head.method().as_str() != "GET" {
-        return Asked::Ignore;
+        return None;
     }
     let mut ranges = head.values("range");
     match (ranges.next(), ranges.next()) {
-        (Some(value), None) => parse(value),
-        _ => Asked::Ignore,
+        (Some(value), None) => Some(value),
+        _ => None,
     }
 }
 
@@ -52,12 +55,24 @@ fn condition(head: &Head, digest: Digest) -> IfRange
     }
 }
 
-/// What is to be sent of a file to a request.
+/// What is to be sent of a file to a request whose Range field has this value.
+#[inline(never)]
+fn plan_of_range(head: &Head, value: &[u8], info: &BlobInfo) -> ReplyPlan
+    ensures asked { (range : Range) × IsUnderstoodAs value.now range × (result ≡ plan_of head.now range info.now) }
+    ensures within { All (LiesWithin (length info.now)) (intervals_in result) }
+{
+    plan(info, &parse(value), condition(head, info.digest()))
+}
+
+/// What is to be sent of a file to a request. Most have no Range field: they take no room for what one may ask for.
 fn plan_asked(head: &Head, info: &BlobInfo) -> ReplyPlan
     ensures asked { (range : Range) × AsksRange head.now range × (result ≡ plan_of head.now range info.now) }
     ensures within { All (LiesWithin (length info.now)) (intervals_in result) }
 {
-    plan(info, &range_asked(head), condition(head, info.digest()))
+    match range_value(head) {
+        Some(value) => plan_of_range(head, value, info),
+        None => Choice::Whole,
+    }
 }
 
 /// What is kept of a file, if something of it is to be sent.

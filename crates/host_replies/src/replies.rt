@@ -119,6 +119,7 @@ impl Reply {
     }
 
     /// The reply that tells something, or the one where there is no memory for its text.
+    #[inline(never)]
     pub fn of_told(alloc: Global, told: &Told) -> Reply
         ensures { Tells told.now (answer_of result) }
     {
@@ -129,6 +130,7 @@ impl Reply {
     }
 
     /// The reply where there is no memory. It takes none.
+    #[inline(never)]
     pub fn out_of_memory() -> Reply
         ensures { answer_of result ≡ refused_answer OutOfMemory }
     {
@@ -137,6 +139,7 @@ impl Reply {
     }
 
     /// The reply to a request that is refused for a reason that names no cell. It takes no memory.
+    #[inline(never)]
     pub fn plain(reason: Refusal) -> Reply
         requires { has_cell reason ≡ false }
         ensures { answer_of result ≡ refused_answer reason }
@@ -176,6 +179,7 @@ impl Reply {
     }
 
     /// The reply with several parts of a file.
+    #[inline(never)]
     fn of_parts(info: &BlobInfo, boundary: &Boundary, body: FileBody) -> Reply
         requires { IsOfEight (digest_of info.now) (text_of boundary.now) }
         ensures { answer_of result ≡ part_answer 206 (parts_type (text_of boundary.now)) info.now None body.bytes }

@@ -10,7 +10,9 @@ use Rattle.range_spec.specs.Chosen.{intervals_in}
 use Rattle.range_reply.specs.declared.boundaries.Boundary.{Boundary}
 use Rattle.range_reply.specs.declared.file_bodies.FileForm.{FileForm}
 use Rattle.range_reply.specs.declared.file_bodies.FileForm.TheVariants as form
-use Rattle.range_reply.specs.Bodies.{AreFor, HasBoundary, body_text, shown_text, stretches, text_in, whole_of}
+use Rattle.range_reply.specs.declared.file_bodies.Sends.{Sends}
+use Rattle.range_reply.specs.declared.file_bodies.Sends.TheVariants as sends
+use Rattle.range_reply.specs.Bodies.{AreFor, HasBoundary, body_text, shown_text, stretch_of, stretches, text_in, whole_of}
 use Rattle.range_reply.specs.Boundaries.{HasNoBoundary, IsBoundaryFor}
 use Rattle.range_reply.specs.Multipart.{text_of}
 use Rattle.range_reply.specs.Slices.{all_shown}
@@ -86,6 +88,13 @@ sends_bytes size None416 = false
 sends_bytes size plan = true
 
 -- ---- what private functions say
+
+-- the plan of a body that keeps this of it, and these holds
+abbrev pub plan_sent : Sends → List Held → Choice
+plan_sent sends.Whole holds = Whole
+plan_sent (sends.One first last) holds = One first last
+plan_sent sends.Several holds = Many (map stretch_of holds)
+plan_sent sends.Nothing holds = None416
 
 -- a body is made of holds of some file, of this many bytes; it has as many bytes as they show
 pub record IsMade (plan : Choice) (boundary : Option Boundary) (content_type : List ℕ) (holds : List Held) (size total : ℕ) : Type 0 where

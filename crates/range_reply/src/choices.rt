@@ -11,6 +11,7 @@ use host_names::Digest;
 
 /// The boundary for a body of what these holds show, made of this digest, which should be that of their file: the first of the
 /// eight candidates that occurs in nothing that they show, or `None` where each occurs somewhere. It takes no memory.
+#[inline(never)]
 pub fn boundary(holds: &[Hold], digest: Digest) -> Option<Boundary>
     ensures first { IfSome result (λ found. IsBoundaryFor (all_shown holds.now) digest (text_of found)) }
     ensures none { IfNone result (HasNoBoundary (all_shown holds.now) digest) }

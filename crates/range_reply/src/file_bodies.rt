@@ -1,14 +1,14 @@
 //! What is sent of a file: what is held of it, lent in parts.
-ghost use Rattle.std.specs.Prelude.{◌≡◌, ◌<◌, ◌≤◌, All, IfErr, IfNone, IfOk, IsTrue, MatchResult, None, length};
+ghost use Rattle.std.specs.Prelude.{◌≡◌, ◌<◌, ◌≤◌, ℕ, List, All, IfErr, IfNone, IfOk, IsTrue, MatchResult, None, length};
 ghost use Rattle.std.specs.List.{concat};
-ghost use Rattle.byte_view.specs.Holds.{IsHeld};
+ghost use Rattle.byte_view.specs.Holds.{Held, IsHeld};
 ghost use Rattle.chunk_reads.specs.declared.faults.ReadFault.TheVariants.{OutOfMemory};
 ghost use Rattle.range_spec.specs.Chosen.{LiesWithin, intervals_in};
 ghost use Rattle.range_spec.specs.declared.selection.Choice.TheVariants as choice;
 ghost use Rattle.range_reply.specs.Bodies.{AreFor, HasBoundary, shown_text, text_in};
 ghost use Rattle.range_reply.specs.Holding.{held_in};
 ghost use Rattle.range_reply.specs.Multipart.{IsCount};
-ghost use Rattle.range_reply.specs.Sending.{HasParts, IsForm, IsNotRead, IsRead, IsSent, sends_bytes};
+ghost use Rattle.range_reply.specs.Sending.{HasParts, IsForm, IsNotRead, IsRead, IsSent, plan_sent, sends_bytes};
 ghost use Rattle.range_reply.specs.Slices.{ArePure, all_meant, all_shown};
 
 use crate::boundaries::Boundary;
@@ -40,10 +40,31 @@ pub enum FileForm {
     Nothing,
 }
 
+/// What a plan sends, without the intervals of several: the holds of these have them. So a body is small, and cheap to move.
+#[derive(Clone, Copy, Debug)]
+enum Sends {
+    Whole,
+    One(u64, u64),
+    Several,
+    Nothing,
+}
+
+/// What a plan sends.
+fn sends_of(plan: &ReplyPlan) -> Sends
+    ensures { (holds : List Held) (file : List ℕ) → AreFor holds file plan.now → plan_sent result holds ≡ plan.now }
+{
+    match plan {
+        Choice::Whole => Sends::Whole,
+        Choice::One(first, last) => Sends::One(*first, *last),
+        Choice::Many(_) => Sends::Several,
+        Choice::None416 => Sends::Nothing,
+    }
+}
+
 /// The body that sends some bytes of a file: it owns what is held of it, and lends that in parts.
 #[derive(Drop)]
 pub struct FileBody {
-    plan: ReplyPlan,
+    sends: Sends,
     boundary: Option<Boundary>,
     content_type: FieldText<'static>,
     holds: Holds,
@@ -55,17 +76,18 @@ pub struct FileBody {
 impl Model for FileBody {
     ghost use Rattle.range_reply.specs.Bodies.{shown_text, text_in};
     ghost use Rattle.range_reply.specs.Holding.{held_in};
-    ghost use Rattle.range_reply.specs.Sending.{IsMade, SentFile};
+    ghost use Rattle.range_reply.specs.Sending.{IsMade, SentFile, plan_sent};
 
     ghost Value = { SentFile };
 
-    ghost view = { λ b. record {
-      plan = b.plan;
+    ghost view = { λ b. let plan = plan_sent b.sends (held_in b.holds) in record {
+      plan = plan;
       boundary = b.boundary;
-      bytes = shown_text (text_in b.boundary) b.content_type.text.now (held_in b.holds) b.plan;
+      bytes = shown_text (text_in b.boundary) b.content_type.text.now (held_in b.holds) plan;
     } };
 
-    ghost invariant = { λ b. IsMade b.plan b.boundary b.content_type.text.now (held_in b.holds) b.size b.length };
+    ghost invariant = { λ b. IsMade (plan_sent b.sends (held_in b.holds)) b.boundary b.content_type.text.now (held_in b.holds)
+        b.size b.length };
 }
 
 /// How many bytes a hold shows of its stretch, or none of no hold.
@@ -131,7 +153,7 @@ impl FileBody {
         let length = body_length(holds.as_slice(), &plan, &boundary, content_type, info);
         let length = length.ok_or(ReadFault::OutOfMemory)?;
         Ok(FileBody {
-            plan,
+            sends: sends_of(&plan),
             boundary,
             content_type,
             holds,
@@ -144,14 +166,14 @@ impl FileBody {
     pub fn form(&self) -> FileForm
         ensures { IsForm result self.now.plan self.now.boundary }
     {
-        match &self.plan {
-            Choice::Whole => FileForm::Whole,
-            Choice::One(first, last) => FileForm::One(*first, *last),
-            Choice::Many(_) => match &self.boundary {
+        match self.sends {
+            Sends::Whole => FileForm::Whole,
+            Sends::One(first, last) => FileForm::One(first, last),
+            Sends::Several => match &self.boundary {
                 Some(boundary) => FileForm::Several(*boundary),
                 None => unreachable!(),
             },
-            Choice::None416 => FileForm::Nothing,
+            Sends::Nothing => FileForm::Nothing,
         }
     }
 

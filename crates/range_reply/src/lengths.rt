@@ -62,6 +62,7 @@ fn with_parts(
 
 /// How many bytes the body has that sends these intervals of a file in parts with this boundary, or `None` where a `u64` doesn't
 /// hold that. It takes no memory.
+#[inline(never)]
 pub(crate) fn multipart_length(
     info: &BlobInfo,
     boundary: &Boundary,

@@ -123,6 +123,7 @@ impl<'a> Parts<'a> {
     }
 
     /// The parts for the stretches of holds, whose file has so many bytes, with this boundary between them.
+    #[inline(never)]
     pub(crate) fn of_several(
         holds: &'a [Hold],
         size: u64,

@@ -20,6 +20,7 @@ pub(crate) fn text_in(boundary: &Option<Boundary>) -> &str
 }
 
 /// What comes before the type in the head of a part: the boundary's line, and the name of the field.
+#[inline(never)]
 pub(crate) fn line_before_type(boundary: &str) -> ArrayString<256>
     requires { length boundary.now ≤ 64 }
     ensures { result.bytes ≡ boundary_line boundary.now }
@@ -32,6 +33,7 @@ pub(crate) fn line_before_type(boundary: &str) -> ArrayString<256>
 }
 
 /// What comes behind the type in the head of a part: which bytes it has of a file of so many, and an empty line.
+#[inline(never)]
 pub(crate) fn line_behind_type(first: u64, last: u64, length: u64) -> ArrayString<256>
     ensures { result.bytes ≡ range_line (first, last) length }
 {
@@ -48,6 +50,7 @@ pub(crate) fn line_behind_type(first: u64, last: u64, length: u64) -> ArrayStrin
 }
 
 /// The last boundary's line.
+#[inline(never)]
 pub(crate) fn last_line(boundary: &str) -> ArrayString<256>
     requires { length boundary.now ≤ 64 }
     ensures { result.bytes ≡ multipart.last_line boundary.now }
