@@ -5,3 +5,4 @@ pub mod TimedTurns
 pub mod TimedConnections
 pub mod InPhases
 pub mod NoHead
+pub mod Carried

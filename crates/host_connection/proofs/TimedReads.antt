@@ -20,19 +20,13 @@ use Rattle.http_wire.proofs.Trails.{goes_on_joined, latest_joined, steps_joined,
 use Rattle.host_connection.specs.Serving.{Stream, limit_of, IsInterim, Invites, IsCut, Announced, TakesRequest, TakesBody, TakesNext, SizeStops, BodyStops, Stops}
 use Rattle.host_connection.specs.Timing.{AwaitsRequest, AwaitsAnnounced, InvitesAs, ReadEnds, ReadsHeadAs, TakesBodyAs, ReadsAs}
 use Rattle.host_connection.specs.declared.requests.Request.{Request}
-use Rattle.host_connection.specs.declared.connections.Stop.{Stop}
-use Rattle.host_connection.specs.declared.connections.Stop.TheVariants as stop
+use Rattle.host_connection.specs.declared.stops.Stop.{Stop}
+use Rattle.host_connection.specs.declared.stops.Stop.TheVariants as stop
+use Rattle.host_connection.specs.Stopping.{stop_of_body, stop_of_head}
 use Rattle.host_connection.proofs.Turns.{head_stopped, invited, body_stopped, taken}
 use Rattle.http_wire.proofs.SplitTrails.{gives_more, gives_split, gives_written, put_after, put_before}
 
 -- ---- a head
-
-abbrev pub stop_of_head : HeadFault → Stop
-stop_of_head head_fault.Ended = stop.Ended
-stop_of_head head_fault.ReadFault = stop.ReadFault
-stop_of_head head_fault.HeadTooLarge = stop.Refused HeadTooLarge false
-stop_of_head head_fault.BadHead = stop.Refused BadHead false
-stop_of_head head_fault.OutOfMemory = stop.OutOfMemory false
 
 pub head_read : (parts : RequestParts) (buffer rest : List ℕ) (events : List Event) → ReadsHead (Ok parts) buffer rest events
     → ReadsHeadAs (Ok parts) buffer rest events
@@ -67,11 +61,6 @@ head_missed head_fault.OutOfMemory buffer rest events reads = record {
 }
 
 -- ---- a body
-
-abbrev pub stop_of_body : Bool → BodyFault → Stop
-stop_of_body head_only body_fault.Ended = stop.Ended
-stop_of_body head_only body_fault.ReadFault = stop.ReadFault
-stop_of_body head_only body_fault.OutOfMemory = stop.OutOfMemory head_only
 
 pub body_taken : {A : Type 0} (parts : RequestParts) (size : ℕ) (body : Vec ℕ A) (buffer rest : List ℕ) → vec_len body ≡ length body.items
     → (events : List Event) → ReadsBody {A = A} (Ok body) size buffer rest events → TakesBodyAs {A = A} (Ok body) parts size buffer rest events

@@ -8,11 +8,9 @@ use Rattle.http_wire.specs.Timing.{Event, AtEnd, ReadFails, WriteFails, all_put,
 use Rattle.http_wire.specs.Wires.{ServesHead}
 use Rattle.host_connection.specs.declared.connections.ConnectionFault.{ConnectionFault}
 use Rattle.host_connection.specs.declared.connections.ConnectionFault.TheVariants as fault
-use Rattle.host_connection.specs.declared.connections.Next.{Next}
-use Rattle.host_connection.specs.declared.connections.Next.TheVariants as next_is
-use Rattle.host_connection.specs.declared.connections.Stop.{Stop}
-use Rattle.host_connection.specs.declared.connections.Stop.TheVariants as stop
-use Rattle.host_connection.specs.Serving.{Answering, Stream, AreServed, IsCut, Serves, IsInterim, Invites, HeadStops, SizeStops, Sends, Refuses, Exchanges, Turns}
+use Rattle.host_connection.specs.declared.stops.Stop.{Stop}
+use Rattle.host_connection.specs.declared.stops.Stop.TheVariants as stop
+use Rattle.host_connection.specs.Serving.{Answering, Stream, AreServed, IsCut, Serves, IsInterim, Invites, HeadStops, SizeStops, Sends, Refuses, Exchanges, Turns, Next, Exchange, End}
 
 -- A connection may read: the bytes that came are whole requests after each of which it goes on, and then no whole one and no
 -- head that is refused; all that was written is what is sent for these, and what comes before the body of one that is cut in
@@ -120,8 +118,8 @@ pub record ExchangesAs {H : Type 0} (answers : Answering H) (result : Result Nex
 
 -- another exchange may follow
 abbrev pub IsFollowed : Result Next ConnectionFault → List Event → Type 0
-IsFollowed (Ok next_is.Exchange) events = GoesOn events
-IsFollowed (Ok next_is.End) events = Unit {0}
+IsFollowed (Ok Exchange) events = GoesOn events
+IsFollowed (Ok End) events = Unit {0}
 IsFollowed (Err why) events = Unit {0}
 
 -- what a turn of the connection does over each stream of which its reads are the next, and how its events end

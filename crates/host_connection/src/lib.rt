@@ -2,9 +2,13 @@
 #![tactic(auto)]
 
 mod connections;
+mod phases;
 mod requests;
 mod services;
+mod steps;
+mod stops;
 
 pub use connections::{ConnectionFault, serve_connection};
 pub use requests::Request;
 pub use services::Service;
+pub use steps::{Connection, Progress, Wants};
