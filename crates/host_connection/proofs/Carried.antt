@@ -1,5 +1,5 @@
 -- A connection, phase by phase.
-use Rattle.std.proofs.Common.{◌≡◌, ◌⊎◌, inl, inr, ℕ, ◌+◌, ◌<◌, ◌≤◌, List, [], ◌++◌, length, Bool, true, false, Some, None, Result, Ok, Err, refl, sym, ap, subst, ◌∙◌, arith, codes}
+use Rattle.std.proofs.Common.{◌≡◌, ◌⊎◌, inl, inr, ℕ, ◌+◌, ◌≤◌, List, [], ◌++◌, length, Bool, true, false, None, Result, Ok, Err, refl, sym, ap, subst, ◌∙◌, arith, codes}
 use Rattle.std.specs.Prelude.{vec_len}
 use Rattle.std.specs.Str.{bytes_eq}
 use Rattle.std.specs.declared.vec.Vec.{Vec}
@@ -28,14 +28,13 @@ use Rattle.host_connection.specs.declared.steps.Connection.{Connection}
 use Rattle.host_connection.specs.declared.stops.Stop.{Stop}
 use Rattle.host_connection.specs.declared.stops.Stop.TheVariants as stop
 use Rattle.host_connection.specs.Carrying.{text_of, Carried, Carries, ConnectionSoFar, FollowsHead, FollowsReply, FollowsStop, InTurn, IsAnswering, IsFresh, ReadsNext, Refusing, Replying, Tells}
-use Rattle.host_connection.specs.Phases.{HeadSoFar, InviteSoFar, BodySoFar, RefusalSoFar, refusal_text}
-use Rattle.host_connection.specs.Serving.{Answering, Announced, IsSent, Stops, TakesNext, is_last_at, limit_of, Next, Exchange, End}
+use Rattle.host_connection.specs.Phases.{InviteSoFar, BodySoFar, RefusalSoFar}
+use Rattle.host_connection.specs.Serving.{Answering, IsSent, is_last_at, limit_of, Next, Exchange, End}
 use Rattle.host_connection.specs.Stopping.{stop_of_body, stop_of_head}
-use Rattle.host_connection.specs.Timing.{AwaitsRequest, Connects, IsCaughtUp, ReadsAs, ReadsHeadAs, RefusesAs, TurnsAs}
+use Rattle.host_connection.specs.Timing.{AwaitsRequest, Connects, IsCaughtUp, ReadsHeadAs, RefusesAs, TurnsAs}
 use Rattle.host_connection.proofs.InPhases.{Missed, head_begins, head_waits, head_comes, head_fails, length_refused, invite_begins, invite_waits, invite_out, invite_fails, body_begins, body_waits, body_comes, body_fails, reply_begins, reply_waits, reply_out, reply_fails, refusal_begins, refusal_waits, refusal_out, refusal_fails, missed_silently}
 use Rattle.host_connection.proofs.Turns.{is_end}
 use Rattle.host_connection.proofs.TimedConnections.{none_yet, turn_more, turn_last, turn_failed}
-use Rattle.http_wire.proofs.HeadReads.{ran_as}
 
 -- a phase that is equal to another
 at_phase : {S H : Type 0} (answers : Answering H) (saw : S → Event → S → Type 0) (waits : Type 0) (start now : S) (first host : H) (buffer : List ℕ) (out : Gathered) (n : ℕ) (p q : Phase) → q ≡ p
@@ -326,12 +325,6 @@ waits_in_reply answers saw waits start now new first host n buffer out new_out s
   },
   inr wait,
 )
-
--- a reply that isn't counted any more was left where the stream had to wait
-pub not_counted : {S H : Type 0} (answers : Answering H) (saw : S → Event → S → Type 0) (waits : Type 0) (start now : S) (first host : H) (n : ℕ) (buffer : List ℕ) (out : Gathered) (s : Sending)
-    → Carried answers saw waits start first now host buffer out n (phase.Reply s) → ¬ (IsCounted out) → waits
-not_counted answers saw waits start now first host n buffer out s (turn, inl is) none = absurd (none is)
-not_counted answers saw waits start now first host n buffer out s (turn, inr wait) none = wait
 
 -- the turn is over, as the reply says
 reply_over : {S H : Type 0} (answers : Answering H) (saw : S → Event → S → Type 0) (began now new : S) (before host : H) (is_last : Bool) (begun buffer : List ℕ) (out new_out : Gathered) (s : Sending) (turn : Next)

@@ -6,3 +6,6 @@ pub mod TimedConnections
 pub mod InPhases
 pub mod NoHead
 pub mod Carried
+pub mod Unfinished
+pub mod Walking
+pub mod Standing

@@ -100,11 +100,6 @@ stops answers read_fails write_fails fault.OutputFault first stream n host next 
     finish answers read_fails write_fails (Err fault.OutputFault) first stream n host next old held mid_held new_held so turn.1.0 turn.1.2 (turn.0, turn.1.1)
 stops answers read_fails write_fails fault.OutOfMemory first stream n host next old new held mid_held new_held so turn = absurd turn
 
--- the exchange of the greatest number ends the connection
-pub after_all : {H : Type 0} (answers : Answering H) (read_fails write_fails : Type 0) (first : H) (stream : Stream) (n : ℕ) (host : H) (old held new_held : Stream)
-    → SoFar answers first stream n host old held new_held → 101 ≤ n → Serves answers read_fails write_fails (Ok tt) first host stream held new_held
-after_all answers read_fails write_fails first stream n host old held new_held so over = absurd (omega (arith, over, so.within))
-
 pub never_began : {H : Type 0} (answers : Answering H) (read_fails write_fails : Type 0) (host : H) (stream held : Stream) → Serves answers read_fails write_fails (Err fault.OutOfMemory) host host stream held held
 never_began answers read_fails write_fails host stream held = record {
   replies = [];

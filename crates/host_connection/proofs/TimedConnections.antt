@@ -1,16 +1,16 @@
 -- A whole connection: what it reads and writes, turn by turn.
-use Rattle.std.proofs.Common.{◌≡◌, ℕ, ◌+◌, ◌≤◌, List, [], ◌++◌, Bool, Some, None, Result, Ok, Err, refl, sym, ap, subst, ◌∙◌}
+use Rattle.std.proofs.Common.{◌≡◌, ℕ, ◌+◌, List, [], ◌++◌, Bool, Some, None, Result, Ok, Err, refl, sym, ap, subst, ◌∙◌}
 use Rattle.std.specs.Io.KnownBytes.{Appends, prepend_known}
-use Rattle.http_wire.specs.Timing.{Event, ReadFails, WriteFails, all_got, all_put, IsLatest, GoesOn, Timely, Steps, Gives, Ran}
+use Rattle.http_wire.specs.Timing.{Event, ReadFails, WriteFails, all_got, all_put, IsLatest, Timely, Gives, Ran}
 use Rattle.http_wire.proofs.Trails.{put_joined, goes_on_joined, latest_joined, steps_joined, timely_joined}
 use Rattle.host_connection.specs.Serving.{Answering, Stream, Ends, Serves, Turns, is_last_at, Next, Exchange, End}
 use Rattle.host_connection.specs.Timing.{IsCaughtUp, IdleWithoutMemory, Connects, AwaitsRequest, TurnsAs}
 use Rattle.host_connection.specs.declared.connections.ConnectionFault.{ConnectionFault}
 use Rattle.host_connection.specs.declared.connections.ConnectionFault.TheVariants as fault
 use Rattle.host_connection.specs.Carrying.{SoFar, ConnectionSoFar}
-use Rattle.host_connection.proofs.Served.{at_first, goes_on, ends_well, stops, after_all, never_began}
+use Rattle.host_connection.proofs.Served.{at_first, goes_on, ends_well, stops, never_began}
 use Rattle.http_wire.specs.Halting.{Together}
-use Rattle.http_wire.proofs.SplitTrails.{gives_more, gives_split, together_of}
+use Rattle.http_wire.proofs.SplitTrails.{gives_more, gives_split}
 
 begun : {H : Type 0} (answers : Answering H) (host : H) (buffer : List ℕ) (left new_left : Stream) → buffer ≡ [] → Gives [] left new_left → Together left new_left
     → SoFar answers host left 1 host (prepend_known buffer new_left) (Some []) (Some [])
@@ -29,7 +29,7 @@ none_yet answers saw old host buffer none = record {
   so = λ left new_left gives together. begun answers host buffer left new_left none gives together;
 }
 
-caught_up : {S H : Type 0} (answers : Answering H) (saw : S → Event → S → Type 0) (old new : S) (first : H) (n : ℕ) (host : H) (buffer : List ℕ) (so : ConnectionSoFar answers saw old new first n host buffer)
+pub caught_up : {S H : Type 0} (answers : Answering H) (saw : S → Event → S → Type 0) (old new : S) (first : H) (n : ℕ) (host : H) (buffer : List ℕ) (so : ConnectionSoFar answers saw old new first n host buffer)
     → (got put : List ℕ) → AwaitsRequest buffer got put → IsCaughtUp answers first (all_got so.events ++ got) (all_put so.events ++ put)
 caught_up answers saw old new first n host buffer so got put awaited =
     let at = so.so (Some (all_got so.events ++ got)) (Some got) (gives_more so.events got so.goes_on) tt in
@@ -144,21 +144,6 @@ turn_failed answers saw old mid new why first n host next buffer rest so ran =
             );
       };
     }
-
-pub no_more : {S H : Type 0} (answers : Answering H) (saw : S → Event → S → Type 0) (old new : S) (first : H) (n : ℕ) (host : H) (buffer : List ℕ)
-    → ConnectionSoFar answers saw old new first n host buffer → 101 ≤ n → Ran saw (IsCaughtUp answers first) old new (Connects answers (Ok tt) first host)
-no_more answers saw old new first n host buffer so over = record {
-  events = so.events;
-  steps = so.steps;
-  timely = so.timely;
-  claimed = record {
-    idle = tt;
-    serves = λ left new_left gives. (
-        let known = together_of so.events left new_left gives in
-        after_all answers (IsLatest ReadFails so.events) (IsLatest WriteFails so.events) first left n host (prepend_known buffer known.0) (Some []) (Some (all_put so.events)) (so.so left known.0 known.1 known.2) over
-        );
-  };
-}
 
 -- ---- over its own stream
 

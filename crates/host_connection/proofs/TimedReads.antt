@@ -1,5 +1,5 @@
 -- What a connection reads of a request, and what it writes before the body.
-use Rattle.std.proofs.Common.{◌≡◌, ◌<◌, inl, inr, ℕ, List, [], ◌++◌, length, Bool, false, Some, Result, Ok, Err, codes, refl, sym, ap, subst, ◌∙◌, append-nil, arith}
+use Rattle.std.proofs.Common.{◌≡◌, ◌<◌, inl, inr, ℕ, List, [], ◌++◌, length, Bool, Some, Result, Ok, Err, codes, refl, sym, ap, subst, ◌∙◌, append-nil, arith}
 use Rattle.std.specs.Prelude.{vec_len}
 use Rattle.std.specs.declared.vec.Vec.{Vec}
 use Rattle.std.specs.Io.KnownBytes.{prepend_known}
@@ -8,12 +8,10 @@ use Rattle.http_wire.specs.declared.faults.BodyFault.{BodyFault}
 use Rattle.http_wire.specs.declared.faults.BodyFault.TheVariants as body_fault
 use Rattle.http_wire.specs.declared.faults.HeadFault.{HeadFault}
 use Rattle.http_wire.specs.declared.faults.HeadFault.TheVariants as head_fault
-use Rattle.http_wire.specs.declared.faults.WriteFault.{WriteFault}
-use Rattle.http_wire.specs.Expectations.{ExpectsContinue, continue_text}
+use Rattle.http_wire.specs.Expectations.{ExpectsContinue}
 use Rattle.http_wire.specs.Fields.{AnnouncesBody}
 use Rattle.host_api.specs.declared.refusals.HeadRefusal.TheVariants.{HeadTooLarge, BadHead}
 use Rattle.http_wire.specs.Requests.{RequestParts}
-use Rattle.http_wire.specs.Sending.{WritesText}
 use Rattle.http_wire.specs.Timing.{Event, AtEnd, ReadFails, WriteFails, all_got, all_put, IsLatest, GoesOn, Timely, Ran, NoRead}
 use Rattle.http_wire.specs.Wires.{AwaitsHead, AwaitsBody, ReadsHead, ReadsBody}
 use Rattle.http_wire.proofs.Trails.{goes_on_joined, latest_joined, steps_joined, timely_joined, timely_wide, nothing_got}
@@ -117,15 +115,6 @@ writes_wide wide events timely = timely_wide NoRead wide events (λ got put no. 
 pub not_invited : (parts : RequestParts) → ¬ (ExpectsContinue parts) → InvitesAs (Ok tt) parts []
 not_invited parts unasked = (tt, inr (unasked, refl))
 
-pub invitation_sent : (parts : RequestParts) → ExpectsContinue parts → (events : List Event) → WritesText (Ok tt) continue_text events → InvitesAs (Ok tt) parts events
-invitation_sent parts expects events writes = (writes.0, inl (expects, writes.1))
-
-pub invitation_cut : (parts : RequestParts) (why : WriteFault) → ExpectsContinue parts → (events : List Event) → WritesText (Err why) continue_text events
-    → InvitesAs (Err stop.WriteFault) parts events
-invitation_cut parts why expects events writes =
-    let front = writes.1 in
-    (writes.0, (front.0, front.1, inl (expects, ap (λ u. u ++ front.0) front.2.appended ∙ sym front.2.text_is)))
-
 pub body_uninvited : {S A : Type 0} (saw : S → Event → S → Type 0) (old new : S) (why : Stop) (parts : RequestParts) (size : ℕ) (buffer : List ℕ)
     → AnnouncesBody parts.fields (limit_of parts) size → Ran saw NoRead old new (InvitesAs (Err why) parts) → BodyRan {A = A} saw old new (Err why) parts buffer buffer
 body_uninvited saw old new stop.Ended parts size buffer announced ran = absurd ran.claimed
@@ -214,14 +203,14 @@ body_stops_as P Q R T old parts sent stop.WriteFault f g stops = (g stops.0, sto
 body_stops_as P Q R T old parts sent (stop.Refused reason head_only) f g stops = stops
 body_stops_as P Q R T old parts sent (stop.OutOfMemory head_only) f g stops = stops
 
-head_awaits : (buffer got put : List ℕ) → AwaitsHead buffer got put → AwaitsRequest buffer got put
+pub head_awaits : (buffer got put : List ℕ) → AwaitsHead buffer got put → AwaitsRequest buffer got put
 head_awaits buffer got put awaited = inl (awaited.0, awaited.1)
 
 -- the reads of a head
-abbrev HeadRan : {S : Type 0} → (saw : S → Event → S → Type 0) → (old new : S) → Result RequestParts Stop → (buffer rest : List ℕ) → Type 0
+abbrev pub HeadRan : {S : Type 0} → (saw : S → Event → S → Type 0) → (old new : S) → Result RequestParts Stop → (buffer rest : List ℕ) → Type 0
 HeadRan saw old new result buffer rest = Ran saw (AwaitsHead buffer) old new (ReadsHeadAs result buffer rest)
 
-body_awaits : {S : Type 0} (saw : S → Event → S → Type 0) (old mid : S) (parts : RequestParts) (buffer more : List ℕ) (first : HeadRan saw old mid (Ok parts) buffer more)
+pub body_awaits : {S : Type 0} (saw : S → Event → S → Type 0) (old mid : S) (parts : RequestParts) (buffer more : List ℕ) (first : HeadRan saw old mid (Ok parts) buffer more)
     → (got put : List ℕ) → AwaitsAnnounced parts more got put → AwaitsRequest buffer (all_got first.events ++ got) (all_put first.events ++ put)
 body_awaits saw old mid parts buffer more first got put awaited =
     let head = first.claimed.of_stream (Some (all_got first.events ++ got)) (Some got) (gives_more first.events got first.claimed.ends) in

@@ -1,13 +1,11 @@
 -- A turn of a connection: a request is read or not, and a reply is written.
 use Rattle.std.proofs.Common.{◌≡◌, ℕ, List, [], ◌++◌, Bool, Some, Result, Ok, Err, OnOk, refl, sym, subst, append-nil}
 use Rattle.std.specs.Io.KnownBytes.{prepend_known}
-use Rattle.http_wire.specs.declared.faults.WriteFault.{WriteFault}
 use Rattle.http_wire.specs.Requests.{RequestParts}
-use Rattle.http_wire.specs.Sending.{WritesText}
 use Rattle.http_wire.specs.Timing.{Event, ReadFails, WriteFails, all_put, IsLatest, GoesOn, Steps, Ran, NoRead}
 use Rattle.http_wire.proofs.Trails.{put_joined, goes_on_joined, latest_joined, steps_joined, timely_joined, nothing_got}
 use Rattle.host_connection.specs.Serving.{Answering, Stream, TakesNext, Stops, Sends, Refuses, Exchanges, Turns, Next, Exchange, End}
-use Rattle.host_connection.specs.Timing.{AwaitsRequest, ReadsAs, SendsAs, RefusesAs, ExchangesAs, IsFollowed, TurnsAs}
+use Rattle.host_connection.specs.Timing.{AwaitsRequest, ReadsAs, RefusesAs, ExchangesAs, IsFollowed, TurnsAs}
 use Rattle.host_replies.specs.Replies.{closes}
 use Rattle.host_connection.specs.declared.requests.Request.{Request}
 use Rattle.host_connection.specs.declared.connections.ConnectionFault.{ConnectionFault}
@@ -16,16 +14,6 @@ use Rattle.host_connection.specs.declared.stops.Stop.{Stop}
 use Rattle.host_connection.specs.declared.stops.Stop.TheVariants as stop
 use Rattle.host_connection.proofs.Turns.{turned, refused, refused_cut}
 use Rattle.http_wire.proofs.SplitTrails.{read_goes_on, write_goes_on, gives_read}
-
--- ---- a reply
-
-pub text_sent : (text : List ℕ) (events : List Event) → WritesText (Ok tt) text events → SendsAs (Ok tt) text events
-text_sent text events writes = record { sends = writes.1; goes_on = writes.0 }
-
-pub text_cut : (why : WriteFault) (text : List ℕ) (events : List Event) → WritesText (Err why) text events → SendsAs (Err fault.OutputFault) text events
-text_cut why text events writes =
-    let front = writes.1 in
-    record { sends = (writes.0, (front.2.gone, front.0, front.1, front.2.text_is, front.2.appended)); goes_on = tt }
 
 -- ---- a turn
 

@@ -4,3 +4,5 @@ pub mod Timing
 pub mod Stopping
 pub mod Phases
 pub mod Carrying
+pub mod Walks
+pub mod StandingIn

@@ -192,7 +192,7 @@ pub record Serves {H : Type 0} (answers : Answering H) (read_fails write_fails :
   pub ends : Ends answers read_fails write_fails result (length replies + 1) mid left sent next
   pub written : Appends held new_held (concat replies ++ sent)
 
--- ---- what private functions say: why no request is read
+-- ---- the parts of a turn: why no request is read
 
 -- why a stream gives no head
 abbrev pub HeadStops : (read_fails : Type 0) → Stream → Stop → Type 0

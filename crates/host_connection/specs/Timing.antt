@@ -10,7 +10,7 @@ use Rattle.host_connection.specs.declared.connections.ConnectionFault.{Connectio
 use Rattle.host_connection.specs.declared.connections.ConnectionFault.TheVariants as fault
 use Rattle.host_connection.specs.declared.stops.Stop.{Stop}
 use Rattle.host_connection.specs.declared.stops.Stop.TheVariants as stop
-use Rattle.host_connection.specs.Serving.{Answering, Stream, AreServed, IsCut, Serves, IsInterim, Invites, HeadStops, SizeStops, Sends, Refuses, Exchanges, Turns, Next, Exchange, End}
+use Rattle.host_connection.specs.Serving.{Answering, Stream, AreServed, IsCut, Serves, IsInterim, Invites, HeadStops, SizeStops, Refuses, Exchanges, Turns, Next, Exchange, End}
 
 -- A connection may read: the bytes that came are whole requests after each of which it goes on, and then no whole one and no
 -- head that is refused; all that was written is what is sent for these, and what comes before the body of one that is cut in
@@ -38,7 +38,7 @@ pub record Connects {H : Type 0} (answers : Answering H) (result : Result (Unit 
   pub serves : (left new_left : Stream) → Gives events left new_left
       → Serves answers (IsLatest ReadFails events) (IsLatest WriteFails events) result host next left (Some []) (Some (all_put events))
 
--- ---- what private functions say
+-- ---- the parts of a turn
 
 -- the bytes that came hold no whole request and no head that is refused, and all that was written since is what comes before the body
 abbrev pub AwaitsRequest : (buffer got put : List ℕ) → Type 0
@@ -91,11 +91,6 @@ pub record ReadsAs {A : Type 0} (result : Result A Stop) (takes : A → Stream �
   pub of_stream : (left new_left : Stream) → Gives events left new_left
       → MatchResult result (λ value. takes value (prepend_known buffer left) (prepend_known new_buffer new_left) (all_put events))
       (stops (IsLatest ReadFails events) (IsLatest WriteFails events) (prepend_known buffer left) (all_put events))
-
--- the text was written, or a write failed
-pub record SendsAs (result : Result (Unit {0}) ConnectionFault) (text : List ℕ) (events : List Event) : Type 0 where
-  pub sends : Sends (IsLatest WriteFails events) result text (Some []) (Some (all_put events))
-  pub goes_on : OnOk result (GoesOn events)
 
 -- where the stream ended, or a read or a write failed, nothing is written
 abbrev pub IsSilent : Stop → List Event → Type 0

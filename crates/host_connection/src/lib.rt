@@ -2,6 +2,7 @@
 #![tactic(auto)]
 
 mod connections;
+pub mod laws;
 mod phases;
 mod requests;
 mod services;

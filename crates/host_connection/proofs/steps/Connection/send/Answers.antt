@@ -1,4 +1,4 @@
-use Rattle.std.proofs.Common.{Err, ◌⊎◌, inl, inr, subst, sym, ap, ◌∙◌}
+use Rattle.std.proofs.Common.{Err, subst, sym, ap}
 use Rattle.http_wire.specs.declared.halts.Halt.{Halt}
 use Rattle.http_wire.specs.declared.sinks.WriteFailed.{WriteFailed}
 use Rattle.host_connection.specs.declared.steps.Connection.{Connection}
