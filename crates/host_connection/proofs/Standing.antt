@@ -53,30 +53,30 @@ front_sent narrow wide R stands note seen is_last old sent next r front =
     let rest = front.rest in
     elim front.whole as (λ w. (after : _) × IsFrontSent wide seen is_last old sent after) [
       | inl cut ↦
-        let ex = cut.2 in
-        let by = stands note seen ex.parts ex.body ex.answer next r ex.is_answer in (
-          by.0,
-          record {
-            rest = rest;
-            some = front.some;
-            whole = inl (
-              cut.0,
-              cut.1,
-              record {
-                parts = ex.parts;
-                body = ex.body;
-                request = ex.request;
-                interim = ex.interim;
-                is_interim = ex.is_interim;
-                closing = ex.closing;
-                answer = ex.answer;
-                is_answer = by.1;
-                sent_is = ex.sent_is;
-              },
-              cut.3,
-            );
-          },
-        )
+          let ex = cut.2 in
+          let by = stands note seen ex.parts ex.body ex.answer next r ex.is_answer in (
+            by.0,
+            record {
+              rest = rest;
+              some = front.some;
+              whole = inl (
+                cut.0,
+                cut.1,
+                record {
+                  parts = ex.parts;
+                  body = ex.body;
+                  request = ex.request;
+                  interim = ex.interim;
+                  is_interim = ex.is_interim;
+                  closing = ex.closing;
+                  answer = ex.answer;
+                  is_answer = by.1;
+                  sent_is = ex.sent_is;
+                },
+                cut.3,
+              );
+            },
+          )
       | inr none ↦ (seen, record { rest = rest; some = front.some; whole = inr (none.0, refl) })
     ]
 
@@ -101,10 +101,10 @@ serves narrow wide R stands P Q result note seen next stream held new_held r all
     (end.0, record { replies = all.replies; mid = mid.0; left = all.left; served = mid.1; sent = all.sent; ends = end.1; written = all.written })
 
 -- so far
-comes_so_far : {S H K : Type 0} (narrow : Answering H) (wide : Answering K) (R : H → K → Type 0) → StandsIn narrow wide R → (saw : S → Event → S → Type 0) (waits : Type 0) (start now : S) (note host : H) (seen : K) (c : Connection)
-    → R note seen → Carries narrow saw waits start note now host c → Ran saw (IsCaughtUp wide seen) start now Anything
-comes_so_far narrow wide R stands saw waits start now note host seen c r carries =
-    let ran = so_far narrow saw waits start now note host c.wire c.out c.number c.phase carries in
+comes_so_far : {S H K : Type 0} (narrow : Answering H) (wide : Answering K) (R : H → K → Type 0) → StandsIn narrow wide R → (saw : S → Event → S → Type 0) (leaves : Type 0) (start now : S) (note host : H) (seen : K) (c : Connection)
+    → R note seen → Carries narrow saw leaves start note now host c → Ran saw (IsCaughtUp wide seen) start now Anything
+comes_so_far narrow wide R stands saw leaves start now note host seen c r carries =
+    let ran = so_far narrow saw leaves start now note host c.wire c.out c.number c.phase carries in
     record {
       events = ran.events;
       steps = ran.steps;
@@ -112,12 +112,12 @@ comes_so_far narrow wide R stands saw waits start now note host seen c r carries
       claimed = tt;
     }
 
-comes : {S H K : Type 0} (narrow : Answering H) (wide : Answering K) (R : H → K → Type 0) → StandsIn narrow wide R → (saw : S → Event → S → Type 0) (waits : Type 0) (start now : S) (note host : H) (seen : K) (c : Connection) (p : Progress)
-    → R note seen → Leads narrow saw waits start note now host c p → Comes wide saw start seen now p
-comes narrow wide R stands saw waits start now note host seen c (progress.Waits w) r leads = comes_so_far narrow wide R stands saw waits start now note host seen c r leads.0
-comes narrow wide R stands saw waits start now note host seen c progress.More r leads = comes_so_far narrow wide R stands saw waits start now note host seen c r leads
-comes narrow wide R stands saw waits start now note host seen c (progress.Body size) r leads = comes_so_far narrow wide R stands saw waits start now note host seen c r leads.0
-comes narrow wide R stands saw waits start now note host seen c (progress.Ended result) r leads =
+comes : {S H K : Type 0} (narrow : Answering H) (wide : Answering K) (R : H → K → Type 0) → StandsIn narrow wide R → (saw : S → Event → S → Type 0) (leaves waits : Type 0) (start now : S) (note host : H) (seen : K) (c : Connection) (p : Progress)
+    → R note seen → Leads narrow saw leaves waits start note now host c p → Comes wide saw start seen now p
+comes narrow wide R stands saw leaves waits start now note host seen c (progress.Waits w) r leads = comes_so_far narrow wide R stands saw leaves start now note host seen c r leads.0
+comes narrow wide R stands saw leaves waits start now note host seen c progress.More r leads = comes_so_far narrow wide R stands saw leaves start now note host seen c r leads
+comes narrow wide R stands saw leaves waits start now note host seen c (progress.Body size) r leads = comes_so_far narrow wide R stands saw leaves start now note host seen c r leads.0
+comes narrow wide R stands saw leaves waits start now note host seen c (progress.Ended result) r leads =
     let ran = leads.0 in
     record {
       events = ran.events;
@@ -131,12 +131,12 @@ comes narrow wide R stands saw waits start now note host seen c (progress.Ended 
     }
 
 -- Replies over notes are replies over all that the notes stand for.
-pub comes_last : {S H K : Type 0} (narrow : Answering H) (wide : Answering K) (R : H → K → Type 0) → StandsIn narrow wide R → (saw : S → Event → S → Type 0) (waits : Type 0) (start now : S) (note host : H) (seen : K) (c : Connection)
-    (steps : List (Step S H)) → R note seen → LastLeads narrow saw waits start note now host c steps → LastComes wide saw start seen now steps
-comes_last narrow wide R stands saw waits start now note host seen c [] r so = comes_so_far narrow wide R stands saw waits start now note host seen c r so
-comes_last narrow wide R stands saw waits start now note host seen c (step ∷ []) r leads = comes narrow wide R stands saw waits start step.now note step.host seen step.connection step.progress r leads
-comes_last narrow wide R stands saw waits start now note host seen c (step ∷ next ∷ more) r leads =
-    comes_last narrow wide R stands saw waits start step.now note step.host seen step.connection (next ∷ more) r leads
+pub comes_last : {S H K : Type 0} (narrow : Answering H) (wide : Answering K) (R : H → K → Type 0) → StandsIn narrow wide R → (saw : S → Event → S → Type 0) (leaves waits : Type 0) (start now : S) (note host : H) (seen : K) (c : Connection)
+    (steps : List (Step S H)) → R note seen → LastLeads narrow saw leaves waits start note now host c steps → LastComes wide saw start seen now steps
+comes_last narrow wide R stands saw leaves waits start now note host seen c [] r so = comes_so_far narrow wide R stands saw leaves start now note host seen c r so
+comes_last narrow wide R stands saw leaves waits start now note host seen c (step ∷ []) r leads = comes narrow wide R stands saw leaves waits start step.now note step.host seen step.connection step.progress r leads
+comes_last narrow wide R stands saw leaves waits start now note host seen c (step ∷ next ∷ more) r leads =
+    comes_last narrow wide R stands saw leaves waits start step.now note step.host seen step.connection (next ∷ more) r leads
 
 -- each service stands for itself
 pub stands_for_itself : {H : Type 0} (answers : Answering H) → StandsIn answers answers (λ one another. one ≡ another)

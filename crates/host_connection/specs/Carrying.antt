@@ -80,24 +80,24 @@ pub record Refusing {S H : Type 0} (saw : S → Event → S → Type 0) (began n
   pub same : host ≡ before
 
 -- What a connection did since its stream was this and its service that, by what it is in the middle of. A reply that isn't counted any more was
--- left because the stream had to wait.
-abbrev pub Carried : {S H : Type 0} → Answering H → (saw : S → Event → S → Type 0) → (waits : Type 0) → (start : S) → (first : H) → (now : S) → (host : H) → (buffer : List ℕ) → (out : Gathered) → (n : ℕ) → Phase → Type 0
-Carried answers saw waits start first now host buffer out n phase.Head =
+-- left before it was out, where that may be.
+abbrev pub Carried : {S H : Type 0} → Answering H → (saw : S → Event → S → Type 0) → (leaves : Type 0) → (start : S) → (first : H) → (now : S) → (host : H) → (buffer : List ℕ) → (out : Gathered) → (n : ℕ) → Phase → Type 0
+Carried answers saw leaves start first now host buffer out n phase.Head =
     InTurn answers saw start first n (λ began before begun. HeadSoFar saw began now begun buffer × (host ≡ before))
-Carried answers saw waits start first now host buffer out n (phase.Invite i) =
+Carried answers saw leaves start first now host buffer out n (phase.Invite i) =
     InTurn answers saw start first n (λ began before begun. InviteSoFar saw began now i.head i.size i.at begun buffer × (host ≡ before))
-Carried answers saw waits start first now host buffer out n (phase.Body b) =
+Carried answers saw leaves start first now host buffer out n (phase.Body b) =
     InTurn answers saw start first n (λ began before begun. BodySoFar saw began now b.head b.size begun b.body.items buffer × (host ≡ before))
-Carried answers saw waits start first now host buffer out n (phase.Reply s) =
+Carried answers saw leaves start first now host buffer out n (phase.Reply s) =
     InTurn answers saw start first n (λ began before begun. Replying answers saw began now before host (is_last_at n) begun buffer out s
     ⊎ Refusing saw began now before host (is_last_at n) begun buffer out s)
-    × (IsCounted out ⊎ waits)
-Carried answers saw waits start first now host buffer out n (phase.Ended result) =
+    × (IsCounted out ⊎ leaves)
+Carried answers saw leaves start first now host buffer out n (phase.Ended result) =
     Ran saw (IsCaughtUp answers first) start now (Connects answers result first host)
 
 -- the same of a connection's value
-abbrev pub Carries : {S H : Type 0} → Answering H → (saw : S → Event → S → Type 0) → (waits : Type 0) → (start : S) → (first : H) → (now : S) → (host : H) → Connection → Type 0
-Carries answers saw waits start first now host c = Carried answers saw waits start first now host c.wire c.out c.number c.phase
+abbrev pub Carries : {S H : Type 0} → Answering H → (saw : S → Event → S → Type 0) → (leaves : Type 0) → (start : S) → (first : H) → (now : S) → (host : H) → Connection → Type 0
+Carries answers saw leaves start first now host c = Carried answers saw leaves start first now host c.wire c.out c.number c.phase
 
 -- ---- a step
 
@@ -124,11 +124,11 @@ AwaitsBodyOf size (phase.Ended result) = ⊥
 
 -- What a step leads to: a connection that is still carried; it waits only where the stream has to, and as its phase says. Once it ends, that is the
 -- theorem of the whole connection.
-abbrev pub Leads : {S H : Type 0} → Answering H → (saw : S → Event → S → Type 0) → (waits : Type 0) → (start : S) → (first : H) → (now : S) → (host : H) → Connection → Progress → Type 0
-Leads answers saw waits start first now host c (progress.Waits w) = Carries answers saw waits start first now host c × waits × Awaits w c.phase
-Leads answers saw waits start first now host c progress.More = Carries answers saw waits start first now host c
-Leads answers saw waits start first now host c (progress.Body size) = Carries answers saw waits start first now host c × AwaitsBodyOf size c.phase
-Leads answers saw waits start first now host c (progress.Ended result) =
+abbrev pub Leads : {S H : Type 0} → Answering H → (saw : S → Event → S → Type 0) → (leaves waits : Type 0) → (start : S) → (first : H) → (now : S) → (host : H) → Connection → Progress → Type 0
+Leads answers saw leaves waits start first now host c (progress.Waits w) = Carries answers saw leaves start first now host c × waits × Awaits w c.phase
+Leads answers saw leaves waits start first now host c progress.More = Carries answers saw leaves start first now host c
+Leads answers saw leaves waits start first now host c (progress.Body size) = Carries answers saw leaves start first now host c × AwaitsBodyOf size c.phase
+Leads answers saw leaves waits start first now host c (progress.Ended result) =
     Ran saw (IsCaughtUp answers first) start now (Connects answers result first host) × (c.phase ≡ phase.Ended result)
 
 -- it has read and written nothing

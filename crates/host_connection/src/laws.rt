@@ -11,8 +11,9 @@ use http_wire::Duplex;
 /// connection allows, wherever the stream had to wait. The services that are lent need not be one: each step begins with what the one before left.
 pub fn steps_are_a_connection<D: Duplex, S: Service>()
     ensures leads { (start now : D) (first host : S) (c : Connection) (steps : List (Step D S))
-        → Carries S.answers D.saw D.waits start first now host c → AreSteps S.answers D.saw D.waits now host c steps
-        → LastLeads S.answers D.saw D.waits start first now host c steps }
+        → Carries S.answers D.saw (Unit {0}) start first now host c
+        → AreSteps S.answers D.saw (Unit {0}) D.waits now host c steps
+        → LastLeads S.answers D.saw (Unit {0}) D.waits start first now host c steps }
     ensures comes { (start : D) (first : S) (c : Connection) (steps : List (Step D S)) → IsFresh c
-        → AreSteps S.answers D.saw D.waits start first c steps → LastComes S.answers D.saw start first start steps }
+        → AreSteps S.answers D.saw (Unit {0}) D.waits start first c steps → LastComes S.answers D.saw start first start steps }
 {}

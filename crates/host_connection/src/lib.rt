@@ -3,6 +3,7 @@
 
 mod connections;
 pub mod laws;
+mod meters;
 mod phases;
 mod requests;
 mod services;
@@ -10,6 +11,7 @@ mod steps;
 mod stops;
 
 pub use connections::{ConnectionFault, serve_connection};
+pub use meters::Metered;
 pub use requests::Request;
 pub use services::Service;
 pub use steps::{Connection, Progress, Wants};

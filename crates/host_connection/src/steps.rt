@@ -5,6 +5,7 @@ ghost use Rattle.host_connection.specs.Carrying.{phases_left, AwaitsBodyOf, Carr
 ghost use Rattle.host_connection.specs.declared.phases.Phase.TheVariants as phases;
 
 use crate::connections::ConnectionFault;
+use crate::meters::Metered;
 use crate::phases::{BodyPart, Invitation, Phase, Sending};
 use crate::requests::Request;
 use crate::services::Service;
@@ -117,8 +118,34 @@ impl Connection {
         })
     }
 
-    /// Goes on where the last step left off: reads what is there, answers a request, and writes what the stream takes.
+    /// Goes on where the last step left off: reads what is there, answers a request, and writes what the stream takes. A step begins one answer at most,
+    /// and moves 262,144 bytes at most; then it may go on at once.
     pub fn go_on<D: Duplex, S: Service>(
+        &mut self,
+        alloc: Global,
+        duplex: &mut Metered<D>,
+        service: &mut S,
+    ) -> Progress
+        ensures leads { (start : D) (first : S)
+            → Carries S.answers D.saw (Unit {0}) start first duplex.old service.old self.old
+            → Leads S.answers D.saw (Unit {0}) D.waits start first duplex.new service.new self.new result }
+        ensures grows { S.grows service.old service.new }
+    {
+        duplex.begin();
+        match self.go_through(alloc, duplex, service) {
+            Progress::Waits(wants) => {
+                if duplex.has_waited() {
+                    Progress::Waits(wants)
+                } else {
+                    Progress::More
+                }
+            }
+            progress => progress,
+        }
+    }
+
+    // Goes through some phases.
+    fn go_through<D: Duplex, S: Service>(
         &mut self,
         alloc: Global,
         duplex: &mut D,
@@ -126,7 +153,7 @@ impl Connection {
     ) -> Progress
         ensures leads { (start : D) (first : S)
             → Carries S.answers D.saw D.waits start first duplex.old service.old self.old
-            → Leads S.answers D.saw D.waits start first duplex.new service.new self.new result }
+            → Leads S.answers D.saw D.waits D.waits start first duplex.new service.new self.new result }
         ensures grows { S.grows service.old service.new }
     {
         'phases: for _ in 0..PHASES {
@@ -147,7 +174,7 @@ impl Connection {
     ) -> Progress
         ensures leads { (start : D) (first : S)
             → Carries S.answers D.saw D.waits start first duplex.old service.old self.old
-            → Leads S.answers D.saw D.waits start first duplex.new service.new self.new result }
+            → Leads S.answers D.saw D.waits D.waits start first duplex.new service.new self.new result }
         ensures falls { Falls result (phases_left self.old.number self.old.phase)
             (phases_left self.new.number self.new.phase) }
         ensures grows { S.grows service.old service.new }
@@ -190,7 +217,7 @@ impl Connection {
         requires { self.old.phase ≡ phases.Head }
         ensures leads { (start : D) (first : S)
             → Carries S.answers D.saw D.waits start first duplex.old _service.now self.old
-            → Leads S.answers D.saw D.waits start first duplex.new _service.now self.new result }
+            → Leads S.answers D.saw D.waits D.waits start first duplex.new _service.now self.new result }
         ensures falls { Falls result (phases_left self.old.number self.old.phase)
             (phases_left self.new.number self.new.phase) }
     {
@@ -223,7 +250,7 @@ impl Connection {
         ensures leads { (start : D) (first : S)
             → Carried S.answers D.saw D.waits start first duplex.old _service.now self.old.wire self.old.out
             self.old.number (phases.Invite invitation)
-            → Leads S.answers D.saw D.waits start first duplex.new _service.now self.new result }
+            → Leads S.answers D.saw D.waits D.waits start first duplex.new _service.now self.new result }
         ensures falls { Falls result (phases_left self.old.number (phases.Invite invitation))
             (phases_left self.new.number self.new.phase) }
     {
@@ -256,7 +283,7 @@ impl Connection {
         ensures leads { (start : D) (first : S)
             → Carried S.answers D.saw D.waits start first duplex.old service.old self.old.wire self.old.out
             self.old.number (phases.Body part)
-            → Leads S.answers D.saw D.waits start first duplex.new service.new self.new result }
+            → Leads S.answers D.saw D.waits D.waits start first duplex.new service.new self.new result }
         ensures falls { Falls result (phases_left self.old.number (phases.Body part))
             (phases_left self.new.number self.new.phase) }
         ensures grows { S.grows service.old service.new }
@@ -320,7 +347,7 @@ impl Connection {
         ensures leads { (start : D) (first : S)
             → Carried S.answers D.saw D.waits start first duplex.old _service.now self.old.wire self.old.out
             self.old.number (phases.Reply sending)
-            → Leads S.answers D.saw D.waits start first duplex.new _service.now self.new result }
+            → Leads S.answers D.saw D.waits D.waits start first duplex.new _service.now self.new result }
         ensures falls { Falls result (phases_left self.old.number (phases.Reply sending))
             (phases_left self.new.number self.new.phase) }
     {

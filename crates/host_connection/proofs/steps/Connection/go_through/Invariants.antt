@@ -1,5 +1,5 @@
 use Rattle.host_connection.specs.Carrying.{Carries}
-use Rattle.host_connection.proofs.steps.Connection.go_on.Given as goal
+use Rattle.host_connection.proofs.steps.Connection.go_through.Given as goal
 
 abbrev pub invariant-phases : goal.invariant-phases
 invariant-phases g l = record {
