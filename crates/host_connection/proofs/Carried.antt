@@ -202,13 +202,12 @@ invited answers saw start now new first host n buffer parts size at new_at part 
   );
 }
 
-pub not_invited : {S H : Type 0} (answers : Answering H) (saw : S → Event → S → Type 0) (start now new : S) (first host : H) (n : ℕ) (buffer : List ℕ) (parts : RequestParts) (size at new_at : ℕ) (failed : WriteFailed)
-    → AtInvitation answers saw start first now host buffer n parts size at → Ran saw NoRead now new (WritesFrom (Err (Failed failed)) continue_text at new_at)
-    → Ran saw (IsCaughtUp answers first) start new (Connects answers (Err fault.OutputFault) first host)
-not_invited answers saw start now new first host n buffer parts size at new_at failed c ran =
-    let whole = silently answers saw start c.began new first n c.before c.begun buffer stop.WriteFault fault.OutputFault c.so
-    (invite_fails saw c.began now new parts size at new_at failed (is_last_at n) c.begun buffer c.turn.0 ran) (record { refuses = (refl, refl); silent = refl }) in
-    subst (λ h. Ran saw (IsCaughtUp answers first) start new (Connects answers (Err fault.OutputFault) first h)) (sym c.turn.1) whole
+pub not_invited : {S H : Type 0} (answers : Answering H) (saw : S → Event → S → Type 0) (waits : Type 0) (start now new : S) (first host : H) (n : ℕ) (buffer : List ℕ) (new_out : Gathered) (parts : RequestParts) (size at new_at : ℕ)
+    (failed : WriteFailed) (p : Phase) → AtInvitation answers saw start first now host buffer n parts size at → Ran saw NoRead now new (WritesFrom (Err (Failed failed)) continue_text at new_at)
+    → FollowsStop stop.WriteFault p → new_out ≡ nothing → Carried answers saw waits start first new host buffer new_out n p
+not_invited answers saw waits start now new first host n buffer new_out parts size at new_at failed p c ran follows fresh =
+    stopped answers saw waits start c.began new first n c.before host c.begun buffer new_out stop.WriteFault p c.so
+    (invite_fails saw c.began now new parts size at new_at failed (is_last_at n) c.begun buffer c.turn.0 ran) follows fresh c.turn.1
 
 -- ---- in a body
 

@@ -262,7 +262,7 @@ impl Connection {
                 Progress::More
             }
             Err(Halt::Failed(_)) => {
-                self.enter(Phase::Ended(Err(ConnectionFault::OutputFault)));
+                self.enter(after_stop(Stop::WriteFault));
                 Progress::More
             }
             Err(Halt::WouldWait) => {

@@ -1,4 +1,4 @@
-use Rattle.std.proofs.Common.{Err, ap, subst, sym}
+use Rattle.std.proofs.Common.{Err, ap, refl, subst, sym}
 use Rattle.http_wire.specs.declared.halts.Halt.{Halt}
 use Rattle.http_wire.specs.declared.sinks.WriteFailed.{WriteFailed}
 use Rattle.http_wire.specs.Expectations.{continue_text}
@@ -23,8 +23,8 @@ returns-in-Err-Failed-clause-leads g c = λ start first so. (
     let i = c.args.invitation in
     let P : Halt WriteFailed → Type 0 = λ why. Ran g.D.Duplex.saw NoRead c.args.duplex.now c.try_write_interim.new.duplex (WritesFrom (Err why) continue_text i.at c.try_write_interim.new.at) in
     at_connection g.S.Service.answers g.D.Duplex.saw g.D.Duplex.waits start c.try_write_interim.new.duplex first c.args._service.now c.enter-in-Err-Failed.new.self _ c.enter-in-Err-Failed.ensures
-    (not_invited g.S.Service.answers g.D.Duplex.saw start c.args.duplex.now c.try_write_interim.new.duplex first c.args._service.now c.args.self.now.number c.args.self.now.wire i.head i.size i.at
-    c.try_write_interim.new.at _ so (subst P c.in-Err-Failed.field-0-is c.in-Err-Failed.ensures.ran))
+    (not_invited g.S.Service.answers g.D.Duplex.saw g.D.Duplex.waits start c.args.duplex.now c.try_write_interim.new.duplex first c.args._service.now c.args.self.now.number c.args.self.now.wire _ i.head i.size
+    i.at c.try_write_interim.new.at _ c.after_stop.result so (subst P c.in-Err-Failed.field-0-is c.in-Err-Failed.ensures.ran) c.after_stop.ensures refl)
     )
 
 pub returns-in-Err-WouldWait-clause-leads : goal.returns-in-Err-WouldWait-clause-leads
