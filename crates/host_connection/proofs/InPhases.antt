@@ -22,20 +22,19 @@ use Rattle.http_wire.proofs.Trails.{put_joined, goes_on_joined, latest_joined, s
 use Rattle.host_replies.specs.Replies.{closes}
 use Rattle.host_connection.specs.declared.connections.ConnectionFault.{ConnectionFault}
 use Rattle.host_connection.specs.declared.connections.ConnectionFault.TheVariants as fault
-use Rattle.host_connection.specs.declared.connections.Next.{Next}
-use Rattle.host_connection.specs.declared.connections.Next.TheVariants as next_is
-use Rattle.host_connection.specs.declared.connections.Stop.{Stop}
-use Rattle.host_connection.specs.declared.connections.Stop.TheVariants as stop
+use Rattle.host_connection.specs.declared.stops.Stop.{Stop}
+use Rattle.host_connection.specs.declared.stops.Stop.TheVariants as stop
 use Rattle.host_connection.specs.declared.requests.Request.{Request}
 use Rattle.host_connection.specs.Phases.{SentUpTo, HeadSoFar, InviteSoFar, BodySoFar, ReplySoFar, RefusalSoFar, IsTold, refusal_text}
-use Rattle.host_connection.specs.Serving.{Answering, Announced, IsSent, TakesNext, Stops, Refuses, Sends, limit_of}
+use Rattle.host_connection.specs.Serving.{Answering, Announced, IsSent, TakesNext, Stops, Refuses, Sends, limit_of, Next, End}
+use Rattle.host_connection.specs.Stopping.{stop_of_body, stop_of_head}
 use Rattle.host_connection.specs.Timing.{AwaitsRequest, ReadsHeadAs, ReadsAs, TakesBodyAs, InvitesAs, ExchangesAs, RefusesAs, IsSilent, TurnsAs}
-use Rattle.host_connection.proofs.TimedReads.{head_read, head_missed, stop_of_head, body_taken, body_missed, stop_of_body, body_after, body_refused, body_uninvited, request_read, request_missed, request_cut, not_invited}
+use Rattle.host_connection.proofs.TimedReads.{head_read, head_missed, body_taken, body_missed, body_after, body_refused, body_uninvited, request_read, request_missed, request_cut, not_invited}
 use Rattle.host_connection.proofs.TimedTurns.{turn_answered, turn_refused, next_of}
 use Rattle.host_connection.proofs.Turns.{is_end, exchange_sent, exchange_cut}
 
 -- how no request is read
-abbrev Missed : {S : Type 0} → (saw : S → Event → S → Type 0) → (mid new : S) → Stop → Bool → (begun rest : List ℕ) → Type 0
+abbrev pub Missed : {S : Type 0} → (saw : S → Event → S → Type 0) → (mid new : S) → Stop → Bool → (begun rest : List ℕ) → Type 0
 Missed saw mid new why is_last begun rest = Ran saw (AwaitsRequest begun) mid new (ReadsAs {A = Request} (Err why) (TakesNext is_last) Stops begun rest)
 
 -- ---- in a head
@@ -305,7 +304,7 @@ silent_not (stop.OutOfMemory head_only) events told = tt
 
 pub refusal_out : {S H : Type 0} (answers : Answering H) (saw : S → Event → S → Type 0) (mid now new : S) (host : H) (is_last : Bool) (why : Stop) (at new_at : ℕ) (begun buffer : List ℕ)
     → RefusalSoFar saw mid now is_last why at begun buffer → Ran saw NoRead now new (WritesFrom (Ok tt) (refusal_text why) at new_at)
-    → Ran saw (AwaitsRequest begun) mid new (TurnsAs answers (Ok next_is.End) is_last host host begun buffer)
+    → Ran saw (AwaitsRequest begun) mid new (TurnsAs answers (Ok End) is_last host host begun buffer)
 refusal_out answers saw mid now new host is_last why at new_at begun buffer so ran =
     let text = refusal_text why in
     let events = ran.events ++ so.sent.events in

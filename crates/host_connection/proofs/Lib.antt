@@ -5,3 +5,7 @@ pub mod TimedTurns
 pub mod TimedConnections
 pub mod InPhases
 pub mod NoHead
+pub mod Carried
+pub mod Unfinished
+pub mod Walking
+pub mod Standing

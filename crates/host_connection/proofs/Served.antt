@@ -4,19 +4,11 @@ use Rattle.std.specs.Io.KnownBytes.{Appends}
 use Rattle.std.specs.List.{concat}
 use Rattle.std.proofs.lemmas.List.{append-nil, append_assoc, length-append}
 use Rattle.host_replies.specs.Replies.{closes}
-use Rattle.host_connection.specs.Serving.{Answering, Stream, IsExchange, AreServed, Ends, Serves, Turns, is_last_at}
+use Rattle.host_connection.specs.Serving.{Answering, Stream, IsExchange, AreServed, Ends, Serves, Turns, is_last_at, Exchange, End}
 use Rattle.host_connection.specs.declared.connections.ConnectionFault.{ConnectionFault}
 use Rattle.host_connection.specs.declared.connections.ConnectionFault.TheVariants as fault
-use Rattle.host_connection.specs.declared.connections.Next.TheVariants as next_is
+use Rattle.host_connection.specs.Carrying.{SoFar}
 use Rattle.host_connection.proofs.Turns.{appends_nothing}
-
--- what was done before the request of number n: each exchange was followed by another
-pub record SoFar {H : Type 0} (answers : Answering H) (first : H) (stream : Stream) (n : ℕ) (host : H) (old held new_held : Stream) : Type 0 where
-  pub replies : List (List ℕ)
-  pub served : AreServed answers 1 first stream replies host old
-  pub written : Appends held new_held (concat replies)
-  pub number : n ≡ 1 + length replies
-  pub within : n ≤ 100
 
 -- ---- lists of replies
 
@@ -63,7 +55,7 @@ not_last answers host next n old new sent exchange within =
     ] refl exchange.closing
 
 pub goes_on : {H : Type 0} (answers : Answering H) (read_fails write_fails : Type 0) (first : H) (stream : Stream) (n : ℕ) (host next : H) (old new held mid_held new_held : Stream)
-    → SoFar answers first stream n host old held mid_held → Turns answers read_fails write_fails (Ok next_is.Exchange) (is_last_at n) host old new mid_held new_held next
+    → SoFar answers first stream n host old held mid_held → Turns answers read_fails write_fails (Ok Exchange) (is_last_at n) host old new mid_held new_held next
     → SoFar answers first stream (n + 1) next new held new_held
 goes_on answers read_fails write_fails first stream n host next old new held mid_held new_held so turn =
     let there = subst (λ m. IsExchange answers host (is_last_at m) old turn.0 next new) so.number turn.1 in
@@ -94,7 +86,7 @@ finish answers read_fails write_fails result first stream n host next old held m
     }
 
 pub ends_well : {H : Type 0} (answers : Answering H) (read_fails write_fails : Type 0) (first : H) (stream : Stream) (n : ℕ) (host next : H) (old new held mid_held new_held : Stream)
-    → SoFar answers first stream n host old held mid_held → Turns answers read_fails write_fails (Ok next_is.End) (is_last_at n) host old new mid_held new_held next
+    → SoFar answers first stream n host old held mid_held → Turns answers read_fails write_fails (Ok End) (is_last_at n) host old new mid_held new_held next
     → Serves answers read_fails write_fails (Ok tt) first next stream held new_held
 ends_well answers read_fails write_fails first stream n host next old new held mid_held new_held so turn =
     finish answers read_fails write_fails (Ok tt) first stream n host next old held mid_held new_held so turn.0 turn.2 turn.1
@@ -107,11 +99,6 @@ stops answers read_fails write_fails fault.InputFault first stream n host next o
 stops answers read_fails write_fails fault.OutputFault first stream n host next old new held mid_held new_held so turn =
     finish answers read_fails write_fails (Err fault.OutputFault) first stream n host next old held mid_held new_held so turn.1.0 turn.1.2 (turn.0, turn.1.1)
 stops answers read_fails write_fails fault.OutOfMemory first stream n host next old new held mid_held new_held so turn = absurd turn
-
--- the exchange of the greatest number ends the connection
-pub after_all : {H : Type 0} (answers : Answering H) (read_fails write_fails : Type 0) (first : H) (stream : Stream) (n : ℕ) (host : H) (old held new_held : Stream)
-    → SoFar answers first stream n host old held new_held → 101 ≤ n → Serves answers read_fails write_fails (Ok tt) first host stream held new_held
-after_all answers read_fails write_fails first stream n host old held new_held so over = absurd (omega (arith, over, so.within))
 
 pub never_began : {H : Type 0} (answers : Answering H) (read_fails write_fails : Type 0) (host : H) (stream held : Stream) → Serves answers read_fails write_fails (Err fault.OutOfMemory) host host stream held held
 never_began answers read_fails write_fails host stream held = record {

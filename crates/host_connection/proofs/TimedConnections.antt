@@ -1,26 +1,16 @@
 -- A whole connection: what it reads and writes, turn by turn.
-use Rattle.std.proofs.Common.{◌≡◌, ℕ, ◌+◌, ◌≤◌, List, [], ◌++◌, Bool, Some, None, Result, Ok, Err, refl, sym, ap, subst, ◌∙◌}
+use Rattle.std.proofs.Common.{◌≡◌, ℕ, ◌+◌, List, [], ◌++◌, Bool, Some, None, Result, Ok, Err, refl, sym, ap, subst, ◌∙◌}
 use Rattle.std.specs.Io.KnownBytes.{Appends, prepend_known}
-use Rattle.http_wire.specs.Timing.{Event, ReadFails, WriteFails, all_got, all_put, IsLatest, GoesOn, Timely, Steps, Gives, Ran}
+use Rattle.http_wire.specs.Timing.{Event, ReadFails, WriteFails, all_got, all_put, IsLatest, Timely, Gives, Ran}
 use Rattle.http_wire.proofs.Trails.{put_joined, goes_on_joined, latest_joined, steps_joined, timely_joined}
-use Rattle.host_connection.specs.Serving.{Answering, Stream, Ends, Serves, Turns, is_last_at}
+use Rattle.host_connection.specs.Serving.{Answering, Stream, Ends, Serves, Turns, is_last_at, Next, Exchange, End}
 use Rattle.host_connection.specs.Timing.{IsCaughtUp, IdleWithoutMemory, Connects, AwaitsRequest, TurnsAs}
 use Rattle.host_connection.specs.declared.connections.ConnectionFault.{ConnectionFault}
 use Rattle.host_connection.specs.declared.connections.ConnectionFault.TheVariants as fault
-use Rattle.host_connection.specs.declared.connections.Next.{Next}
-use Rattle.host_connection.specs.declared.connections.Next.TheVariants as next_is
-use Rattle.host_connection.proofs.Served.{SoFar, at_first, goes_on, ends_well, stops, after_all, never_began}
+use Rattle.host_connection.specs.Carrying.{SoFar, ConnectionSoFar}
+use Rattle.host_connection.proofs.Served.{at_first, goes_on, ends_well, stops, never_began}
 use Rattle.http_wire.specs.Halting.{Together}
-use Rattle.http_wire.proofs.SplitTrails.{gives_more, gives_split, together_of}
-
--- what was done before the request of number n
-pub record ConnectionSoFar {S H : Type 0} (answers : Answering H) (saw : S → Event → S → Type 0) (old new : S) (first : H) (n : ℕ) (host : H) (buffer : List ℕ) : Type 0 where
-  pub events : List Event
-  pub steps : Steps saw old events new
-  pub timely : Timely (IsCaughtUp answers first) events
-  pub goes_on : GoesOn events
-  pub so : (left new_left : Stream) → Gives events left new_left → Together left new_left
-      → SoFar answers first left n host (prepend_known buffer new_left) (Some []) (Some (all_put events))
+use Rattle.http_wire.proofs.SplitTrails.{gives_more, gives_split}
 
 begun : {H : Type 0} (answers : Answering H) (host : H) (buffer : List ℕ) (left new_left : Stream) → buffer ≡ [] → Gives [] left new_left → Together left new_left
     → SoFar answers host left 1 host (prepend_known buffer new_left) (Some []) (Some [])
@@ -39,7 +29,7 @@ none_yet answers saw old host buffer none = record {
   so = λ left new_left gives together. begun answers host buffer left new_left none gives together;
 }
 
-caught_up : {S H : Type 0} (answers : Answering H) (saw : S → Event → S → Type 0) (old new : S) (first : H) (n : ℕ) (host : H) (buffer : List ℕ) (so : ConnectionSoFar answers saw old new first n host buffer)
+pub caught_up : {S H : Type 0} (answers : Answering H) (saw : S → Event → S → Type 0) (old new : S) (first : H) (n : ℕ) (host : H) (buffer : List ℕ) (so : ConnectionSoFar answers saw old new first n host buffer)
     → (got put : List ℕ) → AwaitsRequest buffer got put → IsCaughtUp answers first (all_got so.events ++ got) (all_put so.events ++ put)
 caught_up answers saw old new first n host buffer so got put awaited =
     let at = so.so (Some (all_got so.events ++ got)) (Some got) (gives_more so.events got so.goes_on) tt in
@@ -56,8 +46,8 @@ caught_up answers saw old new first n host buffer so got put awaited =
 -- a turn after what was written before it
 turns_after : {H : Type 0} (answers : Answering H) (P Q R T : Type 0) (result : Result Next ConnectionFault) (is_last : Bool) (host next : H) (old new : Stream) (before put : List ℕ) → (P → R) → (Q → T)
     → Turns answers P Q result is_last host old new (Some []) (Some put) next → Turns answers R T result is_last host old new (Some before) (Some (before ++ put)) next
-turns_after answers P Q R T (Ok next_is.Exchange) is_last host next old new before put f g turn = (turn.0, turn.1, ap (λ u. before ++ u) turn.2)
-turns_after answers P Q R T (Ok next_is.End) is_last host next old new before put f g turn = (turn.0, turn.1, ap (λ u. before ++ u) turn.2)
+turns_after answers P Q R T (Ok Exchange) is_last host next old new before put f g turn = (turn.0, turn.1, ap (λ u. before ++ u) turn.2)
+turns_after answers P Q R T (Ok End) is_last host next old new before put f g turn = (turn.0, turn.1, ap (λ u. before ++ u) turn.2)
 turns_after answers P Q R T (Err fault.InputFault) is_last host next old new before put f g turn = (f turn.0, (turn.1.0, turn.1.1, turn.1.2, ap (λ u. before ++ u) turn.1.3))
 turns_after answers P Q R T (Err fault.OutputFault) is_last host next old new before put f g turn = (g turn.0, (turn.1.0, turn.1.1, ap (λ u. before ++ u) turn.1.2))
 turns_after answers P Q R T (Err fault.OutOfMemory) is_last host next old new before put f g turn = absurd turn
@@ -94,35 +84,35 @@ turn_timely answers saw old mid new first n host next buffer rest result so ran 
 -- ---- the steps
 
 pub turn_more : {S H : Type 0} (answers : Answering H) (saw : S → Event → S → Type 0) (old mid new : S) (first : H) (n : ℕ) (host next : H) (buffer rest : List ℕ)
-    → ConnectionSoFar answers saw old mid first n host buffer → Ran saw (AwaitsRequest buffer) mid new (TurnsAs answers (Ok next_is.Exchange) (is_last_at n) host next buffer rest)
+    → ConnectionSoFar answers saw old mid first n host buffer → Ran saw (AwaitsRequest buffer) mid new (TurnsAs answers (Ok Exchange) (is_last_at n) host next buffer rest)
     → ConnectionSoFar answers saw old new first (n + 1) next rest
 turn_more answers saw old mid new first n host next buffer rest so ran =
     let events = ran.events ++ so.events in
     record {
       events = events;
       steps = steps_joined saw old mid new ran.events so.events so.steps ran.steps;
-      timely = turn_timely answers saw old mid new first n host next buffer rest (Ok next_is.Exchange) so ran;
+      timely = turn_timely answers saw old mid new first n host next buffer rest (Ok Exchange) so ran;
       goes_on = goes_on_joined ran.events so.events ran.claimed.followed so.goes_on;
       so = λ left new_left gives together. (
-          let turned = turn_of answers saw old mid new first n host next buffer rest (Ok next_is.Exchange) so ran left new_left gives in
+          let turned = turn_of answers saw old mid new first n host next buffer rest (Ok Exchange) so ran left new_left gives in
           goes_on answers (IsLatest ReadFails events) (IsLatest WriteFails events) first left n host next turned.old (prepend_known rest new_left) (Some []) (Some (all_put so.events)) (Some (all_put events))
           turned.so turned.turn
           );
     }
 
 pub turn_last : {S H : Type 0} (answers : Answering H) (saw : S → Event → S → Type 0) (old mid new : S) (first : H) (n : ℕ) (host next : H) (buffer rest : List ℕ)
-    → ConnectionSoFar answers saw old mid first n host buffer → Ran saw (AwaitsRequest buffer) mid new (TurnsAs answers (Ok next_is.End) (is_last_at n) host next buffer rest)
+    → ConnectionSoFar answers saw old mid first n host buffer → Ran saw (AwaitsRequest buffer) mid new (TurnsAs answers (Ok End) (is_last_at n) host next buffer rest)
     → Ran saw (IsCaughtUp answers first) old new (Connects answers (Ok tt) first next)
 turn_last answers saw old mid new first n host next buffer rest so ran =
     let events = ran.events ++ so.events in
     record {
       events = events;
       steps = steps_joined saw old mid new ran.events so.events so.steps ran.steps;
-      timely = turn_timely answers saw old mid new first n host next buffer rest (Ok next_is.End) so ran;
+      timely = turn_timely answers saw old mid new first n host next buffer rest (Ok End) so ran;
       claimed = record {
         idle = tt;
         serves = λ left new_left gives. (
-            let turned = turn_of answers saw old mid new first n host next buffer rest (Ok next_is.End) so ran left new_left gives in
+            let turned = turn_of answers saw old mid new first n host next buffer rest (Ok End) so ran left new_left gives in
             ends_well answers (IsLatest ReadFails events) (IsLatest WriteFails events) first left n host next turned.old (prepend_known rest new_left) (Some []) (Some (all_put so.events)) (Some (all_put events))
             turned.so turned.turn
             );
@@ -154,21 +144,6 @@ turn_failed answers saw old mid new why first n host next buffer rest so ran =
             );
       };
     }
-
-pub no_more : {S H : Type 0} (answers : Answering H) (saw : S → Event → S → Type 0) (old new : S) (first : H) (n : ℕ) (host : H) (buffer : List ℕ)
-    → ConnectionSoFar answers saw old new first n host buffer → 101 ≤ n → Ran saw (IsCaughtUp answers first) old new (Connects answers (Ok tt) first host)
-no_more answers saw old new first n host buffer so over = record {
-  events = so.events;
-  steps = so.steps;
-  timely = so.timely;
-  claimed = record {
-    idle = tt;
-    serves = λ left new_left gives. (
-        let known = together_of so.events left new_left gives in
-        after_all answers (IsLatest ReadFails so.events) (IsLatest WriteFails so.events) first left n host (prepend_known buffer known.0) (Some []) (Some (all_put so.events)) (so.so left known.0 known.1 known.2) over
-        );
-  };
-}
 
 -- ---- over its own stream
 

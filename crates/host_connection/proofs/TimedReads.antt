@@ -1,5 +1,5 @@
 -- What a connection reads of a request, and what it writes before the body.
-use Rattle.std.proofs.Common.{◌≡◌, ◌<◌, inl, inr, ℕ, List, [], ◌++◌, length, Bool, false, Some, Result, Ok, Err, codes, refl, sym, ap, subst, ◌∙◌, append-nil, arith}
+use Rattle.std.proofs.Common.{◌≡◌, ◌<◌, inl, inr, ℕ, List, [], ◌++◌, length, Bool, Some, Result, Ok, Err, codes, refl, sym, ap, subst, ◌∙◌, append-nil, arith}
 use Rattle.std.specs.Prelude.{vec_len}
 use Rattle.std.specs.declared.vec.Vec.{Vec}
 use Rattle.std.specs.Io.KnownBytes.{prepend_known}
@@ -8,31 +8,23 @@ use Rattle.http_wire.specs.declared.faults.BodyFault.{BodyFault}
 use Rattle.http_wire.specs.declared.faults.BodyFault.TheVariants as body_fault
 use Rattle.http_wire.specs.declared.faults.HeadFault.{HeadFault}
 use Rattle.http_wire.specs.declared.faults.HeadFault.TheVariants as head_fault
-use Rattle.http_wire.specs.declared.faults.WriteFault.{WriteFault}
-use Rattle.http_wire.specs.Expectations.{ExpectsContinue, continue_text}
+use Rattle.http_wire.specs.Expectations.{ExpectsContinue}
 use Rattle.http_wire.specs.Fields.{AnnouncesBody}
 use Rattle.host_api.specs.declared.refusals.HeadRefusal.TheVariants.{HeadTooLarge, BadHead}
 use Rattle.http_wire.specs.Requests.{RequestParts}
-use Rattle.http_wire.specs.Sending.{WritesText}
 use Rattle.http_wire.specs.Timing.{Event, AtEnd, ReadFails, WriteFails, all_got, all_put, IsLatest, GoesOn, Timely, Ran, NoRead}
 use Rattle.http_wire.specs.Wires.{AwaitsHead, AwaitsBody, ReadsHead, ReadsBody}
 use Rattle.http_wire.proofs.Trails.{goes_on_joined, latest_joined, steps_joined, timely_joined, timely_wide, nothing_got}
 use Rattle.host_connection.specs.Serving.{Stream, limit_of, IsInterim, Invites, IsCut, Announced, TakesRequest, TakesBody, TakesNext, SizeStops, BodyStops, Stops}
 use Rattle.host_connection.specs.Timing.{AwaitsRequest, AwaitsAnnounced, InvitesAs, ReadEnds, ReadsHeadAs, TakesBodyAs, ReadsAs}
 use Rattle.host_connection.specs.declared.requests.Request.{Request}
-use Rattle.host_connection.specs.declared.connections.Stop.{Stop}
-use Rattle.host_connection.specs.declared.connections.Stop.TheVariants as stop
+use Rattle.host_connection.specs.declared.stops.Stop.{Stop}
+use Rattle.host_connection.specs.declared.stops.Stop.TheVariants as stop
+use Rattle.host_connection.specs.Stopping.{stop_of_body, stop_of_head}
 use Rattle.host_connection.proofs.Turns.{head_stopped, invited, body_stopped, taken}
 use Rattle.http_wire.proofs.SplitTrails.{gives_more, gives_split, gives_written, put_after, put_before}
 
 -- ---- a head
-
-abbrev pub stop_of_head : HeadFault → Stop
-stop_of_head head_fault.Ended = stop.Ended
-stop_of_head head_fault.ReadFault = stop.ReadFault
-stop_of_head head_fault.HeadTooLarge = stop.Refused HeadTooLarge false
-stop_of_head head_fault.BadHead = stop.Refused BadHead false
-stop_of_head head_fault.OutOfMemory = stop.OutOfMemory false
 
 pub head_read : (parts : RequestParts) (buffer rest : List ℕ) (events : List Event) → ReadsHead (Ok parts) buffer rest events
     → ReadsHeadAs (Ok parts) buffer rest events
@@ -67,11 +59,6 @@ head_missed head_fault.OutOfMemory buffer rest events reads = record {
 }
 
 -- ---- a body
-
-abbrev pub stop_of_body : Bool → BodyFault → Stop
-stop_of_body head_only body_fault.Ended = stop.Ended
-stop_of_body head_only body_fault.ReadFault = stop.ReadFault
-stop_of_body head_only body_fault.OutOfMemory = stop.OutOfMemory head_only
 
 pub body_taken : {A : Type 0} (parts : RequestParts) (size : ℕ) (body : Vec ℕ A) (buffer rest : List ℕ) → vec_len body ≡ length body.items
     → (events : List Event) → ReadsBody {A = A} (Ok body) size buffer rest events → TakesBodyAs {A = A} (Ok body) parts size buffer rest events
@@ -127,15 +114,6 @@ writes_wide wide events timely = timely_wide NoRead wide events (λ got put no. 
 -- the client waits for nothing
 pub not_invited : (parts : RequestParts) → ¬ (ExpectsContinue parts) → InvitesAs (Ok tt) parts []
 not_invited parts unasked = (tt, inr (unasked, refl))
-
-pub invitation_sent : (parts : RequestParts) → ExpectsContinue parts → (events : List Event) → WritesText (Ok tt) continue_text events → InvitesAs (Ok tt) parts events
-invitation_sent parts expects events writes = (writes.0, inl (expects, writes.1))
-
-pub invitation_cut : (parts : RequestParts) (why : WriteFault) → ExpectsContinue parts → (events : List Event) → WritesText (Err why) continue_text events
-    → InvitesAs (Err stop.WriteFault) parts events
-invitation_cut parts why expects events writes =
-    let front = writes.1 in
-    (writes.0, (front.0, front.1, inl (expects, ap (λ u. u ++ front.0) front.2.appended ∙ sym front.2.text_is)))
 
 pub body_uninvited : {S A : Type 0} (saw : S → Event → S → Type 0) (old new : S) (why : Stop) (parts : RequestParts) (size : ℕ) (buffer : List ℕ)
     → AnnouncesBody parts.fields (limit_of parts) size → Ran saw NoRead old new (InvitesAs (Err why) parts) → BodyRan {A = A} saw old new (Err why) parts buffer buffer
@@ -225,14 +203,14 @@ body_stops_as P Q R T old parts sent stop.WriteFault f g stops = (g stops.0, sto
 body_stops_as P Q R T old parts sent (stop.Refused reason head_only) f g stops = stops
 body_stops_as P Q R T old parts sent (stop.OutOfMemory head_only) f g stops = stops
 
-head_awaits : (buffer got put : List ℕ) → AwaitsHead buffer got put → AwaitsRequest buffer got put
+pub head_awaits : (buffer got put : List ℕ) → AwaitsHead buffer got put → AwaitsRequest buffer got put
 head_awaits buffer got put awaited = inl (awaited.0, awaited.1)
 
 -- the reads of a head
-abbrev HeadRan : {S : Type 0} → (saw : S → Event → S → Type 0) → (old new : S) → Result RequestParts Stop → (buffer rest : List ℕ) → Type 0
+abbrev pub HeadRan : {S : Type 0} → (saw : S → Event → S → Type 0) → (old new : S) → Result RequestParts Stop → (buffer rest : List ℕ) → Type 0
 HeadRan saw old new result buffer rest = Ran saw (AwaitsHead buffer) old new (ReadsHeadAs result buffer rest)
 
-body_awaits : {S : Type 0} (saw : S → Event → S → Type 0) (old mid : S) (parts : RequestParts) (buffer more : List ℕ) (first : HeadRan saw old mid (Ok parts) buffer more)
+pub body_awaits : {S : Type 0} (saw : S → Event → S → Type 0) (old mid : S) (parts : RequestParts) (buffer more : List ℕ) (first : HeadRan saw old mid (Ok parts) buffer more)
     → (got put : List ℕ) → AwaitsAnnounced parts more got put → AwaitsRequest buffer (all_got first.events ++ got) (all_put first.events ++ put)
 body_awaits saw old mid parts buffer more first got put awaited =
     let head = first.claimed.of_stream (Some (all_got first.events ++ got)) (Some got) (gives_more first.events got first.claimed.ends) in

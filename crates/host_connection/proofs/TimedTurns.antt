@@ -1,47 +1,33 @@
 -- A turn of a connection: a request is read or not, and a reply is written.
 use Rattle.std.proofs.Common.{◌≡◌, ℕ, List, [], ◌++◌, Bool, Some, Result, Ok, Err, OnOk, refl, sym, subst, append-nil}
 use Rattle.std.specs.Io.KnownBytes.{prepend_known}
-use Rattle.http_wire.specs.declared.faults.WriteFault.{WriteFault}
 use Rattle.http_wire.specs.Requests.{RequestParts}
-use Rattle.http_wire.specs.Sending.{WritesText}
 use Rattle.http_wire.specs.Timing.{Event, ReadFails, WriteFails, all_put, IsLatest, GoesOn, Steps, Ran, NoRead}
 use Rattle.http_wire.proofs.Trails.{put_joined, goes_on_joined, latest_joined, steps_joined, timely_joined, nothing_got}
-use Rattle.host_connection.specs.Serving.{Answering, Stream, TakesNext, Stops, Sends, Refuses, Exchanges, Turns}
-use Rattle.host_connection.specs.Timing.{AwaitsRequest, ReadsAs, SendsAs, RefusesAs, ExchangesAs, IsFollowed, TurnsAs}
+use Rattle.host_connection.specs.Serving.{Answering, Stream, TakesNext, Stops, Sends, Refuses, Exchanges, Turns, Next, Exchange, End}
+use Rattle.host_connection.specs.Timing.{AwaitsRequest, ReadsAs, RefusesAs, ExchangesAs, IsFollowed, TurnsAs}
 use Rattle.host_replies.specs.Replies.{closes}
 use Rattle.host_connection.specs.declared.requests.Request.{Request}
 use Rattle.host_connection.specs.declared.connections.ConnectionFault.{ConnectionFault}
 use Rattle.host_connection.specs.declared.connections.ConnectionFault.TheVariants as fault
-use Rattle.host_connection.specs.declared.connections.Next.{Next}
-use Rattle.host_connection.specs.declared.connections.Next.TheVariants as next_is
-use Rattle.host_connection.specs.declared.connections.Stop.{Stop}
-use Rattle.host_connection.specs.declared.connections.Stop.TheVariants as stop
+use Rattle.host_connection.specs.declared.stops.Stop.{Stop}
+use Rattle.host_connection.specs.declared.stops.Stop.TheVariants as stop
 use Rattle.host_connection.proofs.Turns.{turned, refused, refused_cut}
 use Rattle.http_wire.proofs.SplitTrails.{read_goes_on, write_goes_on, gives_read}
-
--- ---- a reply
-
-pub text_sent : (text : List ℕ) (events : List Event) → WritesText (Ok tt) text events → SendsAs (Ok tt) text events
-text_sent text events writes = record { sends = writes.1; goes_on = writes.0 }
-
-pub text_cut : (why : WriteFault) (text : List ℕ) (events : List Event) → WritesText (Err why) text events → SendsAs (Err fault.OutputFault) text events
-text_cut why text events writes =
-    let front = writes.1 in
-    record { sends = (writes.0, (front.2.gone, front.0, front.1, front.2.text_is, front.2.appended)); goes_on = tt }
 
 -- ---- a turn
 
 exchanges_as : {H : Type 0} (answers : Answering H) (P Q : Type 0) (result : Result Next ConnectionFault) (close : Bool) (host next : H) (parts : RequestParts) (body : List ℕ) (held new_held : Stream) → (P → Q)
     → Exchanges answers P result close host parts body held new_held next → Exchanges answers Q result close host parts body held new_held next
-exchanges_as answers P Q (Ok next_is.Exchange) close host next parts body held new_held f e = e
-exchanges_as answers P Q (Ok next_is.End) close host next parts body held new_held f e = e
+exchanges_as answers P Q (Ok Exchange) close host next parts body held new_held f e = e
+exchanges_as answers P Q (Ok End) close host next parts body held new_held f e = e
 exchanges_as answers P Q (Err fault.InputFault) close host next parts body held new_held f e = e
 exchanges_as answers P Q (Err fault.OutputFault) close host next parts body held new_held f e = (f e.0, e.1)
 exchanges_as answers P Q (Err fault.OutOfMemory) close host next parts body held new_held f e = e
 
 followed : (result : Result Next ConnectionFault) (events past : List Event) → OnOk result (GoesOn events) → GoesOn past → IsFollowed result (events ++ past)
-followed (Ok next_is.Exchange) events past on before = goes_on_joined events past on before
-followed (Ok next_is.End) events past on before = tt
+followed (Ok Exchange) events past on before = goes_on_joined events past on before
+followed (Ok End) events past on before = tt
 followed (Err why) events past on before = tt
 
 pub turn_answered : {S H : Type 0} (answers : Answering H) (saw : S → Event → S → Type 0) (old mid new : S) (result : Result Next ConnectionFault) (is_last : Bool) (request : Request) (host next : H) (buffer rest : List ℕ)
@@ -71,7 +57,7 @@ turn_answered answers saw old mid new result is_last request host next buffer re
     }
 
 abbrev pub next_of : Result (Unit {0}) ConnectionFault → Result Next ConnectionFault
-next_of (Ok done) = Ok next_is.End
+next_of (Ok done) = Ok End
 next_of (Err why) = Err why
 
 refused_any : {H : Type 0} (answers : Answering H) (read_fails write_fails : Type 0) (why : Stop) (result : Result (Unit {0}) ConnectionFault) (is_last : Bool) (host : H) (old new : Stream) (put written : List ℕ)

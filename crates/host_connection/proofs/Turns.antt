@@ -9,13 +9,11 @@ use Rattle.http_wire.specs.Requests.{RequestParts}
 use Rattle.http_wire.specs.Wires.{ServesHead}
 use Rattle.host_api.specs.declared.refusals.Refusal.TheVariants.{Head, OutOfMemory}
 use Rattle.host_replies.specs.Replies.{Answer, closes, refused_answer, sent_for, sent_text}
-use Rattle.host_connection.specs.Serving.{Answering, Stream, limit_of, IsInterim, Invites, IsInvited, TakesRequest, IsAnswered, IsNotRead, IsFrontSent, IsSent, HeadStops, BodyStops, Stops, Sends, Refuses, Exchanges, Turns}
+use Rattle.host_connection.specs.Serving.{Answering, Stream, limit_of, IsInterim, Invites, IsInvited, TakesRequest, IsAnswered, IsNotRead, IsFrontSent, IsSent, HeadStops, BodyStops, Stops, Sends, Refuses, Exchanges, Turns, Next, Exchange, End}
 use Rattle.host_connection.specs.declared.connections.ConnectionFault.{ConnectionFault}
 use Rattle.host_connection.specs.declared.connections.ConnectionFault.TheVariants as fault
-use Rattle.host_connection.specs.declared.connections.Next.{Next}
-use Rattle.host_connection.specs.declared.connections.Next.TheVariants as next_is
-use Rattle.host_connection.specs.declared.connections.Stop.{Stop}
-use Rattle.host_connection.specs.declared.connections.Stop.TheVariants as stop
+use Rattle.host_connection.specs.declared.stops.Stop.{Stop}
+use Rattle.host_connection.specs.declared.stops.Stop.TheVariants as stop
 
 -- the text of an answer is sent
 pub is_sent : {H : Type 0} (answers : Answering H) (close head_only : Bool) (host next : H) (parts : RequestParts) (body : List ℕ) (answer : Answer)
@@ -25,14 +23,14 @@ is_sent answers close head_only host next parts body answer named right =
 
 -- whether the connection ends next
 abbrev pub is_end : Next → Bool
-is_end next_is.Exchange = false
-is_end next_is.End = true
+is_end Exchange = false
+is_end End = true
 
 pub exchange_sent : {H : Type 0} (answers : Answering H) (write_fails : Type 0) (next_turn : Next) (close : Bool) (host next : H) (parts : RequestParts) (body text : List ℕ) (held new_held : Stream)
     → close ≡ is_end next_turn → IsSent answers close host parts body text next → Sends write_fails (Ok tt) text held new_held
     → Exchanges answers write_fails (Ok next_turn) close host parts body held new_held next
-exchange_sent answers write_fails next_is.Exchange close host next parts body text held new_held closing sent appended = (closing, (text, sent, appended))
-exchange_sent answers write_fails next_is.End close host next parts body text held new_held closing sent appended = (closing, (text, sent, appended))
+exchange_sent answers write_fails Exchange close host next parts body text held new_held closing sent appended = (closing, (text, sent, appended))
+exchange_sent answers write_fails End close host next parts body text held new_held closing sent appended = (closing, (text, sent, appended))
 
 pub exchange_cut : {H : Type 0} (answers : Answering H) (write_fails : Type 0) (why : ConnectionFault) (close : Bool) (host next : H) (parts : RequestParts) (body text : List ℕ) (held new_held : Stream)
     → IsSent answers close host parts body text next → Sends write_fails (Err why) text held new_held
@@ -72,9 +70,9 @@ pub turned : {H : Type 0} (answers : Answering H) (read_fails write_fails : Type
     (parts : RequestParts) (body : List ℕ) → TakesRequest old new parts body → IsInterim parts put → request_last ≡ is_last
     → Exchanges answers write_fails result (closes parts request_last) host parts body (Some []) (Some written) next
     → Turns answers read_fails write_fails result is_last host old new (Some []) (Some (put ++ written)) next
-turned answers read_fails write_fails (Ok next_is.Exchange) is_last request_last host next old new put written parts body request interim same e =
+turned answers read_fails write_fails (Ok Exchange) is_last request_last host next old new put written parts body request interim same e =
     (put ++ e.1.0, answered answers false is_last request_last host next old new parts body put e.1.0 (put ++ e.1.0) refl request interim same e.0 e.1.1, ap (λ u. put ++ u) e.1.2)
-turned answers read_fails write_fails (Ok next_is.End) is_last request_last host next old new put written parts body request interim same e =
+turned answers read_fails write_fails (Ok End) is_last request_last host next old new put written parts body request interim same e =
     (put ++ e.1.0, inr (inl (new, answered answers true is_last request_last host next old new parts body put e.1.0 (put ++ e.1.0) refl request interim same e.0 e.1.1)), ap (λ u. put ++ u) e.1.2)
 turned answers read_fails write_fails (Err fault.InputFault) is_last request_last host next old new put written parts body request interim same e = absurd e
 turned answers read_fails write_fails (Err fault.OutputFault) is_last request_last host next old new put written parts body request interim same e =
@@ -92,11 +90,11 @@ nothing_more : (put written : List ℕ) → Some written ≡ Some [] → put ++ 
 nothing_more put written same = ap (λ o. put ++ unwrap_or o []) same ∙ append-nil put
 
 not_read : {H : Type 0} (answers : Answering H) (read_fails write_fails : Type 0) (is_last : Bool) (host : H) (old new : Stream) (put written text : List ℕ) → IsNotRead old (put ++ text)
-    → Sends write_fails (Ok tt) text (Some []) (Some written) → Turns answers read_fails write_fails (Ok next_is.End) is_last host old new (Some []) (Some (put ++ written)) host
+    → Sends write_fails (Ok tt) text (Some []) (Some written) → Turns answers read_fails write_fails (Ok End) is_last host old new (Some []) (Some (put ++ written)) host
 not_read answers read_fails write_fails is_last host old new put written text why appended = (put ++ text, inr (inr (why, refl)), ap (λ u. put ++ u) appended)
 
 pub refused : {H : Type 0} (answers : Answering H) (read_fails write_fails : Type 0) (why : Stop) (is_last : Bool) (host : H) (old new : Stream) (put written : List ℕ) → Stops read_fails write_fails old put why
-    → Refuses write_fails (Ok tt) why (Some []) (Some written) → Turns answers read_fails write_fails (Ok next_is.End) is_last host old new (Some []) (Some (put ++ written)) host
+    → Refuses write_fails (Ok tt) why (Some []) (Some written) → Turns answers read_fails write_fails (Ok End) is_last host old new (Some []) (Some (put ++ written)) host
 refused answers read_fails write_fails stop.Ended is_last host old new put written is_cut same = (put, inl (is_cut, refl), nothing_more put written same.1)
 refused answers read_fails write_fails stop.ReadFault is_last host old new put written fails same = absurd (cc (same.0))
 refused answers read_fails write_fails stop.WriteFault is_last host old new put written fails same = absurd (cc (same.0))

@@ -1,4 +1,8 @@
 -- what public clauses say
 pub mod Serving
 pub mod Timing
+pub mod Stopping
 pub mod Phases
+pub mod Carrying
+pub mod Walks
+pub mod StandingIn

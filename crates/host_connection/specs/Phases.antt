@@ -7,8 +7,8 @@ use Rattle.http_wire.specs.Requests.{RequestParts}
 use Rattle.http_wire.specs.Timing.{Event, all_put, GoesOn, NoRead, Ran}
 use Rattle.http_wire.specs.Wires.{AwaitsHead, AwaitsBody}
 use Rattle.host_api.specs.declared.refusals.Refusal.TheVariants.{Head, OutOfMemory}
-use Rattle.host_connection.specs.declared.connections.Stop.{Stop}
-use Rattle.host_connection.specs.declared.connections.Stop.TheVariants as stop
+use Rattle.host_connection.specs.declared.stops.Stop.{Stop}
+use Rattle.host_connection.specs.declared.stops.Stop.TheVariants as stop
 use Rattle.host_connection.specs.declared.requests.Request.{Request}
 use Rattle.host_connection.specs.Serving.{Answering, IsSent, Stops, TakesNext, limit_of}
 use Rattle.host_connection.specs.Timing.{AwaitsRequest, InvitesAs, ReadsAs, ReadsHeadAs}

@@ -18,10 +18,8 @@ use Rattle.host_api.specs.declared.refusals.Refusal.TheVariants.{Head, OutOfMemo
 use Rattle.host_connection.specs.declared.requests.Request.{Request}
 use Rattle.host_connection.specs.declared.connections.ConnectionFault.{ConnectionFault}
 use Rattle.host_connection.specs.declared.connections.ConnectionFault.TheVariants as fault
-use Rattle.host_connection.specs.declared.connections.Next.{Next}
-use Rattle.host_connection.specs.declared.connections.Next.TheVariants as next_is
-use Rattle.host_connection.specs.declared.connections.Stop.{Stop}
-use Rattle.host_connection.specs.declared.connections.Stop.TheVariants as stop
+use Rattle.host_connection.specs.declared.stops.Stop.{Stop}
+use Rattle.host_connection.specs.declared.stops.Stop.TheVariants as stop
 use Rattle.host_replies.specs.Replies.{Answer, closes, refused_answer, sent_for, sent_text}
 
 -- the bytes of a stream that are left, where they are known
@@ -194,7 +192,7 @@ pub record Serves {H : Type 0} (answers : Answering H) (read_fails write_fails :
   pub ends : Ends answers read_fails write_fails result (length replies + 1) mid left sent next
   pub written : Appends held new_held (concat replies ++ sent)
 
--- ---- what private functions say: why no request is read
+-- ---- the parts of a turn: why no request is read
 
 -- why a stream gives no head
 abbrev pub HeadStops : (read_fails : Type 0) → Stream → Stop → Type 0
@@ -282,6 +280,11 @@ Refuses write_fails result (stop.OutOfMemory head_only) held new_held =
 
 -- ---- the parts of an exchange
 
+-- what follows an exchange: another one, or the end of the connection
+pub data Next : Type 0 where
+  Exchange : Next
+  End : Next
+
 -- the reply to a request is this
 pub record IsSent {H : Type 0} (answers : Answering H) (close : Bool) (host : H) (parts : RequestParts) (body sent : List ℕ) (next : H) : Type 0 where
   pub answer : Answer
@@ -290,9 +293,9 @@ pub record IsSent {H : Type 0} (answers : Answering H) (close : Bool) (host : H)
 
 -- what the answering of a request does
 abbrev pub Exchanges : {H : Type 0} → Answering H → (write_fails : Type 0) → Result Next ConnectionFault → Bool → H → RequestParts → List ℕ → Stream → Stream → H → Type 0
-Exchanges answers write_fails (Ok next_is.Exchange) close host parts body held new_held next =
+Exchanges answers write_fails (Ok Exchange) close host parts body held new_held next =
     (close ≡ false) × ((sent : List ℕ) × IsSent answers close host parts body sent next × Appends held new_held sent)
-Exchanges answers write_fails (Ok next_is.End) close host parts body held new_held next =
+Exchanges answers write_fails (Ok End) close host parts body held new_held next =
     (close ≡ true) × ((sent : List ℕ) × IsSent answers close host parts body sent next × Appends held new_held sent)
 Exchanges answers write_fails (Err fault.InputFault) close host parts body held new_held next = ⊥
 Exchanges answers write_fails (Err fault.OutputFault) close host parts body held new_held next =
@@ -302,9 +305,9 @@ Exchanges answers write_fails (Err fault.OutOfMemory) close host parts body held
 
 -- what the turn of a connection does
 abbrev pub Turns : {H : Type 0} → Answering H → (read_fails write_fails : Type 0) → Result Next ConnectionFault → Bool → H → Stream → Stream → Stream → Stream → H → Type 0
-Turns answers read_fails write_fails (Ok next_is.Exchange) is_last host old new held new_held next =
+Turns answers read_fails write_fails (Ok Exchange) is_last host old new held new_held next =
     (sent : List ℕ) × IsExchange answers host is_last old sent next new × Appends held new_held sent
-Turns answers read_fails write_fails (Ok next_is.End) is_last host old new held new_held next =
+Turns answers read_fails write_fails (Ok End) is_last host old new held new_held next =
     (sent : List ℕ) × ((IsCut old sent × (next ≡ host)) ⊎ IsLast answers host is_last old sent next) × Appends held new_held sent
 Turns answers read_fails write_fails (Err fault.InputFault) is_last host old new held new_held next =
     read_fails × ((sent : List ℕ) × IsBegun old sent × (next ≡ host) × Appends held new_held sent)

@@ -8,11 +8,9 @@ use Rattle.http_wire.specs.Timing.{Event, AtEnd, ReadFails, WriteFails, all_put,
 use Rattle.http_wire.specs.Wires.{ServesHead}
 use Rattle.host_connection.specs.declared.connections.ConnectionFault.{ConnectionFault}
 use Rattle.host_connection.specs.declared.connections.ConnectionFault.TheVariants as fault
-use Rattle.host_connection.specs.declared.connections.Next.{Next}
-use Rattle.host_connection.specs.declared.connections.Next.TheVariants as next_is
-use Rattle.host_connection.specs.declared.connections.Stop.{Stop}
-use Rattle.host_connection.specs.declared.connections.Stop.TheVariants as stop
-use Rattle.host_connection.specs.Serving.{Answering, Stream, AreServed, IsCut, Serves, IsInterim, Invites, HeadStops, SizeStops, Sends, Refuses, Exchanges, Turns}
+use Rattle.host_connection.specs.declared.stops.Stop.{Stop}
+use Rattle.host_connection.specs.declared.stops.Stop.TheVariants as stop
+use Rattle.host_connection.specs.Serving.{Answering, Stream, AreServed, IsCut, Serves, IsInterim, Invites, HeadStops, SizeStops, Refuses, Exchanges, Turns, Next, Exchange, End}
 
 -- A connection may read: the bytes that came are whole requests after each of which it goes on, and then no whole one and no
 -- head that is refused; all that was written is what is sent for these, and what comes before the body of one that is cut in
@@ -40,7 +38,7 @@ pub record Connects {H : Type 0} (answers : Answering H) (result : Result (Unit 
   pub serves : (left new_left : Stream) → Gives events left new_left
       → Serves answers (IsLatest ReadFails events) (IsLatest WriteFails events) result host next left (Some []) (Some (all_put events))
 
--- ---- what private functions say
+-- ---- the parts of a turn
 
 -- the bytes that came hold no whole request and no head that is refused, and all that was written since is what comes before the body
 abbrev pub AwaitsRequest : (buffer got put : List ℕ) → Type 0
@@ -94,11 +92,6 @@ pub record ReadsAs {A : Type 0} (result : Result A Stop) (takes : A → Stream �
       → MatchResult result (λ value. takes value (prepend_known buffer left) (prepend_known new_buffer new_left) (all_put events))
       (stops (IsLatest ReadFails events) (IsLatest WriteFails events) (prepend_known buffer left) (all_put events))
 
--- the text was written, or a write failed
-pub record SendsAs (result : Result (Unit {0}) ConnectionFault) (text : List ℕ) (events : List Event) : Type 0 where
-  pub sends : Sends (IsLatest WriteFails events) result text (Some []) (Some (all_put events))
-  pub goes_on : OnOk result (GoesOn events)
-
 -- where the stream ended, or a read or a write failed, nothing is written
 abbrev pub IsSilent : Stop → List Event → Type 0
 IsSilent stop.Ended events = events ≡ []
@@ -120,8 +113,8 @@ pub record ExchangesAs {H : Type 0} (answers : Answering H) (result : Result Nex
 
 -- another exchange may follow
 abbrev pub IsFollowed : Result Next ConnectionFault → List Event → Type 0
-IsFollowed (Ok next_is.Exchange) events = GoesOn events
-IsFollowed (Ok next_is.End) events = Unit {0}
+IsFollowed (Ok Exchange) events = GoesOn events
+IsFollowed (Ok End) events = Unit {0}
 IsFollowed (Err why) events = Unit {0}
 
 -- what a turn of the connection does over each stream of which its reads are the next, and how its events end

@@ -2,9 +2,16 @@
 #![tactic(auto)]
 
 mod connections;
+pub mod laws;
+mod meters;
+mod phases;
 mod requests;
 mod services;
+mod steps;
+mod stops;
 
 pub use connections::{ConnectionFault, serve_connection};
+pub use meters::Metered;
 pub use requests::Request;
 pub use services::Service;
+pub use steps::{Connection, Progress, Wants};

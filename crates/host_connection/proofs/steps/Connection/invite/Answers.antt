@@ -1,0 +1,40 @@
+use Rattle.std.proofs.Common.{Err, ap, refl, subst, sym}
+use Rattle.http_wire.specs.declared.halts.Halt.{Halt}
+use Rattle.http_wire.specs.declared.sinks.WriteFailed.{WriteFailed}
+use Rattle.http_wire.specs.Expectations.{continue_text}
+use Rattle.http_wire.specs.Halting.{WritesFrom}
+use Rattle.http_wire.specs.Timing.{NoRead, Ran}
+use Rattle.host_connection.specs.declared.steps.Connection.{Connection}
+use Rattle.host_connection.specs.declared.steps.Wants.TheVariants as wants
+use Rattle.host_connection.specs.Carrying.{Awaits}
+use Rattle.host_connection.proofs.Carried.{at_connection, invited, not_invited, waits_in_invitation}
+use Rattle.host_connection.proofs.steps.Connection.invite.Goals as goal
+
+pub returns-in-Ok-clause-leads : goal.returns-in-Ok-clause-leads
+returns-in-Ok-clause-leads g c = λ start first so. (
+    let i = c.args.invitation in
+    at_connection g.S.Service.answers g.D.Duplex.saw g.D.Duplex.waits start c.try_write_interim.new.duplex first c.args._service.now c.enter.new.self _ c.enter.ensures
+    (invited g.S.Service.answers g.D.Duplex.saw start c.args.duplex.now c.try_write_interim.new.duplex first c.args._service.now c.args.self.now.number c.args.self.now.wire i.head i.size i.at
+    c.try_write_interim.new.at c.new-body.result.items so c.in-Ok.ensures.ran c.new-body.ensures.items)
+    )
+
+pub returns-in-Err-Failed-clause-leads : goal.returns-in-Err-Failed-clause-leads
+returns-in-Err-Failed-clause-leads g c = λ start first so. (
+    let i = c.args.invitation in
+    let P : Halt WriteFailed → Type 0 = λ why. Ran g.D.Duplex.saw NoRead c.args.duplex.now c.try_write_interim.new.duplex (WritesFrom (Err why) continue_text i.at c.try_write_interim.new.at) in
+    at_connection g.S.Service.answers g.D.Duplex.saw g.D.Duplex.waits start c.try_write_interim.new.duplex first c.args._service.now c.enter-in-Err-Failed.new.self _ c.enter-in-Err-Failed.ensures
+    (not_invited g.S.Service.answers g.D.Duplex.saw g.D.Duplex.waits start c.args.duplex.now c.try_write_interim.new.duplex first c.args._service.now c.args.self.now.number c.args.self.now.wire _ i.head i.size
+    i.at c.try_write_interim.new.at _ c.after_stop.result so (subst P c.in-Err-Failed.field-0-is c.in-Err-Failed.ensures.ran) c.after_stop.ensures refl)
+    )
+
+pub returns-in-Err-WouldWait-clause-leads : goal.returns-in-Err-WouldWait-clause-leads
+returns-in-Err-WouldWait-clause-leads g c = λ start first so. (
+    let i = c.args.invitation in
+    let P : Halt WriteFailed → Type 0 = λ why. Ran g.D.Duplex.saw NoRead c.args.duplex.now c.try_write_interim.new.duplex (WritesFrom (Err why) continue_text i.at c.try_write_interim.new.at) in (
+      at_connection g.S.Service.answers g.D.Duplex.saw g.D.Duplex.waits start c.try_write_interim.new.duplex first c.args._service.now c.stay.new.self _ c.stay.ensures
+          (waits_in_invitation g.S.Service.answers g.D.Duplex.saw start c.args.duplex.now c.try_write_interim.new.duplex first c.args._service.now c.args.self.now.number c.args.self.now.wire i.head i.size
+          i.at c.try_write_interim.new.at so (subst P c.in-Err-WouldWait.field-0-is c.in-Err-WouldWait.ensures.ran)),
+      c.in-Err-WouldWait.ensures.waits (ap Err c.in-Err-WouldWait.field-0-is),
+      subst (λ (k : Connection). Awaits wants.Write k.phase) (sym c.stay.ensures) tt,
+    )
+    )
