@@ -28,10 +28,10 @@ drop_more k n bytes rest is sum within =
 -- nothing was looked at yet
 pub scans_none : (state : State) (bytes : List ℕ) → ScansTo state bytes state bytes
 scans_none state bytes = record {
-    within = omega arith;
-    is_rest = ap (λ (m : ℕ). drop m bytes) {x = 0} {y = length bytes - length bytes} (omega arith);
-    same = λ more. refl;
-  }
+  within = omega arith;
+  is_rest = ap (λ (m : ℕ). drop m bytes) {x = 0} {y = length bytes - length bytes} (omega arith);
+  same = λ more. refl;
+}
 
 -- it goes on by one byte
 pub scans_byte : (begun state : State) (bytes others : List ℕ) (b : ℕ) → ScansTo begun bytes state (b ∷ others) → is_done state ≡ false
@@ -71,7 +71,7 @@ scans_text bytes end first =
 
 pub scans_all_text : (bytes : List ℕ) → IsFirstByte (is_byte 10) bytes None → ScansTo Text bytes Text []
 scans_all_text bytes none = record {
-    within = omega arith;
-    is_rest = sym (drop_all (length bytes - 0) bytes (omega arith));
-    same = λ more. text_skips (length bytes) bytes more (omega arith) none ∙ ap (λ r. rest_from Text (r ++ more)) (drop_all (length bytes) bytes (omega arith));
-  }
+  within = omega arith;
+  is_rest = sym (drop_all (length bytes - 0) bytes (omega arith));
+  same = λ more. text_skips (length bytes) bytes more (omega arith) none ∙ ap (λ r. rest_from Text (r ++ more)) (drop_all (length bytes) bytes (omega arith));
+}
