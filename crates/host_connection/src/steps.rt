@@ -1,7 +1,7 @@
 //! A connection that goes on where it left off, step by step.
 ghost use Rattle.std.specs.Prelude.{◌≡◌, ◌<◌, IfOk};
 ghost use Rattle.http_wire.specs.Gathering.{nothing};
-ghost use Rattle.host_connection.specs.Carrying.{phases_left, Carries, Falls, IsFresh, Leads};
+ghost use Rattle.host_connection.specs.Carrying.{phases_left, AnswersOnce, Asks, Carries, Falls, IsFresh, Leads};
 
 mod turns;
 
@@ -72,6 +72,7 @@ impl Connection {
         ensures leads { (start : D) (first : S)
             → Carries S.answers D.saw (Unit {0}) start first duplex.old service.old self.old
             → Leads S.answers D.saw (Unit {0}) D.waits start first duplex.new service.new self.new result }
+        ensures asks { AnswersOnce S.answers service.old service.new }
         ensures grows { S.grows service.old service.new }
     {
         duplex.begin();
@@ -97,6 +98,7 @@ impl Connection {
         ensures leads { (start : D) (first : S)
             → Carries S.answers D.saw D.waits start first duplex.old service.old self.old
             → Leads S.answers D.saw D.waits D.waits start first duplex.new service.new self.new result }
+        ensures asks { AnswersOnce S.answers service.old service.new }
         ensures grows { S.grows service.old service.new }
     {
         'phases: for _ in 0..PHASES {
@@ -120,6 +122,7 @@ impl Connection {
             → Leads S.answers D.saw D.waits D.waits start first duplex.new service.new self.new result }
         ensures falls { Falls result (phases_left self.old.number self.old.phase)
             (phases_left self.new.number self.new.phase) }
+        ensures asks { Asks S.answers service.old service.new self.old.phase self.new.phase }
         ensures grows { S.grows service.old service.new }
     {
         match mem::replace(&mut self.phase, Phase::Head) {

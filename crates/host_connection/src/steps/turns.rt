@@ -1,7 +1,7 @@
 //! The phases of a turn, each gone through as far as the stream doesn't have to wait.
-ghost use Rattle.std.specs.Prelude.{◌≡◌, ◌<◌};
+ghost use Rattle.std.specs.Prelude.{◌≡◌, ◌<◌, ◌≤◌};
 ghost use Rattle.http_wire.specs.Gathering.{nothing};
-ghost use Rattle.host_connection.specs.Carrying.{phases_left, AwaitsBodyOf, Carried, Carries, Falls, FollowsHead, FollowsReply, FollowsStop, IsAnswering, Leads};
+ghost use Rattle.host_connection.specs.Carrying.{phases_left, until_asked, AnswersOne, Asks, AwaitsBodyOf, Carried, Carries, Falls, FollowsHead, FollowsReply, FollowsStop, IsAnswering, Leads};
 ghost use Rattle.host_connection.specs.declared.phases.Phase.TheVariants as phases;
 
 use super::{Connection, Progress, Wants};
@@ -149,6 +149,7 @@ impl Connection {
             → Leads S.answers D.saw D.waits D.waits start first duplex.new service.new self.new result }
         ensures falls { Falls result (phases_left self.old.number (phases.Body part))
             (phases_left self.new.number self.new.phase) }
+        ensures asks { Asks S.answers service.old service.new (phases.Body part) self.new.phase }
         ensures grows { S.grows service.old service.new }
     {
         let BodyPart {
@@ -188,6 +189,7 @@ impl Connection {
         ensures out { self.new.out ≡ nothing }
         ensures number { self.new.number ≡ self.old.number }
         ensures answering { IsAnswering S.answers service.old request service.new self.new.phase }
+        ensures asks { AnswersOne S.answers service.old service.new }
         ensures grows { S.grows service.old service.new }
     {
         let head_only = is_head_only(&request.head);
@@ -213,6 +215,7 @@ impl Connection {
             → Leads S.answers D.saw D.waits D.waits start first duplex.new _service.now self.new result }
         ensures falls { Falls result (phases_left self.old.number (phases.Reply sending))
             (phases_left self.new.number self.new.phase) }
+        ensures asks { 1 ≤ until_asked self.new.phase }
     {
         if !self.out.is_counted() {
             self.stay(Phase::Reply(sending));
