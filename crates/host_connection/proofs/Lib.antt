@@ -9,3 +9,4 @@ pub mod Carried
 pub mod Unfinished
 pub mod Walking
 pub mod Standing
+pub mod Asking

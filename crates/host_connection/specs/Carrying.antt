@@ -9,7 +9,7 @@ use Rattle.http_wire.specs.Halting.{Together}
 use Rattle.http_wire.specs.Requests.{RequestParts}
 use Rattle.http_wire.specs.Timing.{Event, all_put, GoesOn, Gives, Ran, Steps, Timely}
 use Rattle.host_replies.specs.Bodies.{answer_of}
-use Rattle.host_replies.specs.Replies.{closes, sent_text}
+use Rattle.host_replies.specs.Replies.{Answer, closes, sent_text}
 use Rattle.host_connection.specs.declared.connections.ConnectionFault.TheVariants as fault
 use Rattle.host_connection.specs.declared.phases.Phase.{Phase}
 use Rattle.host_connection.specs.declared.phases.Phase.TheVariants as phase
@@ -131,6 +131,14 @@ Leads answers saw leaves waits start first now host c (progress.Body size) = Car
 Leads answers saw leaves waits start first now host c (progress.Ended result) =
     Ran saw (IsCaughtUp answers first) start now (Connects answers result first host) × (c.phase ≡ phase.Ended result)
 
+-- the service answered one request
+abbrev pub AnswersOne : {H : Type 0} → Answering H → (old new : H) → Type 0
+AnswersOne answers old new = (parts : RequestParts) × (body : List ℕ) × (answer : Answer) × answers old parts body answer new
+
+-- it answered one, or none, and is what it was
+abbrev pub AnswersOnce : {H : Type 0} → Answering H → (old new : H) → Type 0
+AnswersOnce answers old new = (new ≡ old) ⊎ AnswersOne answers old new
+
 -- it has read and written nothing
 abbrev pub IsFresh : Connection → Type 0
 IsFresh c = (c.wire ≡ []) × (c.number ≡ 1) × (c.phase ≡ phase.Head)
@@ -165,6 +173,23 @@ ReadsNext parts size (phase.Ended result) = ⊥
 abbrev pub FollowsHead : RequestParts → Phase → Type 0
 FollowsHead parts p = ((size : ℕ) × AnnouncesBody parts.fields (limit_of parts) size × ReadsNext parts size p)
     ⊎ ((why : Stop) × Announced parts (Err why) × FollowsStop why p)
+
+-- how many phases are gone through at least before the service is asked again
+abbrev pub until_asked : Phase → ℕ
+until_asked phase.Head = 1
+until_asked (phase.Invite i) = 1
+until_asked (phase.Body b) = 0
+until_asked (phase.Reply s) = 2
+until_asked (phase.Ended result) = 3
+
+-- what is asked of the service in a phase: nothing, or an answer, whose reply is then on its way
+abbrev pub Asks : {H : Type 0} → Answering H → (old new : H) → (old_phase new_phase : Phase) → Type 0
+Asks answers old new old_phase new_phase = ((new ≡ old) × (until_asked old_phase ≤ until_asked new_phase + 1))
+    ⊎ (AnswersOne answers old new × (until_asked old_phase ≡ 0) × (until_asked new_phase ≡ 2))
+
+-- the same of several phases: where an answer was asked for, none is for so many more
+abbrev pub AskedOnce : {H : Type 0} → Answering H → (old new : H) → (gone_through : ℕ) → Phase → Type 0
+AskedOnce answers old new gone_through p = (new ≡ old) ⊎ (AnswersOne answers old new × (3 ≤ until_asked p + gone_through))
 
 -- how many phases of a turn are left at most
 abbrev pub left_of_turn : Phase → ℕ

@@ -15,5 +15,6 @@ pub fn steps_are_a_connection<D: Duplex, S: Service>()
         → AreSteps S.answers D.saw (Unit {0}) D.waits now host c steps
         → LastLeads S.answers D.saw (Unit {0}) D.waits start first now host c steps }
     ensures comes { (start : D) (first : S) (c : Connection) (steps : List (Step D S)) → IsFresh c
-        → AreSteps S.answers D.saw (Unit {0}) D.waits start first c steps → LastComes S.answers D.saw start first start steps }
+        → AreSteps S.answers D.saw (Unit {0}) D.waits start first c steps
+        → LastComes S.answers D.saw start first start steps }
 {}

@@ -26,5 +26,6 @@ returns-in_default g c =
           leads_else answers saw (Unit {0}) (Unit {0}) g.D.Duplex.waits start c.go_through.new.duplex first c.go_through.new.service c.go_through.new.self c.go_through.result c.in_default.not-Waits
           (c.go_through.ensures.leads start first (subst P (sym c.begin.ensures) so))
           );
+      asks = c.go_through.ensures.asks;
       grows = c.go_through.ensures.grows;
     }

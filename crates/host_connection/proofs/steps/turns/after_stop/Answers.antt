@@ -1,7 +1,7 @@
 use Rattle.std.proofs.Common.{true, refl, sym, ap}
 use Rattle.host_replies.specs.Replies.{Answer, sent_text}
 use Rattle.host_connection.proofs.Carried.{follows_told}
-use Rattle.host_connection.proofs.steps.after_stop.Goals as goal
+use Rattle.host_connection.proofs.steps.turns.after_stop.Goals as goal
 
 pub returns-in-Refused : goal.returns-in-Refused
 returns-in-Refused c =

@@ -1,0 +1,256 @@
+//! The phases of a turn, each gone through as far as the stream doesn't have to wait.
+ghost use Rattle.std.specs.Prelude.{◌≡◌, ◌<◌, ◌≤◌};
+ghost use Rattle.http_wire.specs.Gathering.{nothing};
+ghost use Rattle.host_connection.specs.Carrying.{phases_left, until_asked, AnswersOne, Asks, AwaitsBodyOf, Carried, Carries, Falls, FollowsHead, FollowsReply, FollowsStop, IsAnswering, Leads};
+ghost use Rattle.host_connection.specs.declared.phases.Phase.TheVariants as phases;
+
+use super::{Connection, Progress, Wants};
+use crate::connections::ConnectionFault;
+use crate::phases::{BodyPart, Invitation, Phase, Sending};
+use crate::requests::Request;
+use crate::services::Service;
+use crate::stops::{Stop, announced};
+use host_replies::{Reply, is_head_only};
+use http_wire::{Duplex, Halt, Head, try_write_interim};
+use std::alloc::Global;
+
+/// How many requests a connection answers.
+const MOST_REQUESTS: u64 = 100;
+
+/// What follows where no request was read.
+fn after_stop(why: Stop) -> Phase
+    ensures { FollowsStop why result }
+{
+    match why {
+        Stop::Ended => Phase::Ended(Ok(())),
+        Stop::ReadFault => Phase::Ended(Err(ConnectionFault::InputFault)),
+        Stop::WriteFault => Phase::Ended(Err(ConnectionFault::OutputFault)),
+        Stop::Refused { why, head_only } => Phase::Reply(Sending {
+            reply: Reply::refusing(why),
+            close: true,
+            head_only,
+        }),
+        Stop::OutOfMemory { head_only } => Phase::Reply(Sending {
+            reply: Reply::out_of_memory(),
+            close: true,
+            head_only,
+        }),
+    }
+}
+
+/// What follows a head.
+fn after_head(alloc: Global, head: Head) -> Phase
+    ensures { FollowsHead head result }
+{
+    let size = match announced(&head) {
+        Ok(size) => size as usize,
+        Err(why) => return after_stop(why),
+    };
+    if head.expects_continue() {
+        return Phase::Invite(Invitation { head, size, at: 0 });
+    }
+    Phase::Body(BodyPart {
+        head,
+        size,
+        body: Vec::new(alloc),
+    })
+}
+
+impl Phase {
+    // How many bytes the body has that is read next, or 0.
+    fn awaited(&self) -> u64
+        ensures { 0 < result → AwaitsBodyOf result self.now }
+    {
+        match self {
+            Phase::Invite(invitation) => invitation.size as u64,
+            Phase::Body(part) => part.size as u64,
+            _ => 0,
+        }
+    }
+}
+
+impl Connection {
+    // Reads a head, after which a body is read or a reply is sent.
+    pub(super) fn read_head<D: Duplex, S: Service>(
+        &mut self,
+        alloc: Global,
+        duplex: &mut D,
+        _service: &S,
+    ) -> Progress
+        requires { self.old.phase ≡ phases.Head }
+        ensures leads { (start : D) (first : S)
+            → Carries S.answers D.saw D.waits start first duplex.old _service.now self.old
+            → Leads S.answers D.saw D.waits D.waits start first duplex.new _service.now self.new result }
+        ensures falls { Falls result (phases_left self.old.number self.old.phase)
+            (phases_left self.new.number self.new.phase) }
+    {
+        match self.wire.try_read_head(duplex) {
+            Ok(head) => {
+                let phase = after_head(alloc, head);
+                let size = phase.awaited();
+                self.enter(phase);
+                if size > 0 {
+                    return Progress::Body(size);
+                }
+                Progress::More
+            }
+            Err(Halt::Failed(fault)) => {
+                self.enter(after_stop(Stop::of_head(fault)));
+                Progress::More
+            }
+            Err(Halt::WouldWait) => Progress::Waits(Wants::Read),
+        }
+    }
+
+    // Goes on with an interim reply, after which the body is read.
+    pub(super) fn invite<D: Duplex, S: Service>(
+        &mut self,
+        alloc: Global,
+        duplex: &mut D,
+        _service: &S,
+        invitation: Invitation,
+    ) -> Progress
+        ensures leads { (start : D) (first : S)
+            → Carried S.answers D.saw D.waits start first duplex.old _service.now self.old.wire self.old.out
+            self.old.number (phases.Invite invitation)
+            → Leads S.answers D.saw D.waits D.waits start first duplex.new _service.now self.new result }
+        ensures falls { Falls result (phases_left self.old.number (phases.Invite invitation))
+            (phases_left self.new.number self.new.phase) }
+    {
+        let Invitation { head, size, mut at } = invitation;
+        match try_write_interim(duplex, &mut at) {
+            Ok(()) => {
+                let body = Vec::new(alloc);
+                self.enter(Phase::Body(BodyPart { head, size, body }));
+                Progress::More
+            }
+            Err(Halt::Failed(_)) => {
+                self.enter(after_stop(Stop::WriteFault));
+                Progress::More
+            }
+            Err(Halt::WouldWait) => {
+                self.stay(Phase::Invite(Invitation { head, size, at }));
+                Progress::Waits(Wants::Write)
+            }
+        }
+    }
+
+    // Goes on with a body, after which the request is answered.
+    pub(super) fn read_body<D: Duplex, S: Service>(
+        &mut self,
+        alloc: Global,
+        duplex: &mut D,
+        service: &mut S,
+        part: BodyPart,
+    ) -> Progress
+        ensures leads { (start : D) (first : S)
+            → Carried S.answers D.saw D.waits start first duplex.old service.old self.old.wire self.old.out
+            self.old.number (phases.Body part)
+            → Leads S.answers D.saw D.waits D.waits start first duplex.new service.new self.new result }
+        ensures falls { Falls result (phases_left self.old.number (phases.Body part))
+            (phases_left self.new.number self.new.phase) }
+        ensures asks { Asks S.answers service.old service.new (phases.Body part) self.new.phase }
+        ensures grows { S.grows service.old service.new }
+    {
+        let BodyPart {
+            head,
+            size,
+            mut body,
+        } = part;
+        match self.wire.try_read_body(duplex, &mut body, size) {
+            Ok(()) => {
+                let is_last = self.number == MOST_REQUESTS;
+                self.answer(
+                    alloc,
+                    service,
+                    Request {
+                        head,
+                        body,
+                        is_last,
+                    },
+                );
+                Progress::More
+            }
+            Err(Halt::Failed(fault)) => {
+                let why = Stop::of_body(fault, is_head_only(&head));
+                self.enter(after_stop(why));
+                Progress::More
+            }
+            Err(Halt::WouldWait) => {
+                self.stay(Phase::Body(BodyPart { head, size, body }));
+                Progress::Waits(Wants::Read)
+            }
+        }
+    }
+
+    // Answers a request.
+    fn answer<S: Service>(&mut self, alloc: Global, service: &mut S, request: Request)
+        ensures wire { self.new.wire ≡ self.old.wire }
+        ensures out { self.new.out ≡ nothing }
+        ensures number { self.new.number ≡ self.old.number }
+        ensures answering { IsAnswering S.answers service.old request service.new self.new.phase }
+        ensures asks { AnswersOne S.answers service.old service.new }
+        ensures grows { S.grows service.old service.new }
+    {
+        let head_only = is_head_only(&request.head);
+        let close = request.closes();
+        let reply = service.answer(alloc, request);
+        self.enter(Phase::Reply(Sending {
+            reply,
+            close,
+            head_only,
+        }));
+    }
+
+    // Goes on with a reply, after which the next request is read, or the connection ends.
+    pub(super) fn send<D: Duplex, S: Service>(
+        &mut self,
+        duplex: &mut D,
+        _service: &S,
+        sending: Sending,
+    ) -> Progress
+        ensures leads { (start : D) (first : S)
+            → Carried S.answers D.saw D.waits start first duplex.old _service.now self.old.wire self.old.out
+            self.old.number (phases.Reply sending)
+            → Leads S.answers D.saw D.waits D.waits start first duplex.new _service.now self.new result }
+        ensures falls { Falls result (phases_left self.old.number (phases.Reply sending))
+            (phases_left self.new.number self.new.phase) }
+        ensures asks { 1 ≤ until_asked self.new.phase }
+    {
+        if !self.out.is_counted() {
+            self.stay(Phase::Reply(sending));
+            return Progress::Waits(Wants::Write);
+        }
+        let close = sending.close;
+        match sending
+            .reply
+            .try_send(duplex, &mut self.out, close, sending.head_only)
+        {
+            Ok(()) => {
+                self.follow(close);
+                Progress::More
+            }
+            Err(Halt::Failed(_)) => {
+                self.enter(Phase::Ended(Err(ConnectionFault::OutputFault)));
+                Progress::More
+            }
+            Err(Halt::WouldWait) => {
+                self.stay(Phase::Reply(sending));
+                Progress::Waits(Wants::Write)
+            }
+        }
+    }
+
+    // Goes past a reply that is out. That to the last request ends the connection.
+    fn follow(&mut self, close: bool)
+        ensures wire { self.new.wire ≡ self.old.wire }
+        ensures follows { FollowsReply close self.old.number self.new.number self.new.phase }
+    {
+        if close || self.number >= MOST_REQUESTS {
+            self.stay(Phase::Ended(Ok(())));
+        } else {
+            self.number += 1;
+            self.stay(Phase::Head);
+        }
+    }
+}
