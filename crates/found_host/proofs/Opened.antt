@@ -1,0 +1,81 @@
+-- What the parts of an opening say of it.
+use Rattle.std.proofs.Common.{◌≡◌, ◌⊎◌, inl, inr, List, IsTrue, ℕ, false, refl, subst, sym}
+use Rattle.byte_view.specs.Contents.{Contents}
+use Rattle.blob_store.specs.Calls.{Call}
+use Rattle.change_undo.specs.declared.entries.Entry.{Entry}
+use Rattle.change_journal.specs.entries.Held.{Keeps}
+use Rattle.change_journal.specs.entries.Files.{IsBadRecord, IsFound, IsNoJournal}
+use Rattle.change_journal.specs.entries.Texts.{AllStored, IsText, texts}
+use Rattle.change_journal.specs.file.Walks.{IsOnlyRead, TellsStop}
+use Rattle.change_journal.specs.declared.file.faults.OpenFault as of_disk
+use Rattle.change_journal.specs.declared.file.faults.OpenFault.TheVariants as journal_fault
+use Rattle.host_disk.specs.declared.disks.Disk.{Ghosts}
+use Rattle.host_opening.specs.Replays.{StopsAt}
+use Rattle.host_opening.specs.declared.replays.ReplayFault.{ReplayFault}
+use Rattle.host_opening.specs.declared.replays.ReplayFault.TheVariants as replay_fault
+use Rattle.found_host.specs.Openings.{HasFiles, HasJournal, IsFilesFault, IsHostFault, IsJournalFault, IsSpared, of_journal, of_replay}
+use Rattle.found_host.specs.declared.faults.OpenFault.{OpenFault}
+use Rattle.found_host.specs.declared.faults.OpenFault.TheVariants as fault
+
+-- the entries that were found are the journal's
+pub has_journal : {D : Type 0} (disk : Ghosts D) (old : D) (journal : Keeps D) (log : List Entry) → (journal.entries ≡ log) × (journal.broken ≡ false)
+    → (IsTrue disk.is_modelled → IsFound (texts log) (disk.seen old)) → (IsTrue disk.is_modelled → AllStored (disk.may_leave journal.disk) log)
+    → disk.faults journal.disk ≡ disk.faults old → HasJournal disk old journal
+has_journal disk old journal log are found stored no_fault = record {
+  whole = are.1;
+  found = subst (λ entries. IsTrue disk.is_modelled → IsFound (texts entries) (disk.seen old)) (sym are.0) found;
+  stored = subst (λ entries. IsTrue disk.is_modelled → AllStored (disk.may_leave journal.disk) entries) (sym are.0) stored;
+  no_fault = no_fault;
+}
+
+-- the files are there, and the entries aren't accepted in turn
+pub not_replayed : {S : Type 0} (did : S → Call → S → Type 0) (old : S) (limit : ℕ) (entries : List Entry) (known : Contents) (why : ReplayFault) (new : S)
+    → HasFiles did old entries known new → StopsAt known limit entries why → IsHostFault did old limit entries (of_replay why) new
+not_replayed did old limit entries known (replay_fault.NotLegal n) new files stops = (known, files, stops)
+not_replayed did old limit entries known replay_fault.OutOfMemory new files stops = inr (known, files)
+
+-- the files aren't there
+pub not_there : {S : Type 0} (did : S → Call → S → Type 0) (old : S) (limit : ℕ) (entries : List Entry) (why : OpenFault) (new : S)
+    → IsFilesFault did old entries why new → IsHostFault did old limit entries why new
+not_there did old limit entries fault.BadHeader new why = why
+not_there did old limit entries (fault.BadRecord n) new why = why
+not_there did old limit entries (fault.NotLegal n) new why = absurd why
+not_there did old limit entries fault.JournalDevice new why = why
+not_there did old limit entries (fault.MissingBlob digest) new why = why
+not_there did old limit entries (fault.DamagedBlob digest) new why = why
+not_there did old limit entries fault.BlobsDevice new why = why
+not_there did old limit entries fault.OutOfMemory new why = inl why
+
+-- why the journal can't be opened
+pub journal_stops : {D : Type 0} (disk : Ghosts D) (old : D) (why : of_disk.OpenFault) (new : D)
+    → (IsTrue disk.is_modelled → why ≡ journal_fault.BadHeader → IsNoJournal (disk.seen old))
+    → (IsTrue disk.is_modelled → (number : ℕ) → why ≡ journal_fault.BadRecord number → IsBadRecord IsText number (disk.seen old))
+    → (IsTrue disk.is_modelled → (why ≡ journal_fault.Device → ⊥) → IsOnlyRead disk.seen disk.may_leave disk.moment disk.left_since old new)
+    → IsSpared disk old new → TellsStop why (disk.faults old) (disk.faults new) → IsJournalFault disk old (of_journal why) new
+journal_stops disk old journal_fault.BadHeader new header bad unwritten spared told = (λ modelled. header modelled refl, λ modelled. unwritten modelled (λ e. absurd (cc e)))
+journal_stops disk old (journal_fault.BadRecord number) new header bad unwritten spared told = (λ modelled. bad modelled number refl, λ modelled. unwritten modelled (λ e. absurd (cc e)))
+journal_stops disk old journal_fault.Device new header bad unwritten spared told = (told.0 refl, spared)
+journal_stops disk old journal_fault.OutOfMemory new header bad unwritten spared told = λ modelled. unwritten modelled (λ e. absurd (cc e))
+
+-- ---- which fault of the journal is told as which
+
+pub was_memory : (why : of_disk.OpenFault) → of_journal why ≡ fault.OutOfMemory → why ≡ journal_fault.OutOfMemory
+was_memory journal_fault.BadHeader told = absurd (cc told)
+was_memory (journal_fault.BadRecord number) told = absurd (cc told)
+was_memory journal_fault.Device told = absurd (cc told)
+was_memory journal_fault.OutOfMemory told = refl
+
+pub was_device : (why : of_disk.OpenFault) → of_journal why ≡ fault.JournalDevice → why ≡ journal_fault.Device
+was_device journal_fault.BadHeader told = absurd (cc told)
+was_device (journal_fault.BadRecord number) told = absurd (cc told)
+was_device journal_fault.Device told = refl
+was_device journal_fault.OutOfMemory told = absurd (cc told)
+
+pub told_as_none : (why : of_disk.OpenFault) → (why ≡ journal_fault.BadHeader) ⊎ (why ≡ journal_fault.Device)
+    → (of_journal why ≡ fault.BadHeader) ⊎ (of_journal why ≡ fault.JournalDevice)
+told_as_none journal_fault.BadHeader is = inl refl
+told_as_none (journal_fault.BadRecord number) (inl is) = absurd (cc is)
+told_as_none (journal_fault.BadRecord number) (inr is) = absurd (cc is)
+told_as_none journal_fault.Device is = inr refl
+told_as_none journal_fault.OutOfMemory (inl is) = absurd (cc is)
+told_as_none journal_fault.OutOfMemory (inr is) = absurd (cc is)

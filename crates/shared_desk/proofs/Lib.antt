@@ -1,0 +1,2 @@
+pub mod FoundFiles
+pub mod UploadTurns

@@ -1,0 +1,81 @@
+-- What an upload finds at a desk, answers and does.
+use Rattle.std.specs.Prelude.{◌≡◌, ◌≢◌, ◌↔◌, ◌<◌, ℕ, ◌&&◌, Bool, true, false, List, length, Option, Some, None, IsSome, is_none, option_map, Result, Ok, Err}
+use Rattle.std.specs.FinMap as map
+use Rattle.std.specs.Option.{option_flatten}
+use Rattle.byte_view.specs.Contents.{Contents}
+use Rattle.blob_store.specs.declared.blobs.UploadFault.TheVariants.{TooLarge}
+use Rattle.host_names.specs.Digests.{digest_of}
+use Rattle.host_names.specs.declared.digests.Digest.{Digest}
+use Rattle.host_names.specs.declared.names.SiteName.{SiteName}
+use Rattle.host_disk.specs.declared.disks.Disk.{Ghosts}
+use Rattle.site_state.specs.Files.{Paths, at_path}
+use Rattle.site_state.specs.Missing.{least_missing_of}
+use Rattle.site_state.specs.States.{draft_at, kept_at}
+use Rattle.site_state.specs.declared.values.Draft.{Draft}
+use Rattle.site_change.specs.Changes.{IsWithin}
+use Rattle.site_change.specs.declared.commands.Command.TheVariants.{Publish}
+use Rattle.change_undo.specs.Logs.{Log}
+use Rattle.site_desk.specs.Books.{Kept, state_of}
+use Rattle.shared_desk.specs.Turns.{IsCommit, IsMet}
+use Rattle.shared_desk.specs.declared.upload_errors.UploadError.{UploadError}
+use Rattle.shared_desk.specs.declared.upload_errors.UploadError.TheVariants.{Broken, NoSuchDeploy, NotListed, WrongDigest, NotStored, NotPublished}
+
+-- the digest at the path, where the deploy is open or kept and lists a file there
+abbrev pub listed_at : Option Draft → Option (Paths (List ℕ)) → List ℕ → Option (Option Digest)
+listed_at (Some draft) tree path = Some (option_flatten (at_path draft.files.1 path))
+listed_at None (Some tree) path = Some (option_map digest_of (at_path tree path))
+listed_at None None path = None
+
+-- such a deploy is open, is to publish itself, and nothing that it lists is missing
+abbrev pub is_ready_draft : Contents → Option Draft → Bool
+is_ready_draft uploads None = false
+is_ready_draft uploads (Some draft) = draft.auto && is_none (least_missing_of uploads draft.files.1)
+
+-- the digest at a path of a site's deploy, in the state of a book
+abbrev pub listed_in : {D : Type 0} → Kept D → SiteName → ℕ → List ℕ → Option (Option Digest)
+listed_in kept site n path = listed_at (draft_at (state_of kept) site n) (kept_at (state_of kept) site n) path
+
+-- whether a site's deploy is ready, by a book
+abbrev pub is_ready : {D : Type 0} → Kept D → SiteName → ℕ → Bool
+is_ready kept site n = is_ready_draft kept.known (draft_at (state_of kept) site n)
+
+-- what the first turn of an upload finds in a book: the digest that is listed, or why the upload goes no further
+abbrev pub IsJudged : {D : Type 0} → ℕ → SiteName → ℕ → List ℕ → Kept D → Result Digest (UploadError Log) → Type 0
+IsJudged floor site n path kept (Ok listed) = IsMet floor kept × (kept.journal.broken ≡ false) × (listed_in kept site n path ≡ Some (Some listed))
+IsJudged floor site n path kept (Err Broken) = IsMet floor kept × (kept.journal.broken ≡ true)
+IsJudged floor site n path kept (Err NoSuchDeploy) = IsMet floor kept × (kept.journal.broken ≡ false) × (listed_in kept site n path ≡ None)
+IsJudged floor site n path kept (Err NotListed) = IsMet floor kept × (kept.journal.broken ≡ false) × (listed_in kept site n path ≡ Some None)
+IsJudged floor site n path kept (Err other) = ⊥
+
+-- what its last turn does where these files are known: the deploy isn't ready, or it is, and its publishing is the next entry or not
+abbrev pub IsPublishing : {D : Type 0} → Ghosts D → ℕ → Contents → SiteName → ℕ → Kept D → Result (Option Log) (UploadError Log) → Kept D → Type 0
+IsPublishing disk floor files site n old (Ok None) new = IsMet floor old × IsWithin files old.known × (is_ready old site n ≡ false) × (new ≡ old)
+IsPublishing disk floor files site n old (Ok (Some receipt)) new =
+    IsCommit disk floor (Publish site n) old (Ok receipt) new × IsWithin files old.known × (is_ready old site n ≡ true)
+IsPublishing disk floor files site n old (Err (NotPublished why)) new =
+    IsCommit disk floor (Publish site n) old (Err why) new × IsWithin files old.known × (is_ready old site n ≡ true)
+IsPublishing disk floor files site n old (Err other) new = ⊥
+
+-- an upload had its first turn
+abbrev pub Judges : {D : Type 0} → Ghosts D → ℕ → SiteName → ℕ → List ℕ → Result Digest (UploadError Log) → Type 0
+Judges {D} disk floor site n path result = (kept : Kept D) × IsJudged floor site n path kept result
+
+-- an upload had its last turn
+abbrev pub Publishes : {D : Type 0} → Ghosts D → ℕ → Contents → SiteName → ℕ → Result (Option Log) (UploadError Log) → Type 0
+Publishes {D} disk floor files site n result = (old : Kept D) × (new : Kept D) × IsPublishing disk floor files site n old result new
+
+-- the deploy lists the digest of these bytes there; then their file was known, among others, when the deploy was looked at again
+abbrev pub Stores : {D : Type 0} → Ghosts D → ℕ → SiteName → ℕ → List ℕ → List ℕ → Result (Option Log) (UploadError Log) → Type 0
+Stores disk floor site n path bytes result = Judges disk floor site n path (Ok (digest_of bytes))
+    × ((files : Contents) × IsSome (map.get files (digest_of bytes)) × Publishes disk floor files site n result)
+
+-- what is answered to an upload of these bytes to a path of a site's deploy
+abbrev pub DoesUpload : {D : Type 0} → Ghosts D → ℕ → SiteName → ℕ → List ℕ → List ℕ → Result (Option Log) (UploadError Log) → Type 0
+DoesUpload disk floor site n path bytes (Err Broken) = Judges disk floor site n path (Err Broken)
+DoesUpload disk floor site n path bytes (Err NoSuchDeploy) = Judges disk floor site n path (Err NoSuchDeploy)
+DoesUpload disk floor site n path bytes (Err NotListed) = Judges disk floor site n path (Err NotListed)
+DoesUpload disk floor site n path bytes (Err WrongDigest) = (listed : Digest) × (listed ≢ digest_of bytes) × Judges disk floor site n path (Ok listed)
+DoesUpload disk floor site n path bytes (Err (NotStored why)) =
+    Judges disk floor site n path (Ok (digest_of bytes)) × ((why ≡ TooLarge) ↔ (16777216 < length bytes))
+DoesUpload disk floor site n path bytes (Err (NotPublished why)) = Stores disk floor site n path bytes (Err (NotPublished why))
+DoesUpload disk floor site n path bytes (Ok published) = Stores disk floor site n path bytes (Ok published)

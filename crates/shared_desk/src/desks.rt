@@ -1,0 +1,112 @@
+//! The desk.
+ghost use Rattle.std.specs.Prelude.{◌≡◌, ◌≢◌, ◌+◌, IfErr, IfOk, MatchResult, length, sum};
+ghost use Rattle.change_undo.specs.Logs.{last_number};
+ghost use Rattle.shared_desk.specs.Turns.{Commits, Undoes};
+
+use crate::closings::give_all_back;
+use crate::turns;
+use blob_store::Files;
+use byte_view::BlobInfo;
+use change_undo::Entry;
+use host_disk::Disk;
+use host_names::SiteName;
+use left_right::Absorb;
+use seen_lists::ListName;
+use site_change::Command;
+use site_desk::{Book, DeskError, DeskName, Notice, Seat, Stock};
+use std::alloc::Global;
+use std::marker::Model;
+use std::sync::{Mutex, Wait};
+
+/// A book, the files that are known, and those on the shelf. Each is behind a lock of its own. Who takes more than one of these locks takes them in this
+/// order; that of the shelf is held for one call of it alone. Contracts
+/// see how many seats it has.
+#[derive(Drop)]
+pub struct Desk<
+    J: DeskName,
+    K: ListName<BlobInfo>,
+    D: Disk,
+    S,
+    T: Absorb<Notice<J>, State = [Entry; 0]> + Drop,
+    R: Wait + Drop,
+> {
+    pub(crate) alloc: Global,
+    pub(crate) seats: u64,
+    pub(crate) book: Mutex<Book<J, K, D, T, R>>,
+    pub(crate) stock: Mutex<Stock<K>>,
+    pub(crate) files: Mutex<Files<S>>,
+}
+
+impl<
+    J: DeskName,
+    K: ListName<BlobInfo>,
+    D: Disk,
+    S,
+    T: Absorb<Notice<J>, State = [Entry; 0]> + Drop,
+    R: Wait + Drop,
+> Model for Desk<J, K, D, S, T, R> {
+    ghost use Rattle.std.specs.Prelude.{◌≡◌, ◌≤◌, ℕ};
+
+    ghost Value = { ℕ };
+
+    ghost view = { λ d. d.seats };
+
+    ghost invariant = { λ d. (1 ≤ d.seats) × (d.seats ≡ J.parts) };
+}
+
+impl<
+    J: DeskName,
+    K: ListName<BlobInfo>,
+    D: Disk,
+    S,
+    T: Absorb<Notice<J>, State = [Entry; 0]> + Drop,
+    R: Wait + Drop,
+> Desk<J, K, D, S, T, R> {
+    /// Commits a command as the next entry, from a seat: the entry is put into the journal, and then shown. Gives the receipt of it.
+    pub fn commit(
+        &self,
+        rt: &impl Wait,
+        mine: &mut Seat<J>,
+        command: Command,
+    ) -> Result<Notice<J>, DeskError<Notice<J>>>
+        ensures turn { Commits D.Disk (last_number J.found + mine.old) command result }
+        ensures made { MatchResult result (λ _. mine.new ≡ mine.old + 1) (λ _. mine.new ≡ mine.old) }
+    {
+        let mut book = self.book.lock(rt);
+        let mut stock = self.stock.lock(rt);
+        turns::commit(rt, &mut *book, &mut *stock, mine, command)
+    }
+
+    /// Undoes a change of this site by the next entry, from a seat: the entry is put into the journal, and then shown. Gives the receipt of it.
+    pub fn undo(
+        &self,
+        rt: &impl Wait,
+        mine: &mut Seat<J>,
+        site: &SiteName,
+        change: u64,
+    ) -> Result<Notice<J>, DeskError<Notice<J>>>
+        ensures turn { Undoes D.Disk (last_number J.found + mine.old) site.now change result }
+        ensures made { MatchResult result (λ _. mine.new ≡ mine.old + 1) (λ _. mine.new ≡ mine.old) }
+    {
+        let mut book = self.book.lock(rt);
+        turns::undo(rt, &mut *book, mine, site, change)
+    }
+
+    /// Closes the desk if these are all its seats, and answers how many entries there are: those that were found and those that were made from the
+    /// seats. Else it hands the seats back.
+    pub fn close(&mut self, seats: Vec<Seat<J>>) -> Result<u64, Vec<Seat<J>>>
+        ensures closed { IfOk result (λ number. (length seats.items ≡ J.parts)
+            × (number ≡ last_number J.found + sum seats.items)) }
+        ensures not_all { IfErr result (λ back. (length seats.items ≢ J.parts) × (back ≡ seats)) }
+    {
+        if seats.len() as u64 != self.seats {
+            return Err(seats);
+        }
+        let book = self.book.get_mut();
+        let number = book.latest().history().len();
+        if let Some(mut all) = give_all_back(seats) {
+            book.tally(&mut all);
+        }
+        Ok(number)
+    }
+}

@@ -1,0 +1,17 @@
+//! A desk that threads share: its book, the files that are known and the shelf are each behind a lock of its own.
+#![tactic(auto)]
+
+mod closings;
+mod desks;
+mod listings;
+mod new_desks;
+mod openings;
+mod showing;
+mod turns;
+mod upload_errors;
+mod uploading;
+
+pub use desks::Desk;
+pub use new_desks::NewDesk;
+pub use openings::{Opened, open};
+pub use upload_errors::UploadError;

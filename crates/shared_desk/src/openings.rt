@@ -1,0 +1,144 @@
+//! Openings of desks.
+ghost use Rattle.std.specs.Prelude.{◌≡◌, ◌<◌, ◌≤◌, ◌^◌, IfErr, IfOk};
+ghost use Rattle.change_undo.specs.Logs.{last_number};
+ghost use Rattle.change_undo.specs.Plans.{IsHistoryOver};
+ghost use Rattle.seen_lists.specs.Visits.{sees};
+ghost use Rattle.shared_desk.specs.FoundFiles.{files_of};
+ghost use Rattle.shared_desk.specs.NewDesks.{AreNames};
+
+use crate::desks::Desk;
+use crate::new_desks::NewDesk;
+use crate::showing::{DeskShown, FirstPublished, publish_found};
+use blob_store::{BlobIndex, Files, Shelf};
+use byte_view::BlobInfo;
+use change_journal::Journal;
+use change_undo::{Entry, History};
+use found_host::Found;
+use host_disk::Disk;
+use seen_lists::{ListName, NewList, Visitor};
+use site_change::uploads_are_digested;
+use site_desk::{Book, DeskName, HostSnap, Published, Seats, Stock, Tie};
+use std::alloc::{AllocError, Global};
+use std::sync::ledger::Blank;
+use std::sync::{Arc, Mutex, Wait};
+
+/// A desk that was opened: the desk, all its seats, and a visitor who knows what was found.
+pub type Opened<J, K, D, S, R> = (
+    Desk<J, K, D, S, DeskShown<J>, R>,
+    Seats<J>,
+    Visitor<Entry, J, HostSnap>,
+);
+
+/// The snapshot of what a history is now.
+fn snap_of(alloc: Global, history: &History) -> Result<Arc<HostSnap>, AllocError>
+    ensures { IfOk result (λ snap. snap.value ≡ history.now) }
+{
+    HostSnap::shared(alloc, history.copy()?)
+}
+
+/// The stock of the files that are known.
+fn stock_of<K: ListName<BlobInfo>>(index: BlobIndex, uploads: NewList<BlobInfo>) -> Stock<K>
+    requires book { uploads ≡ K.book }
+    requires found { K.found ≡ files_of index }
+    ensures { result ≡ index }
+{
+    let list = uploads.named::<K>(index.len());
+    uploads_are_digested(&index);
+    Stock::of(index, list)
+}
+
+/// The book of what is found, and what is known of its files.
+fn book_of<J: DeskName, K: ListName<BlobInfo>, D: Disk + Drop, R: Wait + Drop>(
+    alloc: Global,
+    snap: Arc<HostSnap>,
+    journal: Journal<D>,
+    published: Box<Published<J, DeskShown<J>, R>>,
+    known: Tie<K>,
+) -> Book<J, K, D, DeskShown<J>, R>
+    requires limit { snap.value.limit ≡ 1000000 }
+    requires journal { journal.entries ≡ snap.value.entries }
+    requires published { published.value ≡ snap.value.entries }
+    requires over { IsHistoryOver known snap.value }
+{
+    Book::of(
+        alloc,
+        snap,
+        &mut Some(journal),
+        &mut Some(published),
+        &mut Some(known),
+    )
+}
+
+/// What a desk shows at first, with all its seats.
+fn seat_all<J: DeskName, R: Wait + Drop>(
+    alloc: Global,
+    rt: R,
+    snap: &Arc<HostSnap>,
+    count: Blank,
+    entries: NewList<Entry>,
+    opening: u64,
+    seats: u64,
+    visitors: usize,
+) -> Result<(FirstPublished<J, R>, Seats<J>), AllocError>
+    requires ledger { count.name ≡ J.name }
+    requires parts { (count.parts ≡ J.parts) × (seats ≡ J.parts) }
+    requires book { entries ≡ J.book }
+    requires entries { snap.now.value.entries ≡ J.found }
+    requires opening { opening ≡ last_number J.found }
+    requires few { last_number J.found ≤ 1000000 }
+    requires visitors { (0 < visitors) × (visitors ≤ 64) }
+    ensures published { IfOk result (λ made. made.0.0.value ≡ J.found) }
+    ensures visitor { IfOk result (λ made. made.0.1 ≡ sees J.found) }
+    ensures seats { IfOk result (λ made. made.1 ≡ seats) }
+{
+    let list = entries.named::<J>(opening);
+    let (count, rest) = count.open::<J>();
+    let places = Seats::of(opening, seats, rest);
+    let shown = publish_found(alloc, rt, snap, list, count, visitors)?;
+    Ok((shown, places))
+}
+
+/// Opens the desk of what is found, with its seats and a visitor who knows the entries that are found. Out of memory hands back what is found, as it is.
+pub fn open<J: DeskName, K: ListName<BlobInfo>, D: Disk + Drop, S: Shelf + Drop, R: Wait + Drop>(
+    alloc: Global,
+    rt: R,
+    new: NewDesk,
+    found: Found<D, S>,
+    visitors: usize,
+) -> Result<Opened<J, K, D, S, R>, Found<D, S>>
+    requires names { AreNames J.name J.parts J.book K.book new }
+    requires entries { J.found ≡ found.journal.entries }
+    requires uploads { K.found ≡ files_of found.store.known }
+    requires limit { found.limit ≡ 1000000 }
+    requires visitors { (0 < visitors) × (visitors ≤ 64) }
+    ensures seats { IfOk result (λ opened. opened.1 ≡ new.seats) }
+    ensures visitor { IfOk result (λ opened. opened.2 ≡ sees J.found) }
+    ensures same { IfErr result (λ back. back ≡ found) }
+{
+    let NewDesk {
+        seats,
+        count,
+        entries,
+        uploads,
+    } = new;
+    let opening = found.history().len();
+    let Ok(snap) = snap_of(alloc, found.history()) else {
+        return Err(found);
+    };
+    let Ok(((published, visitor), places)) = seat_all(
+        alloc, rt, &snap, count, entries, opening, seats, visitors,
+    ) else {
+        return Err(found);
+    };
+    let (_, journal, blobs) = found.into_parts();
+    let (index, files) = blobs.into_parts();
+    let stock: Stock<K> = stock_of(index, uploads);
+    let desk = Desk {
+        alloc,
+        seats,
+        book: Mutex::new(book_of(alloc, snap, journal, published, stock.tie())),
+        stock: Mutex::new(stock),
+        files: Mutex::new(files),
+    };
+    Ok((desk, places, visitor))
+}

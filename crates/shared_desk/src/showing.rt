@@ -1,0 +1,116 @@
+//! What is shown of a desk that is opened.
+ghost use Rattle.std.specs.Prelude.{◌≡◌, ◌<◌, ◌≤◌, ◌^◌, [], IfOk, OnOk};
+ghost use Rattle.change_undo.specs.Logs.{last_number};
+ghost use Rattle.left_right.specs.Handles.{pending, published};
+ghost use Rattle.seen_lists.specs.Visits.{sees};
+
+use change_undo::Entry;
+use left_right::WriteHandle;
+use seen_lists::{Publisher, SeenList, Shown, Visitor};
+use site_desk::{DeskName, HostSnap, Notice, Published};
+use std::alloc::{AllocError, Global};
+use std::sync::{Arc, Wait, ledger};
+
+/// What is shown of a desk: the receipt that was published last.
+pub(crate) type DeskShown<J> = Shown<Entry, J, HostSnap>;
+
+/// The receipt of the snapshot of all items of a list.
+fn first_receipt<J: DeskName>(
+    snap: &Arc<HostSnap>,
+    list: &SeenList<Entry, J>,
+) -> Result<Notice<J>, AllocError>
+    requires { snap.now.value.entries ≡ list.now }
+    ensures { IfOk result (λ receipt. receipt ≡ list.now) }
+{
+    Ok(Notice::of(Arc::try_clone(snap)?, list.front()))
+}
+
+/// Shows a receipt, with room for so many visitors.
+fn show_first<J: DeskName, R: Wait + Drop>(
+    alloc: Global,
+    rt: R,
+    last: &Notice<J>,
+    visitors: usize,
+) -> Result<WriteHandle<DeskShown<J>, Notice<J>, R>, AllocError>
+    requires visitors { (0 < visitors) × (visitors < 2 ^ 32) }
+    ensures shown { IfOk result (λ handle. published handle ≡ last.now) }
+    ensures none { IfOk result (λ handle. pending handle ≡ []) }
+{
+    let first = Shown::of(last.again()?);
+    let second = Shown::of(last.again()?);
+    WriteHandle::new(alloc, rt, first, second, visitors)
+}
+
+/// Shows the receipt once more. From then on there is room for one that is shown later.
+fn make_room<J: DeskName, R: Wait + Drop>(
+    shown: &mut WriteHandle<DeskShown<J>, Notice<J>, R>,
+    last: &Notice<J>,
+) -> Result<(), AllocError>
+    requires none { pending shown.old ≡ [] }
+    ensures shown { OnOk result (published shown.new ≡ last.now) }
+    ensures none { OnOk result (pending shown.new ≡ []) }
+{
+    let again = last.again()?;
+    shown.append(again).map_err(|_| AllocError)?;
+    shown.publish()
+}
+
+/// A receipt that is shown, what shows it, and a visitor who knows it.
+type FirstShown<J, R> = (
+    Notice<J>,
+    WriteHandle<DeskShown<J>, Notice<J>, R>,
+    Visitor<Entry, J, HostSnap>,
+);
+
+/// Shows the snapshot of all items of a list.
+fn show<J: DeskName, R: Wait + Drop>(
+    alloc: Global,
+    rt: R,
+    snap: &Arc<HostSnap>,
+    list: &SeenList<Entry, J>,
+    visitors: usize,
+) -> Result<FirstShown<J, R>, AllocError>
+    requires entries { snap.now.value.entries ≡ list.now }
+    requires visitors { (0 < visitors) × (visitors < 2 ^ 32) }
+    ensures last { IfOk result (λ made. made.0 ≡ list.now) }
+    ensures shown { IfOk result (λ made. published made.1 ≡ list.now) }
+    ensures none { IfOk result (λ made. pending made.1 ≡ []) }
+    ensures visitor { IfOk result (λ made. made.2 ≡ sees list.now) }
+{
+    let last = first_receipt(snap, list)?;
+    let mut shown = show_first(alloc, rt, &last, visitors)?;
+    make_room(&mut shown, &last)?;
+    let visitor = Visitor::of(shown.handle()?, last.again()?);
+    Ok((last, shown, visitor))
+}
+
+/// What is published of a desk, and a visitor.
+pub(crate) type FirstPublished<J, R> = (
+    Box<Published<J, DeskShown<J>, R>>,
+    Visitor<Entry, J, HostSnap>,
+);
+
+/// Publishes the snapshot of the entries that are found.
+pub(crate) fn publish_found<J: DeskName, R: Wait + Drop>(
+    alloc: Global,
+    rt: R,
+    snap: &Arc<HostSnap>,
+    list: SeenList<Entry, J>,
+    count: ledger::Book<J>,
+    visitors: usize,
+) -> Result<FirstPublished<J, R>, AllocError>
+    requires entries { snap.now.value.entries ≡ J.found }
+    requires found { list ≡ J.found }
+    requires few { last_number J.found ≤ 1000000 }
+    requires none_counted { count.total ≡ 0 }
+    requires visitors { (0 < visitors) × (visitors < 2 ^ 32) }
+    ensures published { IfOk result (λ made. made.0.value ≡ J.found) }
+    ensures visitor { IfOk result (λ made. made.1 ≡ sees J.found) }
+{
+    let opening = list.len();
+    let (last, shown, visitor) = show(alloc, rt, snap, &list, visitors)?;
+    let publisher = Publisher::of(&mut Some(list), &mut Some(last), &mut Some(shown));
+    let mut boxed = Some(Box::new(alloc, publisher)?);
+    let published = Published::of(opening, &mut Some(count), &mut boxed);
+    Ok((Box::new(alloc, published)?, visitor))
+}

@@ -1,0 +1,130 @@
+//! Turns at a book, each while its lock is held.
+ghost use Rattle.std.specs.Prelude.{◌≡◌, ◌+◌, MatchOption, MatchResult};
+ghost use Rattle.change_undo.specs.Logs.{last_number};
+ghost use Rattle.shared_desk.specs.Turns.{IsCommit, IsUndo};
+ghost use Rattle.shared_desk.specs.Uploads.{IsJudged, IsPublishing};
+ghost use Rattle.site_desk.specs.Books.{with_known};
+
+use crate::listings::{is_ready, listed_at};
+use crate::upload_errors::UploadError;
+use byte_view::BlobInfo;
+use change_undo::Entry;
+use host_disk::Disk;
+use host_names::{Digest, FilePath, SiteName};
+use left_right::Absorb;
+use seen_lists::ListName;
+use site_change::Command;
+use site_desk::{Book, DeskError, DeskName, Notice, Seat, Stock, Tie};
+use std::sync::Wait;
+
+/// Learns of all uploads so far, and commits a command over them, from a seat.
+pub(crate) fn commit<
+    J: DeskName,
+    K: ListName<BlobInfo>,
+    D: Disk,
+    T: Absorb<Notice<J>, State = [Entry; 0]> + Drop,
+    R: Wait + Drop,
+>(
+    rt: &impl Wait,
+    book: &mut Book<J, K, D, T, R>,
+    stock: &mut Stock<K>,
+    mine: &mut Seat<J>,
+    command: Command,
+) -> Result<Notice<J>, DeskError<Notice<J>>>
+    ensures turn { let met = with_known book.old stock.old in
+        IsCommit D.Disk (last_number J.found + mine.old) command met result book.new }
+    ensures same { stock.new ≡ stock.old }
+    ensures made { MatchResult result (λ _. mine.new ≡ mine.old + 1) (λ _. mine.new ≡ mine.old) }
+{
+    book.learn(stock);
+    book.audit(mine);
+    let _history = book.latest();
+    book.commit(rt, stock.index(), mine, command)
+}
+
+/// Undoes a change of a site, from a seat.
+pub(crate) fn undo<
+    J: DeskName,
+    K: ListName<BlobInfo>,
+    D: Disk,
+    T: Absorb<Notice<J>, State = [Entry; 0]> + Drop,
+    R: Wait + Drop,
+>(
+    rt: &impl Wait,
+    book: &mut Book<J, K, D, T, R>,
+    mine: &mut Seat<J>,
+    site: &SiteName,
+    change: u64,
+) -> Result<Notice<J>, DeskError<Notice<J>>>
+    ensures turn { IsUndo D.Disk (last_number J.found + mine.old) site.now change book.old result book.new }
+    ensures made { MatchResult result (λ _. mine.new ≡ mine.old + 1) (λ _. mine.new ≡ mine.old) }
+{
+    book.audit(mine);
+    let _history = book.latest();
+    book.undo(rt, mine, site, change)
+}
+
+/// The digest that a deploy of a site lists at a path, if an upload may go on.
+pub(crate) fn judge<
+    J: DeskName,
+    K: ListName<BlobInfo>,
+    D: Disk,
+    T: Absorb<Notice<J>, State = [Entry; 0]> + Drop,
+    R: Wait + Drop,
+>(
+    book: &mut Book<J, K, D, T, R>,
+    mine: &mut Seat<J>,
+    site: &SiteName,
+    number: u64,
+    path: &FilePath,
+) -> Result<Digest, UploadError<Notice<J>>>
+    ensures judged { IsJudged (last_number J.found + mine.old) site.now number path.now book.old result }
+    ensures same { book.new ≡ book.old }
+    ensures made { mine.new ≡ mine.old }
+{
+    book.audit(mine);
+    let snap = book.latest();
+    if book.is_broken() {
+        return Err(UploadError::Broken);
+    }
+    match listed_at(snap.state(), site, number, path) {
+        Some(Some(digest)) => Ok(digest),
+        Some(None) => Err(UploadError::NotListed),
+        None => Err(UploadError::NoSuchDeploy),
+    }
+}
+
+/// Learns of all uploads so far, and publishes a deploy of a site if it is ready over them, from a seat.
+pub(crate) fn publish_if_ready<
+    J: DeskName,
+    K: ListName<BlobInfo>,
+    D: Disk,
+    T: Absorb<Notice<J>, State = [Entry; 0]> + Drop,
+    R: Wait + Drop,
+>(
+    rt: &impl Wait,
+    book: &mut Book<J, K, D, T, R>,
+    stock: &mut Stock<K>,
+    known: &mut Tie<K>,
+    mine: &mut Seat<J>,
+    site: &SiteName,
+    number: u64,
+) -> Result<Option<Notice<J>>, UploadError<Notice<J>>>
+    ensures done { IsPublishing D.Disk (last_number J.found + mine.old) known.old site.now number
+        (with_known book.old stock.old) result book.new }
+    ensures made { MatchResult result
+        (λ published. MatchOption published (mine.new ≡ mine.old) (λ _. mine.new ≡ mine.old + 1))
+        (λ _. mine.new ≡ mine.old) }
+{
+    stock.tell(known);
+    book.learn(stock);
+    book.audit(mine);
+    if !is_ready(book.latest().state(), stock.index(), site, number) {
+        return Ok(None);
+    }
+    let site = site.copied();
+    match book.commit(rt, stock.index(), mine, Command::Publish { site, number }) {
+        Ok(receipt) => Ok(Some(receipt)),
+        Err(why) => Err(UploadError::NotPublished(why)),
+    }
+}
