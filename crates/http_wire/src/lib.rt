@@ -37,7 +37,7 @@ pub use heads::Head;
 pub use lengths::check_body;
 pub use replies::{
     ContentRange, ReplyBody, ReplyHead, decimal_text, range_value, try_write_interim,
-    try_write_reply, write_interim, write_reply,
+    try_write_reply, write_reply,
 };
 pub use sends::Outgoing;
 pub use sinks::{Sink, WriteFailed, Writing, write_all};

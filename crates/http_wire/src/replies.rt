@@ -195,37 +195,12 @@ pub fn write_reply<D: Steady, P: BodyParts<Item: Drop> + Drop>(
     write_both(duplex, out, head, body)
 }
 
-// Writes a text.
-fn write_text<D: Steady>(duplex: &mut D, text: &[u8]) -> Result<(), WriteFault>
-    ensures { Ran D.saw NoRead duplex.old duplex.new (WritesText result text.now) }
-{
-    let mut sent = 0;
-    let mut at = 0;
-    match send_rest(duplex, &mut sent, text, &mut at) {
-        Ok(()) => Ok(()),
-        Err(Halt::Failed(_)) => Err(WriteFault(sent)),
-        Err(Halt::WouldWait) => unreachable!(),
-    }
-}
-
-/// Goes on with the interim reply from a place in it on, as `write_interim` writes it, on a stream that may have to wait; and moves the
-/// place behind what was written.
+/// Goes on with the interim reply, after which the client sends the body (RFC 9110, section 15.2.1), from a place in it on, on a stream that
+/// may have to wait; and moves the place behind what was written. It takes no memory, and fails as `write_reply` does.
 pub fn try_write_interim<D: Duplex>(duplex: &mut D, at: &mut usize) -> Result<(), Halt<WriteFailed>>
     requires { at.old ≤ length continue_text }
     ensures ran { Ran D.saw NoRead duplex.old duplex.new (WritesFrom result continue_text at.old at.new) }
     ensures waits { IsErrOf result Halt.WouldWait → D.waits }
 {
     send_on(duplex, b"HTTP/1.1 100 Continue\r\n\r\n", at)
-}
-
-/// Writes the interim reply after which the client sends the body (RFC 9110, section 15.2.1). Reads nothing.
-///
-/// It takes no memory, and fails as `write_reply` does.
-pub fn write_interim<D: Steady>(duplex: &mut D) -> Result<(), WriteFault>
-    ensures ok { OnOk result (Appends (D.held duplex.old) (D.held duplex.new) continue_text) }
-    ensures fault { IfErr result (λ fault. SentFront (D.held duplex.old) (D.held duplex.new) continue_text fault.0) }
-    ensures cause { OnErr result D.write_fails }
-    ensures ran { Ran D.saw NoRead duplex.old duplex.new (WritesText result continue_text) }
-{
-    write_text(duplex, b"HTTP/1.1 100 Continue\r\n\r\n")
 }
