@@ -1,6 +1,7 @@
 //! One connection: requests in, and a reply to each.
 ghost use Rattle.std.specs.Prelude.{◌≡◌};
 ghost use Rattle.http_wire.specs.Timing.{Ran};
+ghost use Rattle.host_connection.specs.Carrying.{IsFresh};
 ghost use Rattle.host_connection.specs.Serving.{Serves};
 ghost use Rattle.host_connection.specs.Timing.{IsCaughtUp, Connects};
 
@@ -22,6 +23,28 @@ pub enum ConnectionFault {
     /// There was no memory for the connection.
     #[error("out of memory")]
     OutOfMemory,
+}
+
+// Goes through the phases of a new connection until it ends.
+fn serve<D: Steady, S: Service>(
+    alloc: Global,
+    connection: &mut Connection,
+    duplex: &mut D,
+    service: &mut S,
+) -> Result<(), ConnectionFault>
+    requires { IsFresh connection.old }
+    ensures timely { Ran D.saw (IsCaughtUp S.answers service.old) duplex.old duplex.new
+        (Connects S.answers result service.old service.new) }
+    ensures grows { S.grows service.old service.new }
+{
+    'phases: loop {
+        match connection.pass(alloc, duplex, service) {
+            Progress::More => {}
+            Progress::Body(_) => {}
+            Progress::Ended(result) => return result,
+            Progress::Waits(_) => unreachable!(),
+        }
+    }
 }
 
 /// Serves one connection: answers the requests of its stream, one after another, until the stream ends or a reply ends
@@ -46,12 +69,5 @@ pub fn serve_connection<D: Steady, S: Service>(
     let Ok(mut connection) = Connection::new(alloc) else {
         return Err(ConnectionFault::OutOfMemory);
     };
-    'phases: loop {
-        match connection.pass(alloc, duplex, service) {
-            Progress::More => {}
-            Progress::Body(_) => {}
-            Progress::Ended(result) => return result,
-            Progress::Waits(_) => unreachable!(),
-        }
-    }
+    serve(alloc, &mut connection, duplex, service)
 }

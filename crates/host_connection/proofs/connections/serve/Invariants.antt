@@ -1,5 +1,5 @@
 use Rattle.host_connection.specs.Carrying.{Carries, phases_left}
-use Rattle.host_connection.proofs.connections.serve_connection.Given as goal
+use Rattle.host_connection.proofs.connections.serve.Given as goal
 
 abbrev pub invariant-phases : goal.invariant-phases
 invariant-phases g l = record {
