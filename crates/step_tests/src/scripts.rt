@@ -1,0 +1,102 @@
+//! A stream that would have to wait before each read and each write.
+ghost use Rattle.std.specs.Prelude.{None, ⊤};
+ghost use Rattle.http_wire.specs.Timing.{Moves};
+
+use http_wire::{Duplex, Halt, ReadFailed, WriteFailed};
+use std::marker::Model;
+
+/// Gives its bytes up to the next cut, and takes `most` bytes a write. Of every two calls the first would have to wait. Contracts don't see it.
+#[derive(Drop)]
+pub struct Script {
+    input: Vec<u8>,
+    cuts: Vec<usize>,
+    at: usize,
+    most: usize,
+    is_ready: bool,
+    written: Vec<u8>,
+}
+
+impl Model for Script {
+    ghost Value = { Unit {0} };
+
+    ghost view = { λ _. tt };
+}
+
+impl Script {
+    /// A stream of these bytes, cut at these places, the lowest first.
+    pub fn new(input: Vec<u8>, cuts: Vec<usize>, most: usize, written: Vec<u8>) -> Script {
+        Script {
+            input,
+            cuts,
+            at: 0,
+            most: most.max(1),
+            is_ready: false,
+            written,
+        }
+    }
+
+    /// What was written.
+    pub fn written(&self) -> &[u8] {
+        self.written.as_slice()
+    }
+
+    /// Whether it would have to wait now.
+    fn waits(&mut self) -> bool {
+        self.is_ready = !self.is_ready;
+        self.is_ready
+    }
+
+    /// Where the next cut is, or the end.
+    fn next_cut(&self) -> usize {
+        for cut in &self.cuts {
+            if *cut > self.at {
+                return *cut;
+            }
+        }
+        self.input.len()
+    }
+
+    /// What comes before it.
+    fn next(&self) -> &[u8] {
+        let end = self.next_cut().min(self.input.len());
+        self.input.get(self.at..end).unwrap_or(&[])
+    }
+}
+
+impl Duplex for Script {
+    ghost left = { λ _. None };
+
+    ghost held = { λ _. None };
+
+    ghost read_fails = { ⊤ };
+
+    ghost write_fails = { ⊤ };
+
+    ghost waits = { Unit {0} };
+
+    ghost saw = { λ _ event _. Moves ⊤ ⊤ event None None None None };
+
+    fn read_some(&mut self, buf: &mut [u8]) -> Result<usize, Halt<ReadFailed>> {
+        if self.waits() {
+            return Err(Halt::WouldWait);
+        }
+        let next = self.next();
+        let count = next.len().min(buf.len());
+        buf[..count].copy_from_slice(&next[..count]);
+        self.at = self.at.saturating_add(count);
+        Ok(count)
+    }
+
+    fn write_some(&mut self, bytes: &[u8]) -> Result<usize, Halt<WriteFailed>> {
+        if self.waits() {
+            return Err(Halt::WouldWait);
+        }
+        let count = bytes.len().min(self.most.max(1));
+        match self.written.extend_from_slice(&bytes[..count]) {
+            Ok(()) => Ok(count),
+            Err(_) => Err(Halt::Failed(WriteFailed)),
+        }
+    }
+
+    ghost told = { λ old new event seen. seen };
+}
