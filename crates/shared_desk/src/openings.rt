@@ -98,6 +98,35 @@ fn seat_all<J: DeskName, R: Wait + Drop>(
     Ok((shown, places))
 }
 
+/// The desk of what is found, with what is published of it.
+fn desk_of<J: DeskName, K: ListName<BlobInfo>, D: Disk + Drop, S: Shelf + Drop, R: Wait + Drop>(
+    alloc: Global,
+    seats: u64,
+    snap: Arc<HostSnap>,
+    found: Found<D, S>,
+    uploads: NewList<BlobInfo>,
+    published: Box<Published<J, DeskShown<J>, R>>,
+) -> Desk<J, K, D, S, DeskShown<J>, R>
+    requires seats { (1 ≤ seats) × (seats ≡ J.parts) }
+    requires limit { snap.value.limit ≡ 1000000 }
+    requires entries { snap.value.entries ≡ found.journal.entries }
+    requires over { IsHistoryOver found.store.known snap.value }
+    requires published { published.value ≡ snap.value.entries }
+    requires book { uploads ≡ K.book }
+    requires files { K.found ≡ files_of found.store.known }
+{
+    let (_, journal, blobs) = found.into_parts();
+    let (index, files) = blobs.into_parts();
+    let stock: Stock<K> = stock_of(index, uploads);
+    Desk {
+        alloc,
+        seats,
+        book: Mutex::new(book_of(alloc, snap, journal, published, stock.tie())),
+        stock: Mutex::new(stock),
+        files: Mutex::new(files),
+    }
+}
+
 /// Opens the desk of what is found, with its seats and a visitor who knows the entries that are found. Out of memory hands back what is found, as it is.
 pub fn open<J: DeskName, K: ListName<BlobInfo>, D: Disk + Drop, S: Shelf + Drop, R: Wait + Drop>(
     alloc: Global,
@@ -130,15 +159,9 @@ pub fn open<J: DeskName, K: ListName<BlobInfo>, D: Disk + Drop, S: Shelf + Drop,
     ) else {
         return Err(found);
     };
-    let (_, journal, blobs) = found.into_parts();
-    let (index, files) = blobs.into_parts();
-    let stock: Stock<K> = stock_of(index, uploads);
-    let desk = Desk {
-        alloc,
-        seats,
-        book: Mutex::new(book_of(alloc, snap, journal, published, stock.tie())),
-        stock: Mutex::new(stock),
-        files: Mutex::new(files),
-    };
-    Ok((desk, places, visitor))
+    Ok((
+        desk_of(alloc, seats, snap, found, uploads, published),
+        places,
+        visitor,
+    ))
 }

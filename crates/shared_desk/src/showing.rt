@@ -14,6 +14,9 @@ use std::sync::{Arc, Wait, ledger};
 /// What is shown of a desk: the receipt that was published last.
 pub(crate) type DeskShown<J> = Shown<Entry, J, HostSnap>;
 
+/// What shows a desk, boxed.
+type DeskPublisher<J, R> = Box<Publisher<Entry, J, HostSnap, DeskShown<J>, R>>;
+
 /// The receipt of the snapshot of all items of a list.
 fn first_receipt<J: DeskName>(
     snap: &Arc<HostSnap>,
@@ -55,33 +58,82 @@ fn make_room<J: DeskName, R: Wait + Drop>(
     shown.publish()
 }
 
-/// A receipt that is shown, what shows it, and a visitor who knows it.
-type FirstShown<J, R> = (
-    Notice<J>,
-    WriteHandle<DeskShown<J>, Notice<J>, R>,
-    Visitor<Entry, J, HostSnap>,
-);
+/// Shows a receipt, with room for so many visitors, and for one that is shown later.
+fn show_with_room<J: DeskName, R: Wait + Drop>(
+    alloc: Global,
+    rt: R,
+    last: &Notice<J>,
+    visitors: usize,
+) -> Result<WriteHandle<DeskShown<J>, Notice<J>, R>, AllocError>
+    requires visitors { (0 < visitors) × (visitors < 2 ^ 32) }
+    ensures shown { IfOk result (λ handle. published handle ≡ last.now) }
+    ensures none { IfOk result (λ handle. pending handle ≡ []) }
+{
+    let mut shown = show_first(alloc, rt, last, visitors)?;
+    make_room(&mut shown, last)?;
+    Ok(shown)
+}
 
-/// Shows the snapshot of all items of a list.
+/// A visitor who knows a receipt.
+fn visitor_of<J: DeskName, R: Wait + Drop>(
+    shown: &WriteHandle<DeskShown<J>, Notice<J>, R>,
+    last: &Notice<J>,
+) -> Result<Visitor<Entry, J, HostSnap>, AllocError>
+    ensures { IfOk result (λ visitor. visitor ≡ sees last.now) }
+{
+    Ok(Visitor::of(shown.handle()?, last.again()?))
+}
+
+/// What shows a list, boxed.
+fn publisher_of<J: DeskName, R: Wait + Drop>(
+    alloc: Global,
+    list: SeenList<Entry, J>,
+    last: Notice<J>,
+    shown: WriteHandle<DeskShown<J>, Notice<J>, R>,
+) -> Result<DeskPublisher<J, R>, AllocError>
+    requires last { last ≡ list }
+    requires shown { published shown ≡ list }
+    requires none { pending shown ≡ [] }
+    ensures { IfOk result (λ boxed. boxed.value ≡ list) }
+{
+    let publisher = Publisher::of(&mut Some(list), &mut Some(last), &mut Some(shown));
+    Ok(Box::new(alloc, publisher)?)
+}
+
+/// What is published of a list whose items are those that are found, boxed.
+fn published_of<J: DeskName, R: Wait + Drop>(
+    alloc: Global,
+    opening: u64,
+    count: ledger::Book<J>,
+    publisher: DeskPublisher<J, R>,
+) -> Result<Box<Published<J, DeskShown<J>, R>>, AllocError>
+    requires opening { opening ≡ last_number J.found }
+    requires few { last_number J.found ≤ 1000000 }
+    requires none_counted { count.total ≡ 0 }
+    requires found { publisher.value ≡ J.found }
+    ensures { IfOk result (λ boxed. boxed.value ≡ J.found) }
+{
+    let published = Published::of(opening, &mut Some(count), &mut Some(publisher));
+    Ok(Box::new(alloc, published)?)
+}
+
+/// What shows the snapshot of all items of a list, and a visitor.
 fn show<J: DeskName, R: Wait + Drop>(
     alloc: Global,
     rt: R,
     snap: &Arc<HostSnap>,
-    list: &SeenList<Entry, J>,
+    list: SeenList<Entry, J>,
     visitors: usize,
-) -> Result<FirstShown<J, R>, AllocError>
-    requires entries { snap.now.value.entries ≡ list.now }
+) -> Result<(DeskPublisher<J, R>, Visitor<Entry, J, HostSnap>), AllocError>
+    requires entries { snap.now.value.entries ≡ list }
     requires visitors { (0 < visitors) × (visitors < 2 ^ 32) }
-    ensures last { IfOk result (λ made. made.0 ≡ list.now) }
-    ensures shown { IfOk result (λ made. published made.1 ≡ list.now) }
-    ensures none { IfOk result (λ made. pending made.1 ≡ []) }
-    ensures visitor { IfOk result (λ made. made.2 ≡ sees list.now) }
+    ensures shown { IfOk result (λ made. made.0.value ≡ list) }
+    ensures visitor { IfOk result (λ made. made.1 ≡ sees list) }
 {
-    let last = first_receipt(snap, list)?;
-    let mut shown = show_first(alloc, rt, &last, visitors)?;
-    make_room(&mut shown, &last)?;
-    let visitor = Visitor::of(shown.handle()?, last.again()?);
-    Ok((last, shown, visitor))
+    let last = first_receipt(snap, &list)?;
+    let shown = show_with_room(alloc, rt, &last, visitors)?;
+    let visitor = visitor_of(&shown, &last)?;
+    Ok((publisher_of(alloc, list, last, shown)?, visitor))
 }
 
 /// What is published of a desk, and a visitor.
@@ -108,9 +160,6 @@ pub(crate) fn publish_found<J: DeskName, R: Wait + Drop>(
     ensures visitor { IfOk result (λ made. made.1 ≡ sees J.found) }
 {
     let opening = list.len();
-    let (last, shown, visitor) = show(alloc, rt, snap, &list, visitors)?;
-    let publisher = Publisher::of(&mut Some(list), &mut Some(last), &mut Some(shown));
-    let mut boxed = Some(Box::new(alloc, publisher)?);
-    let published = Published::of(opening, &mut Some(count), &mut boxed);
-    Ok((Box::new(alloc, published)?, visitor))
+    let (publisher, visitor) = show(alloc, rt, snap, list, visitors)?;
+    Ok((published_of(alloc, opening, count, publisher)?, visitor))
 }
