@@ -51,7 +51,8 @@ enum Sends {
 
 /// What a plan sends.
 fn sends_of(plan: &ReplyPlan) -> Sends
-    ensures { (holds : List Held) (file : List ℕ) → AreFor holds file plan.now → plan_sent result holds ≡ plan.now }
+    ensures { (holds : List Held) (file : List ℕ) → AreFor holds file plan.now
+        → plan_sent result holds ≡ plan.now }
 {
     match plan {
         Choice::Whole => Sends::Whole,
