@@ -9,7 +9,7 @@ from lib.repository import TOP, crates
 FOLDERS = ("tests", "tests/lib", "scripts", "bench", "examples")
 # The crates in which some lines of clauses are still over 120 columns.
 WIDE = (
-    "byte_view", "chunk_reads", "blob_store", "http_wire", "range_reply", "shared_blocks", "site_state", "site_change", "touch_index", "change_undo",
+    "byte_view", "chunk_reads", "blob_store", "http_wire", "range_reply", "persistent_collections", "site_state", "site_change", "touch_index", "change_undo",
     "host_disk", "change_journal", "host_opening", "chunk_lru", "single_flight", "peer_ring", "peer_link", "chunk_group", "host_api", "command_line",
     "world_read", "core_tests",
 )

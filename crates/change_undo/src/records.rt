@@ -13,7 +13,7 @@ use crate::logs::Log;
 use crate::marks::Mark;
 use crate::shared::Shared;
 use host_names::SiteName;
-use shared_blocks::SharedList;
+use persistent_collections::SharedList;
 use site_change::{Command, Plan};
 use site_state::{Change, Side, State};
 use std::alloc::{AllocError, Global};
