@@ -1,5 +1,5 @@
 //! Heads of replies, on their way out.
-ghost use Rattle.std.specs.Prelude.{◌≡◌, ℕ, ◌++◌, decimal, IsErrOf};
+ghost use Rattle.std.specs.Prelude.{◌≡◌, ℕ, ◌++◌, decimal, IfSome, IsErrOf};
 ghost use Rattle.std.specs.Option.{option_map};
 ghost use Rattle.std.specs.List.{flat_map};
 ghost use Rattle.http_wire.specs.Replies.{crlf, ended_line, fields_of, head_text, line_of, range_text, status_line, text_of_line};
@@ -67,7 +67,7 @@ fn put_line<D: Duplex>(
     line: &Line<'_>,
 ) -> Result<(), Halt<WriteFailed>>
     ensures ran { Ran D.saw NoRead duplex.old duplex.new (Puts result (text_of_line line.now) out.old out.new) }
-    ensures waits { IsErrOf result Halt.WouldWait → D.waits }
+    ensures waits { IsErrOf result Halt.WouldWait → D.waits duplex.new }
 {
     let Some(value) = line.value else {
         return Ok(());
@@ -88,12 +88,23 @@ fn put_lines<D: Duplex>(
 ) -> Result<(), Halt<WriteFailed>>
     ensures ran { Ran D.saw NoRead duplex.old duplex.new
         (Puts result (flat_map text_of_line lines.now) out.old out.new) }
-    ensures waits { IsErrOf result Halt.WouldWait → D.waits }
+    ensures waits { IsErrOf result Halt.WouldWait → D.waits duplex.new }
 {
     for line in lines {
         put_line(duplex, out, line)?;
     }
     Ok(())
+}
+
+// The status line of most replies, with its end.
+fn known_status(status: StatusCode) -> Option<&'static str>
+    ensures { IfSome result (λ text. text.now ≡ ended_line (status_line status)) }
+{
+    match status.as_u16() {
+        200 => Some("HTTP/1.1 200 OK\r\n"),
+        206 => Some("HTTP/1.1 206 Partial Content\r\n"),
+        _ => None,
+    }
 }
 
 // Puts the status line.
@@ -104,8 +115,11 @@ fn put_status<D: Duplex>(
 ) -> Result<(), Halt<WriteFailed>>
     ensures ran { Ran D.saw NoRead duplex.old duplex.new
         (Puts result (ended_line (status_line status)) out.old out.new) }
-    ensures waits { IsErrOf result Halt.WouldWait → D.waits }
+    ensures waits { IsErrOf result Halt.WouldWait → D.waits duplex.new }
 {
+    if let Some(text) = known_status(status) {
+        return out.put(duplex, text.as_bytes());
+    }
     let code = status.as_str();
     let phrase = status.canonical_reason().unwrap_or("");
     let pieces: [&[u8]; 5] = [
@@ -129,7 +143,7 @@ fn put_texts<'a, D: Duplex>(
     requires { option_map (λ v. v.now) range ≡ option_map range_text head.now.content_range }
     ensures ran { (size : ℕ) → digits.now ≡ decimal size → Ran D.saw NoRead duplex.old duplex.new
         (Puts result (head_text (fields_of head.now size)) out.old out.new) }
-    ensures waits { IsErrOf result Halt.WouldWait → D.waits }
+    ensures waits { IsErrOf result Halt.WouldWait → D.waits duplex.new }
 {
     let fields = field_lines(head, digits, range);
     put_status(duplex, out, head.status)?;
@@ -146,7 +160,7 @@ pub fn put_head<D: Duplex>(
 ) -> Result<(), Halt<WriteFailed>>
     ensures ran { Ran D.saw NoRead duplex.old duplex.new
         (Puts result (head_text (fields_of head.now size)) out.old out.new) }
-    ensures waits { IsErrOf result Halt.WouldWait → D.waits }
+    ensures waits { IsErrOf result Halt.WouldWait → D.waits duplex.new }
 {
     let digits = decimal_text(size);
     let range = head.content_range.map(range_value);

@@ -1,8 +1,8 @@
 //! Replies on their way out.
-ghost use Rattle.std.specs.Prelude.{◌≡◌, ℕ, true, option_map, IsErrOf};
+ghost use Rattle.std.specs.Prelude.{◌≡◌, ℕ, List, true, option_map, IsErrOf};
 ghost use Rattle.http_wire.specs.Gathering.{GoesOnFrom, IsAmid, IsCounted};
 ghost use Rattle.http_wire.specs.Sending.{WritesText};
-ghost use Rattle.http_wire.specs.Timing.{NoRead, Ran};
+ghost use Rattle.http_wire.specs.Timing.{Event, NoRead, Ran, Steps};
 ghost use Rattle.host_replies.specs.Bodies.{answer_of};
 ghost use Rattle.host_replies.specs.Replies.{sent_text};
 
@@ -55,7 +55,8 @@ impl Reply {
         ensures ran { (at : ℕ) → IsAmid (sent_text close head_only (answer_of self.now)) at out.old
             → Ran D.saw NoRead duplex.old duplex.new
             (GoesOnFrom result (sent_text close head_only (answer_of self.now)) at out.new) }
-        ensures waits { IsErrOf result Halt.WouldWait → D.waits }
+        ensures led { (events : List Event) × Steps D.saw duplex.old events duplex.new }
+        ensures waits { IsErrOf result Halt.WouldWait → D.waits duplex.new }
     {
         let head = self.head(etag, close);
         if head_only {
@@ -104,7 +105,8 @@ impl Reply {
         ensures ran { (at : ℕ) → IsAmid (sent_text close head_only (answer_of self.now)) at out.old
             → Ran D.saw NoRead duplex.old duplex.new
             (GoesOnFrom result (sent_text close head_only (answer_of self.now)) at out.new) }
-        ensures waits { IsErrOf result Halt.WouldWait → D.waits }
+        ensures led { (events : List Event) × Steps D.saw duplex.old events duplex.new }
+        ensures waits { IsErrOf result Halt.WouldWait → D.waits duplex.new }
     {
         let Some(digest) = self.etag else {
             return self.try_send_with(duplex, out, None, close, head_only);
