@@ -4,13 +4,15 @@ use Rattle.host_connection.specs.declared.connections.ConnectionFault.TheVariant
 use Rattle.host_connection.specs.declared.phases.Phase.{Phase}
 use Rattle.host_connection.specs.declared.phases.Phase.TheVariants as phase
 use Rattle.host_connection.specs.declared.requests.Request.{Request}
+use Rattle.host_connection.specs.declared.steps.Connection.{Connection}
 use Rattle.host_connection.specs.declared.steps.Progress.{Progress}
 use Rattle.host_connection.specs.declared.steps.Progress.TheVariants as progress
+use Rattle.host_connection.specs.declared.steps.Wants.{Wants}
 use Rattle.host_connection.specs.declared.stops.Stop.{Stop}
 use Rattle.host_connection.specs.declared.stops.Stop.TheVariants as stop
 use Rattle.http_wire.specs.Requests.{RequestParts}
 use Rattle.host_connection.specs.Advancing.{Advances, AreInOne, Falls, TellsBody, is_body, left_of_turn, phases_left, size_in, told_size}
-use Rattle.host_connection.specs.Carrying.{FollowsHead, FollowsReply, FollowsStop, IsAnswering, ReadsNext, Tells}
+use Rattle.host_connection.specs.Carrying.{AwaitsBodyOf, FollowsHead, FollowsReply, FollowsStop, IsAnswering, ReadsNext, Tells}
 use Rattle.host_connection.specs.Serving.{Answering}
 use Rattle.host_connection.proofs.Fallen.{between, is_body_between, falls_at_most, falls_twice}
 
@@ -34,6 +36,19 @@ advances_joined result n m k p q r first second = record {
   tells = tells_joined result n m k p q r first.falls (falls_at_most result (phases_left m q) (phases_left k r) second.falls) first.counts second.counts first.tells second.tells;
   memory = λ ended. first.memory (second.memory ended);
 }
+
+-- the same of several phases, of which so many were gone through
+abbrev pub AdvancedSoFar : (gone_through : ℕ) → (n : ℕ) → Phase → (m : ℕ) → Phase → Type 0
+AdvancedSoFar gone_through n p m q = ((gone_through ≡ 0) × (m ≡ n) × (q ≡ p)) ⊎ Advances progress.More n p m q
+
+pub advanced_on : (result : Progress) (gone_through n m k : ℕ) (p q r : Phase) → AdvancedSoFar gone_through n p m q → Advances result m q k r → Advances result n p k r
+advanced_on result gone_through n m k p q r (inl none) last =
+    subst (λ (x : ℕ). Advances result x p k r) none.1 (subst (λ (x : Phase). Advances result m x k r) none.2 last)
+advanced_on result gone_through n m k p q r (inr first) last = advances_joined result n m k p q r first last
+
+pub advanced_in_all : (gone_through n m : ℕ) (p q : Phase) → AdvancedSoFar gone_through n p m q → 0 < gone_through → Advances progress.More n p m q
+advanced_in_all gone_through n m p q (inl none) some = absurd (omega (arith, none.0, some))
+advanced_in_all gone_through n m p q (inr first) some = first
 
 -- ---- of one phase
 
@@ -155,3 +170,31 @@ inside result n old new was is same told falls = record {
   tells = inl ((was, is, refl), told, same);
   memory = λ ended. absurd (subst (λ (p : Phase). IsTrue (is_body p)) ended is);
 }
+
+-- ---- as a connection has it
+
+-- after what entered a phase
+pub at_new : (result : Progress) (n : ℕ) (old : Phase) (k c : Connection) → k ≡ c → Advances result n old c.number c.phase → Advances result n old k.number k.phase
+at_new result n old k c is advances = subst (λ (x : Connection). Advances result n old x.number x.phase) (sym is) advances
+
+-- from a phase that is this one
+pub at_old : (result : Progress) (n m : ℕ) (old p new : Phase) → old ≡ p → Advances result n p m new → Advances result n old m new
+at_old result n m old p new is advances = subst (λ (q : Phase). Advances result n q m new) (sym is) advances
+
+pub at_both : (result : Progress) (n : ℕ) (old p : Phase) → old ≡ p → Advances result n p n p → Advances result n old n old
+at_both result n old p is advances = subst (λ (q : Phase). Advances result n q n q) (sym is) advances
+
+-- ---- what is told of a body
+
+pub awaits_body : (parts : RequestParts) (size : ℕ) (p : Phase) → FollowsHead parts p → size ≡ size_in p → 0 < size → AwaitsBodyOf size p
+awaits_body parts size phase.Head follows is some = absurd (omega (arith, is, some))
+awaits_body parts size (phase.Invite i) (inl next) is some =
+    let reads : ReadsNext parts next.0 (phase.Invite i) = next.2 in
+    (sym is, reads.2)
+awaits_body parts size (phase.Invite i) (inr none) is some = absurd ((stop_leaves none.0 (phase.Invite i) none.2).1 tt)
+awaits_body parts size (phase.Body b) (inl next) is some =
+    let reads : ReadsNext parts next.0 (phase.Body b) = next.2 in
+    (sym is, reads.2)
+awaits_body parts size (phase.Body b) (inr none) is some = absurd ((stop_leaves none.0 (phase.Body b) none.2).1 tt)
+awaits_body parts size (phase.Reply s) follows is some = absurd (omega (arith, is, some))
+awaits_body parts size (phase.Ended result) follows is some = absurd (omega (arith, is, some))

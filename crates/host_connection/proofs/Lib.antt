@@ -10,3 +10,8 @@ pub mod Unfinished
 pub mod Walking
 pub mod Standing
 pub mod Asking
+mod Fallen
+pub mod Advancing
+pub mod Simulated
+pub mod Metered
+pub mod Stepping

@@ -116,9 +116,12 @@ Awaits wants.Write buffer out (phase.Reply s) = out.sent < length (text_of s)
 Awaits wants.Write buffer out (phase.Ended result) = ⊥
 
 -- The stream as it is has to wait. Or 2^64 bytes of a reply were written, which are no longer counted: then it goes no further.
-abbrev pub IsHeld : (waits : Type 0) → Wants → Gathered → Type 0
-IsHeld waits wants.Read out = waits
-IsHeld waits wants.Write out = waits ⊎ ¬ (IsCounted out)
+abbrev pub IsHeld : (waits : Type 0) → Gathered → Phase → Type 0
+IsHeld waits out phase.Head = waits
+IsHeld waits out (phase.Invite i) = waits
+IsHeld waits out (phase.Body b) = waits
+IsHeld waits out (phase.Reply s) = waits ⊎ ¬ (IsCounted out)
+IsHeld waits out (phase.Ended result) = waits
 
 -- some state of a stream has to wait
 abbrev pub MayWait : {S : Type 0} → (waits : S → Type 0) → Type 0
@@ -136,7 +139,7 @@ AwaitsBodyOf size (phase.Ended result) = ⊥
 -- it reads it. Once it ends, that is the theorem of the whole connection.
 abbrev pub Leads : {S H : Type 0} → Answering H → (saw : S → Event → S → Type 0) → (leaves : Type 0) → (waits : S → Type 0) → (start : S) → (first : H) → (now : S) → (host : H) → Connection → Progress → Type 0
 Leads answers saw leaves waits start first now host c (progress.Waits w) =
-    Carries answers saw leaves start first now host c × IsHeld (waits now) w c.out × Awaits w c.wire c.out c.phase
+    Carries answers saw leaves start first now host c × IsHeld (waits now) c.out c.phase × Awaits w c.wire c.out c.phase
 Leads answers saw leaves waits start first now host c progress.More = Carries answers saw leaves start first now host c
 Leads answers saw leaves waits start first now host c (progress.Body size) =
     Carries answers saw leaves start first now host c × AwaitsBodyOf size c.phase × (0 < size)
@@ -157,21 +160,7 @@ IsFresh c = (c.wire ≡ []) × (c.number ≡ 1) × (c.phase ≡ phase.Head)
 
 -- ---- what private functions say
 
--- in an interim reply, in a body, in a reply
-abbrev pub IsInvitation : Phase → Type 0
-IsInvitation phase.Head = ⊥
-IsInvitation (phase.Invite i) = Unit {0}
-IsInvitation (phase.Body b) = ⊥
-IsInvitation (phase.Reply s) = ⊥
-IsInvitation (phase.Ended result) = ⊥
-
-abbrev pub IsPart : Phase → Type 0
-IsPart phase.Head = ⊥
-IsPart (phase.Invite i) = ⊥
-IsPart (phase.Body b) = Unit {0}
-IsPart (phase.Reply s) = ⊥
-IsPart (phase.Ended result) = ⊥
-
+-- in a reply
 abbrev pub IsReply : Phase → Type 0
 IsReply phase.Head = ⊥
 IsReply (phase.Invite i) = ⊥

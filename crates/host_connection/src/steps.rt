@@ -1,8 +1,8 @@
 //! A connection that goes on where it left off, step by step.
-ghost use Rattle.std.specs.Prelude.{◌≡◌, List, IfOk};
+ghost use Rattle.std.specs.Prelude.{◌≡◌, List, IfOk, IsTrue};
 ghost use Rattle.http_wire.specs.Gathering.{nothing};
 ghost use Rattle.http_wire.specs.Timing.{Event, Steps};
-ghost use Rattle.host_connection.specs.Advancing.{phases_left, Advances, Goes, RemembersMemory, TellsBody};
+ghost use Rattle.host_connection.specs.Advancing.{is_body, phases_left, Advances, Goes, RemembersMemory, TellsBody};
 ghost use Rattle.host_connection.specs.Carrying.{AnswersOnce, Asks, Carries, IsFresh, Leads, MayWait};
 
 mod stages;
@@ -16,6 +16,7 @@ use crate::phases::Phase;
 use crate::services::Service;
 use http_wire::{Duplex, Outgoing, Wire};
 use std::alloc::{AllocError, Global};
+use std::mem;
 
 /// How many phases a step goes through at most: so it begins one answer at most, and goes on to its end.
 const PHASES: u64 = 3;
@@ -140,10 +141,33 @@ impl Connection {
     {
         match &self.phase {
             Phase::Head => self.read_head(alloc, duplex, service),
-            Phase::Invite(_) => self.invite(alloc, duplex, service),
-            Phase::Body(_) => self.read_body(alloc, duplex, service),
+            Phase::Invite(_) => self.go_through_body(alloc, duplex, service),
+            Phase::Body(_) => self.go_through_body(alloc, duplex, service),
             Phase::Reply(_) => self.send(duplex, service),
             Phase::Ended(result) => Progress::Ended(*result),
+        }
+    }
+
+    // Goes through an interim reply or a body.
+    fn go_through_body<D: Duplex, S: Service>(
+        &mut self,
+        alloc: Global,
+        duplex: &mut D,
+        service: &mut S,
+    ) -> Progress
+        requires { IsTrue (is_body self.old.phase) }
+        ensures leads { (start : D) (first : S)
+            → Carries S.answers D.saw (MayWait D.waits) start first duplex.old service.old self.old
+            → Leads S.answers D.saw (MayWait D.waits) D.waits start first duplex.new service.new self.new result }
+        ensures led { (events : List Event) × Steps D.saw duplex.old events duplex.new }
+        ensures advances { Advances result self.old.number self.old.phase self.new.number self.new.phase }
+        ensures asks { Asks S.answers service.old service.new self.old.phase self.new.phase }
+        ensures grows { S.grows service.old service.new }
+    {
+        match mem::replace(&mut self.phase, Phase::Head) {
+            Phase::Invite(invitation) => self.invite(alloc, duplex, service, invitation),
+            Phase::Body(part) => self.read_body(alloc, duplex, service, part),
+            _ => unreachable!(),
         }
     }
 

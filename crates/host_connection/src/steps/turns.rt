@@ -3,7 +3,7 @@ ghost use Rattle.std.specs.Prelude.{◌≡◌, ◌≤◌, List};
 ghost use Rattle.http_wire.specs.Gathering.{nothing};
 ghost use Rattle.http_wire.specs.Timing.{Event, Steps};
 ghost use Rattle.host_connection.specs.Advancing.{size_in, Advances};
-ghost use Rattle.host_connection.specs.Carrying.{until_asked, AnswersOne, Asks, Carries, FollowsHead, FollowsReply, FollowsStop, IsAnswering, IsInvitation, IsReply, IsPart, Leads, MayWait};
+ghost use Rattle.host_connection.specs.Carrying.{until_asked, AnswersOne, Asks, Carried, Carries, FollowsHead, FollowsReply, FollowsStop, IsAnswering, IsReply, Leads, MayWait};
 ghost use Rattle.host_connection.specs.declared.phases.Phase.TheVariants as phases;
 
 use super::{Connection, Progress, Wants};
@@ -15,7 +15,6 @@ use crate::stops::{Stop, announced};
 use host_replies::{Reply, is_head_only};
 use http_wire::{Duplex, Halt, Head, try_write_interim};
 use std::alloc::Global;
-use std::mem;
 
 /// How many requests a connection answers.
 const MOST_REQUESTS: u64 = 100;
@@ -111,17 +110,15 @@ impl Connection {
         alloc: Global,
         duplex: &mut D,
         _service: &S,
+        invitation: Invitation,
     ) -> Progress
-        requires { IsInvitation self.old.phase }
         ensures leads { (start : D) (first : S)
-            → Carries S.answers D.saw (MayWait D.waits) start first duplex.old _service.now self.old
+            → Carried S.answers D.saw (MayWait D.waits) start first duplex.old _service.now self.old.wire
+            self.old.out self.old.number (phases.Invite invitation)
             → Leads S.answers D.saw (MayWait D.waits) D.waits start first duplex.new _service.now self.new result }
         ensures led { (events : List Event) × Steps D.saw duplex.old events duplex.new }
-        ensures advances { Advances result self.old.number self.old.phase self.new.number self.new.phase }
+        ensures advances { Advances result self.old.number (phases.Invite invitation) self.new.number self.new.phase }
     {
-        let Phase::Invite(invitation) = mem::replace(&mut self.phase, Phase::Head) else {
-            unreachable!()
-        };
         let Invitation { head, size, mut at } = invitation;
         match try_write_interim(duplex, &mut at) {
             Ok(()) => {
@@ -146,19 +143,17 @@ impl Connection {
         alloc: Global,
         duplex: &mut D,
         service: &mut S,
+        part: BodyPart,
     ) -> Progress
-        requires { IsPart self.old.phase }
         ensures leads { (start : D) (first : S)
-            → Carries S.answers D.saw (MayWait D.waits) start first duplex.old service.old self.old
+            → Carried S.answers D.saw (MayWait D.waits) start first duplex.old service.old self.old.wire
+            self.old.out self.old.number (phases.Body part)
             → Leads S.answers D.saw (MayWait D.waits) D.waits start first duplex.new service.new self.new result }
         ensures led { (events : List Event) × Steps D.saw duplex.old events duplex.new }
-        ensures advances { Advances result self.old.number self.old.phase self.new.number self.new.phase }
-        ensures asks { Asks S.answers service.old service.new self.old.phase self.new.phase }
+        ensures advances { Advances result self.old.number (phases.Body part) self.new.number self.new.phase }
+        ensures asks { Asks S.answers service.old service.new (phases.Body part) self.new.phase }
         ensures grows { S.grows service.old service.new }
     {
-        let Phase::Body(part) = mem::replace(&mut self.phase, Phase::Head) else {
-            unreachable!()
-        };
         let BodyPart {
             head,
             size,
