@@ -31,12 +31,13 @@ use Rattle.host_connection.specs.declared.stops.Stop.{Stop}
 use Rattle.host_connection.specs.declared.stops.Stop.TheVariants as stop
 use Rattle.host_connection.specs.Carrying.{text_of, Carried, Carries, ConnectionSoFar, FollowsHead, FollowsReply, FollowsStop, InTurn, IsAnswering, IsFresh, ReadsNext, Refusing, Replying, Tells}
 use Rattle.host_connection.specs.Phases.{InviteSoFar, BodySoFar, RefusalSoFar}
-use Rattle.host_connection.specs.Serving.{Answering, IsSent, is_last_at, limit_of, Next, Exchange, End}
+use Rattle.host_connection.specs.Serving.{Answering, IsSent, is_last_at, limit_of}
 use Rattle.host_connection.specs.Stopping.{stop_of_body, stop_of_head}
-use Rattle.host_connection.specs.Timing.{AwaitsRequest, Connects, IsCaughtUp, ReadsHeadAs, RefusesAs, TurnsAs}
+use Rattle.host_connection.specs.Timing.{AwaitsRequest, Connects, IsCaughtUp, ReadsHeadAs}
 use Rattle.host_connection.proofs.InPhases.{Missed, head_begins, head_waits, head_comes, head_fails, length_refused, invite_begins, invite_waits, invite_out, invite_fails, body_begins, body_waits, body_comes, body_fails, reply_begins, reply_waits, reply_out, reply_fails, refusal_begins, refusal_waits, refusal_out, refusal_fails, missed_silently}
 use Rattle.host_connection.proofs.Turns.{is_end}
 use Rattle.host_connection.proofs.TimedConnections.{none_yet, turn_more, turn_last, turn_failed}
+use Rattle.host_connection.proofs.TurnParts.{Next, Exchange, End, RefusesAs, TurnsAs}
 
 -- a phase that is equal to another
 at_phase : {S H : Type 0} (answers : Answering H) (saw : S → Event → S → Type 0) (waits : Type 0) (start now : S) (first host : H) (buffer : List ℕ) (out : Gathered) (n : ℕ) (p q : Phase) → q ≡ p

@@ -1,3 +1,4 @@
+pub mod TurnParts
 pub mod Turns
 pub mod Served
 pub mod TimedReads

@@ -210,10 +210,6 @@ abbrev pub Asks : {H : Type 0} → Answering H → (old new : H) → (old_phase 
 Asks answers old new old_phase new_phase = ((new ≡ old) × (until_asked old_phase ≤ until_asked new_phase + 1))
     ⊎ (AnswersOne answers old new × (until_asked old_phase ≡ 0) × (until_asked new_phase ≡ 2))
 
--- the same of several phases: where an answer was asked for, none is for so many more
-abbrev pub AskedOnce : {H : Type 0} → Answering H → (old new : H) → (gone_through : ℕ) → Phase → Type 0
-AskedOnce answers old new gone_through p = (new ≡ old) ⊎ (AnswersOne answers old new × (3 ≤ until_asked p + gone_through))
-
 -- the request is answered, and the reply to it is on its way
 abbrev pub IsAnswering : {H : Type 0} → Answering H → (host : H) → Request → (next : H) → Phase → Type 0
 IsAnswering answers host request next phase.Head = ⊥
