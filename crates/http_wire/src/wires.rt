@@ -54,8 +54,8 @@ impl Wire {
         self.buffer.as_slice().len()
     }
 
-    /// Reads the next head as `read_head` does, from a stream that may have to wait: then what came is kept, and the next call goes on
-    /// there.
+    /// Reads the next head as `read_head` does, from a stream that may have to wait. If it has to while no whole head has come, what came is
+    /// kept, and the next call goes on there.
     pub fn try_read_head<D: Duplex>(&mut self, duplex: &mut D) -> Result<Head, Halt<HeadFault>>
         ensures ran { Ran D.saw (AwaitsHead self.old) duplex.old duplex.new (TriesHead result self.old self.new) }
         ensures waits { IsErrOf result Halt.WouldWait → D.waits duplex.new }
@@ -65,7 +65,7 @@ impl Wire {
     }
 
     /// Goes on reading a body of `size` bytes as `read_body` does, of which `body` is the part that is there, from a stream that may have to
-    /// wait: then what came is kept in `body` and in the wire, and the next call goes on there.
+    /// wait. If it has to while not all of it has come, what came is kept in `body` and in the wire, and the next call goes on there.
     pub fn try_read_body<D: Duplex>(
         &mut self,
         duplex: &mut D,
