@@ -1,5 +1,5 @@
 //! Heads of replies, on their way out.
-ghost use Rattle.std.specs.Prelude.{◌≡◌, ℕ, ◌++◌, decimal, IfSome, IsErrOf};
+ghost use Rattle.std.specs.Prelude.{◌≡◌, ℕ, ◌++◌, decimal, IsErrOf};
 ghost use Rattle.std.specs.Option.{option_map};
 ghost use Rattle.std.specs.List.{flat_map};
 ghost use Rattle.http_wire.specs.Replies.{crlf, ended_line, fields_of, head_text, line_of, range_text, status_line, text_of_line};
@@ -96,18 +96,7 @@ fn put_lines<D: Duplex>(
     Ok(())
 }
 
-// The status line of most replies, with its end.
-fn known_status(status: StatusCode) -> Option<&'static str>
-    ensures { IfSome result (λ text. text.now ≡ ended_line (status_line status)) }
-{
-    match status.as_u16() {
-        200 => Some("HTTP/1.1 200 OK\r\n"),
-        206 => Some("HTTP/1.1 206 Partial Content\r\n"),
-        _ => None,
-    }
-}
-
-// Puts the status line.
+// Puts the status line, which of most replies is one text.
 fn put_status<D: Duplex>(
     duplex: &mut D,
     out: &mut Outgoing,
@@ -117,8 +106,10 @@ fn put_status<D: Duplex>(
         (Puts result (ended_line (status_line status)) out.old out.new) }
     ensures waits { IsErrOf result Halt.WouldWait → D.waits duplex.new }
 {
-    if let Some(text) = known_status(status) {
-        return out.put(duplex, text.as_bytes());
+    match status.as_u16() {
+        200 => return out.put(duplex, b"HTTP/1.1 200 OK\r\n"),
+        206 => return out.put(duplex, b"HTTP/1.1 206 Partial Content\r\n"),
+        _ => {}
     }
     let code = status.as_str();
     let phrase = status.canonical_reason().unwrap_or("");
