@@ -14,7 +14,7 @@ use Rattle.host_connection.specs.Carrying.{Carries, IsHeld, Leads, MayWait}
 use Rattle.host_connection.specs.Metering.{moved}
 use Rattle.host_connection.specs.Serving.{Answering}
 use Rattle.host_connection.specs.Timing.{Connects, IsCaughtUp}
-use Rattle.host_connection.proofs.Metered.{IsMetered, IsStream, Sees, from_meter, left_after, streams, to_meter}
+use Rattle.host_connection.proofs.Metering.{IsMetered, IsStream, Sees, from_meter, left_after, streams, to_meter}
 use Rattle.host_connection.proofs.Simulated.{carries_back, ran_back}
 
 -- where a metered stream has to wait

@@ -65,7 +65,7 @@ returns-in-Ok-clause-advances g c =
     let n = c.args.self.now.number in
     let k = c.answer.new.self in
     subst (λ (m : ℕ). Advances progress.More n (phase.Body b) m k.phase) (sym c.answer.ensures.number)
-    (answer_advances g.S.Service.answers c.args.service.now c.answer.new.service _ n (phase.Body b) k.phase (omega arith) c.answer.ensures.answering)
+    (answer_advances g.S.Service.answers c.args.service.now c.answer.new.service (record { head = b.head; body = c.try_read_body.new.body; is_last = is_last_at n }) n (phase.Body b) k.phase (omega arith) c.answer.ensures.answering)
 
 pub returns-in-Err-Failed-clause-advances : goal.returns-in-Err-Failed-clause-advances
 returns-in-Err-Failed-clause-advances g c =
