@@ -1,5 +1,5 @@
 -- How far the phases of a connection come, one after another.
-use Rattle.std.proofs.Common.{◌≡◌, ◌⊎◌, inl, inr, ℕ, Bool, true, false, ◌+◌, ◌*◌, ◌-◌, ◌<◌, ◌≤◌, Ok, Err, refl, sym, ◌∙◌, subst, arith}
+use Rattle.std.proofs.Common.{◌≡◌, ◌⊎◌, inl, inr, ℕ, Bool, ◌<◌, ◌≤◌, Err, refl, sym, ◌∙◌, subst, arith}
 use Rattle.host_connection.specs.declared.connections.ConnectionFault.TheVariants as fault
 use Rattle.host_connection.specs.declared.phases.Phase.{Phase}
 use Rattle.host_connection.specs.declared.phases.Phase.TheVariants as phase
@@ -7,11 +7,10 @@ use Rattle.host_connection.specs.declared.requests.Request.{Request}
 use Rattle.host_connection.specs.declared.steps.Connection.{Connection}
 use Rattle.host_connection.specs.declared.steps.Progress.{Progress}
 use Rattle.host_connection.specs.declared.steps.Progress.TheVariants as progress
-use Rattle.host_connection.specs.declared.steps.Wants.{Wants}
 use Rattle.host_connection.specs.declared.stops.Stop.{Stop}
 use Rattle.host_connection.specs.declared.stops.Stop.TheVariants as stop
 use Rattle.http_wire.specs.Requests.{RequestParts}
-use Rattle.host_connection.specs.Advancing.{Advances, AreInOne, Falls, TellsBody, IsBody, left_of_turn, phases_left, size_in, told_size}
+use Rattle.host_connection.specs.Advancing.{Advances, Falls, TellsBody, IsBody, left_of_turn, phases_left, size_in, told_size}
 use Rattle.host_connection.specs.Carrying.{AwaitsBodyOf, FollowsHead, FollowsReply, FollowsStop, IsAnswering, ReadsNext, Tells}
 use Rattle.host_connection.specs.Serving.{Answering}
 use Rattle.host_connection.proofs.Fallen.{between, is_body_between, falls_at_most, falls_twice}

@@ -1,8 +1,6 @@
 -- What a connection did on one stream, as what it did on another that sees the same events.
-use Rattle.std.proofs.Common.{◌≡◌, ◌⊎◌, inl, inr, ℕ, List, [], ◌∷◌, Bool, Ok, refl, sym, subst}
-use Rattle.http_wire.specs.Expectations.{continue_text}
+use Rattle.std.proofs.Common.{◌≡◌, ◌⊎◌, inl, inr, ℕ, List, [], ◌∷◌, Bool, refl, subst}
 use Rattle.http_wire.specs.Gathering.{Gathered, IsCounted}
-use Rattle.http_wire.specs.Halting.{KeepsOn}
 use Rattle.http_wire.specs.Requests.{RequestParts}
 use Rattle.http_wire.specs.Timing.{Event, NoRead, Ran, Steps}
 use Rattle.http_wire.specs.Wires.{AwaitsBody, AwaitsHead}
@@ -13,9 +11,9 @@ use Rattle.host_connection.specs.declared.requests.Request.{Request}
 use Rattle.host_connection.specs.declared.steps.Connection.{Connection}
 use Rattle.host_connection.specs.declared.stops.Stop.{Stop}
 use Rattle.host_connection.specs.Carrying.{Carried, Carries, ConnectionSoFar, InTurn, Refusing, Replying, text_of}
-use Rattle.host_connection.specs.Phases.{BodySoFar, HeadSoFar, InviteSoFar, RefusalSoFar, ReplySoFar, SentUpTo}
+use Rattle.host_connection.specs.Phases.{BodySoFar, HeadSoFar, InviteSoFar, RefusalSoFar, ReplySoFar}
 use Rattle.host_connection.specs.Serving.{Answering, is_last_at}
-use Rattle.host_connection.specs.Timing.{Connects, IsCaughtUp, InvitesAs}
+use Rattle.host_connection.specs.Timing.{Connects, IsCaughtUp}
 
 -- each event that one stream saw led, on the other, from a state to the one that is alike after it
 abbrev pub Simulates : {S T : Type 0} → (saw : S → Event → S → Type 0) → (seen : T → Event → T → Type 0) → (R : S → T → Type 0) → Type 0

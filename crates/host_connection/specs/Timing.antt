@@ -1,7 +1,6 @@
 -- When a connection reads and writes.
-use Rattle.std.specs.Prelude.{◌≡◌, ℕ, ◌<◌, List, [], ◌++◌, length, Some, Bool, Result, Ok, Err, OnOk, MatchResult}
-use Rattle.std.specs.Io.KnownBytes.{Consumes, prepend_known}
-use Rattle.std.specs.declared.vec.Vec.{Vec}
+use Rattle.std.specs.Prelude.{◌≡◌, ℕ, ◌<◌, List, [], ◌++◌, length, Some, Result, Ok, Err, MatchResult}
+use Rattle.std.specs.Io.KnownBytes.{prepend_known}
 use Rattle.std.specs.List.{concat}
 use Rattle.http_wire.specs.Requests.{RequestParts}
 use Rattle.http_wire.specs.Timing.{Event, AtEnd, ReadFails, WriteFails, all_put, IsLatest, GoesOn, Gives}

@@ -1,4 +1,3 @@
-use Rattle.std.proofs.Common.{rules}
 use Rattle.host_connection.proofs.Stepping.{from_metered, step_else, step_full, step_goes, step_waits, to_metered}
 use Rattle.host_connection.proofs.steps.Connection.go_on.Goals as goal
 

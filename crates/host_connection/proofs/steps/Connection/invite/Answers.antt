@@ -1,4 +1,4 @@
-use Rattle.std.proofs.Common.{◌≤◌, ◌<◌, Err, ap, arith, refl, subst, sym}
+use Rattle.std.proofs.Common.{Err, ap, arith, refl, subst, sym}
 use Rattle.http_wire.specs.declared.halts.Halt.{Halt}
 use Rattle.http_wire.specs.declared.sinks.WriteFailed.{WriteFailed}
 use Rattle.http_wire.specs.Expectations.{continue_text}

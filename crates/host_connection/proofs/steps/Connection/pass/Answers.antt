@@ -1,4 +1,4 @@
-use Rattle.std.proofs.Common.{◌≡◌, [], inl, refl, rules, arith, subst, sym}
+use Rattle.std.proofs.Common.{◌≡◌, [], inl, refl, rules, arith, subst}
 use Rattle.host_connection.specs.declared.phases.Phase.{Phase}
 use Rattle.host_connection.specs.declared.phases.Phase.TheVariants as phase
 use Rattle.host_connection.specs.declared.steps.Progress.TheVariants as progress

@@ -1,4 +1,4 @@
-use Rattle.std.proofs.Common.{◌≡◌, ◌≤◌, ◌++◌, ℕ, arith, Err, Global, ap, length, refl, rules, subst, sym, vec_len}
+use Rattle.std.proofs.Common.{◌≡◌, ◌++◌, ℕ, arith, Err, Global, ap, length, refl, rules, subst, sym, vec_len}
 use Rattle.http_wire.specs.declared.faults.BodyFault.{BodyFault}
 use Rattle.http_wire.specs.declared.halts.Halt.{Halt}
 use Rattle.http_wire.specs.Halting.{TriesBody}
@@ -10,7 +10,7 @@ use Rattle.host_connection.specs.declared.steps.Progress.TheVariants as progress
 use Rattle.host_connection.specs.declared.steps.Wants.TheVariants as wants
 use Rattle.host_connection.specs.declared.stops.Stop.{Stop}
 use Rattle.host_connection.specs.Advancing.{Advances}
-use Rattle.host_connection.specs.Carrying.{Awaits, FollowsStop, IsAnswering, IsHeld, MayWait}
+use Rattle.host_connection.specs.Carrying.{Awaits, FollowsStop, IsHeld, MayWait}
 use Rattle.host_connection.specs.Serving.{is_last_at}
 use Rattle.host_connection.specs.Stopping.{stop_of_body}
 use Rattle.host_connection.proofs.Advancing.{answer_advances, at_new, inside, stop_advances}

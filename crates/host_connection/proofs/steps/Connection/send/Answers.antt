@@ -1,8 +1,7 @@
-use Rattle.std.proofs.Common.{◌≡◌, Err, inl, subst, sym, ap}
+use Rattle.std.proofs.Common.{Err, inl, subst, sym, ap}
 use Rattle.http_wire.specs.declared.halts.Halt.{Halt}
 use Rattle.http_wire.specs.declared.sinks.WriteFailed.{WriteFailed}
 use Rattle.host_connection.specs.declared.phases.Phase.{Phase}
-use Rattle.host_connection.specs.declared.phases.Phase.TheVariants as phase
 use Rattle.host_connection.specs.declared.steps.Wants.TheVariants as wants
 use Rattle.host_connection.specs.Carrying.{text_of, Awaits, Carried, IsHeld, MayWait}
 use Rattle.host_connection.proofs.Carried.{SendsOn, at_connection, at_reply, reply_failed, reply_followed, waits_in_reply}
