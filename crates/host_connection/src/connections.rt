@@ -47,22 +47,6 @@ fn serve<D: Steady, S: Service>(
     }
 }
 
-// Makes a connection, and goes through it.
-fn serve_anew<D: Steady, S: Service>(
-    alloc: Global,
-    duplex: &mut D,
-    service: &mut S,
-) -> Result<(), ConnectionFault>
-    ensures timely { Ran D.saw (IsCaughtUp S.answers service.old) duplex.old duplex.new
-        (Connects S.answers result service.old service.new) }
-    ensures grows { S.grows service.old service.new }
-{
-    let Ok(mut connection) = Connection::new(alloc) else {
-        return Err(ConnectionFault::OutOfMemory);
-    };
-    serve(alloc, &mut connection, duplex, service)
-}
-
 /// Serves one connection: answers the requests of its stream, one after another, until the stream ends or a reply ends
 /// the connection, at the latest that to the 100th request.
 ///
@@ -82,5 +66,11 @@ pub fn serve_connection<D: Steady, S: Service>(
         (Connects S.answers result service.old service.new) }
     ensures grows { S.grows service.old service.new }
 {
-    serve_anew(alloc, duplex, service)
+    let Ok(mut connection) = Connection::new(alloc) else {
+        return Err(ConnectionFault::OutOfMemory);
+    };
+    let result = serve(alloc, &mut connection, duplex, service);
+    // By a call: at the end of the function its proof would go through all that a connection owns.
+    drop(connection);
+    result
 }
