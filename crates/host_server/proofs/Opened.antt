@@ -1,81 +1,78 @@
--- What the parts of an opening say of it.
-use Rattle.std.proofs.Common.{◌≡◌, ◌⊎◌, inl, inr, List, IsTrue, ℕ, false, refl, subst, sym}
-use Rattle.byte_view.specs.Contents.{Contents}
+-- What is made of what is found is an opened server, or there was no memory for it.
+use Rattle.std.proofs.Common.{◌≡◌, ◌⊎◌, ◌∙◌, inl, inr, ℕ, ◌<◌, ◌≤◌, List, Some, Result, Ok, Err, MatchResult, IfOk, IfErr, ap, sym, subst}
 use Rattle.blob_store.specs.Calls.{Call}
-use Rattle.change_undo.specs.declared.entries.Entry.{Entry}
 use Rattle.change_journal.specs.entries.Held.{Keeps}
-use Rattle.change_journal.specs.entries.Files.{IsBadRecord, IsFound, IsNoJournal}
-use Rattle.change_journal.specs.entries.Texts.{AllStored, IsText, texts}
-use Rattle.change_journal.specs.file.Walks.{IsOnlyRead, TellsStop}
-use Rattle.change_journal.specs.declared.file.faults.OpenFault as of_disk
-use Rattle.change_journal.specs.declared.file.faults.OpenFault.TheVariants as journal_fault
+use Rattle.change_journal.specs.entries.Files.{HasRecord}
+use Rattle.change_undo.specs.Logs.{Log}
+use Rattle.chunk_group.specs.Cached.{CachedShelf}
+use Rattle.found_host.specs.Openings as openings
+use Rattle.found_host.specs.Openings.{HadJournal, HasFiles, IsNoRecordFault, IsOpenFault}
+use Rattle.found_host.specs.Remains.{Remains}
+use Rattle.found_host.specs.declared.faults.NotOpened.{NotOpened}
+use Rattle.found_host.specs.declared.faults.OpenFault.{OpenFault}
+use Rattle.found_host.specs.declared.faults.OpenFault.TheVariants.{BlobsDevice, JournalDevice, OutOfMemory}
+use Rattle.host_disk.specs.Crashes.{LeavesOnly}
 use Rattle.host_disk.specs.declared.disks.Disk.{Ghosts}
-use Rattle.host_opening.specs.Replays.{StopsAt}
-use Rattle.host_opening.specs.declared.replays.ReplayFault.{ReplayFault}
-use Rattle.host_opening.specs.declared.replays.ReplayFault.TheVariants as replay_fault
-use Rattle.host_server.specs.Openings.{HasFiles, HasJournal, IsFilesFault, IsHostFault, IsJournalFault, IsSpared, of_journal, of_replay}
-use Rattle.host_server.specs.declared.openings.OpenFault.{OpenFault}
-use Rattle.host_server.specs.declared.openings.OpenFault.TheVariants as fault
+use Rattle.host_server.specs.Hosts.{Host}
+use Rattle.host_server.specs.Openings.{IsGivenBack, IsOpened, IsServerOf}
+use Rattle.host_server.specs.declared.servers.Server.{Server}
 
--- the entries that were found are the journal's
-pub has_journal : {D : Type 0} (disk : Ghosts D) (old : D) (journal : Keeps D) (log : List Entry) → (journal.entries ≡ log) × (journal.broken ≡ false)
-    → (IsTrue disk.is_modelled → IsFound (texts log) (disk.seen old)) → (IsTrue disk.is_modelled → AllStored (disk.may_leave journal.disk) log)
-    → disk.faults journal.disk ≡ disk.faults old → HasJournal disk old journal
-has_journal disk old journal log are found stored no_fault = record {
-  whole = are.1;
-  found = subst (λ entries. IsTrue disk.is_modelled → IsFound (texts entries) (disk.seen old)) (sym are.0) found;
-  stored = subst (λ entries. IsTrue disk.is_modelled → AllStored (disk.may_leave journal.disk) entries) (sym are.0) stored;
-  no_fault = no_fault;
-}
+module _ {S D : Type 0} {disk : Ghosts D} (old : D) (shelf : S) (found : Remains D S) where
+  abbrev pub IsMade : Result (Server S D disk) (NotOpened S D) → Type 0
+  IsMade result = MatchResult result (IsServerOf found) (IsGivenBack found)
 
--- the files are there, and the entries aren't accepted in turn
-pub not_replayed : {S : Type 0} (did : S → Call → S → Type 0) (old : S) (limit : ℕ) (entries : List Entry) (known : Contents) (why : ReplayFault) (new : S)
-    → HasFiles did old entries known new → StopsAt known limit entries why → IsHostFault did old limit entries (of_replay why) new
-not_replayed did old limit entries known (replay_fault.NotLegal n) new files stops = (known, files, stops)
-not_replayed did old limit entries known replay_fault.OutOfMemory new files stops = inr (known, files)
+  pub opened : (did : S → Call → S → Type 0) (limit : ℕ) (result : Result (Server S D disk) (NotOpened S D)) → IsMade result
+      → openings.IsOpened disk did old shelf limit found → IfOk result (λ server. IsOpened did old shelf limit server)
+  opened did limit (Ok server) of is = record {
+    journal = found.journal;
+    is = of.journal;
+    has_journal = is.has_journal;
+    entries = ap (λ (h : Host). h.entries) of.house;
+    limit_is = ap (λ (h : Host). h.limit) of.house ∙ is.limit_is;
+    has_files = subst (λ (h : Host). HasFiles did shelf h.entries h.uploads server.files.shelf) (sym of.house)
+        (subst (λ (f : CachedShelf S). HasFiles did shelf found.journal.entries found.store.known f.shelf) (sym of.files) is.has_files);
+    cache = ap (λ (f : CachedShelf S). f.cache) of.files;
+  }
+  opened did limit (Err stop) of is = tt
 
--- the files aren't there
-pub not_there : {S : Type 0} (did : S → Call → S → Type 0) (old : S) (limit : ℕ) (entries : List Entry) (why : OpenFault) (new : S)
-    → IsFilesFault did old entries why new → IsHostFault did old limit entries why new
-not_there did old limit entries fault.BadHeader new why = why
-not_there did old limit entries (fault.BadRecord n) new why = why
-not_there did old limit entries (fault.NotLegal n) new why = absurd why
-not_there did old limit entries fault.JournalDevice new why = why
-not_there did old limit entries (fault.MissingBlob digest) new why = why
-not_there did old limit entries (fault.DamagedBlob digest) new why = why
-not_there did old limit entries fault.BlobsDevice new why = why
-not_there did old limit entries fault.OutOfMemory new why = inl why
+  pub stopped : (did : S → Call → S → Type 0) (limit : ℕ) (result : Result (Server S D disk) (NotOpened S D)) → IsMade result
+      → openings.IsOpened disk did old shelf limit found → IfErr result (λ stop. IsOpenFault disk did old shelf limit stop.fault stop.disk stop.shelf)
+  stopped did limit (Ok server) of is = tt
+  stopped did limit (Err stop) of is =
+      let files = subst (HasFiles did shelf found.journal.entries found.store.known) (sym of.shelf) is.has_files in
+      subst (λ (why : OpenFault). IsOpenFault disk did old shelf limit why stop.disk stop.shelf) (sym of.fault)
+      (inr (found.journal, is.has_journal, of.disk, inr (found.store.known, files)))
 
--- why the journal can't be opened
-pub journal_stops : {D : Type 0} (disk : Ghosts D) (old : D) (why : of_disk.OpenFault) (new : D)
-    → (IsTrue disk.is_modelled → why ≡ journal_fault.BadHeader → IsNoJournal (disk.seen old))
-    → (IsTrue disk.is_modelled → (number : ℕ) → why ≡ journal_fault.BadRecord number → IsBadRecord IsText number (disk.seen old))
-    → (IsTrue disk.is_modelled → (why ≡ journal_fault.Device → ⊥) → IsOnlyRead disk.seen disk.may_leave disk.moment disk.left_since old new)
-    → IsSpared disk old new → TellsStop why (disk.faults old) (disk.faults new) → IsJournalFault disk old (of_journal why) new
-journal_stops disk old journal_fault.BadHeader new header bad unwritten spared told = (λ modelled. header modelled refl, λ modelled. unwritten modelled (λ e. absurd (cc e)))
-journal_stops disk old (journal_fault.BadRecord number) new header bad unwritten spared told = (λ modelled. bad modelled number refl, λ modelled. unwritten modelled (λ e. absurd (cc e)))
-journal_stops disk old journal_fault.Device new header bad unwritten spared told = (told.0 refl, spared)
-journal_stops disk old journal_fault.OutOfMemory new header bad unwritten spared told = λ modelled. unwritten modelled (λ e. absurd (cc e))
+  pub kept : (had : Log) (result : Result (Server S D disk) (NotOpened S D)) → IsMade result → found.journal.entries ≡ had
+      → MatchResult result (λ server. server.house.entries ≡ had) (λ stop. IsNoRecordFault stop.fault)
+  kept had (Ok server) of is = ap (λ (h : Host). h.entries) of.house ∙ is
+  kept had (Err stop) of is = subst IsNoRecordFault (sym of.fault) tt
 
--- ---- which fault of the journal is told as which
+  pub any_moment : (P : List ℕ → Type 0) (result : Result (Server S D disk) (NotOpened S D)) → IsMade result
+      → LeavesOnly disk.moment disk.left_since old found.journal.disk P
+      → MatchResult result
+      (λ server. (journal : Keeps D) → server.journal ≡ Some journal → LeavesOnly disk.moment disk.left_since old journal.disk P)
+      (λ stop. LeavesOnly disk.moment disk.left_since old stop.disk P)
+  any_moment P (Ok server) of leaves = λ journal is.
+      let same : found.journal ≡ journal = cc (of.journal, is) in
+      subst (λ (j : Keeps D). LeavesOnly disk.moment disk.left_since old j.disk P) same leaves
+  any_moment P (Err stop) of leaves = subst (λ d. LeavesOnly disk.moment disk.left_since old d P) (sym of.disk) leaves
 
-pub was_memory : (why : of_disk.OpenFault) → of_journal why ≡ fault.OutOfMemory → why ≡ journal_fault.OutOfMemory
-was_memory journal_fault.BadHeader told = absurd (cc told)
-was_memory (journal_fault.BadRecord number) told = absurd (cc told)
-was_memory journal_fault.Device told = absurd (cc told)
-was_memory journal_fault.OutOfMemory told = refl
+  pub memory : (result : Result (Server S D disk) (NotOpened S D)) → IsMade result → openings.HasJournal disk old found.journal
+      → IfErr result (λ stop. stop.fault ≡ OutOfMemory → HasRecord (disk.seen old) ⊎ HadJournal disk old stop.disk)
+  memory (Ok server) of has = tt
+  memory (Err stop) of has = λ _. inr (record { journal = found.journal; has_journal = has; is = of.disk })
 
-pub was_device : (why : of_disk.OpenFault) → of_journal why ≡ fault.JournalDevice → why ≡ journal_fault.Device
-was_device journal_fault.BadHeader told = absurd (cc told)
-was_device (journal_fault.BadRecord number) told = absurd (cc told)
-was_device journal_fault.Device told = refl
-was_device journal_fault.OutOfMemory told = absurd (cc told)
+  pub reason : (P : Type 0) (result : Result (Server S D disk) (NotOpened S D)) → IsMade result → IfErr result (λ stop. stop.fault ≡ JournalDevice → P)
+  reason P (Ok server) of = tt
+  reason P (Err stop) of = λ told. absurd (cc (of.fault, told))
 
-pub told_as_none : (why : of_disk.OpenFault) → (why ≡ journal_fault.BadHeader) ⊎ (why ≡ journal_fault.Device)
-    → (of_journal why ≡ fault.BadHeader) ⊎ (of_journal why ≡ fault.JournalDevice)
-told_as_none journal_fault.BadHeader is = inl refl
-told_as_none (journal_fault.BadRecord number) (inl is) = absurd (cc is)
-told_as_none (journal_fault.BadRecord number) (inr is) = absurd (cc is)
-told_as_none journal_fault.Device is = inr refl
-told_as_none journal_fault.OutOfMemory (inl is) = absurd (cc is)
-told_as_none journal_fault.OutOfMemory (inr is) = absurd (cc is)
+  pub device : (failures : S → ℕ) (result : Result (Server S D disk) (NotOpened S D)) → IsMade result
+      → IfErr result (λ stop. stop.fault ≡ BlobsDevice → failures shelf < failures stop.shelf)
+  device failures (Ok server) of = tt
+  device failures (Err stop) of = λ told. absurd (cc (of.fault, told))
+
+  pub count : (failures : S → ℕ) (result : Result (Server S D disk) (NotOpened S D)) → IsMade result → failures shelf ≤ failures found.store.shelf
+      → MatchResult result (λ server. failures shelf ≤ failures server.files.shelf) (λ stop. failures shelf ≤ failures stop.shelf)
+  count failures (Ok server) of least = subst (λ (f : CachedShelf S). failures shelf ≤ failures f.shelf) (sym of.files) least
+  count failures (Err stop) of least = subst (λ s. failures shelf ≤ failures s) (sym of.shelf) least
