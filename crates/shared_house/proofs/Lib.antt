@@ -1,0 +1,6 @@
+pub mod Fronts
+pub mod Entering
+pub mod FileReplies
+pub mod Standing
+pub mod Notes
+pub mod Running
