@@ -1,4 +1,5 @@
 pub mod Fronts
+pub mod Turns
 pub mod Entering
 pub mod FileReplies
 pub mod Standing

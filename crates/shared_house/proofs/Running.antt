@@ -75,7 +75,7 @@ later old new parts body answer (start, begins, is) = goes_on old start new begi
 allowed : (uploads : Contents) (limit : ℕ) (log : Log) (site : SiteName) (k : ℕ) → undo_refusal uploads limit log site k ≡ None → change_refusal uploads log site k ≡ None
 allowed uploads limit log site k none =
     elim (nat_le limit (last_number log)) as (λ b. cond b (Some HistoryFull) (change_refusal uploads log site k) ≡ None → change_refusal uploads log site k ≡ None)
-      [ true ↦ λ e. absurd (cc e) | false ↦ λ e. e ] none
+    [ true ↦ λ e. absurd (cc e) | false ↦ λ e. e ] none
 
 leaves_out : (site : SiteName) (k : ℕ) (before : Log) → IsJudged (reason_of_undo site k) before None → LeavesOut site k before
 leaves_out site k before judged =
@@ -119,7 +119,7 @@ undo_reply old new parts body answer site k asks (start, begins, inr (inr is, sa
 pub read_reply : (old new : Log) (parts : RequestParts) (body : List ℕ) (answer : Answer) (site : SiteName) (version : Version) (path : List ℕ)
     → asked_for parts body ≡ Ok (ask.Read site version path) → IsGuestAnswer old parts body answer new → IsReadReply old parts site version path answer new
 read_reply old new parts body answer site version path asks (start, begins, inl (mid, shown, looks, is)) =
-    elim file_reply by_front mid new parts body site version path answer asks is as (λ r. IsReadReply old parts site version path answer new) [
+    elim (file_reply by_front mid new parts body site version path answer asks is) as (λ r. IsReadReply old parts site version path answer new) [
       | inl over ↦ inl (over.0, goes_on old mid over.0.entries (goes_on old start mid begins (looked start shown mid looks)) over.1.0, over.1.1, over.2, over.3)
       | inr none ↦ inr (inl (inl none.0))
     ]

@@ -18,10 +18,10 @@ use std::test::Fail;
 pub(super) type Node<'a, W, S> = Group<DigestHash, SharedSource<'a, W, S>, NoLink, Counter>;
 
 /// A worker of a node.
-pub(super) type Worker<'a, J, K, D, S, R, W> = Guest<
+pub(super) type Worker<'v, 'a, J, K, D, S, R, W> = Guest<
     J,
-    SeatedDesk<'a, J, K, D, S, Shows<J>, R, W>,
-    GroupFiles<'a, W, Node<'a, W, S>>,
+    SeatedDesk<'v, J, K, D, S, Shows<J>, R, W>,
+    GroupFiles<'v, W, Node<'a, W, S>>,
 >;
 
 /// A node of a desk.
@@ -41,6 +41,7 @@ pub(super) fn node<
 
 /// A worker of a node, with a visitor of its own.
 pub(super) fn worker<
+    'v,
     'a,
     J: DeskName,
     K: ListName<BlobInfo>,
@@ -49,12 +50,12 @@ pub(super) fn worker<
     R: Wait + Drop,
     W: Wait,
 >(
-    rt: &'a W,
-    desk: &'a OpenDesk<J, K, D, S, R>,
-    seat: &'a Mutex<Seat<J>>,
-    node: &'a Node<'a, W, S>,
+    rt: &'v W,
+    desk: &'v OpenDesk<J, K, D, S, R>,
+    seat: &'v Mutex<Seat<J>>,
+    node: &'v Node<'a, W, S>,
     visitor: DeskVisitor<J>,
-) -> Result<Worker<'a, J, K, D, S, R, W>, Fail> {
+) -> Result<Worker<'v, 'a, J, K, D, S, R, W>, Fail> {
     let access = SeatedDesk::new(rt, desk, seat);
     let files = GroupFiles::new(rt, node);
     match SharedHouse::new(visitor, access, files) {
