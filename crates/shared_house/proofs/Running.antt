@@ -61,7 +61,7 @@ responds_known old parts body (Ok asked) answer new (inr (told, is)) = same_know
 
 answers_known : (old : Log) (parts : RequestParts) (body : List ℕ) (answer : Answer) (new : Log) → IsSharedAnswer by_front old parts body answer new → BeginsWith new old
 answers_known old parts body answer new (inl is) = responds_known old parts body (asked_for parts body) answer new is
-answers_known old parts body answer new (inr (takes, tells, is)) = same_known old new is
+answers_known old parts body answer new (inr (takes, (tells, is))) = same_known old new is
 
 serves_known : (old : Log) (parts : RequestParts) (body : List ℕ) (answer : Answer) (new : Log) → ServesAs by_front old parts body answer new → BeginsWith new old
 serves_known old parts body answer new (inl (mid, shown, looks, is)) = goes_on old mid new (looked old shown mid looks) (answers_known mid parts body answer new is)
@@ -99,14 +99,14 @@ undoes site k old (Err stop.Broken) answer new is tells = inr (inr (inr (inr tel
 
 undo_answers : (site : SiteName) (k : ℕ) (old : Log) (parts : RequestParts) (body : List ℕ) (answer : Answer) (new : Log)
     → RespondsAs by_front old parts body (Ok (ask.Undo site k)) answer new → IsUndoReply site k answer new
-undo_answers site k old parts body answer new (inl (seen, mid, looks, run, done, is, tells)) = undoes site k mid done answer new is tells
+undo_answers site k old parts body answer new (inl (seen, mid, looks, run, (done, is, tells))) = undoes site k mid done answer new is tells
 undo_answers site k old parts body answer new (inr (is, same)) = inr (inr (inl (inl is)))
 
 undo_shared : (old new : Log) (parts : RequestParts) (body : List ℕ) (answer : Answer) (site : SiteName) (k : ℕ) → asked_for parts body ≡ Ok (ask.Undo site k)
     → IsSharedAnswer by_front old parts body answer new → IsUndoReply site k answer new
 undo_shared old new parts body answer site k asks (inl is) =
     undo_answers site k old parts body answer new (subst (λ (r : Result Ask Refusal). RespondsAs by_front old parts body r answer new) asks is)
-undo_shared old new parts body answer site k asks (inr (takes, tells, is)) = inr (inr (inl tells))
+undo_shared old new parts body answer site k asks (inr (takes, (tells, is))) = inr (inr (inl tells))
 
 pub undo_reply : (old new : Log) (parts : RequestParts) (body : List ℕ) (answer : Answer) (site : SiteName) (k : ℕ) → asked_for parts body ≡ Ok (ask.Undo site k)
     → IsGuestAnswer old parts body answer new → IsUndoReply site k answer new

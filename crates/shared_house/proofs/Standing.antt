@@ -190,7 +190,7 @@ module _ {H K : Type 0} (narrow : Seeing H) (wide : Seeing K) (R : H → K → T
   answers old all parts body answer new r (inl is) =
       let more = responds old all parts body (asked_for parts body) answer new r is in
       (more.0, inl more.1, more.2)
-  answers old all parts body answer new r (inr (takes_memory, tells, is)) = (all, inr (takes_memory, tells, refl), same old new all r is)
+  answers old all parts body answer new r (inr (takes_memory, (tells, is))) = (all, inr (takes_memory, (tells, refl)), same old new all r is)
 
   pub serves : (old : H) (all : K) (parts : RequestParts) (body : List ℕ) (answer : Answer) (new : H) → R old all
       → ServesAs narrow old parts body answer new → (after : K) × ServesAs wide all parts body answer after × R new after

@@ -71,7 +71,7 @@ enters_known entry reason old (Ok number) new (before, judged, is, learnt) = lea
 enters_known entry reason old (Err (stop.Refused why)) new (log, judged, learnt) = learnt.0
 enters_known entry reason old (Err stop.Broken) new same = same_known old new same
 enters_known entry reason old (Err stop.OutOfMemory) new (inl same) = same_known old new same
-enters_known entry reason old (Err stop.OutOfMemory) new (inr (number, before, judged, is, learnt)) = learnt.0
+enters_known entry reason old (Err stop.OutOfMemory) new (inr (number, (before, judged, is, learnt))) = learnt.0
 enters_known entry reason old (Err stop.Device) new same = same_known old new same
 
 published_known : (old : Log) (site : SiteName) (n : ℕ) (published : Option ℕ) (new : Log) → PublishesAs by_front old site n published new → BeginsWith new old
