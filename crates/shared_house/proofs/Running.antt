@@ -63,7 +63,7 @@ answers_known : (old : Log) (parts : RequestParts) (body : List ℕ) (answer : A
 answers_known old parts body answer new (inl is) = responds_known old parts body (asked_for parts body) answer new is
 answers_known old parts body answer new (inr (takes, (tells, is))) = same_known old new is
 
-serves_known : (old : Log) (parts : RequestParts) (body : List ℕ) (answer : Answer) (new : Log) → ServesAs by_front old parts body answer new → BeginsWith new old
+pub serves_known : (old : Log) (parts : RequestParts) (body : List ℕ) (answer : Answer) (new : Log) → ServesAs by_front old parts body answer new → BeginsWith new old
 serves_known old parts body answer new (inl (mid, shown, looks, is)) = goes_on old mid new (looked old shown mid looks) (answers_known mid parts body answer new is)
 serves_known old parts body answer new (inr (told, is)) = same_known old new is
 
