@@ -103,7 +103,7 @@ impl<J: DeskName, D: DeskAccess<J>, G: FileAccess> Guest<J, D, G> {
     fn give_note(&mut self, note: &mut Note<J>)
         ensures { note.new ≡ self.old }
     {
-        mem::swap(&mut self.note, note);
+        mem::swap(note, &mut self.note);
     }
 
     /// Goes on with a connection, of which this is the note, whichever worker served it before.
