@@ -1,0 +1,17 @@
+//! The house of a node: what its workers answer requests over. They share a desk and the node's files.
+#![tactic(auto)]
+
+mod answering;
+mod desk_access;
+mod file_access;
+mod guests;
+mod houses;
+pub mod laws;
+mod seated_desks;
+
+pub use answering::answer_shared;
+pub use desk_access::DeskAccess;
+pub use file_access::{FileAccess, GroupFiles};
+pub use guests::{Guest, Note};
+pub use houses::{DeskVisitor, SharedHouse};
+pub use seated_desks::SeatedDesk;
