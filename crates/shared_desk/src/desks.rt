@@ -1,9 +1,9 @@
 //! The desk.
-ghost use Rattle.std.specs.Prelude.{◌≡◌, ◌≢◌, ◌+◌, IfErr, IfOk, MatchResult, length, sum};
+ghost use Rattle.std.specs.Prelude.{◌≡◌, ◌≢◌, ◌+◌, IfErr, IfOk, IsSome, MatchResult, None, OnErr, OnOk, length, sum};
 ghost use Rattle.change_undo.specs.Logs.{last_number};
 ghost use Rattle.shared_desk.specs.Turns.{Commits, Undoes};
 
-use crate::closings::give_all_back;
+use crate::closings::{Closed, give_all_back};
 use crate::turns;
 use blob_store::Files;
 use byte_view::BlobInfo;
@@ -92,21 +92,40 @@ impl<
         turns::undo(rt, &mut *book, mine, site, change)
     }
 
-    /// Closes the desk if these are all its seats, and answers how many entries there are: those that were found and those that were made from the
-    /// seats. Else it hands the seats back.
-    pub fn close(&mut self, seats: Vec<Seat<J>>) -> Result<u64, Vec<Seat<J>>>
-        ensures closed { IfOk result (λ number. (length seats.items ≡ J.parts)
-            × (number ≡ last_number J.found + sum seats.items)) }
+    /// Closes a desk if these are all its seats, and hands out its journal. That has the entries that were found and those that were made from the
+    /// seats. Else it leaves the desk, and hands the seats back.
+    ///
+    /// It takes the desk out of an option, boxed: a caller that is generic in J can't pass one by value, since the bound of T is made of J, and the
+    /// toolchain proves the drop of a box, but not that of a bare desk.
+    pub fn close(
+        desk: &mut Option<Box<Desk<J, K, D, S, T, R>>>,
+        seats: Vec<Seat<J>>,
+    ) -> Result<Closed<D, S>, Vec<Seat<J>>>
+        requires open { IsSome desk.old }
+        ensures closed { IfOk result (λ left. (length seats.items ≡ J.parts)
+            × (left.number ≡ last_number J.found + sum seats.items)) }
+        ensures journal { IfOk result (λ left. last_number left.journal.entries ≡ left.number) }
+        ensures gone { OnOk result (desk.new ≡ None) }
         ensures not_all { IfErr result (λ back. (length seats.items ≢ J.parts) × (back ≡ seats)) }
+        ensures stays { OnErr result (desk.new ≡ desk.old) }
     {
-        if seats.len() as u64 != self.seats {
+        let is_closed = match desk {
+            Some(open) => seats.len() as u64 == open.seats,
+            None => false,
+        };
+        if !is_closed {
             return Err(seats);
         }
-        let book = self.book.get_mut();
+        let Desk { book, files, .. } = Box::into_inner(desk.take().unwrap());
+        let mut book = book.into_inner();
         let number = book.latest().history().len();
         if let Some(mut all) = give_all_back(seats) {
             book.tally(&mut all);
         }
-        Ok(number)
+        Ok(Closed {
+            number,
+            journal: book.into_journal(),
+            files: files.into_inner(),
+        })
     }
 }

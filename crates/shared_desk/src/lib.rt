@@ -6,11 +6,13 @@ mod desks;
 mod listings;
 mod new_desks;
 mod openings;
+mod reading;
 mod showing;
 mod turns;
 mod upload_errors;
 mod uploading;
 
+pub use closings::Closed;
 pub use desks::Desk;
 pub use new_desks::NewDesk;
 pub use openings::{Opened, open};
