@@ -6,6 +6,7 @@ mod gates;
 mod locks;
 mod memory;
 mod openings;
+mod retries;
 mod scenes;
 mod threads;
 mod uploads;

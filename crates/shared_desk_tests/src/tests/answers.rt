@@ -126,7 +126,14 @@ impl Scene for Uploaded {
             (1, "/a.txt", b"hello", Told::Stored),
         ] {
             let told = upload(
-                rt, alloc, &*desk, &mut two, &mut reader, number, path, bytes,
+                rt,
+                alloc,
+                &*desk,
+                &mut two,
+                &mut reader,
+                number,
+                path,
+                bytes,
             )?;
             assert_eq!(rt; told, wanted);
         }

@@ -61,7 +61,9 @@ fn look_beside<
     party: Party<J>,
 ) -> Result<(), Fail> {
     let Party {
-        one, mut reader, ..
+        one,
+        mut reader,
+        ..
     } = party;
     let entry = entry_of(alloc, OPEN)?;
     gate.shut();

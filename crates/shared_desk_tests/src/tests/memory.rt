@@ -32,13 +32,7 @@ struct Trial {
 }
 
 /// Makes a call from the first seat.
-fn make<
-    J: DeskName,
-    K: ListName<BlobInfo>,
-    D: Disk + Drop,
-    S: Shelf + Drop,
-    R: Wait + Drop,
->(
+fn make<J: DeskName, K: ListName<BlobInfo>, D: Disk + Drop, S: Shelf + Drop, R: Wait + Drop>(
     rt: &impl Wait,
     alloc: Global,
     desk: &OpenDesk<J, K, D, S, R>,
@@ -134,7 +128,9 @@ impl Scene for Seen {
         party: Party<J>,
     ) -> Result<(), Fail> {
         let Party {
-            one, mut reader, ..
+            one,
+            mut reader,
+            ..
         } = party;
         assert_eq!(rt; one.opening(), self.0.0);
         assert_eq!(rt; look(alloc, &mut reader)?, self.0);

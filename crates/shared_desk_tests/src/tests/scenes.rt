@@ -46,14 +46,7 @@ fn play_at<
     R: Wait + Drop,
     W: Wait + Abort,
     C: Scene,
->(
-    rt: &W,
-    alloc: Global,
-    shows: R,
-    scene: &C,
-    new: NewDesk,
-    found: Found<D, S>,
-) -> Result<(), Fail>
+>(rt: &W, alloc: Global, shows: R, scene: &C, new: NewDesk, found: Found<D, S>) -> Result<(), Fail>
     requires names { AreNames J.name J.parts J.book K.book new }
     requires entries { J.found ≡ found.journal.entries }
     requires uploads { K.found ≡ files_of found.store.known }

@@ -52,13 +52,11 @@ fn make_all<J: DeskName, K: ListName<BlobInfo>, D: Disk + Drop, S: Shelf + Drop,
 }
 
 /// Asserts that the numbers of both are those from 1 on, each once, and that each got its own in their order.
-fn assert_numbers(
-    rt: &impl Abort,
-    alloc: Global,
-    one: &[u64],
-    two: &[u64],
-) -> Result<(), Fail> {
-    assert!(rt; one.is_sorted() && two.is_sorted(), "a receipt is older than the one before");
+fn assert_numbers(rt: &impl Abort, alloc: Global, one: &[u64], two: &[u64]) -> Result<(), Fail> {
+    assert!(rt;
+        one.is_sorted() && two.is_sorted(),
+        "a receipt is older than the one before"
+    );
     let mut all = Vec::from_slice(alloc, one)?;
     all.extend_from_slice(two)?;
     all.as_mut_slice().sort_unstable();
@@ -75,12 +73,7 @@ fn open_beside<
     S: Shelf + Drop + Send,
     R: Wait + Drop + Send + Sync,
     W: Threads + Wait + Abort + Sync,
->(
-    rt: &W,
-    alloc: Global,
-    desk: Box<OpenDesk<J, K, D, S, R>>,
-    party: Party<J>,
-) -> Result<(), Fail> {
+>(rt: &W, alloc: Global, desk: Box<OpenDesk<J, K, D, S, R>>, party: Party<J>) -> Result<(), Fail> {
     let Party { one, two, .. } = party;
     let (three, four) = (openings(alloc, 3)?, openings(alloc, 4)?);
     let shared = &*desk;
@@ -104,13 +97,7 @@ fn open_at<
     S: Shelf + Drop + Send,
     R: Wait + Drop + Send + Sync,
     W: Threads + Wait + Abort + Sync,
->(
-    rt: &W,
-    alloc: Global,
-    shows: R,
-    new: NewDesk,
-    found: Found<D, S>,
-) -> Result<(), Fail>
+>(rt: &W, alloc: Global, shows: R, new: NewDesk, found: Found<D, S>) -> Result<(), Fail>
     requires names { AreNames J.name J.parts J.book K.book new }
     requires entries { J.found ≡ found.journal.entries }
     requires uploads { K.found ≡ files_of found.store.known }

@@ -57,11 +57,7 @@ fn read_meanwhile<
     D: Disk + Drop,
     S: Shelf + Drop,
     R: Wait + Drop,
->(
-    rt: &impl Wait,
-    calls: &Calls,
-    desk: &OpenDesk<J, K, D, S, R>,
-) -> bool {
+>(rt: &impl Wait, calls: &Calls, desk: &OpenDesk<J, K, D, S, R>) -> bool {
     let name = Digest::of_bytes(b"hello");
     let is_put = calls.ask();
     let read = desk.files().lock(rt).chunk(&name);
@@ -88,8 +84,20 @@ fn read_beside<
         mut reader,
         ..
     } = party;
-    assert_eq!(rt; enter(rt, alloc, desk, &mut one, &mut reader, OPEN)?, Told::Made(1));
-    let told = upload(rt, alloc, desk, &mut one, &mut reader, 1, "/a.txt", b"hello")?;
+    assert_eq!(rt;
+        enter(rt, alloc, desk, &mut one, &mut reader, OPEN)?,
+        Told::Made(1)
+    );
+    let told = upload(
+        rt,
+        alloc,
+        desk,
+        &mut one,
+        &mut reader,
+        1,
+        "/a.txt",
+        b"hello",
+    )?;
     assert_eq!(rt; told, Told::Made(2));
     let bytes = pieces(alloc)?;
     let opening = opening_of(alloc, bytes.as_slice())?;
