@@ -1,5 +1,5 @@
 //! The desk.
-ghost use Rattle.std.specs.Prelude.{◌≡◌, ◌≢◌, ◌+◌, IfErr, IfOk, IsSome, MatchResult, None, OnErr, OnOk, length, sum};
+ghost use Rattle.std.specs.Prelude.{◌≡◌, ◌↔◌, ◌+◌, IfNone, IfSome, IsSome, MatchResult, None, OnSome, [], length, sum};
 ghost use Rattle.change_undo.specs.Logs.{last_number};
 ghost use Rattle.shared_desk.specs.Turns.{Commits, Undoes};
 
@@ -16,6 +16,7 @@ use site_change::Command;
 use site_desk::{Book, DeskError, DeskName, Notice, Seat, Stock};
 use std::alloc::Global;
 use std::marker::Model;
+use std::mem;
 use std::sync::{Mutex, Wait};
 
 /// A book, the files that are known, and those on the shelf. Each is behind a lock of its own. Who takes more than one of these locks takes them in this
@@ -93,36 +94,37 @@ impl<
     }
 
     /// Closes a desk if these are all its seats, and hands out its journal. That has the entries that were found and those that were made from the
-    /// seats. Else it leaves the desk, and hands the seats back.
+    /// seats. Else it leaves the desk and the seats.
     ///
-    /// It takes the desk out of an option, boxed: a caller that is generic in J can't pass one by value, since the bound of T is made of J, and the
-    /// toolchain proves the drop of a box, but not that of a bare desk.
+    /// It takes both out of what it is lent: no caller that is generic in J can pass a desk or a seat by value, since the bound of T is made of J. The
+    /// desk is boxed, since the toolchain proves the drop of a box, but not that of a bare desk.
     pub fn close(
         desk: &mut Option<Box<Desk<J, K, D, S, T, R>>>,
-        seats: Vec<Seat<J>>,
-    ) -> Result<Closed<D, S>, Vec<Seat<J>>>
+        seats: &mut Vec<Seat<J>>,
+    ) -> Option<Closed<D, S>>
         requires open { IsSome desk.old }
-        ensures closed { IfOk result (λ left. (length seats.items ≡ J.parts)
-            × (left.number ≡ last_number J.found + sum seats.items)) }
-        ensures journal { IfOk result (λ left. last_number left.journal.entries ≡ left.number) }
-        ensures gone { OnOk result (desk.new ≡ None) }
-        ensures not_all { IfErr result (λ back. (length seats.items ≢ J.parts) × (back ≡ seats)) }
-        ensures stays { OnErr result (desk.new ≡ desk.old) }
+        ensures all { IsSome result ↔ (length seats.old.items ≡ J.parts) }
+        ensures closed { IfSome result (λ left. left.number ≡ last_number J.found + sum seats.old.items) }
+        ensures journal { IfSome result (λ left. last_number left.journal.entries ≡ left.number) }
+        ensures gone { OnSome result ((desk.new ≡ None) × (seats.new.items ≡ [])) }
+        ensures stays { IfNone result ((desk.new ≡ desk.old) × (seats.new ≡ seats.old)) }
     {
-        let is_closed = match desk {
+        let has_all = match desk {
             Some(open) => seats.len() as u64 == open.seats,
             None => false,
         };
-        if !is_closed {
-            return Err(seats);
+        if !has_all {
+            return None;
         }
-        let Desk { book, files, .. } = Box::into_inner(desk.take().unwrap());
+        let Desk {
+            alloc, book, files, ..
+        } = Box::into_inner(desk.take().unwrap());
         let mut book = book.into_inner();
         let number = book.latest().history().len();
-        if let Some(mut all) = give_all_back(seats) {
+        if let Some(mut all) = give_all_back(mem::replace(seats, Vec::new(alloc))) {
             book.tally(&mut all);
         }
-        Ok(Closed {
+        Some(Closed {
             number,
             journal: book.into_journal(),
             files: files.into_inner(),

@@ -2,7 +2,7 @@
 
 use super::asks::{Told, enter, look, upload};
 use super::entries::{CANCEL, OPEN, REMOVE, UNDO_2, UNDO_99};
-use super::openings::{OpenDesk, Party, found};
+use super::openings::{OpenDesk, Party, Reader, found};
 use super::scenes::{Scene, fault_of, play};
 use blob_store::Shelf;
 use byte_view::BlobInfo;
@@ -34,7 +34,7 @@ fn assert_left<D: Disk + Drop, S: Shelf + Drop>(
     Ok(())
 }
 
-/// Closes a desk with one seat missing, which hands the other one back, and then with both. What it leaves has so many entries.
+/// Closes a desk with one seat missing, which leaves it open, and then with both. What it leaves has so many entries.
 pub(super) fn assert_closed<
     J: DeskName,
     K: ListName<BlobInfo>,
@@ -50,12 +50,14 @@ pub(super) fn assert_closed<
     wanted: u64,
 ) -> Result<(), Fail> {
     let mut open = Some(desk);
-    let Err(mut seats) = Desk::close(&mut open, Vec::from_array(alloc, [one])?) else {
-        return Err(Fail::from("a seat is missing"));
-    };
+    let mut seats = Vec::from_array(alloc, [one])?;
+    assert!(rt;
+        Desk::close(&mut open, &mut seats).is_none(),
+        "a seat is missing"
+    );
     assert_eq!(rt; (open.is_some(), seats.len()), (true, 1));
     seats.push(two)?;
-    let Ok(left) = Desk::close(&mut open, seats) else {
+    let Some(left) = Desk::close(&mut open, &mut seats) else {
         return Err(Fail::from("all seats are there"));
     };
     assert_left(rt, alloc, left, wanted)
@@ -94,6 +96,34 @@ impl Scene for Refused {
     }
 }
 
+/// Asserts what the uploads to a deploy that is open answer, from a seat. One of them publishes it.
+fn assert_uploads<
+    J: DeskName,
+    K: ListName<BlobInfo>,
+    D: Disk + Drop,
+    S: Shelf + Drop,
+    R: Wait + Drop,
+    W: Wait + Abort,
+>(
+    rt: &W,
+    alloc: Global,
+    desk: &OpenDesk<J, K, D, S, R>,
+    seat: &mut Seat<J>,
+    reader: &mut Reader<J>,
+) -> Result<(), Fail> {
+    for (number, path, bytes, wanted) in [
+        (2, "/a.txt", b"hello", Told::NoSuchDeploy),
+        (1, "/b.txt", b"hello", Told::NotListed),
+        (1, "/a.txt", b"jelly", Told::WrongDigest),
+        (1, "/a.txt", b"hello", Told::Made(2)),
+        (1, "/a.txt", b"hello", Told::Stored),
+    ] {
+        let told = upload(rt, alloc, desk, seat, reader, number, path, bytes)?;
+        assert_eq!(rt; told, wanted);
+    }
+    Ok(())
+}
+
 /// A file is uploaded, which publishes the deploy that was open, and then uploaded again; then it is removed.
 struct Uploaded;
 
@@ -118,25 +148,7 @@ impl Scene for Uploaded {
             mut reader,
         } = party;
         assert_eq!(rt; one.opening(), 1);
-        for (number, path, bytes, wanted) in [
-            (2, "/a.txt", b"hello", Told::NoSuchDeploy),
-            (1, "/b.txt", b"hello", Told::NotListed),
-            (1, "/a.txt", b"jelly", Told::WrongDigest),
-            (1, "/a.txt", b"hello", Told::Made(2)),
-            (1, "/a.txt", b"hello", Told::Stored),
-        ] {
-            let told = upload(
-                rt,
-                alloc,
-                &*desk,
-                &mut two,
-                &mut reader,
-                number,
-                path,
-                bytes,
-            )?;
-            assert_eq!(rt; told, wanted);
-        }
+        assert_uploads(rt, alloc, &*desk, &mut two, &mut reader)?;
         assert_eq!(rt; look(alloc, &mut reader)?, (2, true));
         let told = enter(rt, alloc, &*desk, &mut one, &mut reader, REMOVE)?;
         assert_eq!(rt; told, Told::Made(3));

@@ -64,6 +64,31 @@ fn read_meanwhile<
     is_put && read.is_ok_and(|chunk| chunk.view().bytes() == b"hello".as_slice())
 }
 
+/// Uploads `hello`, and opens the deploy 3 of the bytes that are given then.
+fn prepare<
+    J: DeskName,
+    K: ListName<BlobInfo>,
+    D: Disk + Drop,
+    S: Shelf + Drop,
+    R: Wait + Drop,
+    W: Wait + Abort,
+>(
+    rt: &W,
+    alloc: Global,
+    desk: &OpenDesk<J, K, D, S, R>,
+    party: &mut Party<J>,
+) -> Result<Vec<u8>, Fail> {
+    let Party { one, reader, .. } = party;
+    let told = enter(rt, alloc, desk, one, reader, OPEN)?;
+    assert_eq!(rt; told, Told::Made(1));
+    let told = upload(rt, alloc, desk, one, reader, 1, "/a.txt", b"hello")?;
+    assert_eq!(rt; told, Told::Made(2));
+    let bytes = pieces(alloc)?;
+    let opening = opening_of(alloc, bytes.as_slice())?;
+    assert!(rt; answered(rt, desk, one, opening).is_ok());
+    Ok(bytes)
+}
+
 /// Reads a chunk beside an upload. Whether no more than two puts came between the question and the answer.
 fn read_beside<
     J: DeskName + Send + Sync,
@@ -79,30 +104,10 @@ fn read_beside<
     desk: &OpenDesk<J, K, D, S, R>,
     party: Party<J>,
 ) -> Result<bool, Fail> {
-    let Party {
-        mut one,
-        mut reader,
-        ..
-    } = party;
-    assert_eq!(rt;
-        enter(rt, alloc, desk, &mut one, &mut reader, OPEN)?,
-        Told::Made(1)
-    );
-    let told = upload(
-        rt,
-        alloc,
-        desk,
-        &mut one,
-        &mut reader,
-        1,
-        "/a.txt",
-        b"hello",
-    )?;
-    assert_eq!(rt; told, Told::Made(2));
-    let bytes = pieces(alloc)?;
-    let opening = opening_of(alloc, bytes.as_slice())?;
-    assert!(rt; answered(rt, desk, &mut one, opening).is_ok());
+    let mut party = party;
+    let bytes = prepare(rt, alloc, desk, &mut party)?;
     let (site, path) = (SiteName::new("one")?, FilePath::read(alloc, "/b.bin")?);
+    let Party { one, .. } = party;
     calls.count();
     let done = join(
         rt,
