@@ -98,6 +98,18 @@ fn seat_all<J: DeskName, R: Wait + Drop>(
     Ok((shown, places))
 }
 
+/// The journal, the files that are known, and those on the shelf, of what is found.
+fn parts_of<D: Disk + Drop, S: Shelf + Drop>(
+    found: Found<D, S>,
+) -> (Journal<D>, BlobIndex, Files<S>)
+    ensures journal { result.0.entries ≡ found.journal.entries }
+    ensures known { result.1 ≡ found.store.known }
+{
+    let (_, journal, blobs) = found.into_parts();
+    let (index, files) = blobs.into_parts();
+    (journal, index, files)
+}
+
 /// The desk of what is found, with what is published of it.
 fn desk_of<J: DeskName, K: ListName<BlobInfo>, D: Disk + Drop, S: Shelf + Drop, R: Wait + Drop>(
     alloc: Global,
@@ -115,8 +127,7 @@ fn desk_of<J: DeskName, K: ListName<BlobInfo>, D: Disk + Drop, S: Shelf + Drop, 
     requires book { uploads ≡ K.book }
     requires files { K.found ≡ files_of found.store.known }
 {
-    let (_, journal, blobs) = found.into_parts();
-    let (index, files) = blobs.into_parts();
+    let (journal, index, files) = parts_of(found);
     let stock: Stock<K> = stock_of(index, uploads);
     Desk {
         alloc,
@@ -125,6 +136,33 @@ fn desk_of<J: DeskName, K: ListName<BlobInfo>, D: Disk + Drop, S: Shelf + Drop, 
         stock: Mutex::new(stock),
         files: Mutex::new(files),
     }
+}
+
+/// The snapshot of a history, what a desk of it shows at first, and all its seats.
+fn prepare<J: DeskName, R: Wait + Drop>(
+    alloc: Global,
+    rt: R,
+    history: &History,
+    count: Blank,
+    entries: NewList<Entry>,
+    seats: u64,
+    visitors: usize,
+) -> Result<(Arc<HostSnap>, FirstPublished<J, R>, Seats<J>), AllocError>
+    requires ledger { count.name ≡ J.name }
+    requires parts { (count.parts ≡ J.parts) × (seats ≡ J.parts) }
+    requires book { entries ≡ J.book }
+    requires entries { history.now.entries ≡ J.found }
+    requires few { last_number J.found ≤ 1000000 }
+    requires visitors { (0 < visitors) × (visitors ≤ 64) }
+    ensures snap { IfOk result (λ made. made.0.value ≡ history.now) }
+    ensures published { IfOk result (λ made. made.1.0.value ≡ J.found) }
+    ensures visitor { IfOk result (λ made. made.1.1 ≡ sees J.found) }
+    ensures seats { IfOk result (λ made. made.2 ≡ seats) }
+{
+    let opening = history.len();
+    let snap = snap_of(alloc, history)?;
+    let (shown, places) = seat_all(alloc, rt, &snap, count, entries, opening, seats, visitors)?;
+    Ok((snap, shown, places))
 }
 
 /// Opens the desk of what is found, with its seats and a visitor who knows the entries that are found. Out of memory hands back what is found, as it is.
@@ -150,18 +188,12 @@ pub fn open<J: DeskName, K: ListName<BlobInfo>, D: Disk + Drop, S: Shelf + Drop,
         entries,
         uploads,
     } = new;
-    let opening = found.history().len();
-    let Ok(snap) = snap_of(alloc, found.history()) else {
-        return Err(found);
-    };
-    let Ok(((published, visitor), places)) = seat_all(
-        alloc, rt, &snap, count, entries, opening, seats, visitors,
-    ) else {
-        return Err(found);
-    };
-    Ok((
-        desk_of(alloc, seats, snap, found, uploads, published),
-        places,
-        visitor,
-    ))
+    match prepare(alloc, rt, found.history(), count, entries, seats, visitors) {
+        Ok((snap, (published, visitor), places)) => Ok((
+            desk_of(alloc, seats, snap, found, uploads, published),
+            places,
+            visitor,
+        )),
+        Err(_) => Err(found),
+    }
 }

@@ -117,6 +117,29 @@ fn published_of<J: DeskName, R: Wait + Drop>(
     Ok(Box::new(alloc, published)?)
 }
 
+/// Shows a receipt, with room for so many visitors, to a first one of them.
+fn show_to_first<J: DeskName, R: Wait + Drop>(
+    alloc: Global,
+    rt: R,
+    last: &Notice<J>,
+    visitors: usize,
+) -> Result<
+    (
+        WriteHandle<DeskShown<J>, Notice<J>, R>,
+        Visitor<Entry, J, HostSnap>,
+    ),
+    AllocError,
+>
+    requires visitors { (0 < visitors) × (visitors < 2 ^ 32) }
+    ensures shown { IfOk result (λ made. published made.0 ≡ last.now) }
+    ensures none { IfOk result (λ made. pending made.0 ≡ []) }
+    ensures visitor { IfOk result (λ made. made.1 ≡ sees last.now) }
+{
+    let shown = show_with_room(alloc, rt, last, visitors)?;
+    let visitor = visitor_of(&shown, last)?;
+    Ok((shown, visitor))
+}
+
 /// What shows the snapshot of all items of a list, and a visitor.
 fn show<J: DeskName, R: Wait + Drop>(
     alloc: Global,
@@ -131,8 +154,7 @@ fn show<J: DeskName, R: Wait + Drop>(
     ensures visitor { IfOk result (λ made. made.1 ≡ sees list) }
 {
     let last = first_receipt(snap, &list)?;
-    let shown = show_with_room(alloc, rt, &last, visitors)?;
-    let visitor = visitor_of(&shown, &last)?;
+    let (shown, visitor) = show_to_first(alloc, rt, &last, visitors)?;
     Ok((publisher_of(alloc, list, last, shown)?, visitor))
 }
 

@@ -1,8 +1,10 @@
 //! Turns at a book, each while its lock is held.
 ghost use Rattle.std.specs.Prelude.{◌≡◌, ◌+◌, MatchOption, MatchResult};
 ghost use Rattle.change_undo.specs.Logs.{last_number};
-ghost use Rattle.shared_desk.specs.Turns.{IsCommit, IsUndo};
+ghost use Rattle.shared_desk.specs.Turns.{IsCommit, IsMet, IsUndo};
+ghost use Rattle.shared_desk.specs.Uploads as spec;
 ghost use Rattle.shared_desk.specs.Uploads.{IsJudged, IsPublishing};
+ghost use Rattle.site_change.specs.Changes.{IsWithin};
 ghost use Rattle.site_desk.specs.Books.{with_known};
 
 use crate::listings::{is_ready, listed_at};
@@ -94,6 +96,34 @@ pub(crate) fn judge<
     }
 }
 
+/// Learns of all uploads so far, and says whether a deploy of a site is ready over them.
+fn learn_if_ready<
+    J: DeskName,
+    K: ListName<BlobInfo>,
+    D: Disk,
+    T: Absorb<Notice<J>, State = [Entry; 0]> + Drop,
+    R: Wait + Drop,
+>(
+    book: &mut Book<J, K, D, T, R>,
+    stock: &mut Stock<K>,
+    known: &mut Tie<K>,
+    mine: &mut Seat<J>,
+    site: &SiteName,
+    number: u64,
+) -> bool
+    ensures met { IsMet (last_number J.found + mine.old) book.new }
+    ensures within { IsWithin known.old book.new.known }
+    ensures ready { result ≡ spec.is_ready book.new site.now number }
+    ensures same { stock.new ≡ stock.old }
+    ensures learnt { book.new ≡ with_known book.old stock.old }
+    ensures made { mine.new ≡ mine.old }
+{
+    stock.tell(known);
+    book.learn(stock);
+    book.audit(mine);
+    is_ready(book.latest().state(), stock.index(), site, number)
+}
+
 /// Learns of all uploads so far, and publishes a deploy of a site if it is ready over them, from a seat.
 pub(crate) fn publish_if_ready<
     J: DeskName,
@@ -116,10 +146,7 @@ pub(crate) fn publish_if_ready<
         (λ published. MatchOption published (mine.new ≡ mine.old) (λ _. mine.new ≡ mine.old + 1))
         (λ _. mine.new ≡ mine.old) }
 {
-    stock.tell(known);
-    book.learn(stock);
-    book.audit(mine);
-    if !is_ready(book.latest().state(), stock.index(), site, number) {
+    if !learn_if_ready(book, stock, known, mine, site, number) {
         return Ok(None);
     }
     let site = site.copied();

@@ -66,7 +66,17 @@ impl<
     T: Absorb<Notice<J>, State = [Entry; 0]> + Drop,
     R: Wait + Drop,
 > Desk<J, K, D, S, T, R> {
-    /// Stores bytes, and gives what is known then. They are put on the shelf unless they are known, and become known last, in one step.
+    /// Puts bytes on the shelf, and gives what is known once their file is. It becomes known last, in one step.
+    fn store_new(&self, rt: &impl Wait, digest: Digest, bytes: &[u8]) -> Result<Tie<K>, UploadFault>
+        requires { digest ≡ digest_of bytes.now }
+        ensures large { (result ≡ Err upload_fault.TooLarge) ↔ (16777216 < length bytes.now) }
+        ensures known { IfOk result (λ known. IsSome (map.get known (digest_of bytes.now))) }
+    {
+        let file = put(rt, self.alloc, &self.files, digest, bytes)?;
+        tie_with(&mut *self.stock.lock(rt), file)
+    }
+
+    /// Stores bytes, and gives what is known then. They are put on the shelf unless they are known.
     fn store(&self, rt: &impl Wait, digest: Digest, bytes: &[u8]) -> Result<Tie<K>, UploadFault>
         requires { digest ≡ digest_of bytes.now }
         ensures large { (result ≡ Err upload_fault.TooLarge) ↔ (16777216 < length bytes.now) }
@@ -79,8 +89,7 @@ impl<
         if let Some(known) = known {
             return Ok(known);
         }
-        let file = put(rt, self.alloc, &self.files, digest, bytes)?;
-        tie_with(&mut *self.stock.lock(rt), file)
+        self.store_new(rt, digest, bytes)
     }
 
     /// The digest that a deploy of a site lists at a path, if an upload may go on.
