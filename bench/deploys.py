@@ -148,7 +148,7 @@ class Costs:
             self.add("second, filehost, whole listing", seconds, count)
 
     def patch_and_undo(self, room):
-        """Two patches after the first deploy, of which the earlier one is undone."""
+        """Two patches after the first deploy; the earlier one is undone."""
         with contextlib.ExitStack() as stack:
             filehost = new_filehost(stack, self.program, room)
             _, whole_change = filehost.deploy(self.first)
@@ -201,7 +201,7 @@ class Costs:
 
 
 def compare_costs(program, before, folder, times):
-    """Prints the medians of so many times. The ways take turns."""
+    """Prints the medians of `times` runs. The ways take turns."""
     costs = Costs(program, before)
     for _ in range(times):
         room = pathlib.Path(tempfile.mkdtemp(dir=folder))

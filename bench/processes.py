@@ -11,7 +11,7 @@ from streams import MEBIBYTE, head
 
 
 class Output:
-    """Reads a pipe to its end, keeping only the length, the last bytes, and when so many bytes had come and when the end did."""
+    """Reads a pipe to its end. It keeps only the length, the last bytes, when `mark` bytes had come, and when the end came."""
 
     def __init__(self, mark):
         self.buffer = bytearray(MEBIBYTE)
@@ -30,9 +30,9 @@ class Output:
 
 
 def measure(command, fed=None, mark=0):
-    """Runs a command, fed by `cat` of a file where one is given, and reads what it prints through a pipe.
+    """Runs a command, fed by `cat` of a file if one is given, and reads what it prints through a pipe.
 
-    Returns its output, which tells when so many bytes of it had come, the seconds from its start to its end, and its peak memory in bytes.
+    Returns its output, which tells when `mark` bytes of it had come, the seconds from its start to its end, and its peak memory in bytes.
     """
     with contextlib.ExitStack() as stack:
         source = subprocess.DEVNULL

@@ -73,7 +73,7 @@ def in_lines(text, change):
 
 
 def in_a_comment(text, change):
-    """What is changed is written again behind a line that stands once in the file, and what was there is made a comment."""
+    """The changed text is written again after a line that occurs once in the file, and the old text becomes a comment."""
     start, end = min(part[0] for part in change.parts), max(part[1] for part in change.parts)
     above, below = line_at(text, start), line_at(text, end)
     while not is_anchor(text, above):

@@ -104,7 +104,7 @@ def named_in(top, text, modules, imports, module=None):
 
 
 def contract_of(top, crate, function):
-    """The clauses of a function, and what its file uses; or nothing where there is no such function, or it has no clause."""
+    """The clauses of a function, and what its file uses; or nothing if there is no such function, or it has no clause."""
     owner, _, name = function.rpartition("::")
     for file in sorted((top / "crates" / crate / "src").rglob("*.rt")):
         text = file.read_text()

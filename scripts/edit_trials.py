@@ -85,7 +85,7 @@ class Wrong:
 
 
 def in_different_functions(wrongs):
-    """Lists of edits, each of which are in the bodies of different functions. Those that are in no body are in none."""
+    """Lists of edits. The edits of one list are in the bodies of different functions; an edit that is in no body is in no list."""
     lists, had = [], collections.Counter()
     for wrong in wrongs:
         if wrong.function:
@@ -97,8 +97,8 @@ def in_different_functions(wrongs):
 
 
 def refused_together(rt, crate, wrongs, kept):
-    """Those of these edits, which are in different functions, that the prover refuses in one check: a function is proved from the contracts
-    of others alone, so each that isn't proved there is refused for its own edit. Of the others nothing is known."""
+    """The edits that the prover refuses in one check of all of these, which are in different functions. A function is proved from the contracts
+    of others alone, so a function that isn't proved there is refused for its own edit. Nothing is known of the others."""
     texts = {}
     for wrong in wrongs:
         wrong.put_into(texts)

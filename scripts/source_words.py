@@ -33,7 +33,7 @@ def in_one_line(text):
 
 
 def pairs_of(words):
-    """Where each bracket that opens is closed, and the other way round."""
+    """Where each bracket that opens is closed, and where each that closes is opened."""
     pairs, opened = {}, []
     for at, (kind, word, *_) in enumerate(words):
         if kind == "sign" and word in OPENING:
@@ -142,7 +142,7 @@ class Source:
         return at + (self.kind(at) == "name")
 
     def body_from(self, at):
-        """The brackets of the body of the function whose parameters begin there, behind its clauses."""
+        """The brackets of the body of the function whose parameters begin there; they come after its clauses."""
         while at < len(self.words):
             word = self.word(at)
             if word in CLAUSES:

@@ -75,7 +75,7 @@ BadPath: {"files":{"a//b":""},"patch":true}
 BadPath: {"files":{"a//b":""},"draft":true}
 """
 
-# What a deploy lists, and the members of its `files`. `H` stands for the digest of `hello`, and `A` for that of `abc`.
+# What a deploy lists, and the members of its `files`. `H` is the digest of `hello`, and `A` that of `abc`.
 LISTINGS = r"""
 /a=H: "a":H
 /a=H: "/a":H

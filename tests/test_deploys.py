@@ -150,7 +150,7 @@ class Completeness(Program):
     LISTED = {"a": None, "b": b"1", "c": b"2", "d": None, "e": b"1", "f": b"3", "g": b"2", "h": None}
 
     def uploads_until(self, number, paths, lacking, entry_number):
-        """Uploads to these paths of a deploy, the last of which publishes it as this entry."""
+        """Uploads to these paths of a deploy; the last one publishes it as this entry."""
         exchanges = []
         for path in paths:
             content = self.LISTED[path]

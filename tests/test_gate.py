@@ -106,7 +106,7 @@ class Gate(unittest.TestCase):
             with self.subTest(number):
                 environment = self.sandbox.environment(SECONDS_A_CRATE="50", CI_SAYS="", CI_STATUS="0", TMPDIR=str(self.sandbox.folder))
                 how = {"stdin": subprocess.DEVNULL, "stdout": subprocess.PIPE, "stderr": subprocess.PIPE, "start_new_session": True}
-                # Whoever began the tests in the background may have had interrupts ignored, which no trap of a shell can change.
+                # If the tests were begun in the background, interrupts may be ignored, which no trap of a shell can change.
                 how["preexec_fn"] = lambda: signal.signal(signal.SIGINT, signal.SIG_DFL)
                 gate = subprocess.Popen([str(self.sandbox.top / "test")], env=environment, **how)
                 while gate.poll() is None and not self.sandbox.calls():

@@ -58,7 +58,7 @@ def hear(seed):
 
 
 class Hostile(Program):
-    """Changes of streams. Each is sent to a program of its own."""
+    """Changes of streams. Each is sent to a new program."""
 
     faults = ("BadHead", "LengthBad", "CodingRefused", "BodyTooLarge", "HeadTooLarge")
 

@@ -1,4 +1,4 @@
-"""What sites serve, what aliases stand for, and what kept and open deploys hold.
+"""What sites serve, what aliases name, and what kept and open deploys hold.
 
 What is expected follows from docs/HTTP.md and docs/CHANGES.md.
 """
@@ -91,7 +91,7 @@ class Files(Interface):
 
 
 class Aliases(Interface):
-    """Which deploy an alias stands for."""
+    """Which deploy an alias names."""
 
     first = publishing("one", 1, {"/a": b"first"})
     second = publishing("one", 3, {"/a": b"second"})

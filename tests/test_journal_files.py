@@ -199,7 +199,7 @@ def texts_near(text):
 
 
 def opening(count, size):
-    """The text of an opening, in a site of 63 bytes, of so many paths of so many bytes."""
+    """The text of an opening, in a site of 63 bytes, of `count` paths of `size` bytes each."""
     listed = (b"/" + b"a" * (size - 6) + b"%05d\x01" % number + b"\xff" * 20 for number in range(count))
     return b"\x01\x3f" + b"z" * 63 + b"\x02" + count.to_bytes(4, "big") + b"".join(size.to_bytes(2, "big") + path for path in listed)
 

@@ -121,7 +121,7 @@ class Changes(Refusing):
 
 
 class StoredChanges(Changes, Stored):
-    """After so many entries that the next ones close a block of 128 in the history, and split one in the state."""
+    """The next entries close a block of 128 in the history, and split one in the state."""
 
     entries = [opening_of({"/a.txt": b"hello"}), ("publish", "one", 1), *(("alias", "one", f"n{number}", 1) for number in range(125))]
     requests = [alias("n125", 1), alias("n126", 1), undo(5), read("/a/one/n2/a.txt"), read("/a/one/n3/a.txt")]

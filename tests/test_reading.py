@@ -32,7 +32,7 @@ def get(target):
 
 class Reads(Program):
     def assert_reads(self, rows):
-        """A host with the three texts answers each read of /s/one/ with the reply beside it."""
+        """A host with the three texts answers each read of /s/one/ with its reply."""
         asked = [(request(method, f"/s/one/{path}", *fields), wanted) for method, path, fields, wanted in rows]
         self.assert_converses(TEXTS + asked)
 

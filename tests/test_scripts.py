@@ -75,7 +75,7 @@ class Words(unittest.TestCase):
 
 
 class ShownStores(unittest.TestCase):
-    """scripts/show-store, where there is nothing to show."""
+    """scripts/show-store over stores that have nothing to show."""
 
     def show(self, folder):
         ran = subprocess.run([sys.executable, TOP / "scripts/show-store", folder], capture_output=True, text=True, timeout=60)
@@ -97,7 +97,7 @@ class Listening(unittest.TestCase):
     def listen(self, *words):
         """Starts it on a port that is free, and returns that port."""
         command = [sys.executable, TOP / "examples/listen", "--port", "0", *words, *self.command]
-        # Whoever began the tests in the background may have had interrupts ignored.
+        # If the tests were begun in the background, interrupts may be ignored.
         how = {"preexec_fn": lambda: signal.signal(signal.SIGINT, signal.SIG_DFL)}
         self.listener = subprocess.Popen(command, stdout=subprocess.PIPE, stderr=subprocess.PIPE, **how)
         for done in (self.listener.stdout.close, self.listener.stderr.close, self.listener.wait, self.listener.kill):

@@ -19,7 +19,7 @@ LENGTH = f"Content-Length: {len(HIDDEN)}"
 
 class Smuggling(Program):
     def assert_ends(self, head, wanted):
-        """The head is answered so, and what is behind it is neither answered nor read."""
+        """The head is answered so, and the bytes after it are neither answered nor read."""
         near, far = socket.socketpair(type=socket.SOCK_SEQPACKET)
         with near, far:
             # A read takes no more than one of these.

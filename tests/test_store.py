@@ -24,7 +24,7 @@ OPENINGS = 4
 
 
 class Closed(Stored):
-    """Runs that are parted among several programs, one after the other over the same folder."""
+    """Runs that are divided among several programs, one after another over the same folder."""
 
     first = [
         (opening({"/a.txt": HELLO, "b.txt": ABC}), opened(1, ABC, HELLO)),
@@ -127,7 +127,7 @@ class Closed(Stored):
 
 
 class Generated(Stored):
-    """Histories that are drawn by chance, each parted among several programs."""
+    """Histories that are drawn by chance, each divided among several programs."""
 
     def test_are_answered_as_by_the_plain_model_and_as_before(self):
         for seed in range(HISTORIES):

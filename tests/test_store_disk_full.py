@@ -1,6 +1,6 @@
 """A store whose folder can't be written while the program runs: what is answered then, and what is there once it is opened again.
 
-A limit on the size of files stands for a full disk, beside a small file system where one may be mounted.
+A limit on the size of files acts as a full disk, as does a small file system where one may be mounted.
 """
 
 import contextlib
@@ -43,7 +43,7 @@ READS = [
 
 @contextlib.contextmanager
 def small_file_system(folder, size):
-    """Whether a file system of so many bytes could be mounted on the folder."""
+    """Whether a file system of `size` bytes could be mounted on the folder."""
     mounted = subprocess.run(["mount", "-t", "tmpfs", "-o", f"size={size}", "tmpfs", folder], capture_output=True).returncode == 0
     try:
         yield mounted
@@ -55,7 +55,7 @@ def small_file_system(folder, size):
 
 class FullDisk(Stored):
     def begin(self, room):
-        """A program over a deploy, whose journal has room for so many bytes more."""
+        """A program over a deploy, whose journal has room for `room` bytes more."""
         self.write(DEPLOYED, b"hello")
         return Conversation(self, **limited((self.folder / "journal").stat().st_size + room))
 

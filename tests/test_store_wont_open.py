@@ -161,7 +161,7 @@ def read_only(folder):
 
 
 class Blobs(Stored):
-    """Files that a store lost, of which a published deploy is made."""
+    """Files of a published deploy that a store lost."""
 
     # What was done to a file's table, and to its one piece, and how that is told.
     def faults(self, content):

@@ -18,7 +18,7 @@ from lib.wire import NEXT
 
 
 def replies_within(length):
-    """The replies to the requests that are whole within so many bytes of the stream."""
+    """The replies to the requests that are whole within the first `length` bytes of the stream."""
     ends = [sum(len(asked) for asked, _ in TALK[:count]) for count in range(1, len(TALK) + 1)]
     return b"".join(wanted for end, (_, wanted) in zip(ends, TALK) if end <= length)
 
@@ -66,7 +66,7 @@ class Faults(Program):
     """Reads and writes that fail from some byte on."""
 
     def run_within(self, room, **how):
-        """Runs the program where no file may have more than so many bytes."""
+        """Runs the program with a limit of `room` bytes on the size of each file."""
         limits = resource.getrlimit(resource.RLIMIT_FSIZE)
         resource.setrlimit(resource.RLIMIT_FSIZE, (room, limits[1]))
         try:
@@ -167,7 +167,7 @@ class SingleFaults(Program):
         subprocess.run(command, check=True, timeout=SECONDS)
 
     def run_refusing(self, place, is_late=False):
-        """The status, output and words of a run of which this call on its streams is refused, and how many calls there were."""
+        """The status, output and words of a run in which this call on its streams is refused, and how many calls there were."""
         told_in = self.room / "calls"
         names = {
             "LD_PRELOAD": str(self.library), "REFUSED_FOLDER": str(self.streams), "REFUSED_PLACE": str(place),

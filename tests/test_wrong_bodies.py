@@ -1,4 +1,4 @@
-"""The wrong bodies of the crates, most of which the gate doesn't try: that each still fits the code, and that no contract has changed since
+"""The wrong bodies of the crates, most of which the gate doesn't try: each still fits the code, and no contract has changed since
 they were tried."""
 
 import pathlib

@@ -178,7 +178,7 @@ def content_length(head):
 
 
 class Client:
-    """One that sends bytes to a program of its own and waits for its replies; what takes too long ends the program."""
+    """A client that starts a program, sends it bytes and waits for its replies. If that takes too long, the program is ended."""
 
     def __init__(self, test, **how):
         pipes = dict.fromkeys(("stdin", "stdout", "stderr"), subprocess.PIPE)
@@ -197,7 +197,7 @@ class Client:
             time.sleep(0)
 
     def receive(self, count):
-        """That many bytes of replies, or fewer where there are no more."""
+        """`count` bytes of replies, or fewer if there are no more."""
         got = b""
         while len(got) < count and (piece := self.program.stdout.read(count - len(got))):
             got += piece
@@ -217,18 +217,18 @@ class Client:
 
 
 class Program(unittest.TestCase):
-    # what the program is called with, where a test doesn't say it
+    # The words that the program is called with, if a test doesn't say others.
     words = ("solo",)
 
     def setUp(self):
         self.assertTrue(PROGRAM.is_file(), "there is no program to test: ./filehost builds it")
 
     def assert_answers(self, given, wanted, message=None):
-        """It answers these requests with exactly these replies, and ends well."""
+        """The program answers these requests with exactly these replies, and ends well."""
         self.assertEqual(run(*self.words, given=given), (0, wanted, b""), message)
 
     def assert_converses(self, exchanges, unread=b""):
-        """It answers the request of each exchange with the reply beside it, nothing after them, and ends well."""
+        """The program answers the request of each exchange with its reply, and nothing after them, and ends well."""
         given = b"".join(asked for asked, _ in exchanges)
         status, out, errors = run(*self.words, given=given + unread)
         place = 0

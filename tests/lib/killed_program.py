@@ -1,4 +1,4 @@
-"""A program over a store that is killed and opened again, and the model of what has to be there then."""
+"""A program over a store that is killed and opened again, and the model of what must be there then."""
 
 import collections
 import random
@@ -89,7 +89,7 @@ class Reach:
 
 
 class Round:
-    """A folder whose program is killed some times, with the model of what has to be there."""
+    """A folder whose program is killed some times, with the model of what must be there."""
 
     model_of, generator_of = Model, Generator
     changing = Generator.changes | {Generator.upload: 15, Generator.undo: 18}

@@ -68,9 +68,9 @@ GREATEST = 2**64 - 1
 
 
 def specs_of(value):
-    """What a value of Range asks for: for each element the numbers before and after its dash, None where it has none.
+    """What a value of Range asks for: for each element the numbers before and after its dash, or None in place of a number that is absent.
 
-    It is None of a value that is ignored.
+    It is None for a value that is ignored.
     """
     unit, equals, elements = value.partition("=")
     texts = [text for element in elements.split(",") if (text := element.strip(" \t"))]
@@ -83,7 +83,7 @@ def specs_of(value):
 
 
 def chosen(specs, size):
-    """The first and the last position of each spec that has a byte of a file of so many."""
+    """The first and the last position of each spec that has a byte of a file of `size` bytes."""
     ends = [(max(size - last, 0), None) if first is None else (first, last) for first, last in specs]
     return [(first, size - 1 if last is None else min(last, size - 1)) for first, last in ends if first < size]
 

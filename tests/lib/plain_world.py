@@ -11,20 +11,20 @@ from lib.plain_history import ALIAS, KEPT, LIVE, History, Refused
 from lib.plain_model import Model, Request, asked_specs, chosen
 
 CHUNK = 65_536
-# What the caches count for an entry beside the bytes of its chunk.
+# What the caches count for an entry, with the bytes of its chunk.
 ENTRY = 40
-# What a flight comes to where it brings no chunk. No chunk is empty.
+# The outcome of a flight that brings no chunk. No chunk is empty.
 FAULT = b""
 
 
 class Desk:
-    """A history of so many entries at most, and how many of them are shown."""
+    """A history of at most `limit` entries, and how many of them are shown."""
 
     def __init__(self, limit):
         self.history, self.limit, self.shown = History(), limit, 0
 
     def ask(self, entry):
-        """Takes an entry that may follow, where there is room and no other one is unpublished."""
+        """Takes an entry that may follow, if there is room and no other entry is unpublished."""
         entries = self.history.entries
         if len(entries) == self.shown < self.limit:
             try:

@@ -1,6 +1,6 @@
-"""The plain model of a host for histories of some thousand entries, most of which are undos.
+"""The plain model of a host for histories of some thousand entries, mostly undos.
 
-After each undo it runs all live changes again from nothing, and of each it keeps what it changed and touched there. A clash is looked for at
+After each undo it runs all live changes again from nothing, and keeps what each changed and touched there. A clash is looked for at
 each later live change in turn.
 """
 

@@ -1,4 +1,4 @@
-"""A small repository in a folder of its own, for tests of the scripts at the top of this one.
+"""A small repository in a temporary folder, for tests of the scripts at the top of this one.
 
 Its crates hold no code, and the toolchain is a stand-in, `fake_rt`, so that a build takes no time.
 """
@@ -13,7 +13,7 @@ import tempfile
 TOP = pathlib.Path(__file__).resolve().parents[2]
 FAKE_RT = pathlib.Path(__file__).resolve().parent / "fake_rt"
 
-# What the scripts may call beside rt. A PATH of these alone has no toolchain on it, wherever that is installed.
+# What the scripts may call besides rt. A PATH of these alone has no toolchain on it, wherever that is installed.
 TOOLS = "bash cat chmod dirname env find flock mkdir mktemp nice nproc readlink rm rmdir sleep sort tail tee touch wc".split()
 
 
