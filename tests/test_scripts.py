@@ -202,7 +202,7 @@ class MadeDeploys(unittest.TestCase):
         for path in (".well-known/security.txt", "a/b.txt", "a/c."):
             self.add(path)
         wanted = {"/.well-known/security.txt": b"hello", "/a/b.txt": b"hello", "/a/c.": b"hello"}
-        self.assert_publishes(wanted, "make-deploy: left out 5: hidden names, links that lead elsewhere, and what is no file\n")
+        self.assert_publishes(wanted, "make-deploy: left out 5: hidden names, links that lead elsewhere, and anything that is not a file\n")
 
     def test_leave_out_links_that_lead_elsewhere_and_what_is_no_file(self):
         self.add("a.txt")
@@ -218,7 +218,7 @@ class MadeDeploys(unittest.TestCase):
             (self.folder / name).symlink_to(target)
         os.mkfifo(self.folder / "fifo")
         wanted = {"/a.txt": b"hello", "/b/c.txt": b"here", "/b/in": b"hello"}
-        self.assert_publishes(wanted, "make-deploy: left out 10: hidden names, links that lead elsewhere, and what is no file\n")
+        self.assert_publishes(wanted, "make-deploy: left out 10: hidden names, links that lead elsewhere, and anything that is not a file\n")
 
     def test_take_a_folder_that_is_a_link(self):
         self.add("a.txt")
@@ -262,7 +262,7 @@ class MadeDeploys(unittest.TestCase):
         self.add("a.txt")
         for site in ("", "One", "a b", "a/b", "é", "a" * 64, "a\nb"):
             with self.subTest(site):
-                self.assert_refuses("no name of a site", site=site)
+                self.assert_refuses("not the name of a site", site=site)
         for number in ("0", "-1", "1000001", "x"):
             with self.subTest(number):
                 self.assert_refuses(number, words=[f"--deploy={number}"])
