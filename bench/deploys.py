@@ -30,7 +30,7 @@ def version_of_site(version, numbers=range(FILES)):
 
 
 def write_over(folder, files):
-    """Writes each file where it is, as cp does."""
+    """Writes over each file in its place, as cp does."""
     for path, content in files.items():
         (folder / path[1:]).write_bytes(content)
 
@@ -222,7 +222,7 @@ class Poller(threading.Thread):
         self.seen, self.ends, self.fault = collections.Counter(), threading.Event(), None
 
     def read(self, reader, path):
-        """The version that the file has, or None where it is no file of any version."""
+        """The version that the file has, or None if it is no version's file."""
         status, _, body = reader.ask("GET", self.server.target(self.prefix + path))
         version, _, rest = body.partition(b" ")
         number = int(path[2:6])

@@ -81,7 +81,7 @@ RANGES = [
 
 
 def wanted_of(value, size):
-    """The first and last positions that a value asks for, where the file has some of them (RFC 9110, section 14.1.2); None of one that isn't valid."""
+    """The first and last positions that a value asks for, if the file has some of them (RFC 9110, section 14.1.2); None for a value that isn't valid."""
     wanted = []
     for element in filter(None, (part.strip(" \t") for part in value.partition("=")[2].split(","))):
         if not re.fullmatch(r"\d+-\d*|-\d+", element):

@@ -62,7 +62,7 @@ def stop(process):
 
 
 def read_head(stream):
-    """The head of the next message, or nothing where the stream ends before."""
+    """The head of the next message, or nothing if the stream ends before."""
     head = b""
     while not head.endswith(b"\r\n\r\n"):
         line = stream.readline()
@@ -83,7 +83,7 @@ def closes(head):
 
 
 class Reader:
-    """A client with one connection, which is made again where the server has ended it."""
+    """A client with one connection, which is made again if the server has ended it."""
 
     def __init__(self, stack, port):
         self.connection = http.client.HTTPConnection(HOST, port, timeout=PATIENCE)

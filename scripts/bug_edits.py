@@ -24,7 +24,7 @@ class Change:
 
 
 def pairs_for(text, change):
-    """Old and new lines that make this change, or nothing where it can't be written so."""
+    """Old and new lines that make this change, or nothing if it can't be written so."""
     wanted = in_one_line(change.of(text))
     for written in (in_lines, in_a_comment):
         pairs = written(text, change)

@@ -46,7 +46,7 @@ def pairs_of(words):
 
 @dataclasses.dataclass(frozen=True)
 class Function:
-    """A function of a file in src/: the lines where its head, its body and the end of both are."""
+    """A function of a file in src/: the lines at which its head, its body and both ends are."""
 
     file: str
     name: str
@@ -97,7 +97,7 @@ class Source:
         return self.text[self.start(first):self.end(last)]
 
     def bodies(self):
-        """The brackets of each body of a function that is no test, and where its parameters begin."""
+        """The brackets of each body of a function that is not a test, and the place at which its parameters begin."""
         at, tested = 0, False
         while at < len(self.words):
             word = self.word(at)

@@ -134,7 +134,7 @@ class Aliases(Interface):
         ])
 
     def test_are_the_same_where_they_stand_for_one_deploy(self):
-        """A move to where the alias stands already changes nothing, so that it can be undone whatever follows."""
+        """A move to the deploy that the alias names already changes nothing, so that it can be undone whatever follows."""
         for number, wanted in [(1, {"entry": 8}), (3, refused("Clash", change=7, cell="alias next"))]:
             with self.subTest(number):
                 self.assert_rows([

@@ -126,7 +126,7 @@ ff46484a524e4c01 00 | 0 entries | 0146484a524e4c01 00
 0146484a524e4c01 01 0000000d 03036f6e650000000000000001 01 | BadRecord 2 |
 0146484a524e4c01 01 0000000d 03036f6e650000000000000001 01 00000001 00 00 | BadRecord 2 |"""
 
-# Three entries which are the same, and where the gates are.
+# Three equal entries, and the places of the gates.
 THREE = bytes.fromhex("0146484a524e4c01" + "01 0000000d 03036f6e650000000000000001" * 3 + "00")
 GATES = (8, 26, 44, 62)
 

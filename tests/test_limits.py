@@ -71,7 +71,7 @@ class Full(Stored):
         renaming("/a.txt", "/c.txt"), renaming("/a.txt", "/a.txt"), renaming("/b.txt", "/c.txt"), removing("/a.txt"), removing("/b.txt"),
         undoing(6), undoing(2), undoing(0), undoing(MOST_ENTRIES), undoing(MOST_ENTRIES, "two"),
     ]
-    # What is asked for is judged first, and where a target names no site, whether its deploy was ever opened.
+    # What is asked for is judged first and, if a target names no site, whether its deploy was ever opened.
     REFUSED_FIRST = [
         (cancelling(2), NO_DEPLOY), (cancelling(0), NO_DEPLOY), (deleting(2), NO_DEPLOY), (deleting(MOST_ENTRIES), NO_DEPLOY),
         (asking("POST", "/api/v1/sites/one/undo"), refused("BadBody")), (renaming("/", "/a"), refused("BadPath")),

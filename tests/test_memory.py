@@ -26,7 +26,7 @@ WHOLE = (
 )
 
 # What may follow the reply that says that there was no memory for a request, by the request's place: the replies
-# where the request left nothing, or what it does first, or all that it does.
+# if the request left nothing, or what it does first, or all that it does.
 TAILS = [
     [[NO_DEPLOY, NO_FILE, NO_CHANGE, NO_FILE], [UPLOADED, PART, UNDONE, GONE]],
     [[NO_FILE, NO_CHANGE, NO_FILE], [PART, UNDONE, GONE]],

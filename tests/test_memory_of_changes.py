@@ -99,7 +99,7 @@ class Run:
 
 class Changes(Refusing):
     def assert_swept(self, run, first=1, prepare=lambda: None, check=lambda hosts: None):
-        """Each of the allocations of a run from the first one on is refused, and told by a reply where it is missed."""
+        """Each of the allocations of a run from the first one on is refused, and a reply tells it if it is missed."""
         prepare()
         whole, count = self.run_refusing(0, run.given)
         self.assertEqual(whole, (0, b"".join(run.replies), b""))

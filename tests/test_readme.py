@@ -39,7 +39,7 @@ def is_command(words, others=()):
 
 
 def commands(text):
-    """The commands of a page in their order: those that are indented, and, where they are new, those in backquotes."""
+    """The commands of a page in their order: those that are indented and, if they are new, those in backquotes."""
     found = []
     for line, quoted in re.findall(r"(?m)^    (\S.*)$|`([^`\n]+)`", text):
         if is_command(line, OF_THE_SYSTEM) or is_command(quoted) and quoted not in found:

@@ -28,7 +28,7 @@ def scripts():
 
 
 class Words(unittest.TestCase):
-    """What the scripts answer where no other command is there: none to prove, build, install or measure with."""
+    """What the scripts answer if no other command is there: none to prove, build, install or measure with."""
 
     def setUp(self):
         self.sandbox = Sandbox()

@@ -1,4 +1,4 @@
-"""Forms of heads by which a request may be hidden in another, where two readers disagree on where a body ends.
+"""Forms of heads by which a request may be hidden in another, if two readers disagree on where a body ends.
 
 Each is answered by one name, after which nothing is answered or read; or it is read as docs/WIRE.md says.
 """

@@ -24,7 +24,7 @@ CHANGES = [
     restoring(1), restoring(99), aliasing("next", 1), aliasing("next", 99), unaliasing("next"), undoing(2), undoing(99), undoing(0),
     upload(1, "a.txt", b"hello"), upload(1, "b.txt", b"hello"), upload(1, "a.txt", b"other"), cancelling(1), deleting(1),
 ]
-# What is asked for is judged first, and where a target names no site, whether its deploy was ever opened.
+# What is asked for is judged first and, if a target names no site, whether its deploy was ever opened.
 REFUSED_FIRST = [
     (upload(99, "a.txt", b"hello"), NO_DEPLOY), (upload(2, "a.txt", b"hello"), NO_DEPLOY), (cancelling(2), NO_DEPLOY),
     (cancelling(0), NO_DEPLOY), (deleting(99), NO_DEPLOY), (deleting(2), NO_DEPLOY),

@@ -115,12 +115,12 @@ class Folders(Stored):
         self.assert_converses(serves("/a.txt", among=("/a.txt",)))
 
     def call_as_anyone(self):
-        """Lets a user call the program who may not write everywhere: this one, or where this is root another."""
+        """Lets a user who may not write everywhere call the program: this one, or another if this one is root."""
         for folder in (self.room, self.folder):
             folder.chmod(0o755)
         if os.geteuid() != 0:
             return {}
-        # The repository may be where no other user can read.
+        # The repository may be in a folder that no other user can read.
         program = shutil.copy(PROGRAM, self.room / "filehost")
         program.chmod(0o755)
         return {"executable": program, "user": NOBODY, "group": NOBODY, "extra_groups": []}
@@ -146,7 +146,7 @@ class Folders(Stored):
 
 @contextlib.contextmanager
 def read_only(folder):
-    """Mounts a folder over itself so that nothing is written there; where this may not be done, its files alone are kept so."""
+    """Mounts a folder over itself so that nothing is written there; if that isn't allowed, only its files are kept so."""
     mounted = subprocess.run(["mount", "--bind", "-o", "ro", folder, folder], capture_output=True).returncode == 0
     try:
         if not mounted:

@@ -17,7 +17,7 @@ FOLDERS = ("must-fail", "wrong-bodies")
 
 
 def unfit(crate, edit):
-    """The texts of an edit that are not there once, where the pairs before them were applied."""
+    """The texts of an edit that are not there exactly once, after the pairs before them were applied."""
     texts, path, old, found = {}, None, None, []
     for line in edit.read_text().splitlines():
         key, _, text = line.partition(": ")

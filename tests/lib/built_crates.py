@@ -6,7 +6,7 @@ from lib.client import TOP
 
 
 class BuiltCrate:
-    """The program of a crate, which is proved and built where that is needed."""
+    """The program of a crate, which is proved and built if needed."""
 
     def __init__(self, name):
         self.folder = TOP / "crates" / name

@@ -157,7 +157,7 @@ PUBLISHED = [(opening({"/a.txt": HELLO}), opened(1, HELLO)), (upload(1, "a.txt",
 
 
 def cut_after(stream, length_of):
-    """The places in a stream of messages where each ends; a head's field tells the length of what is after it."""
+    """The places in a stream at which its messages end; a field of a head tells the length of what follows it."""
     ends = [0]
     while ends[-1] < len(stream):
         end = stream.index(b"\r\n\r\n", ends[-1]) + 4
@@ -239,7 +239,7 @@ class Program(unittest.TestCase):
         self.assertEqual((status, out[place:], errors), (0, b"", b""), f"after exchange {len(exchanges)}")
 
     def assert_converses_in_turns(self, exchanges):
-        """It answers each request before the next one is sent, and ends with its input or where a reply says so."""
+        """The program answers each request before the next one is sent, and ends with its input or if a reply says so."""
         client = Client(self)
         for number, (asked, wanted) in enumerate(exchanges, 1):
             client.send(asked)

@@ -59,7 +59,7 @@ class Killed:
         raise AssertionError(f"the program ended by itself: {self.program.wait()}, {self.program.stderr.read()}") from None
 
     def end(self):
-        """What the program ends with where nothing more is asked: its status, its last replies and words."""
+        """What the program ends with if nothing more is asked: its status, its last replies and words."""
         self.program.stdin.close()
         out = self.program.stdout.read()
         return self.program.wait(), out, self.program.stderr.read()

@@ -160,7 +160,7 @@ class History:
         return tuple(number for number, entry in numbered if entry.kind != "undo" and number not in undone)
 
     def plan(self, number, state):
-        """What a change writes and touches where it runs again. It is accepted there as it was at first."""
+        """What a change writes and touches when it runs again. It is accepted there as it was at first."""
         kind, site, parts = self.entry(number)
         try:
             return COMMANDS[kind](state, self.uploads, number, site, *parts)

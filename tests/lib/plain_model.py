@@ -42,7 +42,7 @@ def number_of(text):
 
 
 def path_of(text):
-    """The path that this text is, to which the leading slash is added where it lacks one."""
+    """The path that this text is; a leading slash is added if it lacks one."""
     path = text if text.startswith("/") else "/" + text
     is_long = not 2 <= len(path.encode()) <= 1024
     refuse_where(is_long or {"", ".", ".."} & set(path.split("/")[1:]) or set("#?\\\0") & set(path), "BadPath")

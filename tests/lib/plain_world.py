@@ -70,7 +70,7 @@ class Caches:
         return sum(ENTRY + len(chunk) for chunk in self.lists[which])
 
     def add(self, which, chunk):
-        """Puts a chunk first, and evicts those that were used the longest ago: of hot where that counts more than an eighth of main."""
+        """Puts a chunk first, and evicts those that were used the longest ago: from hot if that counts more than an eighth of main."""
         evicted, chunks = 0, self.lists[which]
         is_new = chunk not in chunks
         if not is_new:

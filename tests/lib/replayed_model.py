@@ -39,7 +39,7 @@ class ReplayedModel(Model):
         return number
 
     def play(self, number):
-        """Runs a change where the state is what the ones before it left."""
+        """Runs a change over the state that the ones before it left."""
         writes, touched = self.plan(number, self.cells)
         self.effects[number] = sorted(cell for cell, value in writes.items() if self.cells.get(cell) != value), touched
         for cell, value in writes.items():

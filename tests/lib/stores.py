@@ -74,7 +74,7 @@ def write_store(folder, entries, *contents):
 
 
 def found_in(test, folder, model, asked=None):
-    """The model of what a store has after a stop, where this request was in hand: what was acknowledged, all and unchanged, and after it
+    """The model of what a store has after a stop during this request: what was acknowledged, all and unchanged, and after it
     none, the first or all of the entries that the request would make; and what is uploaded whole, also by that request."""
     file = folder / "journal"
     entries = [entry_of(entry) for entry in journal.read(file.read_bytes() if file.exists() else b"")]
