@@ -50,7 +50,7 @@ def sync(path):
 
 
 class Releases:
-    """A folder with a folder for each version, and the link `current` to one of them, as such deploys are made with nginx and caddy."""
+    """A folder with a folder for each version, and the link `current` to one of them. Such deploys are made with nginx and caddy."""
 
     def __init__(self, folder):
         self.folder, self.count = folder, 0
@@ -79,7 +79,7 @@ class Releases:
         return release
 
     def take_back(self, old, changed, newest):
-        """Makes a release with what `changed` changed as it was in `old`, and all else as in the newest; tells how many files were read for that."""
+        """Makes a release that is the newest one, except that what `changed` changed is as in `old`. Tells how many files were read for that."""
         release = self.new()
         count = 0
         for file in newest.iterdir():

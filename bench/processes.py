@@ -58,13 +58,13 @@ def require(holds, what):
 
 
 def memory_of(program, field):
-    """The bytes that the kernel tells of a program that runs: what it has now (VmRSS), or the most that it had (VmHWM)."""
+    """The bytes that the kernel tells of a running program: what it has now (VmRSS), or the most that it had (VmHWM)."""
     told = pathlib.Path(f"/proc/{program.pid}/status").read_text()
     return 1024 * int(told.partition(f"{field}:")[2].split()[0])
 
 
 def ask(program, method, length):
-    """Has a program that runs answer this request for its file, and reads the reply, whose body has this length."""
+    """Lets a running program answer this request for its file, and reads the reply, whose body has this length."""
     program.stdin.write(head(method, "/s/one/file"))
     program.stdin.flush()
     reply = b""

@@ -175,11 +175,9 @@ class Caddy(FolderServer):
 
 
 class Front:
-    """Lets many connections reach one program, which by itself serves one alone.
-
-    It hands each request on as it is, one after another, and counts their bytes and those of the replies. Where a reply ends
-    the program's connection, as the hundredth does, the next request goes to a new program over the same store.
-    """
+    """Lets many connections reach one program, which by itself serves one. It hands on each request unchanged, one after another, and counts the
+    bytes of requests and replies. If a reply ends the program's connection, as the hundredth does, the next request goes to a new program over the
+    same store."""
 
     def __init__(self, program, store):
         self.words = [program, "solo", "--store", store]

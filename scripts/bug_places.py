@@ -323,7 +323,7 @@ class Places(Source):
 
 
 def places_of(crate, folder, enums):
-    """The places of the crate in this folder, in the order of its files. No two changes make the same of a file."""
+    """The places of the crate in this folder, in the order of its files. No two changes make the same text of a file."""
     places = []
     for file in sorted(pathlib.Path(folder, "src").glob("**/*.rt")):
         text, seen = file.read_text(), set()

@@ -187,7 +187,7 @@ class Enums:
         return found
 
     def others(self, crate, path, name, variant):
-        """The variants of the same form, of the enum of that name: the crate's own, or that of the path before it, or of any crate."""
+        """The variants of the same form in the enum of that name: the crate's own, or that of the path before it, or of any crate."""
         owners = [owner for owner, one in self.found if one == name and variant in self.found[owner, one]]
         chosen = next((one for one in (path, crate) if one in owners), None) or (owners[0] if owners else None)
         forms = self.found.get((chosen, name), {})

@@ -39,7 +39,7 @@ def change(words, site="one", **members):
 
 
 def listed(*lines):
-    """The list of changes: of each its number and its kind, and `gone` if it is undone, or which change it undid."""
+    """The list of changes: the number and the kind of each, and `gone` if it is undone, or which change it undid."""
     changes = []
     for number, kind, *rest in map(str.split, lines):
         state = {"of": int(rest[0])} if kind == "undo" else {"live": rest != ["gone"]}

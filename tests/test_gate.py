@@ -195,7 +195,7 @@ class Runner(unittest.TestCase):
     def test_counts_a_file_that_cannot_be_read_as_failed(self):
         self.assert_counts("import no_such_module\n", 1, "0 passed, 1 failed")
 
-    def test_fails_where_there_is_no_test(self):
+    def test_fails_if_there_is_no_test(self):
         self.assert_counts(None, 1, "0 passed, 0 failed")
 
     def add_three_files(self):

@@ -57,7 +57,7 @@ def a_change(generator, made, seed):
 
 
 def tally_of(make, seeds):
-    """Makes the runs of these seeds, and adds up their tallies, until one fails. What is wrong there is told too."""
+    """Makes the runs of these seeds, and adds up their tallies, until one fails. Tells also what is wrong there."""
     tally = collections.Counter()
     for seed in seeds:
         try:

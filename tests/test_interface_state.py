@@ -97,7 +97,7 @@ class Aliases(Interface):
     second = publishing("one", 3, {"/a": b"second"})
     alias = "/api/v1/sites/one/aliases/next"
 
-    def test_stand_for_a_kept_deploy_of_their_site(self):
+    def test_name_a_kept_deploy_of_their_site(self):
         file = "/a/one/next/a"
         self.assert_rows([
             get(file, "NoSuchAlias"),
@@ -133,7 +133,7 @@ class Aliases(Interface):
             read("/a", b"first"),
         ])
 
-    def test_are_the_same_where_they_stand_for_one_deploy(self):
+    def test_are_the_same_if_they_name_one_deploy(self):
         """A move to the deploy that the alias names already changes nothing, so that it can be undone whatever follows."""
         for number, wanted in [(1, {"entry": 8}), (3, refused("Clash", change=7, cell="alias next"))]:
             with self.subTest(number):

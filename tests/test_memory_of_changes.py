@@ -58,7 +58,7 @@ CHANGES = [
 
 
 def left_by(model, asked):
-    """What a host may be that found no memory for a request: as before, or with the first or all of what it asks for."""
+    """What a host may be after it found no memory for a request: as before, or with the first or all of what the request asks for."""
     done = model.copy()
     done.answer(asked)
     hosts = [model.copy()]

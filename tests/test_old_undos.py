@@ -34,7 +34,8 @@ FOLDERS = "/dev/shm" if os.access("/dev/shm", os.W_OK) else None
 
 
 class UndoGenerator(Generator):
-    """Draws many undos, and deploys of many files. All else that it draws is for some time of a few sites, paths and names, and then of others."""
+    """Draws many undos, and deploys of many files. For some time all other requests are about a few sites, paths and names, and then about
+    others."""
 
     def __init__(self, seed, model):
         super().__init__(seed, model)

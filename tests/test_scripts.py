@@ -204,7 +204,7 @@ class MadeDeploys(unittest.TestCase):
         wanted = {"/.well-known/security.txt": b"hello", "/a/b.txt": b"hello", "/a/c.": b"hello"}
         self.assert_publishes(wanted, "make-deploy: left out 5: hidden names, links that lead elsewhere, and anything that is not a file\n")
 
-    def test_leave_out_links_that_lead_elsewhere_and_what_is_no_file(self):
+    def test_leave_out_links_that_lead_elsewhere_and_anything_that_is_not_a_file(self):
         self.add("a.txt")
         self.add("b/c.txt", b"here")
         self.add(".hidden")

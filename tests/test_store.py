@@ -181,7 +181,7 @@ class Written(Stored):
         self.write([], b"hello")
         self.assert_converses([(opening({"/a.txt": HELLO}), opened(1, HELLO))])
 
-    def test_what_a_stop_left_behind_the_last_gate_is_cut(self):
+    def test_what_a_stop_left_after_the_last_gate_is_cut(self):
         self.write([("open", "one", (), (("/a.txt", HELLO),))], b"hello")
         whole = (self.folder / "journal").read_bytes()
         for last in (b"\x00", b"\x07"):

@@ -84,7 +84,7 @@ class FullDisk(Stored):
         talk.end()
         self.assert_converses([(removing("/a.txt"), entry(5)), (reading("/s/one/a.txt"), NO_FILE)])
 
-    def test_an_opening_stands_whose_publishing_finds_no_room(self):
+    def test_an_opening_remains_whose_publishing_finds_no_room(self):
         size = len(journal.encode(opening_of({"/b.txt": b"hello"}))) + 5
         talk = self.begin(size)
         talk.ask(opening({"/b.txt": HELLO}), DEVICE)

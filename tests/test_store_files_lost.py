@@ -34,7 +34,7 @@ class Damage(Stored):
         return [changed, piece[:-1], b"", piece + b"x", piece * 2, pieces_of(self.content)[0]]
 
     def assert_is_told(self, talk, wanted):
-        """The file is refused, wherever it is read with that piece, and all else is answered as ever, HEAD of it too."""
+        """Each read of the file that needs that piece is refused, and all else is answered as ever, also HEAD of the file."""
         talk.ask(reading("/s/one/d"), wanted)
         talk.ask(reading("/d/one/1/d"), wanted)
         # To HEAD nothing is read, so it tells of the file as ever.

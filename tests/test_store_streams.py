@@ -49,7 +49,7 @@ class Streams(Stored):
             self.assert_answers(b"", b"")
 
     def assert_ends(self, place, ended, fault=None):
-        """Where the requests end or fail there, those before that are whole are answered, and no other does anything."""
+        """If the requests end or fail there, the whole ones before are answered, and no other does anything."""
         whole = sum(end <= place for end in ASKED_ENDS) - 1
         out = WANTED[:WANTED_ENDS[whole]]
         self.assertEqual(ended, (2, out, fault) if fault else (0, out, b""))

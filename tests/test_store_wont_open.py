@@ -56,13 +56,13 @@ class Journals(Stored):
                 self.write(entries, b"hello")
                 self.assert_fails(3, f"journal: NotLegal {number}")
 
-    def test_what_is_no_journal_is_left_as_it_is(self):
+    def test_a_file_that_is_not_a_journal_is_left_as_it_is(self):
         for file in (b"a file of another kind", journal.HEADER, b"\x01FHJRNL\x02\x00", b"\x01FHJRNL", b"\x02FHJRNL\x01\x01", b"\x01\x00"):
             with self.subTest(file=file):
                 self.write_journal(file)
                 self.assert_fails(3, "journal: BadHeader")
 
-    def test_a_record_that_is_none_is_told_with_its_number(self):
+    def test_a_malformed_record_is_told_with_its_number(self):
         file = journal.write([CANCEL] * 3)
         for cut, number in [(62, 3), (45, 3), (44, 2), (27, 2), (26, 1), (9, 1)]:
             with self.subTest(cut=cut):

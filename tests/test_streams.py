@@ -87,7 +87,7 @@ class Faults(Program):
             self.assert_writes_within(room, ASKED, WANTED)
 
     def talk_over(self, content, ranges, wanted):
-        """The streams in which a file is uploaded, and these ranges of it are read; and where the reply to that begins."""
+        """The streams in which a file is uploaded and these ranges of it are read; and the place at which the reply to that begins."""
         digest = digest_of(content)
         asked = opening({"/w.txt": digest}) + upload(1, "w.txt", content) + request("GET", "/s/one/w.txt", f"Range: {ranges}")
         front = opened(1, digest) + uploaded(content, 2)
@@ -142,12 +142,12 @@ class Faults(Program):
             errors.seek(0)
             self.assertEqual(errors.read(), INPUT_FAULT[:3])
 
-    def test_are_none_where_the_options_end_behind_the_command(self):
+    def test_are_none_if_the_options_end_after_the_command(self):
         self.assertEqual(run("solo", "--", given=ASKED), (0, WANTED, b""))
 
 
 class SingleFaults(Program):
-    """One read or write fails, and those after it would not: a library in C is before these calls (refuse_device.c)."""
+    """One read or write fails, and those after it would not. A library in C intercepts these calls (refuse_device.c)."""
 
     content = bytes(range(256)) * 400
     talk = [

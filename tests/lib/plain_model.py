@@ -145,10 +145,8 @@ def range_of(interval, content):
 
 
 def multipart(kind, content, intervals):
-    """The type and the body of a reply with several parts of a file (RFC 9110, sections 14.6 and 15.3.7.2).
-
-    Where the first boundary occurs in a part, the next one is taken; but no test has a file that holds its own digest.
-    """
+    """The type and the body of a reply with several parts of a file (RFC 9110, sections 14.6 and 15.3.7.2). If the first boundary occurs in a part,
+    the next one is taken; but no test has a file that holds its own digest."""
     boundary = f"fh0-{digest_of(content)}"
     parts = []
     for first, last in intervals:
@@ -158,7 +156,7 @@ def multipart(kind, content, intervals):
 
 
 def sending(request, path, content):
-    """The file, or what is asked for of it: one range as it is, and several in parts if they have no more bytes than it."""
+    """The file, or what is asked for of it: one range alone, or several in parts if they have no more bytes than the file."""
     _, dot, ending = path.rpartition("/")[2].rpartition(".")
     kind = TYPES.get(dot and ending.lower(), "application/octet-stream")
     fields = (f'ETag: "{digest_of(content)}"', "Accept-Ranges: bytes")

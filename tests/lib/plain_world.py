@@ -219,7 +219,7 @@ class Read:
 
 
 class World:
-    """A desk, nodes, and visitors, each of whom is on the node at the place of its number modulo how many nodes there are."""
+    """A desk, nodes, and visitors. A visitor is on the node whose place is the visitor's number modulo the number of nodes."""
 
     def __init__(self, limit, cache, nodes, visitors):
         self.desk = Desk(limit)
