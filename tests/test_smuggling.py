@@ -100,7 +100,7 @@ class Smuggling(Program):
             self.assert_refused(CODING_REFUSED, coding, LENGTH)
             self.assert_refused(CODING_REFUSED, coding)
 
-    def test_a_length_with_a_coding_that_is_not_one(self):
+    def test_a_length_with_an_unknown_coding(self):
         for value in ("", "identity", "xchunked", "chunked, x", "chunked;q=0", '"chunked"', "x\tchunked", "\x80"):
             self.assert_refused(CODING_REFUSED, LENGTH, f"Transfer-Encoding: {value}")
 
