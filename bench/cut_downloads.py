@@ -69,7 +69,7 @@ def told_of(got, old, new):
 
 
 def resume(server, way, between, path, folder):
-    """What a client has in the end whose download was cut after so many bytes, and what came to it afterwards."""
+    """What a client has at the end, after its download was cut and resumed, and what came to it after the cut."""
     old, new = random_bytes(f"old {path}", LARGEST), random_bytes(f"new {path}", LARGEST)
     server.put(path, old, SOME_TIME)
     file = folder / "download"

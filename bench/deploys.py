@@ -30,7 +30,7 @@ def version_of_site(version, numbers=range(FILES)):
 
 
 def write_over(folder, files):
-    """Writes each file where it is, as cp does."""
+    """Writes over each file in its place, as cp does."""
     for path, content in files.items():
         (folder / path[1:]).write_bytes(content)
 
@@ -50,7 +50,7 @@ def sync(path):
 
 
 class Releases:
-    """A folder with a folder for each version, and the link `current` to one of them, as such deploys are made with nginx and caddy."""
+    """A folder with a folder for each version, and the link `current` to one of them. Such deploys are made with nginx and caddy."""
 
     def __init__(self, folder):
         self.folder, self.count = folder, 0
@@ -79,7 +79,7 @@ class Releases:
         return release
 
     def take_back(self, old, changed, newest):
-        """Makes a release with what `changed` changed as it was in `old`, and all else as in the newest; tells how many files were read for that."""
+        """Makes a release that is the newest one, except that what `changed` changed is as in `old`. Tells how many files were read for that."""
         release = self.new()
         count = 0
         for file in newest.iterdir():
@@ -148,7 +148,7 @@ class Costs:
             self.add("second, filehost, whole listing", seconds, count)
 
     def patch_and_undo(self, room):
-        """Two patches after the first deploy, of which the earlier one is undone."""
+        """Two patches after the first deploy; the earlier one is undone."""
         with contextlib.ExitStack() as stack:
             filehost = new_filehost(stack, self.program, room)
             _, whole_change = filehost.deploy(self.first)
@@ -201,7 +201,7 @@ class Costs:
 
 
 def compare_costs(program, before, folder, times):
-    """Prints the medians of so many times. The ways take turns."""
+    """Prints the medians of `times` runs. The ways take turns."""
     costs = Costs(program, before)
     for _ in range(times):
         room = pathlib.Path(tempfile.mkdtemp(dir=folder))
@@ -222,7 +222,7 @@ class Poller(threading.Thread):
         self.seen, self.ends, self.fault = collections.Counter(), threading.Event(), None
 
     def read(self, reader, path):
-        """The version that the file has, or None where it is no file of any version."""
+        """The version that the file has, or None if it is no version's file."""
         status, _, body = reader.ask("GET", self.server.target(self.prefix + path))
         version, _, rest = body.partition(b" ")
         number = int(path[2:6])

@@ -28,7 +28,7 @@ class Direct:
 
 
 def time_gets(connection, target, content, count):
-    """The seconds of each of so many GETs over a connection, one after another, after one that is compared."""
+    """The seconds of each of `count` GETs over a connection, one after another. One GET before them has its bytes compared."""
     asked = f"GET {target} HTTP/1.1\r\nHost: {HOST}\r\n\r\n".encode()
     room = memoryview(bytearray(len(content)))
     with connection.makefile("rb", 65_536) as stream:

@@ -11,7 +11,7 @@ from streams import MEBIBYTE, head
 
 
 class Output:
-    """Reads a pipe to its end, keeping only the length, the last bytes, and when so many bytes had come and when the end did."""
+    """Reads a pipe to its end. It keeps only the length, the last bytes, when `mark` bytes had come, and when the end came."""
 
     def __init__(self, mark):
         self.buffer = bytearray(MEBIBYTE)
@@ -30,9 +30,9 @@ class Output:
 
 
 def measure(command, fed=None, mark=0):
-    """Runs a command, fed by `cat` of a file where one is given, and reads what it prints through a pipe.
+    """Runs a command, fed by `cat` of a file if one is given, and reads what it prints through a pipe.
 
-    Returns its output, which tells when so many bytes of it had come, the seconds from its start to its end, and its peak memory in bytes.
+    Returns its output, which tells when `mark` bytes of it had come, the seconds from its start to its end, and its peak memory in bytes.
     """
     with contextlib.ExitStack() as stack:
         source = subprocess.DEVNULL
@@ -58,13 +58,13 @@ def require(holds, what):
 
 
 def memory_of(program, field):
-    """The bytes that the kernel tells of a program that runs: what it has now (VmRSS), or the most that it had (VmHWM)."""
+    """The bytes that the kernel tells of a running program: what it has now (VmRSS), or the most that it had (VmHWM)."""
     told = pathlib.Path(f"/proc/{program.pid}/status").read_text()
     return 1024 * int(told.partition(f"{field}:")[2].split()[0])
 
 
 def ask(program, method, length):
-    """Has a program that runs answer this request for its file, and reads the reply, whose body has this length."""
+    """Lets a running program answer this request for its file, and reads the reply, whose body has this length."""
     program.stdin.write(head(method, "/s/one/file"))
     program.stdin.flush()
     reply = b""

@@ -81,7 +81,7 @@ RANGES = [
 
 
 def wanted_of(value, size):
-    """The first and last positions that a value asks for, where the file has some of them (RFC 9110, section 14.1.2); None of one that isn't valid."""
+    """The first and last positions that a value asks for, if the file has some of them (RFC 9110, section 14.1.2); None for a value that isn't valid."""
     wanted = []
     for element in filter(None, (part.strip(" \t") for part in value.partition("=")[2].split(","))):
         if not re.fullmatch(r"\d+-\d*|-\d+", element):
@@ -112,7 +112,7 @@ def parts_of(fields, body):
 
 
 def fault_of(parts, content, value):
-    """What is wrong with the parts of a 206: each has to have the bytes that it tells, and all of them those that are asked for and no others."""
+    """What is wrong with the parts of a 206: each must have the bytes that it tells, and all together those that are asked for and no others."""
     places, wanted = set(), wanted_of(value, len(content))
     for told, sent in parts:
         if told is None or not told[0] <= told[1] < told[2] == len(content):
@@ -124,7 +124,7 @@ def fault_of(parts, content, value):
 
 
 def say_reply(reply, method, content, value, allowed):
-    """What a reply was, shortly: its status, Content-Range and length; and whether the bytes are not those of the file, or the status not allowed."""
+    """A reply in short: its status, Content-Range and length; and whether the bytes are not those of the file, or the status is not allowed."""
     status, fields, body = reply
     told, marks = fields["Content-Range"], []
     if status == 206 and method == "GET":

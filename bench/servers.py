@@ -1,4 +1,4 @@
-"""The servers of bench/compare, each on a port of its own on 127.0.0.1: nginx and caddy over a folder, and filehost over a store."""
+"""The servers of bench/compare, each on another port of 127.0.0.1: nginx and caddy over a folder, and filehost over a store."""
 
 import contextlib
 import getpass
@@ -62,7 +62,7 @@ def stop(process):
 
 
 def read_head(stream):
-    """The head of the next message, or nothing where the stream ends before."""
+    """The head of the next message, or nothing if the stream ends before."""
     head = b""
     while not head.endswith(b"\r\n\r\n"):
         line = stream.readline()
@@ -83,7 +83,7 @@ def closes(head):
 
 
 class Reader:
-    """A client with one connection, which is made again where the server has ended it."""
+    """A client with one connection, which is made again if the server has ended it."""
 
     def __init__(self, stack, port):
         self.connection = http.client.HTTPConnection(HOST, port, timeout=PATIENCE)
@@ -102,7 +102,7 @@ class Reader:
 
 
 class Server:
-    """A server that answers, of which the tables have a column."""
+    """A server that answers, and has a column in the tables."""
 
     def __init__(self, stack, title, port):
         self.stack, self.title, self.port = stack, title, port
@@ -112,7 +112,7 @@ class Server:
         return self.reader.ask(method, self.target(path), fields)
 
     def wait(self, process, log):
-        """Waits until the server answers. It has to be the process that was started, which then is alive."""
+        """Waits until the server answers. That must be the process that was started, which is then alive."""
         end = time.monotonic() + PATIENCE
         while time.monotonic() < end and process.poll() is None:
             with contextlib.suppress(OSError, http.client.HTTPException):
@@ -133,7 +133,7 @@ class FolderServer(Server):
         log = folder / "log"
         environment = os.environ | {"HOME": str(folder), "XDG_DATA_HOME": str(folder), "XDG_CONFIG_HOME": str(folder)}
         with log.open("wb") as file:
-            # A group of its own: it holds all that the server starts, and no key of the terminal reaches it.
+            # A process group for the server alone: it has all that the server starts, and no key of the terminal reaches it.
             process = subprocess.Popen(self.command(), stdin=subprocess.DEVNULL, stdout=file, stderr=file, env=environment, start_new_session=True)
         stack.callback(stop, process)
         self.wait(process, log)
@@ -175,11 +175,9 @@ class Caddy(FolderServer):
 
 
 class Front:
-    """Lets many connections reach one program, which by itself serves one alone.
-
-    It hands each request on as it is, one after another, and counts their bytes and those of the replies. Where a reply ends
-    the program's connection, as the hundredth does, the next request goes to a new program over the same store.
-    """
+    """Lets many connections reach one program, which by itself serves one. It hands on each request unchanged, one after another, and counts the
+    bytes of requests and replies. If a reply ends the program's connection, as the hundredth does, the next request goes to a new program over the
+    same store."""
 
     def __init__(self, program, store):
         self.words = [program, "solo", "--store", store]
@@ -238,7 +236,7 @@ class FrontServer(socketserver.ThreadingTCPServer):
 
 
 class Filehost(Server):
-    """The program over a store, behind a front."""
+    """The program over a store, reached through a front."""
 
     def __init__(self, stack, program, folder):
         store = folder / "store"
@@ -271,7 +269,7 @@ class Filehost(Server):
         return status, json.loads(body)
 
     def deploy(self, files, is_patch=False):
-        """Deploys files, of which it sends those that the host lacks, and returns the deploy's number and that of the change that published it."""
+        """Deploys files, sends those that the host lacks, and returns the deploy's number and that of the change that published it."""
         listed = {path: digest_of(content) for path, content in files.items()}
         paths = {digest: path for path, digest in listed.items()}
         status, told = self.tell(f"sites/{SITE}/deploys", {"files": listed, "patch": is_patch})
@@ -301,7 +299,7 @@ class Kept(Server):
         return f"/d/{SITE}/{self.number}{path}"
 
     def put(self, path, content, modified=None):
-        """The first such file is what is read; each later one is a deploy of its own."""
+        """The first such file is read; each later one is another deploy."""
         number, _ = self.filehost.deploy({path: content})
         if path != getattr(self, "path", None):
             self.path, self.number = path, number

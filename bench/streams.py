@@ -49,7 +49,7 @@ def write_document(folder, name, body):
 
 
 def write_opening(folder, count):
-    """Writes the request that opens a deploy of so many files, in no order, in a body of the largest size but a few bytes.
+    """Writes the request that opens a deploy of `count` files, in no order, in a body of nearly the largest size.
 
     Returns the stream and the body.
     """
@@ -60,7 +60,7 @@ def write_opening(folder, count):
 
 
 def write_members(folder):
-    """Writes an opening of no files with as many other members as fit, of which none is nested."""
+    """Writes an opening of no files with as many other members as fit, none of them nested."""
     members = "".join(f',"{number:x}":0' for number in range(LARGEST_DOCUMENT // 8))
     room = members[:LARGEST_DOCUMENT - 20].rpartition(",")[0]
     return write_document(folder, "members", f'{{"files":{{}}{room}}}'.encode())
@@ -73,14 +73,14 @@ def write_items(folder, name, item):
 
 
 def changes(count):
-    """So many entries of changes of a site: a deploy without files is published, and then others are opened and aliases are moved to it in
-    turn, each move of an alias of its own."""
+    """`count` entries of changes of a site: a deploy without files is published; then, in turn, another deploy is opened, and another alias is
+    moved to the first one."""
     later = (("alias", "one", f"n{number}", 1) if number % 2 else ("open", "one", (), ()) for number in range(3, count + 1))
     return [("open", "one", (), ()), ("publish", "one", 1), *later]
 
 
 def undos(count):
-    """The undos of as many changes, the earliest first, but that the published deploy is undone last, since all aliases need it."""
+    """The undos of as many changes, the earliest first, except that the published deploy is undone last, since all aliases need it."""
     return [("undo", "one", change) for change in (*range(3, count + 1), 2, 1)]
 
 

@@ -16,7 +16,7 @@ class Arguments(argparse.ArgumentParser):
         self.exit(2, f"{self.prog}: {' '.join(message.split())}\n")
 
     def expect_crates(self, names):
-        """Ends the script where one of these names isn't that of a crate in crates.txt."""
+        """Ends the script if one of these names isn't that of a crate in crates.txt."""
         for name in names:
             if name not in crates():
                 self.error(f"there is no crate {name}")

@@ -24,7 +24,7 @@ class Change:
 
 
 def pairs_for(text, change):
-    """Old and new lines that make this change, or nothing where it can't be written so."""
+    """Old and new lines that make this change, or nothing if it can't be written so."""
     wanted = in_one_line(change.of(text))
     for written in (in_lines, in_a_comment):
         pairs = written(text, change)
@@ -73,7 +73,7 @@ def in_lines(text, change):
 
 
 def in_a_comment(text, change):
-    """What is changed is written again behind a line that stands once in the file, and what was there is made a comment."""
+    """The changed text is written again after a line that occurs once in the file, and the old text becomes a comment."""
     start, end = min(part[0] for part in change.parts), max(part[1] for part in change.parts)
     above, below = line_at(text, start), line_at(text, end)
     while not is_anchor(text, above):

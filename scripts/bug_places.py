@@ -1,7 +1,7 @@
 """The places in the bodies of a crate's functions where a bug can be planted, and each bug as an edit.
 
-Only bodies count: nothing of a contract, of ghost code, an attribute or a comment is a place, and no test. A place has one kind, and
-some changes of its text, each of which is a bug. The code is looked at word by word, as `rt fmt` lays it out, so a change need not
+Only bodies count: contracts, ghost code, attributes, comments and tests have no place. A place has one kind, and some changes of its
+text; each change is a bug. The code is looked at word by word, as `rt fmt` lays it out, so a change need not
 compile: the check of its edit says so.
 """
 
@@ -92,7 +92,7 @@ class Places(Source):
         return skipped
 
     def heads(self, start, end):
-        """Of each bracket that opens behind `if`, `while`, `for` or `match`, which word it was. Looks at each condition."""
+        """For each bracket that opens after `if`, `while`, `for` or `match`, which word that was. Looks at each condition."""
         found = {}
         for at in range(start + 1, end):
             word = self.word(at)
@@ -278,7 +278,7 @@ class Places(Source):
         return found
 
     def after_blocks(self, at):
-        """The word behind an `if` with its branches, a loop, a match or a block."""
+        """The word after an `if` with its branches, a loop, a match or a block."""
         while True:
             in_pattern = False
             word = self.word(at)
@@ -323,7 +323,7 @@ class Places(Source):
 
 
 def places_of(crate, folder, enums):
-    """The places of the crate in this folder, in the order of its files. No two changes make the same of a file."""
+    """The places of the crate in this folder, in the order of its files. No two changes make the same text of a file."""
     places = []
     for file in sorted(pathlib.Path(folder, "src").glob("**/*.rt")):
         text, seen = file.read_text(), set()

@@ -21,7 +21,7 @@ class Module:
 
 
 def uses_of(text):
-    """The modules that a text uses by another name, and the names that it uses, each with its module and its name there."""
+    """The modules that a text uses under another name, and the names that it uses, each with its module and its name there."""
     modules, imports = {}, {}
     for found in USE.finditer(text):
         if not found["names"]:
@@ -35,7 +35,7 @@ def uses_of(text):
 
 
 def blocks_of(text):
-    """The definitions of a text, each with its lines: its type, and what it is equal to. What a module is over counts with none."""
+    """The definitions of a text, each with its lines: its type, and what it is equal to. The parameters of a module count with no definition."""
     name, inside, lines = None, 0, []
     for line in text.splitlines():
         if not line.strip() or line.lstrip().startswith("--"):
@@ -104,7 +104,7 @@ def named_in(top, text, modules, imports, module=None):
 
 
 def contract_of(top, crate, function):
-    """The clauses of a function, and what its file uses; or nothing where there is no such function, or it has no clause."""
+    """The clauses of a function, and what its file uses; or nothing if there is no such function, or it has no clause."""
     owner, _, name = function.rpartition("::")
     for file in sorted((top / "crates" / crate / "src").rglob("*.rt")):
         text = file.read_text()

@@ -47,12 +47,12 @@ def kept_of(crate, room):
 
 
 def is_refusal(rt, outcome):
-    """Whether the prover refused an edit, as the gate counts it: some versions of the toolchain say also whether it was at one of its limits."""
+    """Whether the prover refused an edit, as the gate counts it. Some versions of the toolchain also say whether the prover reached a limit."""
     return outcome is True or outcome in [getattr(rt, name) for name in ("REFUSED", "AT_LIMIT") if hasattr(rt, name)]
 
 
 class Wrong:
-    """An edit of a crate, as it reads there: the texts of the files that it changes, and the function in whose body it does, if it is one."""
+    """An edit of a crate: the texts of the files that it changes, and the function whose body it changes, if that is one function."""
 
     def __init__(self, rt, crate, edit):
         self.crate, self.edit = crate, edit
@@ -85,7 +85,7 @@ class Wrong:
 
 
 def in_different_functions(wrongs):
-    """Lists of edits, each of which are in the bodies of different functions. Those that are in no body are in none."""
+    """Lists of edits. The edits of one list are in the bodies of different functions; an edit that is in no body is in no list."""
     lists, had = [], collections.Counter()
     for wrong in wrongs:
         if wrong.function:
@@ -97,8 +97,8 @@ def in_different_functions(wrongs):
 
 
 def refused_together(rt, crate, wrongs, kept):
-    """Those of these edits, which are in different functions, that the prover refuses in one check: a function is proved from the contracts
-    of others alone, so each that isn't proved there is refused for its own edit. Of the others nothing is known."""
+    """The edits that the prover refuses in one check of all of these, which are in different functions. A function is proved from the contracts
+    of others alone, so a function that isn't proved there is refused for its own edit. Nothing is known of the others."""
     texts = {}
     for wrong in wrongs:
         wrong.put_into(texts)
@@ -109,7 +109,7 @@ def refused_together(rt, crate, wrongs, kept):
 
 
 def goal_of(function, crate, lines):
-    """What the prover says first of a function that it doesn't prove, but for proofs that name what an edit took away."""
+    """What the prover says first of a function that it doesn't prove, except for proofs that name what an edit took away."""
     names = r"(note: )?(\./)?proofs/.*(has no field|is not in scope|has no `|was not admitted)"
     told = [line for line in lines if function.is_at(line) and (": error" in line or line.startswith("note: ")) and not re.match(names, line)]
     is_unproved = any(function.is_unproved_by(line, crate.name) for line in lines)

@@ -32,7 +32,7 @@ class BadHeader(Exception):
 
 
 class BadRecord(Exception):
-    """The record of this number is none."""
+    """The record of this number is malformed."""
 
 
 class Text:

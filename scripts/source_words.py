@@ -33,7 +33,7 @@ def in_one_line(text):
 
 
 def pairs_of(words):
-    """Where each bracket that opens is closed, and the other way round."""
+    """Where each bracket that opens is closed, and where each that closes is opened."""
     pairs, opened = {}, []
     for at, (kind, word, *_) in enumerate(words):
         if kind == "sign" and word in OPENING:
@@ -46,7 +46,7 @@ def pairs_of(words):
 
 @dataclasses.dataclass(frozen=True)
 class Function:
-    """A function of a file in src/: the lines where its head, its body and the end of both are."""
+    """A function of a file in src/: the lines at which its head, its body and both ends are."""
 
     file: str
     name: str
@@ -97,7 +97,7 @@ class Source:
         return self.text[self.start(first):self.end(last)]
 
     def bodies(self):
-        """The brackets of each body of a function that is no test, and where its parameters begin."""
+        """The brackets of each body of a function that is not a test, and the place at which its parameters begin."""
         at, tested = 0, False
         while at < len(self.words):
             word = self.word(at)
@@ -142,7 +142,7 @@ class Source:
         return at + (self.kind(at) == "name")
 
     def body_from(self, at):
-        """The brackets of the body of the function whose parameters begin there, behind its clauses."""
+        """The brackets of the body of the function whose parameters begin there; they come after its clauses."""
         while at < len(self.words):
             word = self.word(at)
             if word in CLAUSES:
@@ -187,7 +187,7 @@ class Enums:
         return found
 
     def others(self, crate, path, name, variant):
-        """The variants of the same form, of the enum of that name: the crate's own, or that of the path before it, or of any crate."""
+        """The variants of the same form in the enum of that name: the crate's own, or that of the path before it, or of any crate."""
         owners = [owner for owner, one in self.found if one == name and variant in self.found[owner, one]]
         chosen = next((one for one in (path, crate) if one in owners), None) or (owners[0] if owners else None)
         forms = self.found.get((chosen, name), {})

@@ -75,7 +75,7 @@ BadPath: {"files":{"a//b":""},"patch":true}
 BadPath: {"files":{"a//b":""},"draft":true}
 """
 
-# What a deploy lists, and the members of its `files`. `H` stands for the digest of `hello`, and `A` for that of `abc`.
+# What a deploy lists, and the members of its `files`. `H` is the digest of `hello`, and `A` that of `abc`.
 LISTINGS = r"""
 /a=H: "a":H
 /a=H: "/a":H
@@ -196,7 +196,7 @@ class Openings(Tables):
         )]
         self.assert_rows([*rows, post(DEPLOYS, '{"files":{},"x":"\u00e9"}', opened(1, published=2))])
 
-    def test_have_white_space_and_nothing_else_round_them(self):
+    def test_have_white_space_and_nothing_else_around_them(self):
         rows = [post(DEPLOYS, body, "BadBody") for body in (
             '\ufeff{"files":{}}', '\f{"files":{}}', '\u00a0{"files":{}}', '{"files":{}}\0', '{"files":{}}\v',
             '{"files":{}},', " ", "\r\n",

@@ -66,7 +66,7 @@ BadBody: "1"
 BadBody: change
 """
 
-# The number of the deploy that an alias is to stand for, or 0, and the body of the request.
+# The number of the deploy that an alias is to name, or 0, and the body of the request.
 ALIASES = r"""
 1: {"deploy":1}
 1: {"deploy":"1","name":"other"}
@@ -123,7 +123,7 @@ BadPath: {"from":"a","to":".."}
 
 
 class Changes(Tables):
-    """What is undone, which deploy an alias stands for, and what is renamed."""
+    """What is undone, which deploy an alias names, and what is renamed."""
 
     def test_name_the_change_to_be_undone(self):
         """Seven changes can be undone, so that a number which is read too freely undoes one of them."""

@@ -44,7 +44,7 @@ class Curl(OverTcp):
         return file.name
 
     def assert_sees(self, wanted, sent_bytes, target, *options, after=()):
-        """The last of these requests is answered so, byte for byte, and curl sends so many bytes of its body."""
+        """The last of these requests is answered so, byte for byte, and curl sends `sent_bytes` bytes of its body."""
         status = wanted.removeprefix(INTERIM)[9:12].decode()
         waiting = ("--include", "--expect100-timeout", str(SECONDS), "--max-time", str(PATIENCE))
         said = self.converse(*after, (target, *waiting, "--write-out", "|%{http_code} %{size_upload}", *options))
@@ -117,7 +117,7 @@ class Downloads(OverTcp):
         self.server = Server(self, self.exchanges, cuts)
 
     def assert_gets(self, status, count, *words):
-        """This client ends with the status, and the file has so many bytes of the content then."""
+        """This client ends with the status, and the file then has the first `count` bytes of the content."""
         ran = subprocess.run([*words, f"http://127.0.0.1:{self.server.port}{FILE}"], cwd=self.folder, timeout=SECONDS)
         self.assertEqual((ran.returncode, (self.folder / "file").read_bytes()), (status, self.content[:count]))
 
@@ -255,7 +255,7 @@ class StandardLibrary(OverTcp):
         self.assert_ended_well()
 
 
-# Requests with an Expect, of which some get an interim reply.
+# Requests with an Expect; some of them get an interim reply.
 EXPECTING = [
     *((expecting(asked), INTERIM + wanted) for asked, wanted in PUBLISHED), (expecting(NEXT), sent(b"hello")),
     (expecting(request("HEAD", FILE, "Content-Length: 0")), INTERIM + to_head(sent(b"hello"))),

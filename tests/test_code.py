@@ -27,7 +27,7 @@ class Rattle(unittest.TestCase):
         self.assertEqual(longer, set())
 
     def test_has_no_function_over_40_lines(self):
-        """Beside the lines of its clauses."""
+        """The lines of its clauses don't count."""
         longer = set()
         for file in self.files:
             for found in re.finditer(r"(?ms)^( *)(?:pub(?:\(crate\))? )?fn (\w+).*?^\1\{?\}$", file.read_text()):

@@ -66,7 +66,7 @@ class Heads(Program):
         for method in (b"get", b"GETS", b"M-SEARCH", b"X", self.token):
             self.assert_answers(method + LINE[3:] + END + NEXT, BAD_METHOD + NO_FILE, method)
 
-    def test_are_refused_with_a_body_and_nothing_behind_is_answered(self):
+    def test_are_refused_with_a_body_and_nothing_after_is_answered(self):
         for lines in self.bad:
             for end in (b"\r\n", b"\n"):
                 head = lines.replace(b"\r\n", end) + end * 2

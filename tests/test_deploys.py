@@ -39,7 +39,7 @@ def change(words, site="one", **members):
 
 
 def listed(*lines):
-    """The list of changes: of each its number and its kind, and `gone` if it is undone, or which change it undid."""
+    """The list of changes: the number and the kind of each, and `gone` if it is undone, or which change it undid."""
     changes = []
     for number, kind, *rest in map(str.split, lines):
         state = {"of": int(rest[0])} if kind == "undo" else {"live": rest != ["gone"]}
@@ -150,7 +150,7 @@ class Completeness(Program):
     LISTED = {"a": None, "b": b"1", "c": b"2", "d": None, "e": b"1", "f": b"3", "g": b"2", "h": None}
 
     def uploads_until(self, number, paths, lacking, entry_number):
-        """Uploads to these paths of a deploy, the last of which publishes it as this entry."""
+        """Uploads to these paths of a deploy; the last one publishes it as this entry."""
         exchanges = []
         for path in paths:
             content = self.LISTED[path]

@@ -31,7 +31,7 @@ class Architecture(unittest.TestCase):
 
     text = read("docs", "ARCHITECTURE.md")
 
-    def test_has_each_crate_with_what_it_stands_on(self):
+    def test_has_each_crate_with_what_it_uses(self):
         table = re.findall(r"(?m)^\| `(\w+)` \| [^|]* \| ([^|]*) \|$", self.text.partition("```")[0])
         self.assertEqual({name: set(re.findall(r"`(\w+)`", rest)) for name, rest in table}, crates())
 

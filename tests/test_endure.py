@@ -19,7 +19,7 @@ COUNTS = ("connections", "requests", "entries", "undos", "clashes", "kills", "wr
 
 class Endure(Program):
     def endure(self, minutes, seed, *words, **environment):
-        """Runs it in a folder of its own, and returns its status, its counts and the lines before them, and its words on standard error."""
+        """Runs it in a temporary folder, and returns its status, its counts and the lines before them, and its words on standard error."""
         with tempfile.TemporaryDirectory(prefix="filehost-test-") as room:
             words = ["--minutes", str(minutes), "--seed", str(seed), "--folder", pathlib.Path(room) / "store", *words]
             ran = subprocess.run([TOP / "bench/endure", *words], env=os.environ | environment, capture_output=True, text=True, timeout=SECONDS)

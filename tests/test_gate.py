@@ -106,7 +106,7 @@ class Gate(unittest.TestCase):
             with self.subTest(number):
                 environment = self.sandbox.environment(SECONDS_A_CRATE="50", CI_SAYS="", CI_STATUS="0", TMPDIR=str(self.sandbox.folder))
                 how = {"stdin": subprocess.DEVNULL, "stdout": subprocess.PIPE, "stderr": subprocess.PIPE, "start_new_session": True}
-                # Whoever began the tests in the background may have had interrupts ignored, which no trap of a shell can change.
+                # If the tests were begun in the background, interrupts may be ignored, which no trap of a shell can change.
                 how["preexec_fn"] = lambda: signal.signal(signal.SIGINT, signal.SIG_DFL)
                 gate = subprocess.Popen([str(self.sandbox.top / "test")], env=environment, **how)
                 while gate.poll() is None and not self.sandbox.calls():
@@ -195,7 +195,7 @@ class Runner(unittest.TestCase):
     def test_counts_a_file_that_cannot_be_read_as_failed(self):
         self.assert_counts("import no_such_module\n", 1, "0 passed, 1 failed")
 
-    def test_fails_where_there_is_no_test(self):
+    def test_fails_if_there_is_no_test(self):
         self.assert_counts(None, 1, "0 passed, 0 failed")
 
     def add_three_files(self):

@@ -15,7 +15,7 @@ BATCHES = 40
 
 
 def run_of_any(seed):
-    """A history of up to a hundred requests, of which the last ones read all that is visible."""
+    """A history of up to a hundred requests. The last ones read all that is visible."""
     made = Run()
     generator = Generator(seed, made.model)
     made.ask(generator.requests(generator.one_of((40, 55, 70, 85))))
@@ -57,7 +57,7 @@ def a_change(generator, made, seed):
 
 
 def tally_of(make, seeds):
-    """Makes the runs of these seeds, and adds up their tallies, until one fails. What is wrong there is told too."""
+    """Makes the runs of these seeds, and adds up their tallies, until one fails. Tells also what is wrong there."""
     tally = collections.Counter()
     for seed in seeds:
         try:
@@ -68,7 +68,7 @@ def tally_of(make, seeds):
 
 
 class Histories(Program):
-    """Histories that are drawn by chance. Each is asked of a program of its own, whose host is empty at first."""
+    """Histories that are drawn by chance. Each is asked of a new program, whose host is empty at first."""
 
     def assert_tally(self, make, count, least):
         """All these runs go well, and each of these words was met at least so often."""

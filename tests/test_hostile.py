@@ -23,7 +23,7 @@ HEAD = re.compile(rb"HTTP/1\.1 [1-5][0-9]{2} [A-Z][A-Za-z ]+\r\n(?:[A-Z][A-Za-z-
 
 
 def are_replies(rest, may_lack_bodies):
-    """Whether these are whole replies, or heads alone to HEAD, with interim replies, and none after one that closes."""
+    """Whether these are whole replies, or heads alone to HEAD, with interim replies, and no reply after one that closes."""
     while rest:
         head = HEAD.match(rest)
         if head is None:
@@ -58,7 +58,7 @@ def hear(seed):
 
 
 class Hostile(Program):
-    """Changes of streams. Each is sent to a program of its own."""
+    """Changes of streams. Each is sent to a new program."""
 
     faults = ("BadHead", "LengthBad", "CodingRefused", "BodyTooLarge", "HeadTooLarge")
 

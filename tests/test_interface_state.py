@@ -1,4 +1,4 @@
-"""What sites serve, what aliases stand for, and what kept and open deploys hold.
+"""What sites serve, what aliases name, and what kept and open deploys hold.
 
 What is expected follows from docs/HTTP.md and docs/CHANGES.md.
 """
@@ -91,13 +91,13 @@ class Files(Interface):
 
 
 class Aliases(Interface):
-    """Which deploy an alias stands for."""
+    """Which deploy an alias names."""
 
     first = publishing("one", 1, {"/a": b"first"})
     second = publishing("one", 3, {"/a": b"second"})
     alias = "/api/v1/sites/one/aliases/next"
 
-    def test_stand_for_a_kept_deploy_of_their_site(self):
+    def test_name_a_kept_deploy_of_their_site(self):
         file = "/a/one/next/a"
         self.assert_rows([
             get(file, "NoSuchAlias"),
@@ -133,8 +133,8 @@ class Aliases(Interface):
             read("/a", b"first"),
         ])
 
-    def test_are_the_same_where_they_stand_for_one_deploy(self):
-        """A move to where the alias stands already changes nothing, so that it can be undone whatever follows."""
+    def test_are_the_same_if_they_name_one_deploy(self):
+        """A move to the deploy that the alias names already changes nothing, so that it can be undone whatever follows."""
         for number, wanted in [(1, {"entry": 8}), (3, refused("Clash", change=7, cell="alias next"))]:
             with self.subTest(number):
                 self.assert_rows([

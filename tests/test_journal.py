@@ -137,7 +137,7 @@ class Calls(Journals):
         mended = [f"pwrite journal {gate} 00", "fdatasync journal", f"ftruncate journal {gate + 1}", "fdatasync journal"]
         self.assertEqual(self.trace("open", self.file, "1"), ["fsync folder", "fdatasync journal", *mended])
 
-    def test_nothing_is_written_to_what_is_no_journal(self):
+    def test_nothing_is_written_to_a_file_that_is_not_a_journal(self):
         for file in (b"a file of another kind", journal.write(ENTRIES)[:100]):
             self.file.write_bytes(file)
             self.assertEqual(self.trace("open", self.file, "1"), ["fsync folder", "fdatasync journal"])

@@ -126,7 +126,7 @@ ff46484a524e4c01 00 | 0 entries | 0146484a524e4c01 00
 0146484a524e4c01 01 0000000d 03036f6e650000000000000001 01 | BadRecord 2 |
 0146484a524e4c01 01 0000000d 03036f6e650000000000000001 01 00000001 00 00 | BadRecord 2 |"""
 
-# Three entries which are the same, and where the gates are.
+# Three equal entries, and the places of the gates.
 THREE = bytes.fromhex("0146484a524e4c01" + "01 0000000d 03036f6e650000000000000001" * 3 + "00")
 GATES = (8, 26, 44, 62)
 
@@ -199,7 +199,7 @@ def texts_near(text):
 
 
 def opening(count, size):
-    """The text of an opening, in a site of 63 bytes, of so many paths of so many bytes."""
+    """The text of an opening, in a site of 63 bytes, of `count` paths of `size` bytes each."""
     listed = (b"/" + b"a" * (size - 6) + b"%05d\x01" % number + b"\xff" * 20 for number in range(count))
     return b"\x01\x3f" + b"z" * 63 + b"\x02" + count.to_bytes(4, "big") + b"".join(size.to_bytes(2, "big") + path for path in listed)
 

@@ -97,12 +97,12 @@ class Launcher(unittest.TestCase):
         self.sandbox.write("crates.txt", "low:\n")
         self.assert_refuses(self.call(), "crates.txt", "filehost")
 
-    def test_proves_what_the_program_stands_on_lowest_first(self):
+    def test_proves_the_crates_that_the_program_uses_lowest_first(self):
         self.sandbox.add_crates(CRATES)
         self.call()
         self.assertEqual(self.sandbox.calls(), IN_ORDER)
 
-    def test_proves_crates_that_do_not_stand_on_each_other_side_by_side(self):
+    def test_proves_crates_that_do_not_use_each_other_side_by_side(self):
         self.sandbox.add_crates(SIDE_BY_SIDE)
         self.assertEqual(self.call(SECONDS_A_CRATE="0.5")[0], OWN_STATUS)
         calls = self.sandbox.calls()

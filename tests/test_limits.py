@@ -24,7 +24,7 @@ def listing(site):
 
 
 class Lists(Stored):
-    """Of each site the last 1,000 entries are told, the oldest first."""
+    """The last 1,000 entries of each site are told, the oldest first."""
 
     def test_tell_the_last_thousand_entries(self):
         self.write([entry for number in range(1, 1_200, 2) for entry in (opening_of({}), ("publish", "one", number))])
@@ -71,7 +71,7 @@ class Full(Stored):
         renaming("/a.txt", "/c.txt"), renaming("/a.txt", "/a.txt"), renaming("/b.txt", "/c.txt"), removing("/a.txt"), removing("/b.txt"),
         undoing(6), undoing(2), undoing(0), undoing(MOST_ENTRIES), undoing(MOST_ENTRIES, "two"),
     ]
-    # What is asked for is judged first, and where a target names no site, whether its deploy was ever opened.
+    # What is asked for is judged first and, if a target names no site, whether its deploy was ever opened.
     REFUSED_FIRST = [
         (cancelling(2), NO_DEPLOY), (cancelling(0), NO_DEPLOY), (deleting(2), NO_DEPLOY), (deleting(MOST_ENTRIES), NO_DEPLOY),
         (asking("POST", "/api/v1/sites/one/undo"), refused("BadBody")), (renaming("/", "/a"), refused("BadPath")),
@@ -92,12 +92,12 @@ class Full(Stored):
     LINES = [change(number, kind) for number, kind in enumerate(["open", "publish", "open", "publish", "alias", "open"], 1)]
 
     def write_filled(self, count):
-        """Writes a store of so many entries."""
+        """Writes a store of `count` entries."""
         write_store(self.folder, [], b"hello")
         (self.folder / "journal").write_bytes(self.journal_of(count))
 
     def journal_of(self, count, *last):
-        """A journal's file with so many entries, and then these."""
+        """A journal's file with `count` entries, and then these."""
         first, filling, last = (journal.write(entries)[len(journal.HEADER):-1] for entries in (self.FIRST, [self.FILLING], last))
         return journal.HEADER + first + filling * (count - len(self.FIRST)) + last + journal.SHUT
 

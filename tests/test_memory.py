@@ -26,7 +26,7 @@ WHOLE = (
 )
 
 # What may follow the reply that says that there was no memory for a request, by the request's place: the replies
-# where the request left nothing, or what it does first, or all that it does.
+# if the request left nothing, or what it does first, or all that it does.
 TAILS = [
     [[NO_DEPLOY, NO_FILE, NO_CHANGE, NO_FILE], [UPLOADED, PART, UNDONE, GONE]],
     [[NO_FILE, NO_CHANGE, NO_FILE], [PART, UNDONE, GONE]],
@@ -37,7 +37,7 @@ TAILS = [
 
 
 def is_right(replies):
-    """Whether these are the replies of the first run, of which one may say that there was no memory."""
+    """Whether these are the replies of the first run; one of them may say that there was no memory."""
     stated = [OPENED, UPLOADED, PART, UNDONE, GONE]
     if replies == stated:
         return True
@@ -69,7 +69,7 @@ class RefusedAllocations(Refusing):
         self.assertGreater(refused, 20)
 
     def assert_gives(self, given, wanted, *without_memory):
-        """The wanted output, or at some place one of these, or nothing where there is no memory to begin."""
+        """The wanted output, or one of these at some place, or nothing if there is no memory to begin."""
         whole, count = self.run_refusing(0, given)
         self.assertEqual(whole, (0, wanted, b""))
         seen = {self.run_refusing(place, given)[0] for place in range(1, count + 1)}
@@ -109,7 +109,7 @@ class AnnouncedBodies(Program):
     ROOM = 12 * MEBIBYTE
 
     def run_in_little_room(self, came):
-        """Runs an upload of the largest file, of which so many bytes come."""
+        """Runs an upload of the largest file, and sends `came` bytes of it."""
 
         def limit_room():
             resource.setrlimit(resource.RLIMIT_AS, (self.ROOM, self.ROOM))

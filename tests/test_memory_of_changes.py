@@ -58,7 +58,7 @@ CHANGES = [
 
 
 def left_by(model, asked):
-    """What a host may be that found no memory for a request: as before, or with the first or all of what it asks for."""
+    """What a host may be after it found no memory for a request: as before, or with the first or all of what the request asks for."""
     done = model.copy()
     done.answer(asked)
     hosts = [model.copy()]
@@ -99,7 +99,7 @@ class Run:
 
 class Changes(Refusing):
     def assert_swept(self, run, first=1, prepare=lambda: None, check=lambda hosts: None):
-        """Each of the allocations of a run from the first one on is refused, and told by a reply where it is missed."""
+        """Each of the allocations of a run from the first one on is refused, and a reply tells it if it is missed."""
         prepare()
         whole, count = self.run_refusing(0, run.given)
         self.assertEqual(whole, (0, b"".join(run.replies), b""))
@@ -121,7 +121,7 @@ class Changes(Refusing):
 
 
 class StoredChanges(Changes, Stored):
-    """After so many entries that the next ones close a block of 128 in the history, and split one in the state."""
+    """The next entries close a block of 128 in the history, and split one in the state."""
 
     entries = [opening_of({"/a.txt": b"hello"}), ("publish", "one", 1), *(("alias", "one", f"n{number}", 1) for number in range(125))]
     requests = [alias("n125", 1), alias("n126", 1), undo(5), read("/a/one/n2/a.txt"), read("/a/one/n3/a.txt")]

@@ -161,7 +161,7 @@ class Digests(Interface):
                 ])
 
     def test_are_right_for_each_length_of_a_few_blocks(self):
-        """A block of SHA-1 has 64 bytes, of which the length takes the last 8."""
+        """A block of SHA-1 has 64 bytes; the length takes the last 8."""
         contents = [bytes(range(length)) for length in range(200)]
         for start in range(0, len(contents), REQUESTS - 2):
             files = {f"/{len(content)}": content for content in contents[start:start + REQUESTS - 2]}

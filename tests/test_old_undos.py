@@ -34,7 +34,8 @@ FOLDERS = "/dev/shm" if os.access("/dev/shm", os.W_OK) else None
 
 
 class UndoGenerator(Generator):
-    """Draws many undos, and deploys of many files. All else that it draws is for some time of a few sites, paths and names, and then of others."""
+    """Draws many undos, and deploys of many files. For some time all other requests are about a few sites, paths and names, and then about
+    others."""
 
     def __init__(self, seed, model):
         super().__init__(seed, model)
@@ -43,7 +44,7 @@ class UndoGenerator(Generator):
         self.wanted = []
 
     def look_elsewhere(self):
-        """Draws of which sites, paths and names the next requests are."""
+        """Draws the sites, paths and names of the next requests."""
         self.sites = self.one_of((("one",), ("one",), ("two",), ("three",), SITES))
         self.paths = self.random.sample(PATHS, self.one_of((3, 6, 12)))
         self.names = self.random.sample(NAMES, 2)
@@ -91,7 +92,7 @@ class UndoGenerator(Generator):
         yield from (Request("PUT", f"/api/v1/deploys/1/files{path}", body=content) for path, content in files.items())
 
     def connections(self, entries):
-        """The requests of each connection, until there are so many entries."""
+        """The requests of each connection, until there are `entries` entries."""
         yield self.beginning()
         while len(self.model.entries) < entries:
             if self.happens(0.35):
@@ -160,7 +161,7 @@ def converse(folder, model, requests):
 
 
 def converse_at_length(folder, generator, entries):
-    """The same for a history of so many entries; afterwards all that is visible is as in the model, and the journal has its entries."""
+    """The same for a history of `entries` entries. Afterwards all that is visible is as in the model, and the journal has its entries."""
     model = generator.model
     for requests in generator.connections(entries):
         converse(folder, model, requests)
@@ -198,7 +199,7 @@ class OldUndos(Program):
 
 
 class AfterManyChanges(Stored):
-    """The first entries of a site, and so many moves of one alias after them."""
+    """The first entries of a site, and many moves of one alias after them."""
 
     moves = 2_000
     first = [

@@ -107,7 +107,7 @@ class SmallSite(Program):
         renamed = self.stream.read_bytes().replace(b"/deploys/1/", b"/deploys/27/").replace(b"/small", b"/other")
         self.assertEqual((status, stream), (0, renamed))
 
-    def test_is_refused_by_make_deploy_where_there_is_nothing_or_too_much(self):
+    def test_is_refused_by_make_deploy_if_there_is_nothing_or_too_much(self):
         with tempfile.TemporaryDirectory() as folder:
             self.assertEqual(self.deploy(folder, "small"), (2, b""))
             for number in range(REQUESTS - 2):

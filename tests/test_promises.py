@@ -36,7 +36,7 @@ def contracts_of(code):
 
 
 def public_functions(crate):
-    """The functions that others may call: their types where they have one, their names, and their contracts."""
+    """The functions that others may call: their types if they have one, their names, and their contracts."""
     root = next((TOP / "crates" / crate / "src").glob("*.rt")).parent
     lib = next(file for file in (root / "lib.rt", root / "main.rt") if file.exists()).read_text()
     told = set(re.findall(r"\w+", " ".join(re.findall(r"(?ms)^pub use (.*?);", lib))))

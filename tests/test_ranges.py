@@ -106,7 +106,7 @@ class Ranges(Interface):
             (f"bytes={ahead},-0", none_of(CONTENT)),
         ])
 
-    def test_are_sent_in_parts_where_there_are_several(self):
+    def test_are_sent_in_parts_if_there_are_several(self):
         self.assert_parts([
             ("bytes=0-4,-5", [(0, 4), (6, 10)]),
             ("bytes=0-0,2-2", [(0, 0), (2, 2)]),
@@ -171,7 +171,7 @@ class Ranges(Interface):
         self.assert_parts([("bytes=0-0", (0, 0)), ("bytes=0-1", (0, 0))], "/one")
         self.assert_parts([("bytes=65535-65536", (65535, 65536)), ("bytes=0-65536", (0, 65536))], "/long")
 
-    def test_are_refused_behind_the_file(self):
+    def test_are_refused_after_the_end_of_the_file(self):
         none = none_of(CONTENT)
         self.assert_parts([
             ("bytes=11-11", none),

@@ -32,7 +32,7 @@ def get(target):
 
 class Reads(Program):
     def assert_reads(self, rows):
-        """A host with the three texts answers each read of /s/one/ with the reply beside it."""
+        """A host with the three texts answers each read of /s/one/ with its reply."""
         asked = [(request(method, f"/s/one/{path}", *fields), wanted) for method, path, fields, wanted in rows]
         self.assert_converses(TEXTS + asked)
 
@@ -78,7 +78,7 @@ class Reads(Program):
             ("GET", "b.txt", ["Range: bytes=0-0", f"If-Range: {tag}"], NO_FILE),
         ])
 
-    def test_refuse_a_range_behind_the_end(self):
+    def test_refuse_a_range_after_the_end(self):
         refusal = refused("NotSatisfiable", "Content-Range: bytes */5")
         ranges = ("5-9", "5-5", "6-6", "5-18446744073709551616", "18446744073709551615-18446744073709551615",
                   "18446744073709551616-18446744073709551616", "99999999999999999999-18446744073709551615", "5-", "-0")

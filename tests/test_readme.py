@@ -28,7 +28,7 @@ TESTS = "print('the tests')\nprint('2 passed, 0 failed')\n"
 
 
 def left_out(folder, names):
-    """What of a folder is no source: what git, rt and Python keep, and the store that README.md makes at the top."""
+    """What in a folder is no source: what git, rt and Python keep, and the store that README.md makes at the top."""
     return {".git", "out", "__pycache__"} | ({"store", "DIR"} if pathlib.Path(folder) == TOP else set())
 
 
@@ -39,7 +39,7 @@ def is_command(words, others=()):
 
 
 def commands(text):
-    """The commands of a page in their order: those that are indented, and, where they are new, those in backquotes."""
+    """The commands of a page in their order: those that are indented and, if they are new, those in backquotes."""
     found = []
     for line, quoted in re.findall(r"(?m)^    (\S.*)$|`([^`\n]+)`", text):
         if is_command(line, OF_THE_SYSTEM) or is_command(quoted) and quoted not in found:
@@ -63,7 +63,7 @@ def exchanges(text):
 
 
 def is_shown_as(shown, body):
-    """Whether a body is what is shown of it, in which two points stand for some text."""
+    """Whether a body is the shown text, in which two points mean any text."""
     return re.fullmatch(".*".join(map(re.escape, shown.split(".."))), body.strip(), re.DOTALL) is not None
 
 
@@ -88,7 +88,7 @@ class Readme(Program):
             self.port = str(listener.getsockname()[1])
 
     def start(self, command):
-        """Begins a command in a group of its own, which is ended with the test, however that ends."""
+        """Begins a command in a process group that is ended with the test, however that ends."""
         words = command
         for word, meant in {**OWN_WORDS, PORT: self.port}.items():
             words = re.sub(rf"\b{word}\b", meant, words)
@@ -102,7 +102,7 @@ class Readme(Program):
         return started
 
     def end(self, started):
-        """Ends what is left of a command, and waits for that."""
+        """Ends the rest of a command, and waits for it."""
         try:
             os.killpg(started.pid, signal.SIGKILL)
         except ProcessLookupError:
@@ -136,7 +136,7 @@ class Readme(Program):
         return told
 
     def test_shows_commands_that_do_what_it_says(self):
-        """In order, so over what those before have left. Where an example has its replies beside it, these are what the program answers."""
+        """In order, so each over what those before it left. If an example has a file of replies, the program answers these."""
         there = sorted(path.name for path in TOP.iterdir())
         shown = commands(self.text)
         self.assertGreater(len(shown), 12)

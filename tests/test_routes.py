@@ -9,7 +9,7 @@ import unittest
 from lib.client import STATUS_OF, refused, request
 from lib.rows import NO_NUMBERS, Interface, post, publishing, put, row, served, written
 
-# Each resource by a target, and the replies to its methods where the host is empty and the request has no body.
+# Each resource by a target, and the replies to its methods if the host is empty and the request has no body.
 RESOURCES = {
     "/s/one/x": {"GET": "NoSuchFile", "HEAD": "NoSuchFile"},
     "/a/one/next/x": {"GET": "NoSuchAlias", "HEAD": "NoSuchAlias"},

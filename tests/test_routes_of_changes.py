@@ -49,7 +49,7 @@ class Writes(Interface):
         ]
         self.assert_rows(rows)
 
-    def test_upload_to_the_path_behind_files(self):
+    def test_upload_to_the_path_after_files(self):
         files = written("of", ["/a.txt", "/a/b", "/%25", "/\u00e9"])
         body = {"files": {path: digest_of(content) for path, content in files.items()}, "draft": True}
         before = post(DEPLOYS, body, opened(1, *sorted(body["files"].values())))

@@ -28,7 +28,7 @@ def scripts():
 
 
 class Words(unittest.TestCase):
-    """What the scripts answer where no other command is there: none to prove, build, install or measure with."""
+    """What the scripts answer if no other command is there: none to prove, build, install or measure with."""
 
     def setUp(self):
         self.sandbox = Sandbox()
@@ -75,7 +75,7 @@ class Words(unittest.TestCase):
 
 
 class ShownStores(unittest.TestCase):
-    """scripts/show-store, where there is nothing to show."""
+    """scripts/show-store over stores that have nothing to show."""
 
     def show(self, folder):
         ran = subprocess.run([sys.executable, TOP / "scripts/show-store", folder], capture_output=True, text=True, timeout=60)
@@ -97,7 +97,7 @@ class Listening(unittest.TestCase):
     def listen(self, *words):
         """Starts it on a port that is free, and returns that port."""
         command = [sys.executable, TOP / "examples/listen", "--port", "0", *words, *self.command]
-        # Whoever began the tests in the background may have had interrupts ignored.
+        # If the tests were begun in the background, interrupts may be ignored.
         how = {"preexec_fn": lambda: signal.signal(signal.SIGINT, signal.SIG_DFL)}
         self.listener = subprocess.Popen(command, stdout=subprocess.PIPE, stderr=subprocess.PIPE, **how)
         for done in (self.listener.stdout.close, self.listener.stderr.close, self.listener.wait, self.listener.kill):
@@ -202,9 +202,9 @@ class MadeDeploys(unittest.TestCase):
         for path in (".well-known/security.txt", "a/b.txt", "a/c."):
             self.add(path)
         wanted = {"/.well-known/security.txt": b"hello", "/a/b.txt": b"hello", "/a/c.": b"hello"}
-        self.assert_publishes(wanted, "make-deploy: left out 5: hidden names, links that lead elsewhere, and what is no file\n")
+        self.assert_publishes(wanted, "make-deploy: left out 5: hidden names, links that lead elsewhere, and anything that is not a file\n")
 
-    def test_leave_out_links_that_lead_elsewhere_and_what_is_no_file(self):
+    def test_leave_out_links_that_lead_elsewhere_and_anything_that_is_not_a_file(self):
         self.add("a.txt")
         self.add("b/c.txt", b"here")
         self.add(".hidden")
@@ -218,7 +218,7 @@ class MadeDeploys(unittest.TestCase):
             (self.folder / name).symlink_to(target)
         os.mkfifo(self.folder / "fifo")
         wanted = {"/a.txt": b"hello", "/b/c.txt": b"here", "/b/in": b"hello"}
-        self.assert_publishes(wanted, "make-deploy: left out 10: hidden names, links that lead elsewhere, and what is no file\n")
+        self.assert_publishes(wanted, "make-deploy: left out 10: hidden names, links that lead elsewhere, and anything that is not a file\n")
 
     def test_take_a_folder_that_is_a_link(self):
         self.add("a.txt")
@@ -262,7 +262,7 @@ class MadeDeploys(unittest.TestCase):
         self.add("a.txt")
         for site in ("", "One", "a b", "a/b", "é", "a" * 64, "a\nb"):
             with self.subTest(site):
-                self.assert_refuses("no name of a site", site=site)
+                self.assert_refuses("not the name of a site", site=site)
         for number in ("0", "-1", "1000001", "x"):
             with self.subTest(number):
                 self.assert_refuses(number, words=[f"--deploy={number}"])

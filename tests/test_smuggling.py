@@ -1,4 +1,4 @@
-"""Forms of heads by which a request may be hidden in another, where two readers disagree on where a body ends.
+"""Forms of heads by which a request may be hidden in another, if two readers disagree on where a body ends.
 
 Each is answered by one name, after which nothing is answered or read; or it is read as docs/WIRE.md says.
 """
@@ -19,7 +19,7 @@ LENGTH = f"Content-Length: {len(HIDDEN)}"
 
 class Smuggling(Program):
     def assert_ends(self, head, wanted):
-        """The head is answered so, and what is behind it is neither answered nor read."""
+        """The head is answered so, and the bytes after it are neither answered nor read."""
         near, far = socket.socketpair(type=socket.SOCK_SEQPACKET)
         with near, far:
             # A read takes no more than one of these.
@@ -100,7 +100,7 @@ class Smuggling(Program):
             self.assert_refused(CODING_REFUSED, coding, LENGTH)
             self.assert_refused(CODING_REFUSED, coding)
 
-    def test_a_length_with_a_coding_that_is_none(self):
+    def test_a_length_with_an_unknown_coding(self):
         for value in ("", "identity", "xchunked", "chunked, x", "chunked;q=0", '"chunked"', "x\tchunked", "\x80"):
             self.assert_refused(CODING_REFUSED, LENGTH, f"Transfer-Encoding: {value}")
 

@@ -1,4 +1,4 @@
-"""Connections in steps, over `step_tests`: streams that come in pieces, each read and each write of which would have to wait first, are answered as they are
+"""Connections in steps, over `step_tests`: streams come in pieces, and each read and each write would have to wait first. They are answered as they are
 at once, byte for byte."""
 
 import concurrent.futures

@@ -24,7 +24,7 @@ OPENINGS = 4
 
 
 class Closed(Stored):
-    """Runs that are parted among several programs, one after the other over the same folder."""
+    """Runs that are divided among several programs, one after another over the same folder."""
 
     first = [
         (opening({"/a.txt": HELLO, "b.txt": ABC}), opened(1, ABC, HELLO)),
@@ -127,7 +127,7 @@ class Closed(Stored):
 
 
 class Generated(Stored):
-    """Histories that are drawn by chance, each parted among several programs."""
+    """Histories that are drawn by chance, each divided among several programs."""
 
     def test_are_answered_as_by_the_plain_model_and_as_before(self):
         for seed in range(HISTORIES):
@@ -181,7 +181,7 @@ class Written(Stored):
         self.write([], b"hello")
         self.assert_converses([(opening({"/a.txt": HELLO}), opened(1, HELLO))])
 
-    def test_what_a_stop_left_behind_the_last_gate_is_cut(self):
+    def test_what_a_stop_left_after_the_last_gate_is_cut(self):
         self.write([("open", "one", (), (("/a.txt", HELLO),))], b"hello")
         whole = (self.folder / "journal").read_bytes()
         for last in (b"\x00", b"\x07"):

@@ -1,6 +1,6 @@
 """A store whose folder can't be written while the program runs: what is answered then, and what is there once it is opened again.
 
-A limit on the size of files stands for a full disk, beside a small file system where one may be mounted.
+A limit on the size of files acts as a full disk, as does a small file system where one may be mounted.
 """
 
 import contextlib
@@ -24,7 +24,7 @@ CHANGES = [
     restoring(1), restoring(99), aliasing("next", 1), aliasing("next", 99), unaliasing("next"), undoing(2), undoing(99), undoing(0),
     upload(1, "a.txt", b"hello"), upload(1, "b.txt", b"hello"), upload(1, "a.txt", b"other"), cancelling(1), deleting(1),
 ]
-# What is asked for is judged first, and where a target names no site, whether its deploy was ever opened.
+# What is asked for is judged first and, if a target names no site, whether its deploy was ever opened.
 REFUSED_FIRST = [
     (upload(99, "a.txt", b"hello"), NO_DEPLOY), (upload(2, "a.txt", b"hello"), NO_DEPLOY), (cancelling(2), NO_DEPLOY),
     (cancelling(0), NO_DEPLOY), (deleting(99), NO_DEPLOY), (deleting(2), NO_DEPLOY),
@@ -43,7 +43,7 @@ READS = [
 
 @contextlib.contextmanager
 def small_file_system(folder, size):
-    """Whether a file system of so many bytes could be mounted on the folder."""
+    """Whether a file system of `size` bytes could be mounted on the folder."""
     mounted = subprocess.run(["mount", "-t", "tmpfs", "-o", f"size={size}", "tmpfs", folder], capture_output=True).returncode == 0
     try:
         yield mounted
@@ -55,7 +55,7 @@ def small_file_system(folder, size):
 
 class FullDisk(Stored):
     def begin(self, room):
-        """A program over a deploy, whose journal has room for so many bytes more."""
+        """A program over a deploy, whose journal has room for `room` bytes more."""
         self.write(DEPLOYED, b"hello")
         return Conversation(self, **limited((self.folder / "journal").stat().st_size + room))
 
@@ -84,7 +84,7 @@ class FullDisk(Stored):
         talk.end()
         self.assert_converses([(removing("/a.txt"), entry(5)), (reading("/s/one/a.txt"), NO_FILE)])
 
-    def test_an_opening_stands_whose_publishing_finds_no_room(self):
+    def test_an_opening_remains_whose_publishing_finds_no_room(self):
         size = len(journal.encode(opening_of({"/b.txt": b"hello"}))) + 5
         talk = self.begin(size)
         talk.ask(opening({"/b.txt": HELLO}), DEVICE)

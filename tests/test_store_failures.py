@@ -19,7 +19,7 @@ FAULTS = [(3, b"", b"filehost: journal: Device\n"), (4, b"", b"filehost: blobs: 
 
 
 class Possible:
-    """What a host may be, for all that it has answered: some models, and whether its journal has failed in each."""
+    """What a host may be, by all that it has answered: some models, and whether its journal has failed in each."""
 
     def __init__(self, model):
         self.hosts = [(model, False)]
@@ -116,7 +116,7 @@ class Failures(Stored):
         self.assert_answers_as(found, looks(found))
 
     def assert_swept(self, prepare, requests):
-        """Each of the calls of such a run is refused, early or late, and told by a reply or by the end of the program."""
+        """Each of the calls of such a run is refused, early or late, and a reply or the end of the program tells it."""
         possible, end = self.converse(prepare(), requests, 0, False)
         self.assertEqual((end, possible.in_hand), ((0, b"", b""), None))
         calls = int(self.told_in.read_text())

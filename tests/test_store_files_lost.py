@@ -34,7 +34,7 @@ class Damage(Stored):
         return [changed, piece[:-1], b"", piece + b"x", piece * 2, pieces_of(self.content)[0]]
 
     def assert_is_told(self, talk, wanted):
-        """The file is refused, wherever it is read with that piece, and all else is answered as ever, HEAD of it too."""
+        """Each read of the file that needs that piece is refused, and all else is answered as ever, also HEAD of the file."""
         talk.ask(reading("/s/one/d"), wanted)
         talk.ask(reading("/d/one/1/d"), wanted)
         # To HEAD nothing is read, so it tells of the file as ever.
@@ -119,7 +119,7 @@ class Damage(Stored):
 class Uploaded(Stored):
     """Files that are lost or damaged after they were uploaded, and before they are read; and uploads that fail."""
 
-    # in three pieces and in one, no two of which are the same
+    # in three pieces and in one, all of them different
     contents = {"/a.txt": b"abcdefghijklmnopqrstuvwxyz" * 5_042, "/b.txt": b"abc"}
     ways = {
         "lost": (lambda data: None, MISSING), "changed": (lambda data: data[:-1] + bytes([255 - data[-1]]), DAMAGED),
@@ -140,7 +140,7 @@ class Uploaded(Stored):
             talk.ask(upload(1, path[1:], content), uploaded(content, published if path == "/b.txt" else None))
 
     def read_both(self, talk, wrong="", wanted=None):
-        """Reads both files twice, of which the wrong one is refused."""
+        """Reads both files twice; the wrong one is refused."""
         for path, content in [*self.contents.items()] * 2:
             talk.ask(reading(f"/s/one{path}"), wanted if path == wrong else sent(content))
 
@@ -181,11 +181,11 @@ class Cached(Stored):
     """Files that are lost after they were read, while their pieces are in memory."""
 
     small = b"".join(bytes([place]) * PIECE for place in range(3)) + b"the end"
-    # Four files of 16 MiB, of which no two pieces are the same.
+    # Four files of 16 MiB, whose pieces are all different.
     large = [b"".join((1000 * number + place).to_bytes(4, "big") * (PIECE // 4) for place in range(256)) for number in range(1, 5)]
 
     def begin(self):
-        """A program that has opened the store and has read the small file, one piece of which is lost since then."""
+        """A program that has opened the store and has read the small file, before one of its pieces was lost."""
         files = {"/small": self.small} | {f"/{number}": content for number, content in enumerate(self.large)}
         self.write([opening_of(files), ("publish", "one", 1)], self.small, *self.large)
         talk = Conversation(self)

@@ -17,7 +17,7 @@ class Openings(Refusing, Stored):
         ("restore", "one", 1),
     ]
 
-    def test_end_where_there_is_no_memory_and_leave_the_store_as_it_is(self):
+    def test_end_if_there_is_no_memory_and_leave_the_store_as_it_is(self):
         self.assertGreater(len(CONTENT), PIECE)
         self.write(self.entries, b"hello", CONTENT)
         before = self.all_files()

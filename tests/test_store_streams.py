@@ -18,7 +18,7 @@ TALK = [
 ]
 ASKED = b"".join(asked for asked, _ in TALK)
 WANTED = b"".join(wanted for _, wanted in TALK)
-# The entries, and how many of them there are after so many requests.
+# The entries, and how many of them there are after each number of requests.
 ENTRIES = [opening_of({"/a.txt": b"hello"}), ("publish", "one", 1), ("rename", "one", "/a.txt", "/c.txt"), ("undo", "one", 3)]
 COUNTS = [0, 1, 2, 3, 3, 4, 4]
 # Where the file of the replies begins, so that their length can be limited and that of a store's files is not.
@@ -41,7 +41,7 @@ def places(ends):
 
 class Streams(Stored):
     def assert_did(self, requests):
-        """The store has what so many requests did, and nothing else; it is opened again, and then has the same."""
+        """The store has what the first `requests` requests did, and nothing else; it is opened again, and then has the same."""
         file = journal.write(ENTRIES[:COUNTS[requests]])
         for _ in range(2):
             self.assertEqual((self.folder / "journal").read_bytes(), file)
@@ -49,7 +49,7 @@ class Streams(Stored):
             self.assert_answers(b"", b"")
 
     def assert_ends(self, place, ended, fault=None):
-        """Where the requests end or fail there, those before that are whole are answered, and no other does anything."""
+        """If the requests end or fail there, the whole ones before are answered, and no other does anything."""
         whole = sum(end <= place for end in ASKED_ENDS) - 1
         out = WANTED[:WANTED_ENDS[whole]]
         self.assertEqual(ended, (2, out, fault) if fault else (0, out, b""))

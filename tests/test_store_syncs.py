@@ -31,8 +31,8 @@ def table_of(content):
 
 class Uploads(Stored):
     def trace(self, *contents, known=()):
-        """What is done over a store with the known files, where those are uploaded in turn that a deploy lacks beside another one, up to
-        the last reply."""
+        """The calls on files over a store with the known files, up to the last reply. A deploy lacks these contents and one more, and they
+        are uploaded in turn."""
         listed = {f"/{place}.bin": content for place, content in enumerate([*contents, *known])}
         self.write([opening_of({**listed, "/b.txt": b"another"})], *known)
         traces = Traces(self.room, self.folder)
@@ -54,7 +54,7 @@ class Uploads(Stored):
         self.assertEqual(self.trace(content, known=known), [*puts_of(*pieces), *table_of(content), "write replies"])
 
     def assert_put_in_turn(self, *puts):
-        """Of each file in turn these pieces are put, and then its table; or nothing, where there are none of them."""
+        """For each file in turn these pieces are put, and then its table; or nothing, if the pieces are None."""
         lines = self.trace(*(content for content, *_ in puts))
         wanted = [line for content, pieces in puts if pieces is not None for line in (*puts_of(*pieces), *table_of(content))]
         self.assertEqual([line for line in lines if line != "write replies"], wanted)

@@ -56,13 +56,13 @@ class Journals(Stored):
                 self.write(entries, b"hello")
                 self.assert_fails(3, f"journal: NotLegal {number}")
 
-    def test_what_is_no_journal_is_left_as_it_is(self):
+    def test_a_file_that_is_not_a_journal_is_left_as_it_is(self):
         for file in (b"a file of another kind", journal.HEADER, b"\x01FHJRNL\x02\x00", b"\x01FHJRNL", b"\x02FHJRNL\x01\x01", b"\x01\x00"):
             with self.subTest(file=file):
                 self.write_journal(file)
                 self.assert_fails(3, "journal: BadHeader")
 
-    def test_a_record_that_is_none_is_told_with_its_number(self):
+    def test_a_malformed_record_is_told_with_its_number(self):
         file = journal.write([CANCEL] * 3)
         for cut, number in [(62, 3), (45, 3), (44, 2), (27, 2), (26, 1), (9, 1)]:
             with self.subTest(cut=cut):
@@ -115,12 +115,12 @@ class Folders(Stored):
         self.assert_converses(serves("/a.txt", among=("/a.txt",)))
 
     def call_as_anyone(self):
-        """Lets a user call the program who may not write everywhere: this one, or where this is root another."""
+        """Lets a user who may not write everywhere call the program: this one, or another if this one is root."""
         for folder in (self.room, self.folder):
             folder.chmod(0o755)
         if os.geteuid() != 0:
             return {}
-        # The repository may be where no other user can read.
+        # The repository may be in a folder that no other user can read.
         program = shutil.copy(PROGRAM, self.room / "filehost")
         program.chmod(0o755)
         return {"executable": program, "user": NOBODY, "group": NOBODY, "extra_groups": []}
@@ -146,7 +146,7 @@ class Folders(Stored):
 
 @contextlib.contextmanager
 def read_only(folder):
-    """Mounts a folder over itself so that nothing is written there; where this may not be done, its files alone are kept so."""
+    """Mounts a folder over itself so that nothing is written there; if that isn't allowed, only its files are kept so."""
     mounted = subprocess.run(["mount", "--bind", "-o", "ro", folder, folder], capture_output=True).returncode == 0
     try:
         if not mounted:
@@ -161,7 +161,7 @@ def read_only(folder):
 
 
 class Blobs(Stored):
-    """Files that a store lost, of which a published deploy is made."""
+    """Files of a published deploy that a store lost."""
 
     # What was done to a file's table, and to its one piece, and how that is told.
     def faults(self, content):

@@ -18,7 +18,7 @@ from lib.wire import NEXT
 
 
 def replies_within(length):
-    """The replies to the requests that are whole within so many bytes of the stream."""
+    """The replies to the requests that are whole within the first `length` bytes of the stream."""
     ends = [sum(len(asked) for asked, _ in TALK[:count]) for count in range(1, len(TALK) + 1)]
     return b"".join(wanted for end, (_, wanted) in zip(ends, TALK) if end <= length)
 
@@ -66,7 +66,7 @@ class Faults(Program):
     """Reads and writes that fail from some byte on."""
 
     def run_within(self, room, **how):
-        """Runs the program where no file may have more than so many bytes."""
+        """Runs the program with a limit of `room` bytes on the size of each file."""
         limits = resource.getrlimit(resource.RLIMIT_FSIZE)
         resource.setrlimit(resource.RLIMIT_FSIZE, (room, limits[1]))
         try:
@@ -87,7 +87,7 @@ class Faults(Program):
             self.assert_writes_within(room, ASKED, WANTED)
 
     def talk_over(self, content, ranges, wanted):
-        """The streams in which a file is uploaded, and these ranges of it are read; and where the reply to that begins."""
+        """The streams in which a file is uploaded and these ranges of it are read; and the place at which the reply to that begins."""
         digest = digest_of(content)
         asked = opening({"/w.txt": digest}) + upload(1, "w.txt", content) + request("GET", "/s/one/w.txt", f"Range: {ranges}")
         front = opened(1, digest) + uploaded(content, 2)
@@ -142,12 +142,12 @@ class Faults(Program):
             errors.seek(0)
             self.assertEqual(errors.read(), INPUT_FAULT[:3])
 
-    def test_are_none_where_the_options_end_behind_the_command(self):
+    def test_are_none_if_the_options_end_after_the_command(self):
         self.assertEqual(run("solo", "--", given=ASKED), (0, WANTED, b""))
 
 
 class SingleFaults(Program):
-    """One read or write fails, and those after it would not: a library in C is before these calls (refuse_device.c)."""
+    """One read or write fails, and those after it would not. A library in C intercepts these calls (refuse_device.c)."""
 
     content = bytes(range(256)) * 400
     talk = [
@@ -167,7 +167,7 @@ class SingleFaults(Program):
         subprocess.run(command, check=True, timeout=SECONDS)
 
     def run_refusing(self, place, is_late=False):
-        """The status, output and words of a run of which this call on its streams is refused, and how many calls there were."""
+        """The status, output and words of a run in which this call on its streams is refused, and how many calls there were."""
         told_in = self.room / "calls"
         names = {
             "LD_PRELOAD": str(self.library), "REFUSED_FOLDER": str(self.streams), "REFUSED_PLACE": str(place),

@@ -9,7 +9,7 @@ FILE = re.compile(r"\b(?:[a-z_]+/(?:src|specs|proofs)/(?:\w+/)*\w+\.(?:rt|antt)|
 
 
 def lists():
-    """The lists of "What a new thing touches", by their titles: the number that the title tells, and the files of each item."""
+    """The lists of "What a new thing touches", by their titles: the number in the title, and the files of each item."""
     text = (TOP / "CONTRIBUTING.md").read_text()
     section = text.partition("\n## What a new thing touches\n")[2].partition("\n## ")[0]
     found = {}

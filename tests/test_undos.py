@@ -124,7 +124,7 @@ class Undos(Worked):
         (deleting(1), entry(5)),
     ]
 
-    def test_the_removal_of_a_deploy_needs_that_no_alias_stands_for_it(self):
+    def test_the_removal_of_a_deploy_needs_that_no_alias_names_it(self):
         self.assert_run(
             *self.given_up,
             (undoing(4), clash(5, "alias next")),
@@ -248,7 +248,7 @@ class Clashes(Worked):
             (undoing(9), NO_CHANGE),
         )
 
-    def test_there_is_none_where_no_later_change_touches_what_it_changed(self):
+    def test_there_is_none_if_no_later_change_touches_what_it_changed(self):
         for change, site, path in ((4, "two", None), (6, "one", "/c.txt"), (8, "one", "/b.txt")):
             with self.subTest(change=change):
                 self.assert_run(
@@ -277,7 +277,7 @@ class Clashes(Worked):
         )
         self.assert_run(*setup, (restoring(3), entry(6)), (undoing(2), clash(6, "live /a.txt")))
 
-    def test_cells_stand_in_the_order_of_their_kinds_and_then_of_their_bytes(self):
+    def test_cells_have_the_order_of_their_kinds_and_then_of_their_bytes(self):
         self.assert_run(
             (opening({"/é": HELLO, "/a\"b": HELLO, "/Z": HELLO}), opened(1, HELLO)),
             (upload(1, "Z", b"hello"), uploaded(b"hello", published=2)),

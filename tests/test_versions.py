@@ -165,7 +165,7 @@ class Patches(Worked):
         )
 
     def test_its_draft_and_its_listed_paths_are_touched(self):
-        """Also one where nothing is served, and none that is not listed."""
+        """Also one at a path where nothing is served, and none that is not listed."""
         self.assert_run(
             *first_deployed("/a", "/e"),
             (removing("/a"), entry(3)),

@@ -185,7 +185,7 @@ class Player:
 
 
 def tally_of(seed):
-    """How often each kind of entry was made in a list of steps, and how its reads went. What the program tells has to be what the model does."""
+    """How often each kind of entry was made in a list of steps, and how its reads went. The program must tell what the model does."""
     player = Player(seed)
     for _ in range(STEPS):
         player.play()

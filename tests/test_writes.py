@@ -13,7 +13,7 @@ from lib.range_replies import TWO_PARTS, parts
 from lib.stores import PIECE, pieces_of
 from lib.wire import NO_FILE
 
-# A reply of at most so many bytes is one write.
+# A reply of at most this many bytes is one write.
 ROOM = 8_192
 LARGEST_WRITE = 1 << 20
 BINARY = "application/octet-stream"

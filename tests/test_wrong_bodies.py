@@ -1,4 +1,4 @@
-"""The wrong bodies of the crates, most of which the gate doesn't try: that each still fits the code, and that no contract has changed since
+"""The wrong bodies of the crates, most of which the gate doesn't try: each still fits the code, and no contract has changed since
 they were tried."""
 
 import pathlib
@@ -17,7 +17,7 @@ FOLDERS = ("must-fail", "wrong-bodies")
 
 
 def unfit(crate, edit):
-    """The texts of an edit that are not there once, where the pairs before them were applied."""
+    """The texts of an edit that are not there exactly once, after the pairs before them were applied."""
     texts, path, old, found = {}, None, None, []
     for line in edit.read_text().splitlines():
         key, _, text = line.partition(": ")

@@ -1,4 +1,4 @@
-"""What several tests use. The modules of scripts/ are found by its side, also where a test is called alone."""
+"""What several tests use. The modules of scripts/ are found next to it, also if a test is called alone."""
 
 import pathlib
 import sys

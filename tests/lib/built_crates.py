@@ -6,7 +6,7 @@ from lib.client import TOP
 
 
 class BuiltCrate:
-    """The program of a crate, which is proved and built where that is needed."""
+    """The program of a crate, which is proved and built if needed."""
 
     def __init__(self, name):
         self.folder = TOP / "crates" / name
@@ -20,7 +20,7 @@ class BuiltCrate:
         return self.program.stat().st_mtime >= max(file.stat().st_mtime for file in sources)
 
     def build(self, *words):
-        """Proves and builds the program, and runs it with these words. What is built already keeps its time, so that it is set here."""
+        """Proves and builds the program, and runs it with these words. A program that is built already keeps its time, so the time is set here."""
         if not self.is_built():
             subprocess.run(["rt", "run", "--", *words], cwd=self.folder, stdin=subprocess.DEVNULL, capture_output=True, check=True)
             self.program.touch()

@@ -30,7 +30,7 @@ def exchanges(seed):
 
 
 def with_expectation(asked, wanted, draw):
-    """Mostly the exchange with an interim reply, where a length is told."""
+    """Mostly the exchange with an interim reply, in which a length is told."""
     if draw.random() < 0.3:
         return asked, wanted
     return expecting(asked), INTERIM * bool(LENGTH.search(asked)) + wanted

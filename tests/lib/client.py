@@ -157,7 +157,7 @@ PUBLISHED = [(opening({"/a.txt": HELLO}), opened(1, HELLO)), (upload(1, "a.txt",
 
 
 def cut_after(stream, length_of):
-    """The places in a stream of messages where each ends; a head's field tells the length of what is after it."""
+    """The places in a stream at which its messages end; a field of a head tells the length of what follows it."""
     ends = [0]
     while ends[-1] < len(stream):
         end = stream.index(b"\r\n\r\n", ends[-1]) + 4
@@ -178,7 +178,7 @@ def content_length(head):
 
 
 class Client:
-    """One that sends bytes to a program of its own and waits for its replies; what takes too long ends the program."""
+    """A client that starts a program, sends it bytes and waits for its replies. If that takes too long, the program is ended."""
 
     def __init__(self, test, **how):
         pipes = dict.fromkeys(("stdin", "stdout", "stderr"), subprocess.PIPE)
@@ -197,7 +197,7 @@ class Client:
             time.sleep(0)
 
     def receive(self, count):
-        """That many bytes of replies, or fewer where there are no more."""
+        """`count` bytes of replies, or fewer if there are no more."""
         got = b""
         while len(got) < count and (piece := self.program.stdout.read(count - len(got))):
             got += piece
@@ -217,18 +217,18 @@ class Client:
 
 
 class Program(unittest.TestCase):
-    # what the program is called with, where a test doesn't say it
+    # The words that the program is called with, if a test doesn't say others.
     words = ("solo",)
 
     def setUp(self):
         self.assertTrue(PROGRAM.is_file(), "there is no program to test: ./filehost builds it")
 
     def assert_answers(self, given, wanted, message=None):
-        """It answers these requests with exactly these replies, and ends well."""
+        """The program answers these requests with exactly these replies, and ends well."""
         self.assertEqual(run(*self.words, given=given), (0, wanted, b""), message)
 
     def assert_converses(self, exchanges, unread=b""):
-        """It answers the request of each exchange with the reply beside it, nothing after them, and ends well."""
+        """The program answers the request of each exchange with its reply, and nothing after them, and ends well."""
         given = b"".join(asked for asked, _ in exchanges)
         status, out, errors = run(*self.words, given=given + unread)
         place = 0
@@ -239,7 +239,7 @@ class Program(unittest.TestCase):
         self.assertEqual((status, out[place:], errors), (0, b"", b""), f"after exchange {len(exchanges)}")
 
     def assert_converses_in_turns(self, exchanges):
-        """It answers each request before the next one is sent, and ends with its input or where a reply says so."""
+        """The program answers each request before the next one is sent, and ends with its input or if a reply says so."""
         client = Client(self)
         for number, (asked, wanted) in enumerate(exchanges, 1):
             client.send(asked)

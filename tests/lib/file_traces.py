@@ -17,7 +17,7 @@ class Traces:
         subprocess.run(["gcc", "-O1", "-shared", "-fPIC", "-o", self.library, SOURCE, "-ldl"], check=True, timeout=SECONDS)
 
     def of(self, run):
-        """The calls that were told while `run` ran a program with this environment, in which each file has its name in the folder alone."""
+        """The calls that were told while `run` ran a program with this environment. Each file has its name in the folder alone."""
         self.told_in.unlink(missing_ok=True)
         run({"LD_PRELOAD": str(self.library), "TRACE_FILE": str(self.told_in)})
         told = self.told_in.read_text()

@@ -62,7 +62,7 @@ class Generator:
         return self.one_of(list(likely if likely and self.happens(chance) else others))
 
     def keys(self, kind, site=None):
-        """Of the cells of a kind in the state: their paths, names or numbers."""
+        """The paths, names or numbers of the cells of a kind in the state."""
         return [cell[2] for cell in self.model.state() if cell[1] == kind and site in (None, cell[0])]
 
     def any_number(self):
@@ -152,7 +152,7 @@ class Generator:
         return Request("DELETE", f"/api/v1/sites/{site}/files{self.one_of(('', '/'))}{self.target(path)}")
 
     def undo(self):
-        """Of a late change or of any, mostly of one that is not undone."""
+        """The undo of a late change or of any, mostly of one that is not undone."""
         live, count = self.model.live_changes(), len(self.model.entries)
         change = self.mostly(live[-4:] if self.happens(0.5) else live, range(count + 2), 0.85)
         return Request("POST", f"/api/v1/sites/{self.site_of(change)}/undo", body=in_json(change=self.written(change)))

@@ -54,7 +54,7 @@ class Journals(unittest.TestCase):
         return self.open(path), path.read_bytes()
 
     def assert_opened(self, rows):
-        """Each row is a file, what the program has to say of it, and what the file then has to be."""
+        """Each row is a file, what the program must say of it, and what the file must be then."""
         files = [file for file, _, _ in rows]
         with concurrent.futures.ThreadPoolExecutor(FILES_AT_ONCE) as pool:
             for (file, answer, after), (said, found) in zip(rows, pool.map(self.opened, files, itertools.count())):

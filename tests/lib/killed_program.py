@@ -1,4 +1,4 @@
-"""A program over a store that is killed and opened again, and the model of what has to be there then."""
+"""A program over a store that is killed and opened again, and the model of what must be there then."""
 
 import collections
 import random
@@ -59,7 +59,7 @@ class Killed:
         raise AssertionError(f"the program ended by itself: {self.program.wait()}, {self.program.stderr.read()}") from None
 
     def end(self):
-        """What the program ends with where nothing more is asked: its status, its last replies and words."""
+        """What the program ends with if nothing more is asked: its status, its last replies and words."""
         self.program.stdin.close()
         out = self.program.stdout.read()
         return self.program.wait(), out, self.program.stderr.read()
@@ -89,7 +89,7 @@ class Reach:
 
 
 class Round:
-    """A folder whose program is killed some times, with the model of what has to be there."""
+    """A folder whose program is killed some times, with the model of what must be there."""
 
     model_of, generator_of = Model, Generator
     changing = Generator.changes | {Generator.upload: 15, Generator.undo: 18}

@@ -50,8 +50,8 @@ class OverTcp(Program):
 class Server:
     """A server to which exchanges are made beforehand, and whose connections are cut.
 
-    It takes as many connections as there are cuts, and one request in each. That is answered by a new program, after the
-    exchanges, and of the body of its reply so many bytes are let through as the cut says.
+    It takes as many connections as there are cuts, and one request in each. A new program makes the exchanges and then answers the
+    request; as many bytes of the reply's body as the cut says are let through.
     """
 
     def __init__(self, test, exchanges, cuts):
@@ -88,7 +88,7 @@ class Server:
 
 
 class Connection:
-    """Both ends of a TCP connection, whose far one a program of its own has; what takes too long ends the program."""
+    """Both ends of a TCP connection. A new program has the far one. If that takes too long, the program is ended."""
 
     def __init__(self, test):
         with socket.create_server(("127.0.0.1", 0)) as listener:
@@ -113,7 +113,7 @@ class Connection:
             time.sleep(0)
 
     def receive(self, count):
-        """That many bytes of replies, or fewer where there are no more."""
+        """`count` bytes of replies, or fewer if there are no more."""
         got = b""
         while len(got) < count and (piece := self.near.recv(count - len(got))):
             got += piece

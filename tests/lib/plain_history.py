@@ -10,7 +10,7 @@ from lib.client import STATUS_OF
 
 
 class Refused(Exception):
-    """A request is refused by this name. The members are told beside it, and the fields are those of the reply."""
+    """A request is refused by this name. The reply has the members next to it, and the fields."""
 
     def __init__(self, name, *fields, **members):
         super().__init__(name)
@@ -28,7 +28,7 @@ def refuse_where(holds, name, **members):
 
 KINDS = ("live", "kept", "alias", "draft")
 LIVE, KEPT, ALIAS, DRAFT = range(4)
-EVERY = None  # stands for every cell of a site and kind, where a command touches them all
+EVERY = None  # means every cell of a site and kind, if a command touches them all
 
 
 def is_in(cell, touched):
@@ -42,7 +42,7 @@ def serving(state, site, files):
 
 
 class Deploy(NamedTuple):
-    """What a deploy lists: for each path a digest, or None where a patch removes the file."""
+    """What a deploy lists: for each path a digest, or None if a patch removes the file."""
 
     files: dict
     is_draft: bool
@@ -52,8 +52,8 @@ class Deploy(NamedTuple):
         return sorted(set(self.files.values()) - {None} - uploads.keys())
 
 
-# Commands, in the order of the table of docs/CHANGES.md. Each refuses, or answers what it writes, which is None where
-# nothing is to stand, and what it touches. `number` is that of its own entry.
+# Commands, in the order of the table of docs/CHANGES.md. Each refuses, or answers what it writes, None for a cell that it
+# empties, and what it touches. `number` is the number of its own entry.
 
 
 def open_deploy(state, uploads, number, site, deploy):
@@ -160,7 +160,7 @@ class History:
         return tuple(number for number, entry in numbered if entry.kind != "undo" and number not in undone)
 
     def plan(self, number, state):
-        """What a change writes and touches where it runs again. It is accepted there as it was at first."""
+        """What a change writes and touches when it runs again. It is accepted there as it was at first."""
         kind, site, parts = self.entry(number)
         try:
             return COMMANDS[kind](state, self.uploads, number, site, *parts)

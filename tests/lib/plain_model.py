@@ -42,7 +42,7 @@ def number_of(text):
 
 
 def path_of(text):
-    """The path that this text is, to which the leading slash is added where it lacks one."""
+    """The path that this text is; a leading slash is added if it lacks one."""
     path = text if text.startswith("/") else "/" + text
     is_long = not 2 <= len(path.encode()) <= 1024
     refuse_where(is_long or {"", ".", ".."} & set(path.split("/")[1:]) or set("#?\\\0") & set(path), "BadPath")
@@ -68,9 +68,9 @@ GREATEST = 2**64 - 1
 
 
 def specs_of(value):
-    """What a value of Range asks for: for each element the numbers before and after its dash, None where it has none.
+    """What a value of Range asks for: for each element the numbers before and after its dash, or None in place of a number that is absent.
 
-    It is None of a value that is ignored.
+    It is None for a value that is ignored.
     """
     unit, equals, elements = value.partition("=")
     texts = [text for element in elements.split(",") if (text := element.strip(" \t"))]
@@ -83,7 +83,7 @@ def specs_of(value):
 
 
 def chosen(specs, size):
-    """The first and the last position of each spec that has a byte of a file of so many."""
+    """The first and the last position of each spec that has a byte of a file of `size` bytes."""
     ends = [(max(size - last, 0), None) if first is None else (first, last) for first, last in specs]
     return [(first, size - 1 if last is None else min(last, size - 1)) for first, last in ends if first < size]
 
@@ -145,10 +145,8 @@ def range_of(interval, content):
 
 
 def multipart(kind, content, intervals):
-    """The type and the body of a reply with several parts of a file (RFC 9110, sections 14.6 and 15.3.7.2).
-
-    Where the first boundary occurs in a part, the next one is taken; but no test has a file that holds its own digest.
-    """
+    """The type and the body of a reply with several parts of a file (RFC 9110, sections 14.6 and 15.3.7.2). If the first boundary occurs in a part,
+    the next one is taken; but no test has a file that holds its own digest."""
     boundary = f"fh0-{digest_of(content)}"
     parts = []
     for first, last in intervals:
@@ -158,7 +156,7 @@ def multipart(kind, content, intervals):
 
 
 def sending(request, path, content):
-    """The file, or what is asked for of it: one range as it is, and several in parts if they have no more bytes than it."""
+    """The file, or what is asked for of it: one range alone, or several in parts if they have no more bytes than the file."""
     _, dot, ending = path.rpartition("/")[2].rpartition(".")
     kind = TYPES.get(dot and ending.lower(), "application/octet-stream")
     fields = (f'ETag: "{digest_of(content)}"', "Accept-Ranges: bytes")

@@ -11,20 +11,20 @@ from lib.plain_history import ALIAS, KEPT, LIVE, History, Refused
 from lib.plain_model import Model, Request, asked_specs, chosen
 
 CHUNK = 65_536
-# What the caches count for an entry beside the bytes of its chunk.
+# What the caches count for an entry, with the bytes of its chunk.
 ENTRY = 40
-# What a flight comes to where it brings no chunk. No chunk is empty.
+# The outcome of a flight that brings no chunk. No chunk is empty.
 FAULT = b""
 
 
 class Desk:
-    """A history of so many entries at most, and how many of them are shown."""
+    """A history of at most `limit` entries, and how many of them are shown."""
 
     def __init__(self, limit):
         self.history, self.limit, self.shown = History(), limit, 0
 
     def ask(self, entry):
-        """Takes an entry that may follow, where there is room and no other one is unpublished."""
+        """Takes an entry that may follow, if there is room and no other entry is unpublished."""
         entries = self.history.entries
         if len(entries) == self.shown < self.limit:
             try:
@@ -70,7 +70,7 @@ class Caches:
         return sum(ENTRY + len(chunk) for chunk in self.lists[which])
 
     def add(self, which, chunk):
-        """Puts a chunk first, and evicts those that were used the longest ago: of hot where that counts more than an eighth of main."""
+        """Puts a chunk first, and evicts those that were used the longest ago: from hot if that counts more than an eighth of main."""
         evicted, chunks = 0, self.lists[which]
         is_new = chunk not in chunks
         if not is_new:
@@ -219,7 +219,7 @@ class Read:
 
 
 class World:
-    """A desk, nodes, and visitors, each of whom is on the node at the place of its number modulo how many nodes there are."""
+    """A desk, nodes, and visitors. A visitor is on the node whose place is the visitor's number modulo the number of nodes."""
 
     def __init__(self, limit, cache, nodes, visitors):
         self.desk = Desk(limit)

@@ -39,5 +39,5 @@ def parts(content, *intervals, kind=OTHER):
 
 
 def none_of(content):
-    """The reply where no byte of the range is there."""
+    """The reply if no byte of the range is there."""
     return refused("NotSatisfiable", f"Content-Range: bytes */{len(content)}")

@@ -29,7 +29,7 @@ class Refusing(Program):
         subprocess.run(["gcc", "-O1", "-shared", "-fPIC", "-o", self.library, SOURCE, "-ldl"], check=True, timeout=SECONDS)
 
     def run_refusing(self, place, given=GIVEN):
-        """The status, output and words on standard error where this allocation is refused; how many there were."""
+        """The status, output and words on standard error if this allocation is refused; how many there were."""
         told_in = self.library.with_name("allocations")
         told_in.unlink(missing_ok=True)
         names = {"LD_PRELOAD": str(self.library), "REFUSED_PLACE": str(place), "ALLOCATIONS_FILE": str(told_in)}

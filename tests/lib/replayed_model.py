@@ -1,6 +1,6 @@
-"""The plain model of a host for histories of some thousand entries, most of which are undos.
+"""The plain model of a host for histories of some thousand entries, mostly undos.
 
-After each undo it runs all live changes again from nothing, and of each it keeps what it changed and touched there. A clash is looked for at
+After each undo it runs all live changes again from nothing, and keeps what each changed and touched there. A clash is looked for at
 each later live change in turn.
 """
 
@@ -39,7 +39,7 @@ class ReplayedModel(Model):
         return number
 
     def play(self, number):
-        """Runs a change where the state is what the ones before it left."""
+        """Runs a change over the state that the ones before it left."""
         writes, touched = self.plan(number, self.cells)
         self.effects[number] = sorted(cell for cell, value in writes.items() if self.cells.get(cell) != value), touched
         for cell, value in writes.items():

@@ -108,7 +108,7 @@ def table(text):
 
 
 class Tables(Interface):
-    """Tables are gone through whole. Each body that is accepted has a connection of its own."""
+    """Tables are gone through whole. Each body that is accepted has another connection."""
 
     def assert_table(self, text, target, rows_of, before=(), body_of=str, method="POST"):
         """A body that asks for something is answered as these rows say, and each other by its refusal."""

@@ -1,4 +1,4 @@
-"""A site with three texts, of which tests read one or several ranges."""
+"""A site with three texts; tests read one or several ranges of them."""
 
 from lib.client import HELLO, digest_of, opened, opening, request, upload, uploaded
 

@@ -1,4 +1,4 @@
-"""A small repository in a folder of its own, for tests of the scripts at the top of this one.
+"""A small repository in a temporary folder, for tests of the scripts at the top of this one.
 
 Its crates hold no code, and the toolchain is a stand-in, `fake_rt`, so that a build takes no time.
 """
@@ -13,7 +13,7 @@ import tempfile
 TOP = pathlib.Path(__file__).resolve().parents[2]
 FAKE_RT = pathlib.Path(__file__).resolve().parent / "fake_rt"
 
-# What the scripts may call beside rt. A PATH of these alone has no toolchain on it, wherever that is installed.
+# What the scripts may call besides rt. A PATH of these alone has no toolchain on it, wherever that is installed.
 TOOLS = "bash cat chmod dirname env find flock mkdir mktemp nice nproc readlink rm rmdir sleep sort tail tee touch wc".split()
 
 
@@ -54,7 +54,7 @@ class Sandbox:
         return file
 
     def add_crates(self, listing):
-        """Writes crates.txt, and a source for each crate that it lists, and but for the program a definition and a proof."""
+        """Writes crates.txt, a source for each crate that it lists and, for each but the program, a definition and a proof."""
         self.write("crates.txt", listing)
         for line in listing.splitlines():
             name = line.partition("#")[0].partition(":")[0].strip()
@@ -83,7 +83,7 @@ class Sandbox:
         return ran.returncode, ran.stdout.decode(), ran.stderr.decode()
 
     def calls(self):
-        """The calls of rt since this was last asked, each as `CRATE: WORDS`. One that is only half noted counts the next time."""
+        """The calls of rt since this was last asked, each as `CRATE: WORDS`. A call that is only half noted counts the next time."""
         if not self.calls_file.exists():
             return []
         lines = self.calls_file.read_text().splitlines(keepends=True)[self.told:]

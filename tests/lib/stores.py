@@ -74,7 +74,7 @@ def write_store(folder, entries, *contents):
 
 
 def found_in(test, folder, model, asked=None):
-    """The model of what a store has after a stop, where this request was in hand: what was acknowledged, all and unchanged, and after it
+    """The model of what a store has after a stop during this request: what was acknowledged, all and unchanged, and after it
     none, the first or all of the entries that the request would make; and what is uploaded whole, also by that request."""
     file = folder / "journal"
     entries = [entry_of(entry) for entry in journal.read(file.read_bytes() if file.exists() else b"")]
@@ -115,7 +115,7 @@ def as_bytes(asked):
 
 
 class Stored(Program):
-    """Runs of the program over a store in a folder of its own."""
+    """Runs of the program over a store in a temporary folder."""
 
     def setUp(self):
         super().setUp()
@@ -157,7 +157,7 @@ class Stored(Program):
         self.assertEqual(self.all_files(), before)
 
     def all_files(self):
-        """Each file of the store with its bytes; nothing where there is no folder to be read."""
+        """Each file of the store with its bytes; None if there is no folder to be read."""
         if not self.folder.is_dir():
             return None
         return {file.name: file.is_file() and file.read_bytes() for file in self.folder.iterdir()}

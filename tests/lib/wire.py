@@ -37,7 +37,7 @@ def in_old_version(asked):
 
 
 def with_fields(count, last="a: b", method="GET"):
-    """A request of so many fields."""
+    """A request of `count` fields."""
     return request(method, FILE, *["a: b"] * (count - 1), last)
 
 

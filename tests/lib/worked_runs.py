@@ -13,7 +13,7 @@ EMPTY = digest_of(b"")
 CONTENTS = {HELLO: b"hello", ABC: b"abc", EMPTY: b""}
 
 
-# What is asked. The site is `one` where no other is named.
+# What is asked. The site is `one` unless another is named.
 
 
 def patching(files, **members):
