@@ -97,8 +97,8 @@ def in_different_functions(wrongs):
 
 
 def refused_together(rt, crate, wrongs, kept):
-    """The edits that the prover refuses in one check of all of these, which are in different functions. A function is proved from the contracts
-    of others alone, so a function that isn't proved there is refused for its own edit. Nothing is known of the others."""
+    """Those of these edits, which are in different functions, that the prover refuses in one check: a function is proved from the contracts
+    of others alone, so each that isn't proved there is refused for its own edit. Of the others nothing is known."""
     texts = {}
     for wrong in wrongs:
         wrong.put_into(texts)

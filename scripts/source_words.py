@@ -46,7 +46,7 @@ def pairs_of(words):
 
 @dataclasses.dataclass(frozen=True)
 class Function:
-    """A function of a file in src/: the lines at which its head, its body and both ends are."""
+    """A function of a file in src/: the lines where its head, its body and the end of both are."""
 
     file: str
     name: str
