@@ -1,4 +1,4 @@
-use Rattle.std.proofs.Common.{◌≡◌, ap, subst}
+use Rattle.std.proofs.Common.{ap, subst}
 use Rattle.change_undo.specs.Histories.{Past}
 use Rattle.change_undo.specs.Logs.{BeginsWith, Log}
 use Rattle.change_undo.specs.declared.entries.Entry.{Entry}
