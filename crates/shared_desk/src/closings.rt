@@ -1,19 +1,8 @@
-//! Closings of desks: seats that are given back, and what is left.
+//! Seats that are given back, where a desk is closed.
 ghost use Rattle.std.specs.Prelude.{◌≡◌, ◌+◌, length, sum};
 ghost use Rattle.shared_desk.specs.Closings.{made_of, seats_of};
 
-use blob_store::Files;
-use change_journal::Journal;
-use host_disk::Disk;
 use site_desk::{DeskName, Returned, Seat};
-
-/// What is left of a desk that is closed: its journal, how many entries that has, and the files on its shelf.
-#[derive(Drop)]
-pub struct Closed<D: Disk, S> {
-    pub number: u64,
-    pub journal: Journal<D>,
-    pub files: Files<S>,
-}
 
 /// One more seat is given back.
 fn give_back<J: DeskName>(all: Option<Returned<J>>, seat: Seat<J>) -> Returned<J>

@@ -1,9 +1,9 @@
 //! The desk.
-ghost use Rattle.std.specs.Prelude.{◌≡◌, ◌↔◌, ◌+◌, IfNone, IfSome, IsSome, MatchResult, None, OnSome, [], length, sum};
+ghost use Rattle.std.specs.Prelude.{◌≡◌, ◌↔◌, ◌+◌, IfNone, IfSome, IsSome, MatchResult, OnSome, [], length, sum};
 ghost use Rattle.change_undo.specs.Logs.{last_number};
 ghost use Rattle.shared_desk.specs.Turns.{Commits, Undoes};
 
-use crate::closings::{Closed, give_all_back};
+use crate::closings::give_all_back;
 use crate::turns;
 use blob_store::Files;
 use byte_view::BlobInfo;
@@ -93,41 +93,24 @@ impl<
         turns::undo(rt, &mut *book, mine, site, change)
     }
 
-    /// Closes a desk if these are all its seats, and hands out its journal. That has the entries that were found and those that were made from the
-    /// seats. Else it leaves the desk and the seats.
+    /// Closes the desk if these are all its seats, and takes them. Answers how many entries there are: those that were found and those that were
+    /// made from the seats. Else it leaves the seats.
     ///
-    /// It takes both out of what it is lent: no caller that is generic in J can pass a desk or a seat by value, since the bound of T is made of J. The
-    /// desk is boxed, since the toolchain proves the drop of a box, but not that of a bare desk.
-    pub fn close(
-        desk: &mut Option<Box<Desk<J, K, D, S, T, R>>>,
-        seats: &mut Vec<Seat<J>>,
-    ) -> Option<Closed<D, S>>
-        requires open { IsSome desk.old }
+    /// The seats are lent: no caller that is generic in J can pass them by value, since the bound of T is made of J.
+    pub fn close(&mut self, seats: &mut Vec<Seat<J>>) -> Option<u64>
         ensures all { IsSome result ↔ (length seats.old.items ≡ J.parts) }
-        ensures closed { IfSome result (λ left. left.number ≡ last_number J.found + sum seats.old.items) }
-        ensures journal { IfSome result (λ left. last_number left.journal.entries ≡ left.number) }
-        ensures gone { OnSome result ((desk.new ≡ None) × (seats.new.items ≡ [])) }
-        ensures stays { IfNone result ((desk.new ≡ desk.old) × (seats.new ≡ seats.old)) }
+        ensures closed { IfSome result (λ number. number ≡ last_number J.found + sum seats.old.items) }
+        ensures taken { OnSome result (seats.new.items ≡ []) }
+        ensures stays { IfNone result (seats.new ≡ seats.old) }
     {
-        let has_all = match desk {
-            Some(open) => seats.len() as u64 == open.seats,
-            None => false,
-        };
-        if !has_all {
+        if seats.len() as u64 != self.seats {
             return None;
         }
-        let Desk {
-            alloc, book, files, ..
-        } = Box::into_inner(desk.take().unwrap());
-        let mut book = book.into_inner();
+        let book = self.book.get_mut();
         let number = book.latest().history().len();
-        if let Some(mut all) = give_all_back(mem::replace(seats, Vec::new(alloc))) {
+        if let Some(mut all) = give_all_back(mem::replace(seats, Vec::new(self.alloc))) {
             book.tally(&mut all);
         }
-        Some(Closed {
-            number,
-            journal: book.into_journal(),
-            files: files.into_inner(),
-        })
+        Some(number)
     }
 }

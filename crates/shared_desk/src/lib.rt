@@ -12,7 +12,6 @@ mod turns;
 mod upload_errors;
 mod uploading;
 
-pub use closings::Closed;
 pub use desks::Desk;
 pub use new_desks::NewDesk;
 pub use openings::{Opened, open};

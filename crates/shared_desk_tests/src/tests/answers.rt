@@ -2,14 +2,13 @@
 
 use super::asks::{Told, enter, look, upload};
 use super::entries::{CANCEL, OPEN, REMOVE, UNDO_2, UNDO_99};
-use super::openings::{OpenDesk, Party, Reader, found};
+use super::openings::{OpenDesk, Party, Reader};
 use super::scenes::{Scene, fault_of, play};
 use blob_store::Shelf;
 use byte_view::BlobInfo;
 use found_host::OpenFault;
 use host_disk::Disk;
 use seen_lists::ListName;
-use shared_desk::{Closed, Desk};
 use site_change::ChangeRefusal;
 use site_desk::{DeskName, Seat};
 use std::alloc::Global;
@@ -17,24 +16,7 @@ use std::process::Abort;
 use std::sync::Wait;
 use std::test::Fail;
 
-/// What a closed desk leaves is found again, with so many entries.
-fn assert_left<D: Disk + Drop, S: Shelf + Drop>(
-    rt: &impl Abort,
-    alloc: Global,
-    left: Closed<D, S>,
-    wanted: u64,
-) -> Result<(), Fail> {
-    let Closed {
-        number,
-        journal,
-        files,
-    } = left;
-    let found = found(alloc, journal.into_disk(), files.into_shelf())?;
-    assert_eq!(rt; (number, found.history().len()), (wanted, wanted));
-    Ok(())
-}
-
-/// Closes a desk with one seat missing, which leaves it open, and then with both. What it leaves has so many entries.
+/// Closes a desk with one seat missing, which stays, and then with both. It has so many entries then.
 pub(super) fn assert_closed<
     J: DeskName,
     K: ListName<BlobInfo>,
@@ -49,18 +31,13 @@ pub(super) fn assert_closed<
     two: Seat<J>,
     wanted: u64,
 ) -> Result<(), Fail> {
-    let mut open = Some(desk);
+    let mut desk = desk;
     let mut seats = Vec::from_array(alloc, [one])?;
-    assert!(rt;
-        Desk::close(&mut open, &mut seats).is_none(),
-        "a seat is missing"
-    );
-    assert_eq!(rt; (open.is_some(), seats.len()), (true, 1));
+    assert_eq!(rt; desk.close(&mut seats), None);
+    assert_eq!(rt; seats.len(), 1);
     seats.push(two)?;
-    let Some(left) = Desk::close(&mut open, &mut seats) else {
-        return Err(Fail::from("all seats are there"));
-    };
-    assert_left(rt, alloc, left, wanted)
+    assert_eq!(rt; desk.close(&mut seats), Some(wanted));
+    Ok(())
 }
 
 /// A deploy is opened from the first seat, and an undo from the second is refused.
