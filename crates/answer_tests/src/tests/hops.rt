@@ -49,20 +49,27 @@ fn hop<J: DeskName, A: DeskAccess<J>, F: FileAccess, X: Duplex>(
 
 /// Serves the first run by two workers, each of a node of its own, and compares what is written.
 fn first_run<
+    'a,
     J: DeskName,
     K: ListName<BlobInfo>,
     D: Disk + Drop,
     S: Shelf + Drop,
     R: Wait + Drop,
     W: Wait + Abort,
->(rt: &W, alloc: Global, desk: &OpenDesk<J, K, D, S, R>, workers: Workers<J>) -> Result<(), Fail> {
+>(
+    rt: &'a W,
+    alloc: Global,
+    desk: &'a OpenDesk<J, K, D, S, R>,
+    workers: Workers<J>,
+) -> Result<(), Fail> {
     let Workers {
         first_seat,
         second_seat,
         first,
         second,
     } = workers;
-    let (here, there) = (node(rt, alloc, desk)?, node(rt, alloc, desk)?);
+    let here = node(rt, alloc, desk)?;
+    let there = node(rt, alloc, desk)?;
     let mut one = worker(rt, desk, &first_seat, &here, first)?;
     let mut two = worker(rt, desk, &second_seat, &there, second)?;
     let mut duplex = Metered::new(Pair {
