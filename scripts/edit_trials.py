@@ -39,16 +39,19 @@ def check_as_it_stands(script, crate, *flags):
         sys.exit(f"{script}: {crate.name} is not proved as it stands")
 
 
-def was_checked(rt, crate):
-    """Whether the last check of a crate's text, where it is in the repository, proved it: what that kept is in the copy."""
+def is_proved(rt, crate):
+    """Whether a crate's text is proved: by a library in its out/, or where it is in the repository, by the last check of it."""
     made = getattr(rt, "places_of", lambda _crate: [])(crate)
-    return os.path.isdir(f"{crate.folder}/out/incremental") and (f"{TOP}/crates/{crate.name}", crate.stamp()) in made
+    return crate.is_built() or (f"{TOP}/crates/{crate.name}", crate.stamp()) in made
 
 
 def kept_of(crate, room):
-    """A copy of what the crate's last check kept, which the checks of its edits go on with."""
+    """A copy of what the crate's last check kept, if there is any, which the checks of its edits go on with."""
     kept = f"{room}/kept"
-    subprocess.run(["cp", "--archive", f"{crate.folder}/out/incremental", kept], check=True)
+    if os.path.isdir(made := f"{crate.folder}/out/incremental"):
+        subprocess.run(["cp", "--archive", made, kept], check=True)
+    else:
+        os.mkdir(kept)
     return kept
 
 

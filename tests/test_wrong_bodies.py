@@ -90,6 +90,14 @@ impl Model for Bytes {
             self.assertNotEqual(digest, self.digest(self.code.replace(old, new)))
         self.assertNotEqual(digest, self.digest(self.code, "other"))
 
+    def test_what_moves_is_said_as_before(self):
+        said = contracts.sayings_of({"specs/Lib.antt": "-- one\nuse Rattle.std.specs.Prelude.{length}\nsize = length", "src/lib.rt": self.code})
+        moved = contracts.sayings_of({"specs/Sizes.antt": "size = length\n", "src/bytes.rt": self.code.replace("ghost use Rattle.std", "ghost use std")})
+        self.assertEqual(said, moved)
+        self.assertEqual(sorted(said)[-1], "size = length")
+        other = contracts.sayings_of({"specs/Lib.antt": "size = length", "src/lib.rt": self.code.replace("≡ 7", "≡ 8")})
+        self.assertEqual([sum(one.values()) for one in (said - other, other - said)], [1, 1])
+
 
 class Functions(unittest.TestCase):
     """Of which function a line of the prover is."""
