@@ -2,6 +2,8 @@
 #![tactic(auto)]
 
 pub mod laws;
+mod serve_words;
+mod texts;
 
 ghost use Rattle.std.specs.Prelude.{◌≡◌, ◌≢◌, [], IfOk, codes, map, option_map};
 ghost use Rattle.std.specs.String.{string_bytes};
@@ -9,51 +11,18 @@ ghost use Rattle.clap.specs.Words.{app_of, first_of, found_of, kind_of, rows_of}
 ghost use Rattle.command_line.specs.CommandLine.{HasText, Reads, filehost};
 ghost use Rattle.command_line.specs.declared.Refusal.TheVariants.{OutOfMemory};
 
+pub use serve_words::ServeOptions;
+
+use crate::serve_words::{Misread, serve_command, serve_options};
+use crate::texts::{ABOUT, ABOUT_SOLO, ABOUT_STORE, EXAMPLE, MORE_ON_SOLO};
 use clap::error::ErrorKind;
 use clap::{Arg, ArgAction, ArgMatches, Command, Error};
 use std::alloc::{AllocError, Global};
 use std::convert::AsStr;
 
-const ABOUT: &str =
-    "An immutable file host: it serves sites over HTTP/1.1, and keeps each file under its SHA-1.
-
-A deploy lists the paths of a site with the digests of their contents. The host asks for the contents
-that it lacks, and publishes the deploy whole or not at all. Each change has a number, by which it can
-be undone while no later change reads or writes what it changed.";
-
-const EXAMPLE: &str = "Example, at the top of the repository:
-  ./filehost solo < examples/first-run.http
-It opens a deploy of one file, uploads the file, reads a part of it, undoes the deploy and reads again,
-and prints the five replies.
-
-Documents, in the repository:
-  README.md        how to build it, a first run, and what is proved
-  docs/HTTP.md     each request and its reply
-  docs/CHANGES.md  deploys, aliases, and what an undo does";
-
-const ABOUT_SOLO: &str =
-    "Serves one connection: HTTP/1.1 requests on standard input, replies on standard output";
-
-const ABOUT_STORE: &str =
-    "An existing folder in which the host is kept, and which nothing else uses";
-
-const MORE_ON_SOLO: &str =
-    "To type a request at a terminal, end each line with the return key and the head with an empty line,
-as in `GET /s/one/ HTTP/1.1` and an empty line. Ctrl-D ends the input.
-
-Without --store the host starts empty, and all it holds is gone when the connection ends.
-
-With it the host continues where it last stopped, or starts empty where DIR holds no host yet. Let
-nothing else write into DIR: files there with the program's own names are read and written over.
-
-Exit status: 0 if the input has ended or a reply has closed the connection, 1 for arguments that
-are not taken, 2 if input, output or memory failed, 3 if the journal in DIR can't be opened, 4 if a
-file in DIR is missing or damaged, or can't be read.
-
-`journal: Device` means that DIR is not an existing folder, that another program has its journal
-open, or that the journal can't be made, read or written.";
-
 const NOT_TAKEN: &str = "filehost: these arguments are not taken\n";
+
+const BAD_ADDRESS: &str = "filehost: bad address\n";
 
 /// What the command line asks for.
 #[derive(Debug, Drop, PartialEq, Eq)]
@@ -63,6 +32,8 @@ pub enum Wanted {
         /// The folder that keeps the host, if one does.
         store: Option<String>,
     },
+    /// Serve clients over TCP.
+    Serve(ServeOptions),
 }
 
 /// Why the command line asks for nothing that the program does.
@@ -97,9 +68,22 @@ pub fn read<S: AsStr>(alloc: Global, words: &[S]) -> Result<Wanted, Refusal>
             Some(solo) => Ok(Wanted::Solo {
                 store: store_in(alloc, solo)?,
             }),
-            None => Err(Refusal::Shown(String::from_str(alloc, NOT_TAKEN)?)),
+            None => read_serve(alloc, &matches),
         },
         Err(error) => Err(make_refusal(alloc, &error)),
+    }
+}
+
+/// What is wanted where the words don't ask for `solo`.
+fn read_serve(alloc: Global, matches: &ArgMatches) -> Result<Wanted, Refusal> {
+    let Some(serve) = matches.subcommand_matches("serve") else {
+        return Err(Refusal::Shown(String::from_str(alloc, NOT_TAKEN)?));
+    };
+    match serve_options(alloc, serve) {
+        Ok(options) => Ok(Wanted::Serve(options)),
+        Err(Misread::BadAddress) => Err(Refusal::Shown(String::from_str(alloc, BAD_ADDRESS)?)),
+        Err(Misread::BadNumber) => Err(Refusal::Shown(String::from_str(alloc, NOT_TAKEN)?)),
+        Err(Misread::OutOfMemory) => Err(Refusal::OutOfMemory),
     }
 }
 
@@ -159,5 +143,6 @@ fn commands<'a>(alloc: Global) -> Result<Command<'a>, AllocError>
         .after_help(EXAMPLE)
         .subcommand_required(true)
         .arg_required_else_help(true)
-        .subcommand(solo)
+        .subcommand(solo)?
+        .subcommand(serve_command(alloc)?)
 }

@@ -1,0 +1,182 @@
+//! What the workers of a node share.
+use crate::clients::Client;
+use crate::limits::Limits;
+use crate::longest::Longest;
+use std::alloc::{AllocError, Global};
+use std::net::TcpListener;
+use std::sync::atomic::{AtomicU64, Ordering};
+use std::sync::{Mutex, Wait};
+use std::time::Clock;
+use tcp_socket::{Interest, ReadySet};
+
+/// How many connections a node has at most.
+const PLACES: usize = 1024;
+
+/// The number of the listener in the set; the connections have those of their places.
+pub(crate) const LISTENER: u64 = u64::MAX;
+
+/// The place of a connection, with the connection, if one is there.
+#[derive(Drop)]
+pub(crate) struct Place<N: Drop> {
+    pub client: Option<Client<N>>,
+}
+
+/// What the workers of a node share: its listener, the set of what is ready, and its connections, each in a place behind a lock of its own.
+#[derive(Drop)]
+pub struct Node<N: Drop> {
+    pub(crate) listener: TcpListener,
+    pub(crate) ready: ReadySet,
+    pub(crate) places: Vec<Mutex<Place<N>>>,
+    free: Mutex<Vec<usize>>,
+    pub(crate) limits: Limits,
+    // How many clients are still accepted, how many connections are still to end, and when the connections were looked through last.
+    to_accept: AtomicU64,
+    to_end: AtomicU64,
+    swept: AtomicU64,
+}
+
+/// The time of a clock, in milliseconds; 0 where it can't be told.
+pub(crate) fn milliseconds<R: Clock>(rt: &R) -> u64 {
+    match rt.monotonic() {
+        Ok(time) => u64::try_from(time.as_millis()).unwrap_or(u64::MAX),
+        Err(_) => 0,
+    }
+}
+
+impl<N: Drop> Node<N> {
+    /// A node that serves the clients of a listener that doesn't block, and ends after so many of them. If the listener can't be waited on, there is none.
+    pub fn new(
+        alloc: Global,
+        listener: TcpListener,
+        ready: ReadySet,
+        limits: Limits,
+        clients: u64,
+    ) -> Result<Node<N>, AllocError> {
+        let mut places = Vec::new(alloc);
+        let mut free = Vec::new(alloc);
+        for at in 0..PLACES {
+            places.push(Mutex::new(Place { client: None }))?;
+            free.push(PLACES - 1 - at)?;
+        }
+        Ok(Node {
+            listener,
+            ready,
+            places,
+            free: Mutex::new(free),
+            limits,
+            to_accept: AtomicU64::new(clients),
+            to_end: AtomicU64::new(clients),
+            swept: AtomicU64::new(0),
+        })
+    }
+
+    /// Begins to wait for clients. Answers whether that was done.
+    pub fn open(&self) -> bool {
+        self.ready.add(&self.listener, LISTENER, Interest::Read)
+    }
+
+    /// Whether all the clients that it serves have come and gone.
+    pub(crate) fn is_over(&self) -> bool {
+        self.to_end.load(Ordering::SeqCst) == 0
+    }
+
+    // A client was accepted. Answers whether more are.
+    pub(crate) fn count_accepted(&self) {
+        self.to_accept.fetch_sub(1, Ordering::SeqCst);
+    }
+
+    /// Waits for the next client, if there is to be one.
+    pub(crate) fn listen_again(&self) {
+        if self.to_accept.load(Ordering::SeqCst) > 0 {
+            self.ready
+                .rearm(&self.listener, LISTENER, Interest::Read);
+        }
+    }
+
+    /// A client has gone that had no place.
+    pub(crate) fn count_gone(&self) {
+        self.to_end.fetch_sub(1, Ordering::SeqCst);
+    }
+
+    /// A connection has ended, and its place is free.
+    pub(crate) fn release<R: Wait>(&self, rt: &R, at: usize) {
+        let _ = self.free.lock(rt).push(at);
+        self.count_gone();
+    }
+
+    /// A free place: where there is none, that of the connection that has waited longest, which ends.
+    pub(crate) fn claim<R: Wait>(&self, rt: &R) -> Option<usize> {
+        let free = self.free.lock(rt).pop();
+        if free.is_some() {
+            return free;
+        }
+        let at = self.end_longest()?;
+        self.count_gone();
+        Some(at)
+    }
+
+    /// Gives up the connection that has waited longest, for its descriptor. Answers whether there was one.
+    pub(crate) fn give_up_longest<R: Wait>(&self, rt: &R) -> bool {
+        match self.end_longest() {
+            Some(at) => {
+                self.release(rt, at);
+                true
+            }
+            None => false,
+        }
+    }
+
+    /// Ends the connection that has waited longest, of those that no worker has, and answers its place.
+    fn end_longest(&self) -> Option<usize> {
+        let mut longest = Longest::new();
+        for at in 0..self.places.len() {
+            if let Some(place) = self.places[at].try_lock() {
+                if let Some(client) = &place.client {
+                    longest.look(at, client.active);
+                }
+            }
+        }
+        let at = longest.place()?;
+        let mut place = self.places.get(at)?.try_lock()?;
+        place.client.take()?;
+        Some(at)
+    }
+
+    /// Ends the connections that are late, if the connections weren't looked through for a while.
+    pub(crate) fn sweep<R: Wait + Clock>(&self, rt: &R) {
+        let now = milliseconds(rt);
+        let swept = self.swept.load(Ordering::SeqCst);
+        if now.saturating_sub(swept) < self.limits.sweep {
+            return;
+        }
+        if self
+            .swept
+            .compare_exchange(swept, now, Ordering::SeqCst, Ordering::SeqCst)
+            .is_err()
+        {
+            return;
+        }
+        for at in 0..self.places.len() {
+            if self.ends_late(at, now) {
+                self.release(rt, at);
+            }
+        }
+    }
+
+    /// Ends the connection in a place if it is late and no worker has it. Answers whether it did.
+    fn ends_late(&self, at: usize, now: u64) -> bool {
+        let Some(place) = self.places.get(at) else {
+            return false;
+        };
+        let Some(mut place) = place.try_lock() else {
+            return false;
+        };
+        match &place.client {
+            Some(client) if client.pace.is_late(&self.limits, now) => {
+                place.client = None;
+                true
+            }
+            _ => false,
+        }
+    }
+}

@@ -1,0 +1,78 @@
+//! The turns of a node's workers.
+ghost use Rattle.std.specs.Prelude.{◌≡◌, true};
+
+use crate::nodes::{LISTENER, Node};
+use crate::workers::Turns;
+use std::sync::Wait;
+use std::time::Clock;
+use tcp_socket::Event;
+
+/// What a worker does next.
+#[derive(Clone, Copy, Debug, PartialEq, Eq)]
+pub enum Turn {
+    /// Accepts a client.
+    Accept,
+    /// Goes on with the connection in a place.
+    GoOn(usize),
+}
+
+/// The turns that a worker of a node takes.
+pub struct NodeTurns<'a, R, N: Drop> {
+    rt: &'a R,
+    node: &'a Node<N>,
+    taken: u64,
+    // Whether the node was seen to be over.
+    is_over: bool,
+}
+
+impl<'a, R, N: Drop> NodeTurns<'a, R, N> {
+    /// The turns of a worker that has taken none.
+    pub fn new(rt: &'a R, node: &'a Node<N>) -> NodeTurns<'a, R, N>
+        ensures { result.taken ≡ 0 }
+    {
+        NodeTurns {
+            rt,
+            node,
+            taken: 0,
+            is_over: false,
+        }
+    }
+
+    fn end(&mut self) -> Option<Turn> {
+        self.is_over = true;
+        None
+    }
+}
+
+impl<R: Wait + Clock, N: Drop> Turns for NodeTurns<'_, R, N> {
+    type Turn = Turn;
+
+    ghost taken = { λ turns. turns.taken };
+
+    ghost ended = { λ turns. turns.is_over ≡ true };
+
+    fn next(&mut self) -> Option<Turn> {
+        let rt = self.rt;
+        for _ in rt.forever() {
+            if self.taken == u64::MAX || self.node.is_over() {
+                return self.end();
+            }
+            self.node.sweep(rt);
+            let tick = i32::try_from(self.node.limits.sweep).unwrap_or(1_000);
+            if let Event::Ready(number) = self.node.ready.wait(tick) {
+                self.taken += 1;
+                return Some(turn_of(number));
+            }
+        }
+        unreachable!()
+    }
+}
+
+/// The turn for what the set told of.
+fn turn_of(number: u64) -> Turn {
+    if number == LISTENER {
+        Turn::Accept
+    } else {
+        Turn::GoOn(number as usize)
+    }
+}
