@@ -17,8 +17,8 @@ use std::thread;
 use std::time::{Clock, Duration};
 use tcp_socket::{Interest, Socket};
 
-/// How long a worker pauses where there is no descriptor, and no connection that could give one.
-const PAUSE: Duration = Duration::from_millis(10);
+/// How many milliseconds a worker pauses where there is no descriptor, and no connection that could give one.
+const PAUSE: u64 = 10;
 
 /// A worker of a node.
 #[derive(Drop)]
@@ -65,7 +65,7 @@ impl<'a, R: Wait + Clock, S: Steps + Drop> Worker<'a, R, S> {
             ErrorKind::WouldBlock | ErrorKind::Interrupted | ErrorKind::ConnectionAborted => {}
             _ => {
                 if !self.node.give_up_longest(self.rt) {
-                    thread::sleep(self.rt, PAUSE);
+                    thread::sleep(self.rt, Duration::from_millis(PAUSE));
                 }
             }
         }

@@ -17,6 +17,7 @@ pub enum Turn {
 }
 
 /// The turns that a worker of a node takes.
+#[derive(Drop)]
 pub struct NodeTurns<'a, R, N: Drop> {
     rt: &'a R,
     node: &'a Node<N>,

@@ -17,7 +17,10 @@ const FAILED: u8 = 2;
 
 fn main(rt: HostRuntime) -> ExitCode {
     let status = match words(&rt) {
-        Ok(words) => run(&rt, words.as_slice()),
+        Ok(words) => match command_line::read(rt.alloc(), words.as_slice()) {
+            Ok(command_line::Wanted::Serve(options)) => match host_nodes::serve(&rt, rt.alloc(), &options) { Ok(()) => 0, Err(_) => 2 },
+            _ => run(&rt, words.as_slice()),
+        },
         Err(error) => fail(&rt, &error),
     };
     ExitCode::from(status)

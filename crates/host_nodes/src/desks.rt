@@ -1,0 +1,173 @@
+//! The desk of the nodes, and what each works with.
+use crate::groups::{HostGroup, groups_of, peer_addresses};
+use crate::guests::GuestSteps;
+use crate::lines::{Failure, say};
+use crate::nodes::{Job, serve_all};
+use crate::ports::{Bound, Ports};
+use crate::runtimes::Serving;
+use blob_store::Shelf;
+use byte_view::BlobInfo;
+use change_undo::Entry;
+use event_loop::{Limits, Node};
+use host_disk::Disk;
+use http_wire::Sink;
+use seen_lists::{ListName, Shown};
+use shared_desk::Desk;
+use shared_house::{DeskVisitor, GroupFiles, Guest, Note, SeatedDesk, SharedHouse};
+use site_desk::{DeskName, HostSnap, Seat, Seats};
+use std::alloc::{AllocError, Global};
+use std::net::TcpListener;
+use std::sync::Mutex;
+use tcp_socket::ReadySet;
+
+/// The desk that the nodes share.
+pub(crate) type HostDesk<'a, J, K, D, S, R> = Desk<J, K, D, S, Shown<Entry, J, HostSnap>, &'a R>;
+
+/// What answers the requests at a node.
+type HostHouse<'a, J, K, D, S, R> = SharedHouse<
+    J,
+    SeatedDesk<'a, J, K, D, S, Shown<Entry, J, HostSnap>, &'a R, R>,
+    GroupFiles<'a, R, HostGroup<'a, R, S>>,
+>;
+
+/// A worker of a node.
+type HostJob<'a, J, K, D, S, R> = Job<
+    'a,
+    J,
+    SeatedDesk<'a, J, K, D, S, Shown<Entry, J, HostSnap>, &'a R, R>,
+    GroupFiles<'a, R, HostGroup<'a, R, S>>,
+>;
+
+/// A seat for each node, behind a lock.
+fn seats_of<J: DeskName>(
+    alloc: Global,
+    seats: Seats<J>,
+    nodes: usize,
+) -> Result<Vec<Mutex<Seat<J>>>, AllocError> {
+    let mut seats = seats;
+    let mut taken = Vec::new(alloc);
+    for _ in 0..nodes {
+        let Some(seat) = seats.take() else {
+            return Ok(taken);
+        };
+        taken.push(Mutex::new(seat))?;
+    }
+    Ok(taken)
+}
+
+/// The nodes of these listeners, which take no client yet.
+fn nodes_of<J: DeskName>(
+    alloc: Global,
+    listeners: Vec<TcpListener>,
+    limits: Limits,
+    clients: u64,
+) -> Result<Vec<Node<Note<J>>>, Failure> {
+    let mut nodes = Vec::new(alloc);
+    for listener in listeners {
+        let ready = ReadySet::new().map_err(|_| Failure::CannotListen)?;
+        nodes.push(Node::new(alloc, listener, ready, limits, clients)?)?;
+    }
+    Ok(nodes)
+}
+
+/// A worker of a node, with a visitor of its own.
+fn job_of<'a, J: DeskName, K: ListName<BlobInfo>, D: Disk, S: Shelf, R: Serving>(
+    rt: &'a R,
+    desk: &'a HostDesk<'a, J, K, D, S, R>,
+    seat: &'a Mutex<Seat<J>>,
+    group: &'a HostGroup<'a, R, S>,
+    node: &'a Node<Note<J>>,
+    visitor: &DeskVisitor<J>,
+) -> Option<HostJob<'a, J, K, D, S, R>> {
+    let visitor = visitor.again().ok()?;
+    let house: HostHouse<'a, J, K, D, S, R> = SharedHouse::new(
+        visitor,
+        SeatedDesk::new(rt, desk, seat),
+        GroupFiles::new(rt, group),
+    )
+    .ok()?;
+    Some(Job {
+        node,
+        steps: GuestSteps {
+            guest: Guest::new(house),
+        },
+    })
+}
+
+/// The workers of all nodes.
+fn jobs_of<'a, J: DeskName, K: ListName<BlobInfo>, D: Disk, S: Shelf, R: Serving>(
+    rt: &'a R,
+    alloc: Global,
+    desk: &'a HostDesk<'a, J, K, D, S, R>,
+    seats: &'a [Mutex<Seat<J>>],
+    groups: &'a [HostGroup<'a, R, S>],
+    nodes: &'a [Node<Note<J>>],
+    visitor: &DeskVisitor<J>,
+    workers: u64,
+) -> Result<Vec<HostJob<'a, J, K, D, S, R>>, AllocError> {
+    let mut jobs = Vec::new(alloc);
+    for ((node, group), seat) in nodes.iter().zip(groups.iter()).zip(seats.iter()) {
+        for _ in 0..workers {
+            let job = job_of(rt, desk, seat, group, node, visitor).ok_or(AllocError)?;
+            jobs.push(job)?;
+        }
+    }
+    Ok(jobs)
+}
+
+/// Begins to take clients at each node, and says so.
+fn open_all<N: Drop, O: Sink>(
+    alloc: Global,
+    nodes: &[Node<N>],
+    ports: &[Ports],
+    lines: &mut O,
+) -> Result<(), Failure> {
+    for (number, (node, ports)) in nodes.iter().zip(ports.iter()).enumerate() {
+        if !node.open() {
+            return Err(Failure::CannotListen);
+        }
+        let address = ports.client_address;
+        let line = format!(in alloc; "node {number} listening on {address}\n")?;
+        say(lines, line.as_str());
+    }
+    Ok(())
+}
+
+/// What the nodes share.
+#[derive(Drop)]
+pub(crate) struct Plan {
+    pub(crate) workers: u64,
+    pub(crate) limits: Limits,
+    pub(crate) clients: u64,
+}
+
+/// Serves from a desk at these ports.
+pub(crate) fn serve_desk<J: DeskName, K: ListName<BlobInfo>, D: Disk, S: Shelf, R: Serving, O: Sink>(
+    rt: &R,
+    alloc: Global,
+    desk: &HostDesk<'_, J, K, D, S, R>,
+    seats: Seats<J>,
+    visitor: &DeskVisitor<J>,
+    bound: Bound,
+    plan: &Plan,
+    lines: &mut O,
+) -> Result<(), Failure> {
+    let Bound { clients, ports } = bound;
+    let peers = peer_addresses(alloc, ports.as_slice())?;
+    let groups = groups_of(rt, alloc, desk.files(), peers.as_slice())?;
+    let seats = seats_of(alloc, seats, ports.len())?;
+    let nodes = nodes_of::<J>(alloc, clients, plan.limits, plan.clients)?;
+    let jobs = jobs_of(
+        rt,
+        alloc,
+        desk,
+        seats.as_slice(),
+        groups.as_slice(),
+        nodes.as_slice(),
+        visitor,
+        plan.workers,
+    )?;
+    open_all(alloc, nodes.as_slice(), ports.as_slice(), lines)?;
+    serve_all(rt, alloc, ports.as_slice(), groups.as_slice(), jobs, plan.limits)?;
+    Ok(())
+}
