@@ -6,6 +6,7 @@ mod desks;
 mod listings;
 mod new_desks;
 mod openings;
+mod reading;
 mod showing;
 mod turns;
 mod upload_errors;

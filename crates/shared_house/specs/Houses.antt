@@ -1,0 +1,32 @@
+-- What the calls of a house do whose history others change.
+use Rattle.std.specs.Prelude.{◌≡◌, Result, Ok, Err}
+use Rattle.std.specs.declared.alloc.AllocError.{AllocError}
+use Rattle.host_answers.specs.Houses.{Calls, Failed, Gave, Seen}
+use Rattle.shared_house.specs.Seeing.{by_front}
+use Rattle.shared_house.specs.Shared.{CommitsAs, IsLegalRun, LacksAs, TakesAs, UndoesAs, fails, gives}
+use Rattle.shared_house.specs.Sights.{Sight}
+
+-- what it shows
+abbrev pub shown : Sight → Seen
+shown house = record { entries = house.past.entries; state = house.past.state }
+
+-- a look shows what its visitor sees
+abbrev pub LooksAt : Sight → Result (Unit {0}) AllocError → Sight → Type 0
+LooksAt house (Ok done) next = by_front.looks house.known (shown next).entries next.known × IsLegalRun (shown next)
+LooksAt house (Err why) next = next.known ≡ house.known
+
+abbrev pub gave_at : Gave Sight
+gave_at old hold new = gives by_front old.known hold new.known
+
+abbrev pub failed_at : Failed Sight
+failed_at old file first last why new = fails by_front old.known file first last why new.known
+
+abbrev pub calls_of : Calls Sight
+calls_of = record {
+  seen = shown;
+  looks = LooksAt;
+  misses = λ house files required. LacksAs files required;
+  commits = λ old command done new. CommitsAs by_front old.known command done new.known;
+  undoes = λ old site change done new. UndoesAs by_front old.known site change done new.known;
+  uploads = λ old site n path bytes done new. TakesAs by_front old.known site n bytes done new.known;
+}

@@ -1,0 +1,11 @@
+-- what public clauses say
+pub mod Seeing
+pub mod Sights
+pub mod Entering
+pub mod Shared
+pub mod Guests
+-- ---- what the house's calls do, and the laws of that
+pub mod Receipts
+pub mod Houses
+pub mod HouseLaws
+pub mod GuestLaws

@@ -1,0 +1,45 @@
+//! How a node's files are reached.
+ghost use Rattle.std.specs.Prelude.{◌≡◌, ◌<◌, ◌≤◌, IfOk, length};
+
+use byte_view::{BlobInfo, Hold};
+use chunk_group::{Coin, Group, Outcome, Source};
+use chunk_reads::ReadFault;
+use peer_link::PeerLink;
+use peer_ring::RingHash;
+use std::sync::{Arc, Wait};
+
+/// Holds stretches of files, for many threads at once.
+pub trait FileAccess {
+    /// A stretch of a file, with the chunks that it meets. It is given by its first and its last byte, both included.
+    fn hold(&self, info: Arc<BlobInfo>, first: usize, last: usize) -> Result<Hold, ReadFault>
+        requires ordered { first ≤ last }
+        requires within { last < length info.value }
+        ensures stretch { IfOk result (λ hold.
+            (hold.file ≡ info.value) × (hold.first ≡ first) × (hold.last ≡ last)) };
+}
+
+/// The files that are read through a node of a group. No lock is held while a chunk is loaded or hashed.
+#[derive(Drop)]
+pub struct GroupFiles<'a, W, G> {
+    rt: &'a W,
+    group: &'a G,
+}
+
+impl<'a, W, G> GroupFiles<'a, W, G> {
+    /// The files of a node, for a thread that waits for its locks and flights by this handle.
+    pub fn new(rt: &'a W, group: &'a G) -> GroupFiles<'a, W, G> {
+        GroupFiles { rt, group }
+    }
+}
+
+impl<
+    W: Wait,
+    H: RingHash + Copy + Drop,
+    S: Source + Copy,
+    L: PeerLink + Copy,
+    C: Coin + Drop,
+> FileAccess for GroupFiles<'_, W, Group<H, S, L, C>> {
+    fn hold(&self, info: Arc<BlobInfo>, first: usize, last: usize) -> Result<Hold, ReadFault> {
+        self.group.hold(self.rt, info, first, last)
+    }
+}

@@ -1,0 +1,114 @@
+//! Connections that go from one worker to another, each with a note of what it saw.
+ghost use Rattle.std.specs.Prelude.{◌≡◌};
+ghost use Rattle.change_undo.specs.Logs.{BeginsWith, Log};
+ghost use Rattle.host_connection.specs.Carrying.{AnswersOnce, Carries, Leads};
+ghost use Rattle.host_replies.specs.Bodies.{answer_of};
+ghost use Rattle.shared_house.specs.GuestLaws as laws;
+ghost use Rattle.shared_house.specs.Guests.{IsGuestAnswer};
+ghost use Rattle.shared_house.specs.HouseLaws as houses;
+
+use crate::answering::serve;
+use crate::desk_access::DeskAccess;
+use crate::file_access::FileAccess;
+use crate::houses::SharedHouse;
+use change_undo::Entry;
+use host_connection::{Connection, Metered, Progress, Request, Service};
+use host_replies::Reply;
+use http_wire::{Duplex, Head};
+use seen_lists::Front;
+use site_desk::DeskName;
+use std::alloc::Global;
+use std::marker::Model;
+use std::mem;
+
+/// What a connection saw last: the front of a desk's log. A note takes no memory, and can be made again.
+pub type Note<J> = Front<Entry, J>;
+
+/// A worker's house, and the note of the connection that it answers. Contracts see the log of the note alone, so the worker is no part of what they say.
+#[derive(Drop)]
+pub struct Guest<J: DeskName, D, G> {
+    house: SharedHouse<J, D, G>,
+    note: Note<J>,
+}
+
+impl<J: DeskName, D, G> Model for Guest<J, D, G> {
+    ghost use Rattle.change_undo.specs.Logs.{Log};
+
+    ghost Value = { Log };
+
+    ghost view = { λ g. g.note };
+}
+
+/// The reply to a request of a connection with this note: the house learns the note before, and the note is what the house knows then.
+fn answer_guest<J: DeskName, D: DeskAccess<J>, G: FileAccess>(
+    alloc: Global,
+    house: &mut SharedHouse<J, D, G>,
+    note: &mut Note<J>,
+    head: &Head,
+    body: &[u8],
+) -> Reply
+    ensures replied { IsGuestAnswer note.old head.now body.now (answer_of result) note.new }
+    ensures grows { BeginsWith note.new note.old }
+{
+    house.visitor.learn_front(note);
+    let reply = serve(alloc, house, head, body);
+    *note = house.visitor.front();
+    reply
+}
+
+impl<J: DeskName, D: DeskAccess<J>, G: FileAccess> Service for Guest<J, D, G> {
+    ghost answers = { IsGuestAnswer };
+
+    ghost grows = { λ old new. BeginsWith new old };
+
+    fn answer(&mut self, alloc: Global, request: Request) -> Reply {
+        answer_guest(
+            alloc,
+            &mut self.house,
+            &mut self.note,
+            &request.head,
+            request.body.as_slice(),
+        )
+    }
+
+    ghost withheld = { laws.withheld };
+
+    ghost stays = { houses.stays };
+
+    ghost goes_on = { houses.goes_on };
+}
+
+impl<J: DeskName, D: DeskAccess<J>, G: FileAccess> Guest<J, D, G> {
+    /// A worker at no connection.
+    pub fn new(house: SharedHouse<J, D, G>) -> Guest<J, D, G>
+        ensures { result ≡ house.known }
+    {
+        let note = house.visitor.front();
+        Guest { house, note }
+    }
+
+    /// A note for a new connection: what the worker knows.
+    pub fn note(&self) -> Note<J> {
+        self.house.visitor.front()
+    }
+
+    /// Goes on with a connection, of which this is the note, whichever worker served it before.
+    pub fn go_on<X: Duplex>(
+        &mut self,
+        connection: &mut Connection,
+        note: &mut Note<J>,
+        alloc: Global,
+        duplex: &mut Metered<X>,
+    ) -> Progress
+        ensures leads { (start : X) (first : Log)
+            → Carries IsGuestAnswer X.saw (Unit {0}) start first duplex.old note.old connection.old
+            → Leads IsGuestAnswer X.saw (Unit {0}) X.waits start first duplex.new note.new connection.new result }
+        ensures asks { AnswersOnce IsGuestAnswer note.old note.new }
+        ensures grows { BeginsWith note.new note.old }
+    {
+        mem::swap(&mut self.note, note);
+        let progress = connection.go_on(alloc, duplex, self);
+        mem::swap(&mut self.note, note);
+        progress
+    }
+}

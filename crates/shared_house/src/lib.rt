@@ -1,0 +1,15 @@
+//! The house of a node: what its workers answer requests over. They share a desk and the node's files.
+#![tactic(auto)]
+
+mod answering;
+mod desk_access;
+mod file_access;
+mod guests;
+mod houses;
+pub mod laws;
+
+pub use answering::answer_shared;
+pub use desk_access::{DeskAccess, SeatedDesk};
+pub use file_access::{FileAccess, GroupFiles};
+pub use guests::{Guest, Note};
+pub use houses::{DeskVisitor, SharedHouse};
