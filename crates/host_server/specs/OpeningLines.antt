@@ -1,8 +1,8 @@
 -- What a run says where its store can't be opened, and the status that it ends with.
 use Rattle.std.specs.Prelude.{ℕ, List, [], ◌++◌, codes, decimal}
 use Rattle.hex.specs.Hex.{encode_lower}
-use Rattle.host_server.specs.declared.openings.OpenFault.{OpenFault}
-use Rattle.host_server.specs.declared.openings.OpenFault.TheVariants as fault
+use Rattle.found_host.specs.declared.faults.OpenFault.{OpenFault}
+use Rattle.found_host.specs.declared.faults.OpenFault.TheVariants as fault
 
 -- the name of a fault, with what is at fault
 abbrev pub name_of : OpenFault → List ℕ

@@ -1,48 +1,11 @@
--- What an opening of a server gives, and why there is none.
-use Rattle.std.specs.Prelude.{◌≡◌, ◌⊎◌, ℕ, ◌+◌, ◌-◌, ◌^◌, min, List, Some, IsTrue, false}
-use Rattle.byte_view.specs.Contents.{Contents}
+-- What an opening of a server gives.
+use Rattle.std.specs.Prelude.{◌≡◌, ℕ, Some}
 use Rattle.blob_store.specs.Calls.{Call}
-use Rattle.blob_store.specs.Openings as blobs
-use Rattle.blob_store.specs.declared.openings.OpenFault as of_files
-use Rattle.blob_store.specs.declared.openings.OpenFault.TheVariants as blobs_fault
-use Rattle.blob_store.specs.declared.openings.Wanted.{Wanted}
 use Rattle.chunk_lru.specs.Caches.{empty}
-use Rattle.change_undo.specs.Logs.{Log}
 use Rattle.change_journal.specs.entries.Held.{Keeps}
-use Rattle.change_journal.specs.entries.Files.{IsBadRecord, IsFound, IsNoJournal, IsRefused}
-use Rattle.change_journal.specs.entries.Texts.{AllStored, IsText, texts}
-use Rattle.change_journal.specs.file.Walks.{IsOnlyRead}
-use Rattle.change_journal.specs.declared.file.faults.OpenFault as of_disk
-use Rattle.change_journal.specs.declared.file.faults.OpenFault.TheVariants as journal_fault
+use Rattle.found_host.specs.Openings.{HasFiles, HasJournal}
 use Rattle.host_disk.specs.declared.disks.Disk.{Ghosts}
-use Rattle.host_opening.specs.Replays.{StopsAt}
-use Rattle.host_opening.specs.WantedFiles.{AreWanted}
-use Rattle.host_opening.specs.declared.replays.ReplayFault.{ReplayFault}
-use Rattle.host_opening.specs.declared.replays.ReplayFault.TheVariants as replay_fault
-use Rattle.host_server.specs.declared.openings.OpenFault.{OpenFault}
-use Rattle.host_server.specs.declared.openings.OpenFault.TheVariants as fault
 use Rattle.host_server.specs.declared.servers.Server.{Server}
-
--- ---- what is opened
-
--- the disk has an open journal: of a modelled one, its entries are those that the file held, and whatever a crash leaves holds them
-pub record HasJournal {D : Type 0} (disk : Ghosts D) (old : D) (journal : Keeps D) : Type 0 where
-  pub whole : journal.broken ≡ false
-  pub found : IsTrue disk.is_modelled → IsFound (texts journal.entries) (disk.seen old)
-  pub stored : IsTrue disk.is_modelled → AllStored (disk.may_leave journal.disk) journal.entries
-  pub no_fault : disk.faults journal.disk ≡ disk.faults old
-
--- the journal of a disk was opened, and the disk is handed back
-pub record HadJournal {D : Type 0} (disk : Ghosts D) (old new : D) : Type 0 where
-  pub journal : Keeps D
-  pub has_journal : HasJournal disk old journal
-  pub is : new ≡ journal.disk
-
--- of the files that these entries want, those that the shelf gave whole are known
-pub record HasFiles {S : Type 0} (did : S → Call → S → Type 0) (old : S) (entries : Log) (known : Contents) (new : S) : Type 0 where
-  pub wanted : List Wanted
-  pub are_wanted : AreWanted entries wanted
-  pub opened : blobs.IsOpened did old wanted known new
 
 -- A server is opened: its host has the entries of the journal, each accepted in its place over the files that they want. Nothing is in its
 -- cache yet.
@@ -54,73 +17,3 @@ pub record IsOpened {S D : Type 0} {disk : Ghosts D} (did : S → Call → S →
   pub limit_is : server.house.limit ≡ limit
   pub has_files : HasFiles did shelf server.house.entries server.house.uploads server.files.shelf
   pub cache : server.files.cache ≡ empty 67108864
-
--- ---- why there is none, in the order in which it is told
-
--- of a modelled disk: nothing was written
-abbrev pub IsUnwritten : {D : Type 0} → Ghosts D → D → D → Type 0
-IsUnwritten disk old new = IsTrue disk.is_modelled → IsOnlyRead disk.seen disk.may_leave disk.moment disk.left_since old new
-
--- of a modelled disk: nothing was written to a file that is refused
-abbrev pub IsSpared : {D : Type 0} → Ghosts D → D → D → Type 0
-IsSpared disk old new = IsTrue disk.is_modelled → IsRefused IsText (disk.seen old) → IsOnlyRead disk.seen disk.may_leave disk.moment disk.left_since old new
-
--- the journal can't be opened: the file is none, or has a bad record, or there was no memory, and nothing was written; or the device failed, which
--- is counted, and nothing was written to a file that is refused
-abbrev pub IsJournalFault : {D : Type 0} → Ghosts D → D → OpenFault → D → Type 0
-IsJournalFault disk old fault.BadHeader new = (IsTrue disk.is_modelled → IsNoJournal (disk.seen old)) × IsUnwritten disk old new
-IsJournalFault disk old (fault.BadRecord n) new = (IsTrue disk.is_modelled → IsBadRecord IsText n (disk.seen old)) × IsUnwritten disk old new
-IsJournalFault disk old fault.JournalDevice new = (disk.faults new ≡ min (disk.faults old + 1) (2 ^ 64 - 1)) × IsSpared disk old new
-IsJournalFault disk old fault.OutOfMemory new = IsUnwritten disk old new
-IsJournalFault disk old why new = ⊥
-
--- the files that these entries want can't be opened, for that reason
-abbrev pub AreNotOpened : {S : Type 0} → (did : S → Call → S → Type 0) → S → Log → of_files.OpenFault → S → Type 0
-AreNotOpened did old entries why new = (wanted : List Wanted) × AreWanted entries wanted × blobs.IsOpenFault did old wanted why new
-
--- a file that must be there is missing or damaged, or the device of the shelf failed; or there was no memory: the shelf wasn't asked, or some files
--- were taken and the next one lacked it, on the shelf or here
-abbrev pub IsFilesFault : {S : Type 0} → (did : S → Call → S → Type 0) → S → Log → OpenFault → S → Type 0
-IsFilesFault did old entries (fault.MissingBlob digest) new = AreNotOpened did old entries (blobs_fault.MissingBlob digest) new
-IsFilesFault did old entries (fault.DamagedBlob digest) new = AreNotOpened did old entries (blobs_fault.DamagedBlob digest) new
-IsFilesFault did old entries fault.BlobsDevice new = AreNotOpened did old entries blobs_fault.Device new
-IsFilesFault did old entries fault.OutOfMemory new = (new ≡ old) ⊎ AreNotOpened did old entries blobs_fault.OutOfMemory new
-IsFilesFault did old entries why new = ⊥
-
--- that; or the files were opened, and the entry of a number isn't accepted after those before it; or they were, and there was no memory, whether or
--- not each entry would be
-abbrev pub IsHostFault : {S : Type 0} → (did : S → Call → S → Type 0) → S → ℕ → Log → OpenFault → S → Type 0
-IsHostFault did old limit entries (fault.NotLegal n) new =
-    (known : Contents) × HasFiles did old entries known new × StopsAt known limit entries (replay_fault.NotLegal n)
-IsHostFault did old limit entries fault.OutOfMemory new = IsFilesFault did old entries fault.OutOfMemory new ⊎ ((known : Contents) × HasFiles did old entries known new)
-IsHostFault did old limit entries why new = IsFilesFault did old entries why new
-
--- Why a server can't be opened: the journal can't be, and the shelf isn't asked; or its entries have no host.
-abbrev pub IsOpenFault : {S D : Type 0} → Ghosts D → (did : S → Call → S → Type 0) → (old : D) → (shelf : S) → ℕ → OpenFault → (new : D) → (new_shelf : S) → Type 0
-IsOpenFault {D = D} disk did old shelf limit why new new_shelf =
-    (IsJournalFault disk old why new × (new_shelf ≡ shelf))
-    ⊎ ((journal : Keeps D) × HasJournal disk old journal × (new ≡ journal.disk) × IsHostFault did shelf limit journal.entries why new_shelf)
-
--- a reason other than that the file is no journal, or one of its records none
-abbrev pub IsNoRecordFault : OpenFault → Type 0
-IsNoRecordFault fault.BadHeader = ⊥
-IsNoRecordFault (fault.BadRecord n) = ⊥
-IsNoRecordFault why = Unit {0}
-
--- ---- how the faults of its parts are told
-
-abbrev pub of_journal : of_disk.OpenFault → OpenFault
-of_journal journal_fault.BadHeader = fault.BadHeader
-of_journal (journal_fault.BadRecord n) = fault.BadRecord n
-of_journal journal_fault.Device = fault.JournalDevice
-of_journal journal_fault.OutOfMemory = fault.OutOfMemory
-
-abbrev pub of_blobs : of_files.OpenFault → OpenFault
-of_blobs (blobs_fault.MissingBlob digest) = fault.MissingBlob digest
-of_blobs (blobs_fault.DamagedBlob digest) = fault.DamagedBlob digest
-of_blobs blobs_fault.Device = fault.BlobsDevice
-of_blobs blobs_fault.OutOfMemory = fault.OutOfMemory
-
-abbrev pub of_replay : ReplayFault → OpenFault
-of_replay (replay_fault.NotLegal n) = fault.NotLegal n
-of_replay replay_fault.OutOfMemory = fault.OutOfMemory

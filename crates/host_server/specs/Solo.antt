@@ -13,18 +13,19 @@ use Rattle.blob_store.specs.declared.mem_shelf.MemShelf.{MemShelf}
 use Rattle.blob_store.specs.declared.shelves.Shelf as shelves
 use Rattle.blob_store.specs.declared.shelves.ShelfName.{ShelfName}
 use Rattle.chunk_lru.specs.Caches.{empty}
+use Rattle.found_host.specs.Openings.{IsOpenFault}
+use Rattle.found_host.specs.declared.faults.OpenFault.{OpenFault}
+use Rattle.found_host.specs.declared.faults.OpenFault.TheVariants as open_fault
 use Rattle.host_disk.specs.declared.disks.Disk.{Ghosts}
 use Rattle.host_disk.specs.declared.mem_disk.MemDisk.{MemDisk}
 use Rattle.host_server.specs.Asks.{IsAnswer}
 use Rattle.host_server.specs.Hosts.{Host}
 use Rattle.host_server.specs.OpeningLines.{opening_line, opening_status}
-use Rattle.host_server.specs.Openings.{IsOpened, IsOpenFault}
+use Rattle.host_server.specs.Openings.{IsOpened}
 use Rattle.host_connection.specs.Serving.{Answering, Stream, Serves}
 use Rattle.host_connection.specs.Timing.{Connects, IsCaughtUp}
 use Rattle.host_connection.specs.declared.connections.ConnectionFault.{ConnectionFault}
 use Rattle.host_connection.specs.declared.connections.ConnectionFault.TheVariants as fault
-use Rattle.host_server.specs.declared.openings.OpenFault.{OpenFault}
-use Rattle.host_server.specs.declared.openings.OpenFault.TheVariants as open_fault
 use Rattle.host_server.specs.declared.servers.Server.{Server}
 
 -- a host without entries and uploads, which may have as many entries as any

@@ -16,7 +16,6 @@ mod storing;
 
 pub use answers::answer;
 pub use host::SoloHouse;
-pub use openings::{NotOpened, OpenFault};
 pub use servers::Server;
 pub use solo::run_solo;
 pub use stores::run_store;

@@ -4,8 +4,8 @@ ghost use Rattle.arrayvec.specs.ArrayString.{array_string_len};
 ghost use Rattle.host_server.specs.OpeningLines as spec;
 ghost use Rattle.host_server.specs.OpeningLines.{detail_of, opening_line, opening_status};
 
-use crate::openings::OpenFault;
 use arrayvec::ArrayString;
+use found_host::OpenFault;
 use http_wire::decimal_text;
 
 /// Each line fits in this many bytes.

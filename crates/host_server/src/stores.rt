@@ -1,14 +1,14 @@
 //! A run over a store: it is opened, and one connection is served.
 ghost use Rattle.std.specs.Prelude.{◌≡◌, ◌≢◌, [], IfErr, OnOk};
 ghost use Rattle.host_server.specs.Solo.{IsFolderFault, RunsFolder, RunsStore, SaysFault};
-ghost use Rattle.host_server.specs.declared.openings.OpenFault.TheVariants.{JournalDevice};
+ghost use Rattle.found_host.specs.declared.faults.OpenFault.TheVariants.{JournalDevice};
 
 use crate::opening_lines::{line_of, status_of};
-use crate::openings::OpenFault;
 use crate::runs::{fail, serve_server};
 use crate::servers::Server;
 use blob_store::{DirShelf, Shelf};
 use change_undo::GREATEST_LIMIT;
+use found_host::OpenFault;
 use host_disk::{Disk, FileDisk};
 use http_wire::{Sink, Steady};
 use std::alloc::Global;

@@ -15,6 +15,8 @@ ghost use Rattle.site_change.specs.declared.commands.Command.{Command};
 ghost use Rattle.change_undo.specs.declared.entries.Entry.{Entry};
 ghost use Rattle.change_journal.specs.entries.Held.{Keeps};
 ghost use Rattle.change_journal.specs.entries.Texts.{AllStored};
+ghost use Rattle.found_host.specs.Openings.{IsNoRecordFault, IsOpenFault};
+ghost use Rattle.found_host.specs.declared.faults.OpenFault.TheVariants as open_fault;
 ghost use Rattle.host_api.specs.declared.bodies.Ask.TheVariants as ask;
 ghost use Rattle.host_api.specs.declared.refusals.HeadRefusal.TheVariants.{CodingRefused};
 ghost use Rattle.host_api.specs.declared.refusals.Refusal.{Refusal};
@@ -30,7 +32,7 @@ ghost use Rattle.host_server.specs.Hosts.{Grows, Host};
 ghost use Rattle.host_server.specs.Journals.{IsJournaled, IsStopped, is_broken};
 ghost use Rattle.journaled_history.specs.Puts.{IsPut, IsPutInVain};
 ghost use Rattle.host_server.specs.Memory.{CommandRunsOut, DeployRunsOut, TextRunsOut, UndoRunsOut};
-ghost use Rattle.host_server.specs.Openings.{IsNoRecordFault, IsOpenFault, IsOpened};
+ghost use Rattle.host_server.specs.Openings.{IsOpened};
 ghost use Rattle.host_server.specs.Outcomes.{refused};
 ghost use Rattle.host_server.specs.ReadBack.{IsReadBack};
 ghost use Rattle.host_replies.specs.Replies.{Answer, refused_answer};
@@ -41,7 +43,6 @@ ghost use Rattle.host_server.specs.Solo.{IsFolderFault, IsServed, Runs, RunsStor
 ghost use Rattle.host_server.specs.Storing.{DoesUpload, IsNotStored, IsStored};
 ghost use Rattle.host_connection.specs.Timing.{Connects, IsCaughtUp};
 ghost use Rattle.host_connection.specs.declared.connections.ConnectionFault.TheVariants as fault;
-ghost use Rattle.host_server.specs.declared.openings.OpenFault.TheVariants as open_fault;
 ghost use Rattle.host_server.specs.declared.servers.Server.{Server};
 
 use blob_store::Shelf;

@@ -2,8 +2,8 @@ use Rattle.std.proofs.Common.{◌≡◌, inl, inr, Some, None, Result, Ok, Err, 
 use Rattle.host_server.specs.OpeningLines.{opening_status}
 use Rattle.host_server.specs.Solo.{status_of}
 use Rattle.host_connection.specs.declared.connections.ConnectionFault.{ConnectionFault}
-use Rattle.host_server.specs.declared.openings.OpenFault.{OpenFault}
-use Rattle.host_server.specs.declared.openings.OpenFault.TheVariants as fault
+use Rattle.found_host.specs.declared.faults.OpenFault.{OpenFault}
+use Rattle.found_host.specs.declared.faults.OpenFault.TheVariants as fault
 use Rattle.host_connection.proofs.NoHead.{not_caught_up}
 use Rattle.host_server.proofs.laws.refuted.wrong_runs_are_refused.Goals as goal
 
