@@ -1,5 +1,5 @@
 -- What a parse that ends well, or doesn't, says of the words.
-use Rattle.std.proofs.Common.{◌≡◌, ◌∙◌, List, [], Option, Some, None, Err, ap, codes, inl, inr, refl, option_map, subst, sym}
+use Rattle.std.proofs.Common.{◌≡◌, ◌∙◌, List, [], Option, Some, None, Result, Ok, Err, ap, codes, inl, inr, refl, option_map, subst, sym}
 use Rattle.std.specs.Prelude.{Box}
 use Rattle.std.specs.Box.{box_value}
 use Rattle.clap.specs.Kinds.{HasKind, IsAmong}
@@ -9,10 +9,12 @@ use Rattle.clap.specs.declared.error.kind.ErrorKind.TheVariants as kind
 use Rattle.clap.specs.declared.parser.matches.ArgMatches.{ArgMatches}
 use Rattle.clap.specs.declared.parser.matches.ArgMatches.TheViews.{out-ArgMatches, out-SubCommand}
 use Rattle.clap.specs.declared.parser.matches.SubCommand.{SubCommand}
-use Rattle.command_line.specs.CommandLine.{AskForSolo, HasText, Reads, filehost}
+use Rattle.command_line.specs.CommandLine.{AskForSolo, HasText, Reads, ReadsServe, filehost}
 use Rattle.command_line.proofs.Asking.{is_plain}
 use Rattle.command_line.specs.declared.Refusal.{Refusal}
 use Rattle.command_line.specs.declared.Refusal.TheVariants.{Shown, OutOfMemory}
+use Rattle.command_line.specs.declared.Wanted.{Wanted}
+use Rattle.command_line.specs.declared.Wanted.TheVariants.{Solo, Serve}
 
 -- the name of the command is that with its rows
 pub named : (m : ArgMatches) → option_map (λ (p : Text × List Row). p.0) (subcommand_rows_of m) ≡ subcommand_name_of m
@@ -28,8 +30,16 @@ pub has_name : (o : Option (Text × List Row)) (name : Text) (rows : List Row) �
 has_name None name rows n r = cc n
 has_name (Some p) name rows n r = let first : p.0 ≡ name = cc n in let second : p.1 ≡ rows = cc r in λ i. Some (first i, second i)
 
-pub refused : (words : List Text) (refusal : Refusal) → ((store : Option Text) → AskForSolo words store → refusal ≡ OutOfMemory) → HasText refusal → Reads words (Err refusal)
-refused words (Shown text) memory told = ((λ store asks. let other : Shown text ≡ OutOfMemory = memory store asks in cc), told)
+-- where the words are taken, a refusal is for want of memory
+pub refused : (words : List Text) (refusal : Refusal) → (fault_of filehost words ≡ [] → refusal ≡ OutOfMemory) → HasText refusal → Reads words (Err refusal)
+refused words (Shown text) memory told =
+    (
+      record {
+        no_solo = λ store asks. let other : Shown text ≡ OutOfMemory = memory asks.0 in cc;
+        no_serve = λ options asks. let other : Shown text ≡ OutOfMemory = memory asks.0 in cc;
+      },
+      told,
+    )
 refused words OutOfMemory memory told = tt
 
 -- where the parse ends well and the command is `solo`, the words ask for it, with what is read of it
@@ -48,3 +58,18 @@ asks_not words m matches other store asked =
 pub only_memory : (words : List Text) (e : Error) → HasKind (fault_of filehost words) e → fault_of filehost words ≡ [] → kind_of e ≡ kind.OutOfMemory
 only_memory words e (inl memory) none = memory
 only_memory words e (inr among) none = absurd (subst (λ k. IsAmong (kind_of e) k) none among)
+
+-- where the parse ends well and the command isn't `solo`, what is read of it is what is read of the words
+pub served : (words : List Text) (m : ArgMatches) (read : Result Wanted Refusal) → fault_of filehost words ≡ [] → HasMatchesOf filehost words m
+    → (subcommand_name_of m ≡ Some (codes "solo") → ⊥) → ReadsServe m read → Reads words read
+served words m (Ok (Solo store)) none matches other reads = absurd reads
+served words m (Ok (Serve options)) none matches other reads = (none, (reads.0, (sym (matches is_plain).1 ∙ reads.1.0, reads.1.1)))
+served words m (Err (Shown text)) none matches other reads =
+    (
+      record {
+        no_solo = asks_not words m matches other;
+        no_serve = λ options asks. reads.0 options (asks.1.0, ((matches is_plain).1 ∙ asks.1.1.0, asks.1.1.1));
+      },
+      reads.1,
+    )
+served words m (Err OutOfMemory) none matches other reads = tt

@@ -8,7 +8,7 @@ mod texts;
 ghost use Rattle.std.specs.Prelude.{◌≡◌, ◌≢◌, [], IfOk, codes, map, option_map};
 ghost use Rattle.std.specs.String.{string_bytes};
 ghost use Rattle.clap.specs.Words.{app_of, first_of, found_of, kind_of, rows_of};
-ghost use Rattle.command_line.specs.CommandLine.{HasText, Reads, filehost};
+ghost use Rattle.command_line.specs.CommandLine.{HasText, Reads, ReadsServe, filehost};
 ghost use Rattle.command_line.specs.declared.Refusal.TheVariants.{OutOfMemory};
 
 pub use serve_words::ServeOptions;
@@ -75,15 +75,28 @@ pub fn read<S: AsStr>(alloc: Global, words: &[S]) -> Result<Wanted, Refusal>
 }
 
 /// What is wanted where the words don't ask for `solo`.
-fn read_serve(alloc: Global, matches: &ArgMatches) -> Result<Wanted, Refusal> {
+fn read_serve(alloc: Global, matches: &ArgMatches) -> Result<Wanted, Refusal>
+    ensures { ReadsServe matches.now result }
+{
     let Some(serve) = matches.subcommand_matches("serve") else {
-        return Err(Refusal::Shown(String::from_str(alloc, NOT_TAKEN)?));
+        return Err(shown(alloc, NOT_TAKEN));
     };
     match serve_options(alloc, serve) {
         Ok(options) => Ok(Wanted::Serve(options)),
-        Err(Misread::BadAddress) => Err(Refusal::Shown(String::from_str(alloc, BAD_ADDRESS)?)),
-        Err(Misread::BadNumber) => Err(Refusal::Shown(String::from_str(alloc, NOT_TAKEN)?)),
+        Err(Misread::BadAddress) => Err(shown(alloc, BAD_ADDRESS)),
+        Err(Misread::BadNumber) => Err(shown(alloc, NOT_TAKEN)),
         Err(Misread::OutOfMemory) => Err(Refusal::OutOfMemory),
+    }
+}
+
+/// A refusal that shows this text, unless memory runs out.
+fn shown(alloc: Global, text: &str) -> Refusal
+    requires { text.now ≢ [] }
+    ensures { HasText result }
+{
+    match String::from_str(alloc, text) {
+        Ok(text) => Refusal::Shown(text),
+        Err(_) => Refusal::OutOfMemory,
     }
 }
 

@@ -1,9 +1,13 @@
 -- When a connection is late. Times are milliseconds.
-use Rattle.std.specs.Prelude.{◌≡◌, ◌+◌, ◌-◌, ◌==◌, ◌||◌, ◌&&◌, ◌^◌, ℕ, Bool, true, false, not, if◌then◌else◌, min, nat_le, nat_lt}
+use Rattle.std.specs.Prelude.{◌≡◌, ◌+◌, ◌-◌, ◌*◌, ◌==◌, ◌||◌, ◌&&◌, ◌^◌, ℕ, Bool, true, false, not, if◌then◌else◌, min, nat_le, nat_lt}
 use Rattle.event_loop.specs.declared.limits.Limits.{Limits}
 use Rattle.event_loop.specs.declared.paces.Pace.{Pace}
 use Rattle.event_loop.specs.declared.paces.Stage.{Stage}
 use Rattle.event_loop.specs.declared.paces.Stage.TheVariants.{Idle, Head, Body, Reply}
+
+-- the limits, where a second has so many milliseconds
+abbrev pub limits_of : ℕ → Limits
+limits_of second = record { head = 10 * second; idle = 15 * second; transfer = 60 * second; sweep = second }
 
 -- a connection that begins now
 abbrev pub begun : ℕ → Pace

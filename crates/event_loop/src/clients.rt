@@ -1,55 +1,67 @@
 //! A client's connection.
-use crate::paces::Pace;
-use host_connection::{Connection, Metered, Progress};
+use crate::paces::{Pace, Stage};
+use crate::ready_sets::Interest;
 use std::alloc::{AllocError, Global};
 use std::net::TcpStream;
-use tcp_socket::Socket;
+
+/// What a step of a connection came to.
+#[derive(Clone, Copy, Debug, PartialEq, Eq)]
+pub struct Step {
+    /// What the connection waits for now; nothing where it ended.
+    pub waits: Option<Interest>,
+    /// What it is doing.
+    pub stage: Stage,
+    /// How many bytes were read.
+    pub read: u64,
+    /// How many bytes were written.
+    pub written: u64,
+}
 
 /// What goes on with connections: each worker of a node has one.
 pub trait Steps {
-    /// What a connection takes along from worker to worker.
-    type Note: Drop;
+    /// What a connection takes along from worker to worker, beside its socket.
+    type Connection: Drop;
 
-    /// The note of a connection that begins.
-    fn note(&mut self) -> Self::Note;
+    /// A connection of which nothing was read.
+    fn begin(&mut self, alloc: Global) -> Result<Self::Connection, AllocError>;
 
-    /// Goes on with a connection until it would have to wait.
+    /// Goes on with a connection over its socket, until it would have to wait or has done enough for a turn.
     fn go_on(
         &mut self,
         alloc: Global,
-        connection: &mut Connection,
-        note: &mut Self::Note,
-        duplex: &mut Metered<Socket<'_>>,
-    ) -> Progress;
+        connection: &mut Self::Connection,
+        stream: &TcpStream,
+    ) -> Step;
 }
 
 /// A client's connection between two steps.
 #[derive(Drop)]
-pub(crate) struct Client<N: Drop> {
-    pub stream: TcpStream,
-    pub connection: Connection,
-    pub note: N,
-    pub pace: Pace,
+pub(crate) struct Client<C: Drop> {
+    pub(crate) stream: TcpStream,
+    pub(crate) connection: C,
+    pub(crate) pace: Pace,
     /// When bytes moved last.
-    pub active: u64,
+    pub(crate) active: u64,
 }
 
-impl<N: Drop> Client<N> {
+impl<C: Drop> Client<C> {
     /// The connection of a client that was accepted now. Its socket doesn't block, and sends each reply at once.
-    pub(crate) fn new(
-        alloc: Global,
-        stream: TcpStream,
-        note: N,
-        now: u64,
-    ) -> Result<Client<N>, AllocError> {
+    pub(crate) fn new(stream: TcpStream, connection: C, now: u64) -> Client<C> {
         let _ = stream.set_nonblocking(true);
         let _ = stream.set_nodelay(true);
-        Ok(Client {
+        Client {
             stream,
-            connection: Connection::new(alloc)?,
-            note,
+            connection,
             pace: Pace::new(now),
             active: now,
-        })
+        }
+    }
+
+    /// Notes a step that ended now.
+    pub(crate) fn note(&mut self, step: &Step, now: u64) {
+        self.pace.step(step.stage, step.read, step.written, now);
+        if step.read > 0 || step.written > 0 {
+            self.active = now;
+        }
     }
 }

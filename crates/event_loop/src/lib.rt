@@ -2,19 +2,22 @@
 #![tactic(auto)]
 
 mod clients;
+pub mod laws;
 mod limits;
 mod longest;
 mod nodes;
 mod paces;
+mod ready_sets;
 mod serving;
 mod turns;
 mod workers;
 
-pub use clients::Steps;
+pub use clients::{Step, Steps};
 pub use limits::Limits;
 pub use longest::Longest;
 pub use nodes::Node;
 pub use paces::{Pace, Stage};
+pub use ready_sets::{Event, Interest, ReadySet};
 pub use serving::Worker;
 pub use turns::{NodeTurns, Turn};
 pub use workers::{Takes, Turns, work};

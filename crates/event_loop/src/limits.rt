@@ -1,5 +1,6 @@
 //! How long a connection may take.
-ghost use Rattle.std.specs.Prelude.{◌≡◌, ◌*◌, ◌<◌, ◌≤◌};
+ghost use Rattle.std.specs.Prelude.{◌≡◌, min};
+ghost use Rattle.event_loop.specs.Paces as spec;
 
 /// How many seconds a head has from its first byte on.
 const HEAD_SECONDS: u64 = 10;
@@ -28,7 +29,9 @@ pub struct Limits {
 
 impl Limits {
     /// The limits where a second has so many milliseconds; tests shorten it, and it is no longer than a second.
-    pub fn with_second(milliseconds: u64) -> Limits {
+    pub fn with_second(milliseconds: u64) -> Limits
+        ensures { result ≡ spec.limits_of (min milliseconds 1000) }
+    {
         let second = milliseconds.min(LONGEST_SECOND);
         Limits {
             head: HEAD_SECONDS * second,

@@ -1,5 +1,5 @@
 //! Which of the connections has waited longest.
-ghost use Rattle.std.specs.Prelude.{◌≡◌};
+ghost use Rattle.std.specs.Prelude.{◌≡◌, option_map};
 ghost use Rattle.event_loop.specs.Waiting.{longer_of, nobody};
 
 use std::marker::Model;
@@ -12,7 +12,7 @@ pub struct Longest {
 }
 
 impl Model for Longest {
-    ghost use Rattle.std.specs.Prelude.{◌×◌, ℕ, Option};
+    ghost use Rattle.std.specs.Prelude.{ℕ, Option};
 
     ghost Value = { Option (ℕ × ℕ) };
 
@@ -41,7 +41,9 @@ impl Longest {
     }
 
     /// The place of the one that has waited longest.
-    pub fn place(&self) -> Option<usize> {
+    pub fn place(&self) -> Option<usize>
+        ensures { result ≡ option_map (λ found. found.0) self.now }
+    {
         match self.found {
             Some((place, _)) => Some(place),
             None => None,

@@ -2,12 +2,12 @@
 use crate::clients::Client;
 use crate::limits::Limits;
 use crate::longest::Longest;
+use crate::ready_sets::{Interest, ReadySet};
 use std::alloc::{AllocError, Global};
 use std::net::TcpListener;
 use std::sync::atomic::{AtomicU64, Ordering};
 use std::sync::{Mutex, Wait};
 use std::time::Clock;
-use tcp_socket::{Interest, ReadySet};
 
 /// How many connections a node has at most.
 const PLACES: usize = 1024;
@@ -17,16 +17,16 @@ pub(crate) const LISTENER: u64 = u64::MAX;
 
 /// The place of a connection, with the connection, if one is there.
 #[derive(Drop)]
-pub(crate) struct Place<N: Drop> {
-    pub client: Option<Client<N>>,
+pub(crate) struct Place<C: Drop> {
+    pub client: Option<Client<C>>,
 }
 
 /// What the workers of a node share: its listener, the set of what is ready, and its connections, each in a place behind a lock of its own.
 #[derive(Drop)]
-pub struct Node<N: Drop> {
+pub struct Node<C: Drop> {
     pub(crate) listener: TcpListener,
     pub(crate) ready: ReadySet,
-    pub(crate) places: Vec<Mutex<Place<N>>>,
+    pub(crate) places: Vec<Mutex<Place<C>>>,
     free: Mutex<Vec<usize>>,
     pub(crate) limits: Limits,
     // How many clients are still accepted, how many connections are still to end, and when the connections were looked through last.
@@ -43,15 +43,15 @@ pub(crate) fn milliseconds<R: Clock>(rt: &R) -> u64 {
     }
 }
 
-impl<N: Drop> Node<N> {
-    /// A node that serves the clients of a listener that doesn't block, and ends after so many of them. If the listener can't be waited on, there is none.
+impl<C: Drop> Node<C> {
+    /// A node that serves the clients of a listener that doesn't block, and ends after so many of them.
     pub fn new(
         alloc: Global,
         listener: TcpListener,
         ready: ReadySet,
         limits: Limits,
         clients: u64,
-    ) -> Result<Node<N>, AllocError> {
+    ) -> Result<Node<C>, AllocError> {
         let mut places = Vec::new(alloc);
         let mut free = Vec::new(alloc);
         for at in 0..PLACES {
@@ -80,7 +80,7 @@ impl<N: Drop> Node<N> {
         self.to_end.load(Ordering::SeqCst) == 0
     }
 
-    // A client was accepted. Answers whether more are.
+    /// A client was accepted.
     pub(crate) fn count_accepted(&self) {
         self.to_accept.fetch_sub(1, Ordering::SeqCst);
     }
@@ -91,6 +91,26 @@ impl<N: Drop> Node<N> {
             self.ready
                 .rearm(&self.listener, LISTENER, Interest::Read);
         }
+    }
+
+    /// Puts a client into a free place, and waits for its first bytes. Answers whether they can be waited for.
+    pub(crate) fn put<R: Wait>(&self, rt: &R, at: usize, client: Client<C>) -> bool {
+        let Some(place) = self.places.get(at) else {
+            return false;
+        };
+        let mut place = place.lock(rt);
+        let is_added = self
+            .ready
+            .add(&client.stream, at as u64, Interest::Read);
+        if is_added {
+            place.client = Some(client);
+        }
+        is_added
+    }
+
+    /// Waits for the connection in a place again.
+    pub(crate) fn wait_again(&self, client: &Client<C>, at: usize, interest: Interest) {
+        self.ready.rearm(&client.stream, at as u64, interest);
     }
 
     /// A client has gone that had no place.

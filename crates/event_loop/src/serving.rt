@@ -3,19 +3,15 @@ ghost use Rattle.std.specs.Prelude.{◌≡◌};
 
 use crate::clients::{Client, Steps};
 use crate::nodes::{Node, milliseconds};
-use crate::paces::Stage;
 use crate::turns::Turn;
 use crate::workers::Takes;
-use host_connection::{Metered, Progress, Wants};
 use std::alloc::Global;
 use std::io;
 use std::io::ErrorKind;
 use std::net::TcpStream;
-use std::os::fd::AsRawFd;
 use std::sync::Wait;
 use std::thread;
 use std::time::{Clock, Duration};
-use tcp_socket::{Interest, Socket};
 
 /// How many milliseconds a worker pauses where there is no descriptor, and no connection that could give one.
 const PAUSE: u64 = 10;
@@ -25,14 +21,19 @@ const PAUSE: u64 = 10;
 pub struct Worker<'a, R, S: Steps + Drop> {
     rt: &'a R,
     alloc: Global,
-    node: &'a Node<S::Note>,
+    node: &'a Node<S::Connection>,
     steps: S,
     done: u64,
 }
 
 impl<'a, R: Wait + Clock, S: Steps + Drop> Worker<'a, R, S> {
     /// A worker that has done nothing yet.
-    pub fn new(rt: &'a R, alloc: Global, node: &'a Node<S::Note>, steps: S) -> Worker<'a, R, S>
+    pub fn new(
+        rt: &'a R,
+        alloc: Global,
+        node: &'a Node<S::Connection>,
+        steps: S,
+    ) -> Worker<'a, R, S>
         ensures { result.done ≡ 0 }
     {
         Worker {
@@ -77,24 +78,12 @@ impl<'a, R: Wait + Clock, S: Steps + Drop> Worker<'a, R, S> {
             self.node.count_gone();
             return;
         };
-        let Some(place) = self.node.places.get(at) else {
-            self.node.count_gone();
-            return;
-        };
-        let note = self.steps.note();
-        let Ok(client) = Client::new(self.alloc, stream, note, milliseconds(self.rt)) else {
+        let Ok(connection) = self.steps.begin(self.alloc) else {
             self.node.release(self.rt, at);
             return;
         };
-        let mut place = place.lock(self.rt);
-        let is_added = self
-            .node
-            .ready
-            .add(&client.stream, at as u64, Interest::Read);
-        if is_added {
-            place.client = Some(client);
-        } else {
-            drop(place);
+        let client = Client::new(stream, connection, milliseconds(self.rt));
+        if !self.node.put(self.rt, at, client) {
             self.node.release(self.rt, at);
         }
     }
@@ -108,56 +97,18 @@ impl<'a, R: Wait + Clock, S: Steps + Drop> Worker<'a, R, S> {
         let Some(client) = &mut place.client else {
             return;
         };
-        let progress = self.step(client);
-        let Some(interest) = interest_of(progress) else {
-            place.client = None;
-            drop(place);
-            self.node.release(self.rt, at);
-            return;
-        };
-        self.node
-            .ready
-            .rearm(&client.stream, at as u64, interest);
-    }
-
-    /// A step of a connection, after which its pace is known.
-    fn step(&mut self, client: &mut Client<S::Note>) -> Progress {
-        let mut duplex = Metered::new(Socket::new(&client.stream));
-        let progress = self.steps.go_on(
-            self.alloc,
-            &mut client.connection,
-            &mut client.note,
-            &mut duplex,
-        );
-        let read = duplex.stream().read();
-        let written = duplex.stream().written();
-        let now = milliseconds(self.rt);
-        client
-            .pace
-            .step(stage_of(progress, read, written), read, written, now);
-        if read > 0 || written > 0 {
-            client.active = now;
+        let step = self
+            .steps
+            .go_on(self.alloc, &mut client.connection, &client.stream);
+        client.note(&step, milliseconds(self.rt));
+        match step.waits {
+            Some(interest) => self.node.wait_again(client, at, interest),
+            None => {
+                place.client = None;
+                drop(place);
+                self.node.release(self.rt, at);
+            }
         }
-        progress
-    }
-}
-
-/// The stage of a connection after a step.
-fn stage_of(progress: Progress, read: u64, written: u64) -> Stage {
-    match progress {
-        Progress::Waits(Wants::Write) => Stage::Reply,
-        _ if read > 0 && written == 0 => Stage::Head,
-        _ => Stage::Idle,
-    }
-}
-
-/// What a connection waits for; nothing where it ended.
-fn interest_of(progress: Progress) -> Option<Interest> {
-    match progress {
-        Progress::Waits(Wants::Read) => Some(Interest::Read),
-        Progress::Waits(Wants::Write) => Some(Interest::Write),
-        Progress::More | Progress::Body(_) => Some(Interest::Either),
-        Progress::Ended(_) => None,
     }
 }
 

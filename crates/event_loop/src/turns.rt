@@ -2,10 +2,10 @@
 ghost use Rattle.std.specs.Prelude.{◌≡◌, true};
 
 use crate::nodes::{LISTENER, Node};
+use crate::ready_sets::Event;
 use crate::workers::Turns;
 use std::sync::Wait;
 use std::time::Clock;
-use tcp_socket::Event;
 
 /// What a worker does next.
 #[derive(Clone, Copy, Debug, PartialEq, Eq)]
@@ -18,17 +18,17 @@ pub enum Turn {
 
 /// The turns that a worker of a node takes.
 #[derive(Drop)]
-pub struct NodeTurns<'a, R, N: Drop> {
+pub struct NodeTurns<'a, R, C: Drop> {
     rt: &'a R,
-    node: &'a Node<N>,
+    node: &'a Node<C>,
     taken: u64,
     // Whether the node was seen to be over.
     is_over: bool,
 }
 
-impl<'a, R, N: Drop> NodeTurns<'a, R, N> {
+impl<'a, R, C: Drop> NodeTurns<'a, R, C> {
     /// The turns of a worker that has taken none.
-    pub fn new(rt: &'a R, node: &'a Node<N>) -> NodeTurns<'a, R, N>
+    pub fn new(rt: &'a R, node: &'a Node<C>) -> NodeTurns<'a, R, C>
         ensures { result.taken ≡ 0 }
     {
         NodeTurns {
@@ -45,7 +45,7 @@ impl<'a, R, N: Drop> NodeTurns<'a, R, N> {
     }
 }
 
-impl<R: Wait + Clock, N: Drop> Turns for NodeTurns<'_, R, N> {
+impl<R: Wait + Clock, C: Drop> Turns for NodeTurns<'_, R, C> {
     type Turn = Turn;
 
     ghost taken = { λ turns. turns.taken };

@@ -1,6 +1,6 @@
 //! The desk of the nodes, and what each works with.
 use crate::groups::{HostGroup, groups_of, peer_addresses};
-use crate::guests::GuestSteps;
+use crate::guests::{GuestSteps, Noted};
 use crate::lines::{Failure, say};
 use crate::nodes::{Job, serve_all};
 use crate::ports::{Bound, Ports};
@@ -8,35 +8,30 @@ use crate::runtimes::Serving;
 use blob_store::Shelf;
 use byte_view::BlobInfo;
 use change_undo::Entry;
-use event_loop::{Limits, Node};
+use event_loop::{Limits, Node, ReadySet};
 use host_disk::Disk;
 use http_wire::Sink;
 use seen_lists::{ListName, Shown};
 use shared_desk::Desk;
-use shared_house::{DeskVisitor, GroupFiles, Guest, Note, SeatedDesk, SharedHouse};
+use shared_house::{DeskVisitor, GroupFiles, Guest, SeatedDesk, SharedHouse};
 use site_desk::{DeskName, HostSnap, Seat, Seats};
 use std::alloc::{AllocError, Global};
 use std::net::TcpListener;
 use std::sync::Mutex;
-use tcp_socket::ReadySet;
 
 /// The desk that the nodes share.
-pub(crate) type HostDesk<'a, J, K, D, S, R> = Desk<J, K, D, S, Shown<Entry, J, HostSnap>, &'a R>;
+type HostDesk<'r, J, K, D, S, R> = Desk<J, K, D, S, Shown<Entry, J, HostSnap>, &'r R>;
 
-/// What answers the requests at a node.
-type HostHouse<'a, J, K, D, S, R> = SharedHouse<
-    J,
-    SeatedDesk<'a, J, K, D, S, Shown<Entry, J, HostSnap>, &'a R, R>,
-    GroupFiles<'a, R, HostGroup<'a, R, S>>,
->;
+/// The desk from the seat of a node.
+type HostSeat<'a, 'r, J, K, D, S, R> =
+    SeatedDesk<'a, J, K, D, S, Shown<Entry, J, HostSnap>, &'r R, R>;
+
+/// The files of a node.
+type HostFiles<'a, 'g, R, S> = GroupFiles<'a, R, HostGroup<'g, R, S>>;
 
 /// A worker of a node.
-type HostJob<'a, J, K, D, S, R> = Job<
-    'a,
-    J,
-    SeatedDesk<'a, J, K, D, S, Shown<Entry, J, HostSnap>, &'a R, R>,
-    GroupFiles<'a, R, HostGroup<'a, R, S>>,
->;
+type HostJob<'a, 'r, 'g, J, K, D, S, R> =
+    Job<'a, J, HostSeat<'a, 'r, J, K, D, S, R>, HostFiles<'a, 'g, R, S>>;
 
 /// A seat for each node, behind a lock.
 fn seats_of<J: DeskName>(
@@ -61,31 +56,29 @@ fn nodes_of<J: DeskName>(
     listeners: Vec<TcpListener>,
     limits: Limits,
     clients: u64,
-) -> Result<Vec<Node<Note<J>>>, Failure> {
+) -> Result<Vec<Node<Noted<J>>>, Failure> {
     let mut nodes = Vec::new(alloc);
     for listener in listeners {
         let ready = ReadySet::new().map_err(|_| Failure::CannotListen)?;
-        nodes.push(Node::new(alloc, listener, ready, limits, clients)?)?;
+        let node = Node::new(alloc, listener, ready, limits, clients)?;
+        nodes.push(node).map_err(|_| Failure::OutOfMemory)?;
     }
     Ok(nodes)
 }
 
 /// A worker of a node, with a visitor of its own.
-fn job_of<'a, J: DeskName, K: ListName<BlobInfo>, D: Disk, S: Shelf, R: Serving>(
+fn job_of<'a, 'r, 'g, J: DeskName + Send + Sync, K: ListName<BlobInfo> + Send + Sync, D: Disk + Send, S: Shelf + Send, R: Serving>(
     rt: &'a R,
-    desk: &'a HostDesk<'a, J, K, D, S, R>,
+    desk: &'a HostDesk<'r, J, K, D, S, R>,
     seat: &'a Mutex<Seat<J>>,
-    group: &'a HostGroup<'a, R, S>,
-    node: &'a Node<Note<J>>,
+    group: &'a HostGroup<'g, R, S>,
+    node: &'a Node<Noted<J>>,
     visitor: &DeskVisitor<J>,
-) -> Option<HostJob<'a, J, K, D, S, R>> {
+) -> Option<HostJob<'a, 'r, 'g, J, K, D, S, R>> {
     let visitor = visitor.again().ok()?;
-    let house: HostHouse<'a, J, K, D, S, R> = SharedHouse::new(
-        visitor,
-        SeatedDesk::new(rt, desk, seat),
-        GroupFiles::new(rt, group),
-    )
-    .ok()?;
+    let desk = SeatedDesk::new(rt, desk, seat);
+    let files = GroupFiles::new(rt, group);
+    let house = SharedHouse::new(visitor, desk, files).ok()?;
     Some(Job {
         node,
         steps: GuestSteps {
@@ -95,16 +88,16 @@ fn job_of<'a, J: DeskName, K: ListName<BlobInfo>, D: Disk, S: Shelf, R: Serving>
 }
 
 /// The workers of all nodes.
-fn jobs_of<'a, J: DeskName, K: ListName<BlobInfo>, D: Disk, S: Shelf, R: Serving>(
+fn jobs_of<'a, 'r, 'g, J: DeskName + Send + Sync, K: ListName<BlobInfo> + Send + Sync, D: Disk + Send, S: Shelf + Send, R: Serving>(
     rt: &'a R,
     alloc: Global,
-    desk: &'a HostDesk<'a, J, K, D, S, R>,
+    desk: &'a HostDesk<'r, J, K, D, S, R>,
     seats: &'a [Mutex<Seat<J>>],
-    groups: &'a [HostGroup<'a, R, S>],
-    nodes: &'a [Node<Note<J>>],
+    groups: &'a [HostGroup<'g, R, S>],
+    nodes: &'a [Node<Noted<J>>],
     visitor: &DeskVisitor<J>,
     workers: u64,
-) -> Result<Vec<HostJob<'a, J, K, D, S, R>>, AllocError> {
+) -> Result<Vec<HostJob<'a, 'r, 'g, J, K, D, S, R>>, AllocError> {
     let mut jobs = Vec::new(alloc);
     for ((node, group), seat) in nodes.iter().zip(groups.iter()).zip(seats.iter()) {
         for _ in 0..workers {
@@ -142,7 +135,7 @@ pub(crate) struct Plan {
 }
 
 /// Serves from a desk at these ports.
-pub(crate) fn serve_desk<J: DeskName, K: ListName<BlobInfo>, D: Disk, S: Shelf, R: Serving, O: Sink>(
+pub(crate) fn serve_desk<J: DeskName + Send + Sync, K: ListName<BlobInfo> + Send + Sync, D: Disk + Send, S: Shelf + Send, R: Serving, O: Sink>(
     rt: &R,
     alloc: Global,
     desk: &HostDesk<'_, J, K, D, S, R>,

@@ -1,5 +1,6 @@
 //! What the program says, and its exit status.
 use found_host::OpenFault;
+use host_server::{line_of, status_of};
 use http_wire::{Sink, write_all};
 use std::alloc::AllocError;
 
@@ -33,8 +34,8 @@ pub(crate) fn say<E: Sink>(sink: &mut E, line: &str) {
 pub(crate) fn fail<E: Sink>(errors: &mut E, failure: &Failure) -> u8 {
     match failure {
         Failure::NotOpened(fault) => {
-            say(errors, opening_line(fault).as_str());
-            opening_status(fault)
+            say(errors, line_of(fault).as_str());
+            status_of(fault)
         }
         Failure::CannotListen => {
             say(errors, "filehost: cannot listen\n");

@@ -1,26 +1,26 @@
 //! The threads of the nodes.
 use crate::groups::HostGroup;
-use crate::guests::GuestSteps;
+use crate::guests::{GuestSteps, Noted};
 use crate::peer_ports::serve_peers;
 use crate::ports::Ports;
 use crate::runtimes::Serving;
 use crate::stopping::{PEER_THREADS, Stop};
 use blob_store::Shelf;
 use event_loop::{Limits, Node, NodeTurns, Steps, Worker, work};
-use shared_house::{DeskAccess, FileAccess, Note};
+use shared_house::{DeskAccess, FileAccess};
 use site_desk::DeskName;
 use std::alloc::{AllocError, Global};
 use std::thread;
 
 /// A worker, and the node whose clients it serves.
 #[derive(Drop)]
-pub(crate) struct Job<'a, J: DeskName, D, G> {
-    pub(crate) node: &'a Node<Note<J>>,
+pub(crate) struct Job<'a, J: DeskName, D: Drop, G: Drop> {
+    pub(crate) node: &'a Node<Noted<J>>,
     pub(crate) steps: GuestSteps<J, D, G>,
 }
 
 /// Serves the clients of a node, until it has served as many as it is to serve.
-fn serve_clients<R: Serving, J: DeskName, D: DeskAccess<J>, G: FileAccess>(
+fn serve_clients<R: Serving, J: DeskName + Send + Sync, D: DeskAccess<J> + Send + Drop, G: FileAccess + Send + Drop>(
     rt: &R,
     alloc: Global,
     job: Job<'_, J, D, G>,
@@ -32,7 +32,7 @@ fn serve_clients<R: Serving, J: DeskName, D: DeskAccess<J>, G: FileAccess>(
 }
 
 /// Serves the clients of all nodes, each worker in a thread of its own, until each node has served as many as it is to serve.
-fn serve_all_clients<R: Serving, J: DeskName, D: DeskAccess<J>, G: FileAccess>(
+fn serve_all_clients<R: Serving, J: DeskName + Send + Sync, D: DeskAccess<J> + Send + Drop, G: FileAccess + Send + Drop>(
     rt: &R,
     alloc: Global,
     jobs: Vec<Job<'_, J, D, G>>,
@@ -42,7 +42,7 @@ fn serve_all_clients<R: Serving, J: DeskName, D: DeskAccess<J>, G: FileAccess>(
 }
 
 /// Answers other nodes, at the ports of all nodes, until the nodes end.
-fn serve_all_peers<R: Serving, S: Shelf>(
+fn serve_all_peers<R: Serving, S: Shelf + Send>(
     rt: &R,
     alloc: Global,
     all: &[Ports],
@@ -61,7 +61,7 @@ fn serve_all_peers<R: Serving, S: Shelf>(
 }
 
 /// Serves clients and other nodes, until each node has served as many clients as it is to serve. Each thread is joined.
-pub(crate) fn serve_all<R: Serving, J: DeskName, D: DeskAccess<J>, G: FileAccess, S: Shelf>(
+pub(crate) fn serve_all<R: Serving, J: DeskName + Send + Sync, D: DeskAccess<J> + Send + Drop, G: FileAccess + Send + Drop, S: Shelf + Send>(
     rt: &R,
     alloc: Global,
     all: &[Ports],

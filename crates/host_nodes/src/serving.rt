@@ -50,7 +50,7 @@ fn second<R: Env>(rt: &R) -> u64 {
 }
 
 /// Serves from the desk of what was found.
-fn serve_found<J: DeskName, K: ListName<BlobInfo>, D: Disk + Drop, S: Shelf + Drop, R: Serving, O: Sink>(
+fn serve_found<J: DeskName + Send + Sync, K: ListName<BlobInfo> + Send + Sync, D: Disk + Drop + Send, S: Shelf + Drop + Send, R: Serving, O: Sink>(
     rt: &R,
     alloc: Global,
     options: &ServeOptions,
@@ -79,7 +79,7 @@ fn serve_found<J: DeskName, K: ListName<BlobInfo>, D: Disk + Drop, S: Shelf + Dr
 }
 
 /// Serves from what a disk and a shelf have.
-fn serve_store<D: Disk + Drop, S: Shelf + Drop, R: Serving, O: Sink>(
+fn serve_store<D: Disk + Drop + Send, S: Shelf + Drop + Send, R: Serving, O: Sink>(
     rt: &R,
     alloc: Global,
     options: &ServeOptions,

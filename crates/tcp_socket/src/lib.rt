@@ -1,8 +1,6 @@
-//! Sockets that don't block, and the set of those that are ready.
+//! Sockets that don't block, as streams in both directions.
 #![tactic(auto)]
 
-mod ready_sets;
 mod sockets;
 
-pub use ready_sets::{Event, Interest, ReadySet};
 pub use sockets::Socket;
