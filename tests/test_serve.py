@@ -50,7 +50,7 @@ class Serving(Served):
         for _ in range(20):
             self.assertEqual(ask(client, "GET", FILE), (200, b"hello"))
         self.assertEqual(ask(client, "GET", FILE, Range="bytes=1-3"), (206, b"ell"))
-        self.assertEqual(ask(client, "GET", FILE, Range="bytes=9-"), (416, b""))
+        self.assertEqual(ask(client, "GET", FILE, Range="bytes=9-"), (416, b'{"error":"NotSatisfiable"}'))
         self.assertEqual(ask(client, "HEAD", FILE), (200, b""))
         self.assertEqual(ask(client, "GET", "/s/one/b.txt"), (404, b'{"error":"NoSuchFile"}'))
         self.assertEqual(ask(client, "POST", "/api/v1/sites/one/undo", json.dumps({"change": 2})), (200, b'{"entry":3}'))

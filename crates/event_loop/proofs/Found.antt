@@ -1,5 +1,5 @@
 -- What is found of connections that are looked at in turn.
-use Rattle.std.proofs.Common.{◌≡◌, ◌≤◌, ◌⊎◌, ◌+◌, ℕ, Bool, true, false, List, [], ◌∷◌, Option, Some, arith, inl, inr, refl, subst, sym, nat_lt, if◌then◌else◌}
+use Rattle.std.proofs.Common.{◌≡◌, ◌≤◌, ◌⊎◌, ℕ, suc, Bool, true, false, List, [], ◌∷◌, Option, Some, arith, inl, inr, refl, subst, sym, nat_lt, if◌then◌else◌}
 use Rattle.std.proofs.lemmas.Bool.Decides.{nat_tests}
 use Rattle.std.specs.List.{AllByRecursion, Contains}
 use Rattle.event_loop.specs.Waiting.{IsLongest, found_after, longest_of}
@@ -11,7 +11,7 @@ Finds first rest found =
 
 -- what is among the rest is among all
 behind : (w p : ℕ × ℕ) (ws : List (ℕ × ℕ)) → Contains ws p → Contains (w ∷ ws) p
-behind w p ws (k, below, is) = (k + 1, omega arith, is)
+behind w p ws (k, below, is) = (suc k, omega arith, is)
 
 either_of : (w p : ℕ × ℕ) (ws : List (ℕ × ℕ)) → (p ≡ w) ⊎ Contains ws p → Contains (w ∷ ws) p
 either_of w p ws (inl is) = (0, omega arith, sym is)
@@ -23,17 +23,16 @@ rest_of first w p ws (inr among) = inr (behind w p ws among)
 
 pub finds : (first : ℕ × ℕ) (rest : List (ℕ × ℕ)) → Finds first rest (found_after (Some first) rest)
 finds first [] = (first, refl, omega arith, tt, inl refl)
-finds first (w ∷ ws) = go (nat_lt w.1 first.1) refl
+finds first (w ∷ ws) = go (nat_lt w.1 first.1) refl (finds w ws) (finds first ws)
   where
-    go : (b : Bool) → nat_lt w.1 first.1 ≡ b → Finds first (w ∷ ws) (found_after (if b then Some w else Some first) ws)
-    go true is =
-        let f = finds w ws in
+    go : (b : Bool) → nat_lt w.1 first.1 ≡ b → Finds w ws (found_after (Some w) ws) → Finds first ws (found_after (Some first) ws)
+        → Finds first (w ∷ ws) (found_after (if b then Some w else Some first) ws)
+    go true is f g =
         let shorter : w.1 ≤ first.1 = grind (arith, nat_tests) in
         (f.0, f.1.0, omega (arith, f.1.1.0, shorter), (f.1.1.0, f.1.1.1.0), inr (either_of w f.0 ws f.1.1.1.1))
-    go false is =
-        let f = finds first ws in
+    go false is f g =
         let longer : first.1 ≤ w.1 = grind (arith, nat_tests) in
-        (f.0, f.1.0, f.1.1.0, (omega (arith, f.1.1.0, longer), f.1.1.1.0), rest_of first w f.0 ws f.1.1.1.1)
+        (g.0, g.1.0, g.1.1.0, (omega (arith, g.1.1.0, longer), g.1.1.1.0), rest_of first w g.0 ws g.1.1.1.1)
 
 is_longest_of : (w : ℕ × ℕ) (ws : List (ℕ × ℕ)) (found : Option (ℕ × ℕ)) → Finds w ws found → IsLongest (w ∷ ws) found
 is_longest_of w ws found (p, is, first, rest, among) = subst (IsLongest (w ∷ ws)) (sym is) (either_of w p ws among, (first, rest))

@@ -66,16 +66,38 @@ fn nodes_of<J: DeskName>(
     Ok(nodes)
 }
 
+/// A visitor for one more worker: a copy, but for the last one the visitor itself, since each has a place and there are no more of these.
+fn next_visitor<J: DeskName>(
+    spare: &mut Option<DeskVisitor<J>>,
+    is_last: bool,
+) -> Option<DeskVisitor<J>> {
+    if is_last {
+        return spare.take();
+    }
+    match spare {
+        Some(visitor) => visitor.again().ok(),
+        None => None,
+    }
+}
+
 /// A worker of a node, with a visitor of its own.
-fn job_of<'a, 'r, 'g, J: DeskName + Send + Sync, K: ListName<BlobInfo> + Send + Sync, D: Disk + Send, S: Shelf + Send, R: Serving>(
+fn job_of<
+    'a,
+    'r,
+    'g,
+    J: DeskName + Send + Sync,
+    K: ListName<BlobInfo> + Send + Sync,
+    D: Disk + Send,
+    S: Shelf + Send,
+    R: Serving,
+>(
     rt: &'a R,
     desk: &'a HostDesk<'r, J, K, D, S, R>,
     seat: &'a Mutex<Seat<J>>,
     group: &'a HostGroup<'g, R, S>,
     node: &'a Node<Noted<J>>,
-    visitor: &DeskVisitor<J>,
+    visitor: DeskVisitor<J>,
 ) -> Option<HostJob<'a, 'r, 'g, J, K, D, S, R>> {
-    let visitor = visitor.again().ok()?;
     let desk = SeatedDesk::new(rt, desk, seat);
     let files = GroupFiles::new(rt, group);
     let house = SharedHouse::new(visitor, desk, files).ok()?;
@@ -88,21 +110,34 @@ fn job_of<'a, 'r, 'g, J: DeskName + Send + Sync, K: ListName<BlobInfo> + Send + 
 }
 
 /// The workers of all nodes.
-fn jobs_of<'a, 'r, 'g, J: DeskName + Send + Sync, K: ListName<BlobInfo> + Send + Sync, D: Disk + Send, S: Shelf + Send, R: Serving>(
+fn jobs_of<
+    'a,
+    'r,
+    'g,
+    J: DeskName + Send + Sync,
+    K: ListName<BlobInfo> + Send + Sync,
+    D: Disk + Send,
+    S: Shelf + Send,
+    R: Serving,
+>(
     rt: &'a R,
     alloc: Global,
     desk: &'a HostDesk<'r, J, K, D, S, R>,
     seats: &'a [Mutex<Seat<J>>],
     groups: &'a [HostGroup<'g, R, S>],
     nodes: &'a [Node<Noted<J>>],
-    visitor: &DeskVisitor<J>,
-    workers: u64,
+    visitor: DeskVisitor<J>,
+    workers: usize,
 ) -> Result<Vec<HostJob<'a, 'r, 'g, J, K, D, S, R>>, AllocError> {
     let mut jobs = Vec::new(alloc);
+    let mut spare = Some(visitor);
+    let mut left = nodes.len() * workers;
     for ((node, group), seat) in nodes.iter().zip(groups.iter()).zip(seats.iter()) {
         for _ in 0..workers {
+            let visitor = next_visitor(&mut spare, left == 1).ok_or(AllocError)?;
             let job = job_of(rt, desk, seat, group, node, visitor).ok_or(AllocError)?;
             jobs.push(job)?;
+            left = left.saturating_sub(1);
         }
     }
     Ok(jobs)
@@ -129,7 +164,7 @@ fn open_all<N: Drop, O: Sink>(
 /// What the nodes share.
 #[derive(Drop)]
 pub(crate) struct Plan {
-    pub(crate) workers: u64,
+    pub(crate) workers: usize,
     pub(crate) limits: Limits,
     pub(crate) clients: u64,
 }
@@ -140,7 +175,7 @@ pub(crate) fn serve_desk<J: DeskName + Send + Sync, K: ListName<BlobInfo> + Send
     alloc: Global,
     desk: &HostDesk<'_, J, K, D, S, R>,
     seats: Seats<J>,
-    visitor: &DeskVisitor<J>,
+    visitor: DeskVisitor<J>,
     bound: Bound,
     plan: &Plan,
     lines: &mut O,

@@ -64,18 +64,18 @@ fn serve_found<J: DeskName + Send + Sync, K: ListName<BlobInfo> + Send + Sync, D
     requires uploads { K.found ≡ files_of found.store.known }
     requires limit { found.limit ≡ 1000000 }
 {
-    let visitors = options.nodes * options.workers + 1;
+    let visitors = options.nodes * options.workers;
     let Ok((desk, seats, visitor)) = open::<J, K, D, S, &R>(alloc, rt, new, found, visitors as usize)
     else {
         return Err(Failure::OutOfMemory);
     };
     let bound = bind_all(rt, alloc, &options.listen, options.nodes as u16)?;
     let plan = Plan {
-        workers: options.workers,
+        workers: options.workers as usize,
         limits,
         clients: options.conns.unwrap_or(u64::MAX),
     };
-    serve_desk(rt, alloc, &desk, seats, &visitor, bound, &plan, lines)
+    serve_desk(rt, alloc, &desk, seats, visitor, bound, &plan, lines)
 }
 
 /// Serves from what a disk and a shelf have.
