@@ -1,8 +1,12 @@
 -- A step asks its service for one answer at most.
 use Rattle.std.proofs.Common.{◌≡◌, ◌⊎◌, inl, inr, ℕ, ◌+◌, ◌<◌, ◌≤◌, ◌∙◌, subst, sym, arith}
 use Rattle.host_connection.specs.declared.phases.Phase.{Phase}
-use Rattle.host_connection.specs.Carrying.{until_asked, AnswersOne, AnswersOnce, AskedOnce, Asks}
+use Rattle.host_connection.specs.Carrying.{until_asked, AnswersOne, AnswersOnce, Asks}
 use Rattle.host_connection.specs.Serving.{Answering}
+
+-- the same of several phases: where an answer was asked for, none is for so many more
+abbrev pub AskedOnce : {H : Type 0} → Answering H → (old new : H) → (gone_through : ℕ) → Phase → Type 0
+AskedOnce answers old new gone_through p = (new ≡ old) ⊎ (AnswersOne answers old new × (3 ≤ until_asked p + gone_through))
 
 -- one more phase
 pub asked_on : {H : Type 0} (answers : Answering H) (old mid new : H) (gone_through : ℕ) (p q : Phase) → AskedOnce answers old mid gone_through p → gone_through < 3 → Asks answers mid new p q

@@ -1,6 +1,8 @@
 -- A connection, phase by phase.
-use Rattle.std.proofs.Common.{◌≡◌, ◌⊎◌, inl, inr, ℕ, ◌+◌, ◌≤◌, List, [], ◌++◌, length, Bool, true, false, None, Result, Ok, Err, refl, sym, ap, subst, ◌∙◌, arith, codes}
+use Rattle.std.proofs.Common.{◌≡◌, ◌⊎◌, inl, inr, ℕ, ◌+◌, ◌-◌, ◌^◌, ◌<◌, ◌≤◌, List, [], ◌++◌, length, Bool, true, false, None, Result, Ok, Err, refl, sym, ap, subst, ◌∙◌, arith, codes}
 use Rattle.std.specs.Prelude.{vec_len}
+use Rattle.std.proofs.Math.Nat.{min-le_left}
+use Rattle.std.proofs.lemmas.List.{length-append}
 use Rattle.std.specs.Str.{bytes_eq}
 use Rattle.std.specs.declared.vec.Vec.{Vec}
 use Rattle.http_wire.specs.declared.faults.BodyFault.{BodyFault}
@@ -29,12 +31,13 @@ use Rattle.host_connection.specs.declared.stops.Stop.{Stop}
 use Rattle.host_connection.specs.declared.stops.Stop.TheVariants as stop
 use Rattle.host_connection.specs.Carrying.{text_of, Carried, Carries, ConnectionSoFar, FollowsHead, FollowsReply, FollowsStop, InTurn, IsAnswering, IsFresh, ReadsNext, Refusing, Replying, Tells}
 use Rattle.host_connection.specs.Phases.{InviteSoFar, BodySoFar, RefusalSoFar}
-use Rattle.host_connection.specs.Serving.{Answering, IsSent, is_last_at, limit_of, Next, Exchange, End}
+use Rattle.host_connection.specs.Serving.{Answering, IsSent, is_last_at, limit_of}
 use Rattle.host_connection.specs.Stopping.{stop_of_body, stop_of_head}
-use Rattle.host_connection.specs.Timing.{AwaitsRequest, Connects, IsCaughtUp, ReadsHeadAs, RefusesAs, TurnsAs}
+use Rattle.host_connection.specs.Timing.{AwaitsRequest, Connects, IsCaughtUp, ReadsHeadAs}
 use Rattle.host_connection.proofs.InPhases.{Missed, head_begins, head_waits, head_comes, head_fails, length_refused, invite_begins, invite_waits, invite_out, invite_fails, body_begins, body_waits, body_comes, body_fails, reply_begins, reply_waits, reply_out, reply_fails, refusal_begins, refusal_waits, refusal_out, refusal_fails, missed_silently}
 use Rattle.host_connection.proofs.Turns.{is_end}
 use Rattle.host_connection.proofs.TimedConnections.{none_yet, turn_more, turn_last, turn_failed}
+use Rattle.host_connection.proofs.TurnParts.{Next, Exchange, End, RefusesAs, TurnsAs}
 
 -- a phase that is equal to another
 at_phase : {S H : Type 0} (answers : Answering H) (saw : S → Event → S → Type 0) (waits : Type 0) (start now : S) (first host : H) (buffer : List ℕ) (out : Gathered) (n : ℕ) (p q : Phase) → q ≡ p
@@ -53,6 +56,13 @@ pub at_fields : {S H : Type 0} (answers : Answering H) (saw : S → Event → S 
 at_fields answers saw waits start now first host c buffer n wire number carried =
     subst (λ m. Carried answers saw waits start first now host c.wire c.out m c.phase) (sym number)
     (subst (λ b. Carried answers saw waits start first now host b c.out n c.phase) (sym wire) carried)
+
+-- some of a reply is to be written
+pub reply_some : (s : Sending) → 0 < length (text_of s)
+reply_some s = omega (arith, length-append {A = ℕ})
+
+some_first : (s : Sending) (out : Gathered) → out ≡ nothing → out.sent < length (text_of s)
+some_first s out fresh = subst (λ (o : Gathered). o.sent < length (text_of s)) (sym fresh) (reply_some s)
 
 -- ---- the beginning
 
@@ -88,6 +98,7 @@ told answers saw waits start began now first n before host begun buffer out why 
     turn = inr (record { why = why; at = 0; so = refusal; text_is = tells.0; closing = tells.1; amid = amid_first (text_of s) out fresh; same = same });
   },
   inl (counted out fresh),
+  some_first s out fresh,
 )
 told answers saw waits start began now first n before host begun buffer out why (phase.Ended result) so refusal tells fresh same = absurd tells
 
@@ -257,6 +268,7 @@ answered {H = H} {A = A} answers saw waits start now new first host next n buffe
         });
       },
       inl (counted new_out fresh),
+      some_first s new_out fresh,
     )
 answered {A = A} answers saw waits start now new first host next n buffer rest out new_out b body request (phase.Ended result) c same ran head items last answering fresh = absurd answering
 
@@ -311,6 +323,20 @@ either_waits answers saw began now new before host is_last begun buffer out new_
 either_waits answers saw began now new before host is_last begun buffer out new_out s (inr r) sends =
     inr (refusing_waits saw began now new before host is_last begun buffer out new_out s r sends)
 
+-- some of the text is left
+left_behind : (text : List ℕ) (at : ℕ) (out : Gathered) → IsAmid text at out → at < length text → out.sent < length text
+left_behind text at out amid less = omega (arith, amid.count, min-le_left at (2 ^ 64 - 1), less)
+
+pub some_left : {S H : Type 0} (answers : Answering H) (saw : S → Event → S → Type 0) (began now new : S) (before host : H) (is_last : Bool) (begun buffer : List ℕ) (out new_out : Gathered) (s : Sending)
+    → (Replying answers saw began now before host is_last begun buffer out s ⊎ Refusing saw began now before host is_last begun buffer out s)
+    → SendsOn saw now new (Err WouldWait) (text_of s) out new_out → new_out.sent < length (text_of s)
+some_left answers saw began now new before host is_last begun buffer out new_out s (inl r) sends =
+    let ran = sends r.at r.amid in
+    left_behind (text_of s) ran.claimed.0 new_out ran.claimed.2 ran.claimed.1.ends.1
+some_left answers saw began now new before host is_last begun buffer out new_out s (inr r) sends =
+    let ran = sends r.at r.amid in
+    left_behind (text_of s) ran.claimed.0 new_out ran.claimed.2 ran.claimed.1.ends.1
+
 pub waits_in_reply : {S H : Type 0} (answers : Answering H) (saw : S → Event → S → Type 0) (waits : Type 0) (start now new : S) (first host : H) (n : ℕ) (buffer : List ℕ) (out new_out : Gathered) (s : Sending)
     → Carried answers saw waits start first now host buffer out n (phase.Reply s) → SendsOn saw now new (Err WouldWait) (text_of s) out new_out → waits
     → Carried answers saw waits start first new host buffer new_out n (phase.Reply s)
@@ -323,6 +349,7 @@ waits_in_reply answers saw waits start now new first host n buffer out new_out s
     turn = either_waits answers saw c.0.began now new c.0.before host (is_last_at n) c.0.begun buffer out new_out s c.0.turn sends;
   },
   inr wait,
+  some_left answers saw c.0.began now new c.0.before host (is_last_at n) c.0.begun buffer out new_out s c.0.turn sends,
 )
 
 -- the turn is over, as the reply says

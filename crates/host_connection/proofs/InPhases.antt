@@ -26,12 +26,13 @@ use Rattle.host_connection.specs.declared.stops.Stop.{Stop}
 use Rattle.host_connection.specs.declared.stops.Stop.TheVariants as stop
 use Rattle.host_connection.specs.declared.requests.Request.{Request}
 use Rattle.host_connection.specs.Phases.{SentUpTo, HeadSoFar, InviteSoFar, BodySoFar, ReplySoFar, RefusalSoFar, IsTold, refusal_text}
-use Rattle.host_connection.specs.Serving.{Answering, Announced, IsSent, TakesNext, Stops, Refuses, Sends, limit_of, Next, End}
+use Rattle.host_connection.specs.Serving.{Answering, Announced, IsSent, TakesNext, Stops, limit_of}
 use Rattle.host_connection.specs.Stopping.{stop_of_body, stop_of_head}
-use Rattle.host_connection.specs.Timing.{AwaitsRequest, ReadsHeadAs, ReadsAs, TakesBodyAs, InvitesAs, ExchangesAs, RefusesAs, IsSilent, TurnsAs}
+use Rattle.host_connection.specs.Timing.{AwaitsRequest, ReadsHeadAs, ReadsAs, InvitesAs}
 use Rattle.host_connection.proofs.TimedReads.{head_read, head_missed, body_taken, body_missed, body_after, body_refused, body_uninvited, request_read, request_missed, request_cut, not_invited}
 use Rattle.host_connection.proofs.TimedTurns.{turn_answered, turn_refused, next_of}
 use Rattle.host_connection.proofs.Turns.{is_end, exchange_sent, exchange_cut}
+use Rattle.host_connection.proofs.TurnParts.{Refuses, Sends, Next, End, TakesBodyAs, ExchangesAs, RefusesAs, IsSilent, TurnsAs}
 
 -- how no request is read
 abbrev pub Missed : {S : Type 0} → (saw : S → Event → S → Type 0) → (mid new : S) → Stop → Bool → (begun rest : List ℕ) → Type 0

@@ -1,3 +1,4 @@
+pub mod TurnParts
 pub mod Turns
 pub mod Served
 pub mod TimedReads
@@ -10,3 +11,8 @@ pub mod Unfinished
 pub mod Walking
 pub mod Standing
 pub mod Asking
+mod Fallen
+pub mod Advancing
+pub mod Simulated
+pub mod Metered
+pub mod Stepping

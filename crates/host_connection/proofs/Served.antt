@@ -4,11 +4,12 @@ use Rattle.std.specs.Io.KnownBytes.{Appends}
 use Rattle.std.specs.List.{concat}
 use Rattle.std.proofs.lemmas.List.{append-nil, append_assoc, length-append}
 use Rattle.host_replies.specs.Replies.{closes}
-use Rattle.host_connection.specs.Serving.{Answering, Stream, IsExchange, AreServed, Ends, Serves, Turns, is_last_at, Exchange, End}
+use Rattle.host_connection.specs.Serving.{Answering, Stream, IsExchange, AreServed, Ends, Serves, is_last_at}
 use Rattle.host_connection.specs.declared.connections.ConnectionFault.{ConnectionFault}
 use Rattle.host_connection.specs.declared.connections.ConnectionFault.TheVariants as fault
 use Rattle.host_connection.specs.Carrying.{SoFar}
 use Rattle.host_connection.proofs.Turns.{appends_nothing}
+use Rattle.host_connection.proofs.TurnParts.{Turns, Exchange, End}
 
 -- ---- lists of replies
 

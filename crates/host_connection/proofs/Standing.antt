@@ -112,7 +112,7 @@ comes_so_far narrow wide R stands saw leaves start now note host seen c r carrie
       claimed = tt;
     }
 
-comes : {S H K : Type 0} (narrow : Answering H) (wide : Answering K) (R : H → K → Type 0) → StandsIn narrow wide R → (saw : S → Event → S → Type 0) (leaves waits : Type 0) (start now : S) (note host : H) (seen : K) (c : Connection) (p : Progress)
+comes : {S H K : Type 0} (narrow : Answering H) (wide : Answering K) (R : H → K → Type 0) → StandsIn narrow wide R → (saw : S → Event → S → Type 0) (leaves : Type 0) (waits : S → Type 0) (start now : S) (note host : H) (seen : K) (c : Connection) (p : Progress)
     → R note seen → Leads narrow saw leaves waits start note now host c p → Comes wide saw start seen now p
 comes narrow wide R stands saw leaves waits start now note host seen c (progress.Waits w) r leads = comes_so_far narrow wide R stands saw leaves start now note host seen c r leads.0
 comes narrow wide R stands saw leaves waits start now note host seen c progress.More r leads = comes_so_far narrow wide R stands saw leaves start now note host seen c r leads
@@ -131,7 +131,7 @@ comes narrow wide R stands saw leaves waits start now note host seen c (progress
     }
 
 -- Replies over notes are replies over all that the notes stand for.
-pub comes_last : {S H K : Type 0} (narrow : Answering H) (wide : Answering K) (R : H → K → Type 0) → StandsIn narrow wide R → (saw : S → Event → S → Type 0) (leaves waits : Type 0) (start now : S) (note host : H) (seen : K) (c : Connection)
+pub comes_last : {S H K : Type 0} (narrow : Answering H) (wide : Answering K) (R : H → K → Type 0) → StandsIn narrow wide R → (saw : S → Event → S → Type 0) (leaves : Type 0) (waits : S → Type 0) (start now : S) (note host : H) (seen : K) (c : Connection)
     (steps : List (Step S H)) → R note seen → LastLeads narrow saw leaves waits start note now host c steps → LastComes wide saw start seen now steps
 comes_last narrow wide R stands saw leaves waits start now note host seen c [] r so = comes_so_far narrow wide R stands saw leaves start now note host seen c r so
 comes_last narrow wide R stands saw leaves waits start now note host seen c (step ∷ []) r leads = comes narrow wide R stands saw leaves waits start step.now note step.host seen step.connection step.progress r leads

@@ -3,14 +3,15 @@ use Rattle.std.proofs.Common.{◌≡◌, ℕ, ◌+◌, List, [], ◌++◌, Bool,
 use Rattle.std.specs.Io.KnownBytes.{Appends, prepend_known}
 use Rattle.http_wire.specs.Timing.{Event, ReadFails, WriteFails, all_got, all_put, IsLatest, Timely, Gives, Ran}
 use Rattle.http_wire.proofs.Trails.{put_joined, goes_on_joined, latest_joined, steps_joined, timely_joined}
-use Rattle.host_connection.specs.Serving.{Answering, Stream, Ends, Serves, Turns, is_last_at, Next, Exchange, End}
-use Rattle.host_connection.specs.Timing.{IsCaughtUp, IdleWithoutMemory, Connects, AwaitsRequest, TurnsAs}
+use Rattle.host_connection.specs.Serving.{Answering, Stream, Ends, Serves, is_last_at}
+use Rattle.host_connection.specs.Timing.{IsCaughtUp, IdleWithoutMemory, Connects, AwaitsRequest}
 use Rattle.host_connection.specs.declared.connections.ConnectionFault.{ConnectionFault}
 use Rattle.host_connection.specs.declared.connections.ConnectionFault.TheVariants as fault
 use Rattle.host_connection.specs.Carrying.{SoFar, ConnectionSoFar}
 use Rattle.host_connection.proofs.Served.{at_first, goes_on, ends_well, stops, never_began}
 use Rattle.http_wire.specs.Halting.{Together}
 use Rattle.http_wire.proofs.SplitTrails.{gives_more, gives_split}
+use Rattle.host_connection.proofs.TurnParts.{Turns, Next, Exchange, End, TurnsAs}
 
 begun : {H : Type 0} (answers : Answering H) (host : H) (buffer : List ℕ) (left new_left : Stream) → buffer ≡ [] → Gives [] left new_left → Together left new_left
     → SoFar answers host left 1 host (prepend_known buffer new_left) (Some []) (Some [])

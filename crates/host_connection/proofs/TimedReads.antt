@@ -15,14 +15,15 @@ use Rattle.http_wire.specs.Requests.{RequestParts}
 use Rattle.http_wire.specs.Timing.{Event, AtEnd, ReadFails, WriteFails, all_got, all_put, IsLatest, GoesOn, Timely, Ran, NoRead}
 use Rattle.http_wire.specs.Wires.{AwaitsHead, AwaitsBody, ReadsHead, ReadsBody}
 use Rattle.http_wire.proofs.Trails.{goes_on_joined, latest_joined, steps_joined, timely_joined, timely_wide, nothing_got}
-use Rattle.host_connection.specs.Serving.{Stream, limit_of, IsInterim, Invites, IsCut, Announced, TakesRequest, TakesBody, TakesNext, SizeStops, BodyStops, Stops}
-use Rattle.host_connection.specs.Timing.{AwaitsRequest, AwaitsAnnounced, InvitesAs, ReadEnds, ReadsHeadAs, TakesBodyAs, ReadsAs}
+use Rattle.host_connection.specs.Serving.{Stream, limit_of, IsInterim, IsCut, Announced, TakesRequest, TakesNext, Stops}
+use Rattle.host_connection.specs.Timing.{AwaitsRequest, InvitesAs, ReadEnds, ReadsHeadAs, ReadsAs}
 use Rattle.host_connection.specs.declared.requests.Request.{Request}
 use Rattle.host_connection.specs.declared.stops.Stop.{Stop}
 use Rattle.host_connection.specs.declared.stops.Stop.TheVariants as stop
 use Rattle.host_connection.specs.Stopping.{stop_of_body, stop_of_head}
 use Rattle.host_connection.proofs.Turns.{head_stopped, invited, body_stopped, taken}
 use Rattle.http_wire.proofs.SplitTrails.{gives_more, gives_split, gives_written, put_after, put_before}
+use Rattle.host_connection.proofs.TurnParts.{Invites, TakesBody, SizeStops, BodyStops, AwaitsAnnounced, TakesBodyAs}
 
 -- ---- a head
 

@@ -4,8 +4,8 @@ use Rattle.std.specs.Io.KnownBytes.{prepend_known}
 use Rattle.http_wire.specs.Requests.{RequestParts}
 use Rattle.http_wire.specs.Timing.{Event, ReadFails, WriteFails, all_put, IsLatest, GoesOn, Steps, Ran, NoRead}
 use Rattle.http_wire.proofs.Trails.{put_joined, goes_on_joined, latest_joined, steps_joined, timely_joined, nothing_got}
-use Rattle.host_connection.specs.Serving.{Answering, Stream, TakesNext, Stops, Sends, Refuses, Exchanges, Turns, Next, Exchange, End}
-use Rattle.host_connection.specs.Timing.{AwaitsRequest, ReadsAs, RefusesAs, ExchangesAs, IsFollowed, TurnsAs}
+use Rattle.host_connection.specs.Serving.{Answering, Stream, TakesNext, Stops}
+use Rattle.host_connection.specs.Timing.{AwaitsRequest, ReadsAs}
 use Rattle.host_replies.specs.Replies.{closes}
 use Rattle.host_connection.specs.declared.requests.Request.{Request}
 use Rattle.host_connection.specs.declared.connections.ConnectionFault.{ConnectionFault}
@@ -14,6 +14,7 @@ use Rattle.host_connection.specs.declared.stops.Stop.{Stop}
 use Rattle.host_connection.specs.declared.stops.Stop.TheVariants as stop
 use Rattle.host_connection.proofs.Turns.{turned, refused, refused_cut}
 use Rattle.http_wire.proofs.SplitTrails.{read_goes_on, write_goes_on, gives_read}
+use Rattle.host_connection.proofs.TurnParts.{Sends, Refuses, Exchanges, Turns, Next, Exchange, End, RefusesAs, ExchangesAs, IsFollowed, TurnsAs}
 
 -- ---- a turn
 

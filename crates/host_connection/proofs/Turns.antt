@@ -9,11 +9,12 @@ use Rattle.http_wire.specs.Requests.{RequestParts}
 use Rattle.http_wire.specs.Wires.{ServesHead}
 use Rattle.host_api.specs.declared.refusals.Refusal.TheVariants.{Head, OutOfMemory}
 use Rattle.host_replies.specs.Replies.{Answer, closes, refused_answer, sent_for, sent_text}
-use Rattle.host_connection.specs.Serving.{Answering, Stream, limit_of, IsInterim, Invites, IsInvited, TakesRequest, IsAnswered, IsNotRead, IsFrontSent, IsSent, HeadStops, BodyStops, Stops, Sends, Refuses, Exchanges, Turns, Next, Exchange, End}
+use Rattle.host_connection.specs.Serving.{Answering, Stream, limit_of, IsInterim, IsInvited, TakesRequest, IsAnswered, IsNotRead, IsFrontSent, IsSent, HeadStops, Stops}
 use Rattle.host_connection.specs.declared.connections.ConnectionFault.{ConnectionFault}
 use Rattle.host_connection.specs.declared.connections.ConnectionFault.TheVariants as fault
 use Rattle.host_connection.specs.declared.stops.Stop.{Stop}
 use Rattle.host_connection.specs.declared.stops.Stop.TheVariants as stop
+use Rattle.host_connection.proofs.TurnParts.{Invites, BodyStops, Sends, Refuses, Exchanges, Turns, Next, Exchange, End}
 
 -- the text of an answer is sent
 pub is_sent : {H : Type 0} (answers : Answering H) (close head_only : Bool) (host next : H) (parts : RequestParts) (body : List ℕ) (answer : Answer)

@@ -15,10 +15,11 @@ use Rattle.host_connection.specs.declared.stops.Stop.TheVariants as stop
 use Rattle.host_connection.specs.Carrying.{Carried, ConnectionSoFar, Refusing, Replying}
 use Rattle.host_connection.specs.Phases.{BodySoFar, HeadSoFar, InviteSoFar, IsTold, RefusalSoFar, ReplySoFar}
 use Rattle.host_connection.specs.Serving.{Answering, IsInterim, is_last_at}
-use Rattle.host_connection.specs.Timing.{AwaitsAnnounced, AwaitsRequest, IsCaughtUp, ReadEnds}
+use Rattle.host_connection.specs.Timing.{AwaitsRequest, IsCaughtUp, ReadEnds}
 use Rattle.host_connection.specs.Walks.{Anything}
 use Rattle.host_connection.proofs.TimedConnections.{caught_up}
 use Rattle.host_connection.proofs.TimedReads.{HeadRan, body_awaits, head_awaits}
+use Rattle.host_connection.proofs.TurnParts.{AwaitsAnnounced}
 
 -- what came after what was before
 joined : {S : Type 0} (saw : S → Event → S → Type 0) (may inner : List ℕ → List ℕ → Type 0) (old mid new : S) (first : Ran saw may old mid GoesOn) (second : Ran saw inner mid new GoesOn)

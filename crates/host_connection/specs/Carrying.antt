@@ -1,11 +1,12 @@
 -- A connection that goes on where it left off: what it has done so far, and what a step of it leads to.
-use Rattle.std.specs.Prelude.{◌≡◌, ◌⊎◌, ℕ, ◌+◌, ◌*◌, ◌-◌, ◌<◌, ◌≤◌, List, [], length, Bool, true, false, Some, Ok, Err}
+use Rattle.std.specs.Prelude.{◌≡◌, ◌⊎◌, ℕ, ◌+◌, ◌<◌, ◌≤◌, List, [], ◌++◌, length, Bool, true, false, Some, Ok, Err}
 use Rattle.std.specs.Io.KnownBytes.{Appends, prepend_known}
 use Rattle.std.specs.List.{concat}
-use Rattle.http_wire.specs.Expectations.{ExpectsContinue}
+use Rattle.http_wire.specs.Expectations.{ExpectsContinue, continue_text}
 use Rattle.http_wire.specs.Fields.{AnnouncesBody}
 use Rattle.http_wire.specs.Gathering.{Gathered, IsAmid, IsCounted}
 use Rattle.http_wire.specs.Halting.{Together}
+use Rattle.http_wire.specs.HeadText.{CutShort}
 use Rattle.http_wire.specs.Requests.{RequestParts}
 use Rattle.http_wire.specs.Timing.{Event, all_put, GoesOn, Gives, Ran, Steps, Timely}
 use Rattle.host_replies.specs.Bodies.{answer_of}
@@ -79,8 +80,8 @@ pub record Refusing {S H : Type 0} (saw : S → Event → S → Type 0) (began n
   pub amid : IsAmid (text_of s) at out
   pub same : host ≡ before
 
--- What a connection did since its stream was this and its service that, by what it is in the middle of. A reply that isn't counted any more was
--- left before it was out, where that may be.
+-- What a connection did since its stream was this and its service that, by what it is in the middle of. Some of a reply is still to be written. One
+-- that isn't counted any more was left before it was out, where that may be.
 abbrev pub Carried : {S H : Type 0} → Answering H → (saw : S → Event → S → Type 0) → (leaves : Type 0) → (start : S) → (first : H) → (now : S) → (host : H) → (buffer : List ℕ) → (out : Gathered) → (n : ℕ) → Phase → Type 0
 Carried answers saw leaves start first now host buffer out n phase.Head =
     InTurn answers saw start first n (λ began before begun. HeadSoFar saw began now begun buffer × (host ≡ before))
@@ -91,7 +92,7 @@ Carried answers saw leaves start first now host buffer out n (phase.Body b) =
 Carried answers saw leaves start first now host buffer out n (phase.Reply s) =
     InTurn answers saw start first n (λ began before begun. Replying answers saw began now before host (is_last_at n) begun buffer out s
     ⊎ Refusing saw began now before host (is_last_at n) begun buffer out s)
-    × (IsCounted out ⊎ leaves)
+    × (IsCounted out ⊎ leaves) × (out.sent < length (text_of s))
 Carried answers saw leaves start first now host buffer out n (phase.Ended result) =
     Ran saw (IsCaughtUp answers first) start now (Connects answers result first host)
 
@@ -101,33 +102,47 @@ Carries answers saw leaves start first now host c = Carried answers saw leaves s
 
 -- ---- a step
 
--- to read it waits for more of a head or of a body, to write for room for a reply
-abbrev pub Awaits : Wants → Phase → Type 0
-Awaits wants.Read phase.Head = Unit {0}
-Awaits wants.Read (phase.Invite i) = ⊥
-Awaits wants.Read (phase.Body b) = Unit {0}
-Awaits wants.Read (phase.Reply s) = ⊥
-Awaits wants.Read (phase.Ended result) = ⊥
-Awaits wants.Write phase.Head = ⊥
-Awaits wants.Write (phase.Invite i) = Unit {0}
-Awaits wants.Write (phase.Body b) = ⊥
-Awaits wants.Write (phase.Reply s) = Unit {0}
-Awaits wants.Write (phase.Ended result) = ⊥
+-- to read it waits while no whole head has come or not all of a body, to write while some of a reply is left
+abbrev pub Awaits : Wants → (buffer : List ℕ) → Gathered → Phase → Type 0
+Awaits wants.Read buffer out phase.Head = CutShort buffer
+Awaits wants.Read buffer out (phase.Invite i) = ⊥
+Awaits wants.Read buffer out (phase.Body b) = length (b.body.items ++ buffer) < b.size
+Awaits wants.Read buffer out (phase.Reply s) = ⊥
+Awaits wants.Read buffer out (phase.Ended result) = ⊥
+Awaits wants.Write buffer out phase.Head = ⊥
+Awaits wants.Write buffer out (phase.Invite i) = i.at < length continue_text
+Awaits wants.Write buffer out (phase.Body b) = ⊥
+Awaits wants.Write buffer out (phase.Reply s) = out.sent < length (text_of s)
+Awaits wants.Write buffer out (phase.Ended result) = ⊥
 
--- a body of this size is read next
+-- The stream as it is has to wait. Or 2^64 bytes of a reply were written, which are no longer counted: then it goes no further.
+abbrev pub IsHeld : (waits : Type 0) → Gathered → Phase → Type 0
+IsHeld waits out phase.Head = waits
+IsHeld waits out (phase.Invite i) = waits
+IsHeld waits out (phase.Body b) = waits
+IsHeld waits out (phase.Reply s) = waits ⊎ ¬ (IsCounted out)
+IsHeld waits out (phase.Ended result) = waits
+
+-- some state of a stream has to wait
+abbrev pub MayWait : {S : Type 0} → (waits : S → Type 0) → Type 0
+MayWait {S} waits = (stream : S) × waits stream
+
+-- a body of this size is read next, of which nothing was taken, and nothing was written of its interim reply
 abbrev pub AwaitsBodyOf : ℕ → Phase → Type 0
 AwaitsBodyOf size phase.Head = ⊥
-AwaitsBodyOf size (phase.Invite i) = i.size ≡ size
-AwaitsBodyOf size (phase.Body b) = b.size ≡ size
+AwaitsBodyOf size (phase.Invite i) = (i.size ≡ size) × (i.at ≡ 0)
+AwaitsBodyOf size (phase.Body b) = (b.size ≡ size) × (b.body.items ≡ [])
 AwaitsBodyOf size (phase.Reply s) = ⊥
 AwaitsBodyOf size (phase.Ended result) = ⊥
 
--- What a step leads to: a connection that is still carried; it waits only where the stream has to, and as its phase says. Once it ends, that is the
--- theorem of the whole connection.
-abbrev pub Leads : {S H : Type 0} → Answering H → (saw : S → Event → S → Type 0) → (leaves waits : Type 0) → (start : S) → (first : H) → (now : S) → (host : H) → Connection → Progress → Type 0
-Leads answers saw leaves waits start first now host c (progress.Waits w) = Carries answers saw leaves start first now host c × waits × Awaits w c.phase
+-- What a step leads to: a connection that is still carried; it waits only where the stream has to, and as its phase says; it tells of a body before
+-- it reads it. Once it ends, that is the theorem of the whole connection.
+abbrev pub Leads : {S H : Type 0} → Answering H → (saw : S → Event → S → Type 0) → (leaves : Type 0) → (waits : S → Type 0) → (start : S) → (first : H) → (now : S) → (host : H) → Connection → Progress → Type 0
+Leads answers saw leaves waits start first now host c (progress.Waits w) =
+    Carries answers saw leaves start first now host c × IsHeld (waits now) c.out c.phase × Awaits w c.wire c.out c.phase
 Leads answers saw leaves waits start first now host c progress.More = Carries answers saw leaves start first now host c
-Leads answers saw leaves waits start first now host c (progress.Body size) = Carries answers saw leaves start first now host c × AwaitsBodyOf size c.phase
+Leads answers saw leaves waits start first now host c (progress.Body size) =
+    Carries answers saw leaves start first now host c × AwaitsBodyOf size c.phase × (0 < size)
 Leads answers saw leaves waits start first now host c (progress.Ended result) =
     Ran saw (IsCaughtUp answers first) start now (Connects answers result first host) × (c.phase ≡ phase.Ended result)
 
@@ -144,6 +159,14 @@ abbrev pub IsFresh : Connection → Type 0
 IsFresh c = (c.wire ≡ []) × (c.number ≡ 1) × (c.phase ≡ phase.Head)
 
 -- ---- what private functions say
+
+-- in a reply
+abbrev pub IsReply : Phase → Type 0
+IsReply phase.Head = ⊥
+IsReply (phase.Invite i) = ⊥
+IsReply (phase.Body b) = ⊥
+IsReply (phase.Reply s) = Unit {0}
+IsReply (phase.Ended result) = ⊥
 
 -- the reply where no request was read for this reason, after which the connection ends
 abbrev pub Tells : Stop → Phase → Type 0
@@ -186,29 +209,6 @@ until_asked (phase.Ended result) = 3
 abbrev pub Asks : {H : Type 0} → Answering H → (old new : H) → (old_phase new_phase : Phase) → Type 0
 Asks answers old new old_phase new_phase = ((new ≡ old) × (until_asked old_phase ≤ until_asked new_phase + 1))
     ⊎ (AnswersOne answers old new × (until_asked old_phase ≡ 0) × (until_asked new_phase ≡ 2))
-
--- the same of several phases: where an answer was asked for, none is for so many more
-abbrev pub AskedOnce : {H : Type 0} → Answering H → (old new : H) → (gone_through : ℕ) → Phase → Type 0
-AskedOnce answers old new gone_through p = (new ≡ old) ⊎ (AnswersOne answers old new × (3 ≤ until_asked p + gone_through))
-
--- how many phases of a turn are left at most
-abbrev pub left_of_turn : Phase → ℕ
-left_of_turn phase.Head = 4
-left_of_turn (phase.Invite i) = 3
-left_of_turn (phase.Body b) = 2
-left_of_turn (phase.Reply s) = 1
-left_of_turn (phase.Ended result) = 0
-
--- how many phases of a connection are left at most that is at the request of number n
-abbrev pub phases_left : (n : ℕ) → Phase → ℕ
-phases_left n p = 5 * (101 - n) + left_of_turn p
-
--- fewer are left, where it may go on at once
-abbrev pub Falls : Progress → (old_left new_left : ℕ) → Type 0
-Falls (progress.Waits w) old_left new_left = Unit {0}
-Falls progress.More old_left new_left = new_left < old_left
-Falls (progress.Body size) old_left new_left = new_left < old_left
-Falls (progress.Ended result) old_left new_left = Unit {0}
 
 -- the request is answered, and the reply to it is on its way
 abbrev pub IsAnswering : {H : Type 0} → Answering H → (host : H) → Request → (next : H) → Phase → Type 0

@@ -5,4 +5,7 @@ pub mod Stopping
 pub mod Phases
 pub mod Carrying
 pub mod Walks
+pub mod Stages
+pub mod Metering
+pub mod Advancing
 pub mod StandingIn

@@ -9,7 +9,6 @@ use Rattle.http_wire.specs.Expectations.{ExpectsContinue, continue_text}
 use Rattle.http_wire.specs.Fields.{AnnouncesBody, IsBodyLength}
 use Rattle.http_wire.specs.HeadText.{IsHeadText, CutShort, head_limit}
 use Rattle.http_wire.specs.Requests.{RequestParts, Says}
-use Rattle.http_wire.specs.Sending.{AppendsFront}
 use Rattle.http_wire.specs.Wires.{HasWholeHead, TakesHead, RefusesHead, RefusesLargeHead}
 use Rattle.host_api.specs.Limits.{body_limit}
 use Rattle.host_api.specs.declared.refusals.HeadRefusal.{HeadRefusal}
@@ -202,14 +201,6 @@ HeadStops read_fails old stop.WriteFault = ⊥
 HeadStops read_fails old (stop.Refused why head_only) = IsHeadRefused old (sent_text true head_only (refused_answer (Head why)))
 HeadStops read_fails old (stop.OutOfMemory head_only) = IsHeadWithoutMemory old (sent_text true head_only (refused_answer OutOfMemory))
 
--- the head announces a body of this size, which is read once this was sent
-abbrev pub Invites : RequestParts → ℕ → List ℕ → Type 0
-Invites parts size sent = AnnouncesBody parts.fields (limit_of parts) size × IsInterim parts sent
-
--- some of this, which isn't all that is to be sent before the body of a head, was sent
-abbrev pub InvitesInPart : RequestParts → List ℕ → Type 0
-InvitesInPart parts sent = (size : ℕ) × (rest : List ℕ) × (0 < length rest) × Invites parts size (sent ++ rest)
-
 -- no body of a head of these parts is read, for this reason, which is told without a body where the method asks for that
 abbrev pub RefusesBody : RequestParts → HeadRefusal → Bool → Type 0
 RefusesBody parts why head_only =
@@ -225,27 +216,6 @@ Announced parts (Err stop.WriteFault) = ⊥
 Announced parts (Err (stop.Refused why head_only)) = RefusesBody parts why head_only
 Announced parts (Err (stop.OutOfMemory head_only)) = ⊥
 
--- why a stream gives no body of this size
-abbrev pub SizeStops : RequestParts → ℕ → (read_fails : Type 0) → Stream → Stop → Type 0
-SizeStops parts size read_fails old stop.Ended = IfSome old (λ left. length left < size)
-SizeStops parts size read_fails old stop.ReadFault = read_fails
-SizeStops parts size read_fails old stop.WriteFault = ⊥
-SizeStops parts size read_fails old (stop.Refused why head_only) = ⊥
-SizeStops parts size read_fails old (stop.OutOfMemory head_only) = (head_only ≡ bytes_eq parts.method (codes "HEAD")) × (0 < size)
-
--- the body that a head announces is taken, and this was sent before
-abbrev pub TakesBody : RequestParts → List ℕ → Stream → Stream → List ℕ → Type 0
-TakesBody parts body old new sent = Invites parts (length body) sent × Consumes old new body
-
--- why it gives no body that the head announces, and what was sent
-abbrev pub BodyStops : RequestParts → (read_fails write_fails : Type 0) → Stream → List ℕ → Stop → Type 0
-BodyStops parts read_fails write_fails old sent stop.Ended = (size : ℕ) × Invites parts size sent × IfSome old (λ left. length left < size)
-BodyStops parts read_fails write_fails old sent stop.ReadFault = read_fails × ((size : ℕ) × Invites parts size sent)
-BodyStops parts read_fails write_fails old sent stop.WriteFault = write_fails × InvitesInPart parts sent
-BodyStops parts read_fails write_fails old sent (stop.Refused why head_only) = (sent ≡ []) × RefusesBody parts why head_only
-BodyStops parts read_fails write_fails old sent (stop.OutOfMemory head_only) =
-    (head_only ≡ bytes_eq parts.method (codes "HEAD")) × ((size : ℕ) × (0 < size) × Invites parts size sent)
-
 -- a request is taken, which is the last or not, and this was sent before its body
 abbrev pub TakesNext : Bool → Request → Stream → Stream → List ℕ → Type 0
 TakesNext is_last request old new sent =
@@ -259,58 +229,10 @@ Stops read_fails write_fails old sent stop.WriteFault = write_fails × ((rest : 
 Stops read_fails write_fails old sent (stop.Refused why head_only) = IsNotRead old (sent ++ sent_text true head_only (refused_answer (Head why)))
 Stops read_fails write_fails old sent (stop.OutOfMemory head_only) = IsNotRead old (sent ++ sent_text true head_only (refused_answer OutOfMemory))
 
--- ---- what is sent of a text
-
--- the text is sent, unless a write fails
-abbrev pub Sends : (write_fails : Type 0) → Result (Unit {0}) ConnectionFault → List ℕ → Stream → Stream → Type 0
-Sends write_fails (Ok done) text held new_held = Appends held new_held text
-Sends write_fails (Err fault.InputFault) text held new_held = ⊥
-Sends write_fails (Err fault.OutputFault) text held new_held = write_fails × AppendsFront text held new_held
-Sends write_fails (Err fault.OutOfMemory) text held new_held = ⊥
-
--- what is sent where no request is read
-abbrev pub Refuses : (write_fails : Type 0) → Result (Unit {0}) ConnectionFault → Stop → Stream → Stream → Type 0
-Refuses write_fails result stop.Ended held new_held = (result ≡ Ok tt) × (new_held ≡ held)
-Refuses write_fails result stop.ReadFault held new_held = (result ≡ Err fault.InputFault) × (new_held ≡ held)
-Refuses write_fails result stop.WriteFault held new_held = (result ≡ Err fault.OutputFault) × (new_held ≡ held)
-Refuses write_fails result (stop.Refused why head_only) held new_held =
-    Sends write_fails result (sent_text true head_only (refused_answer (Head why))) held new_held
-Refuses write_fails result (stop.OutOfMemory head_only) held new_held =
-    Sends write_fails result (sent_text true head_only (refused_answer OutOfMemory)) held new_held
-
--- ---- the parts of an exchange
-
--- what follows an exchange: another one, or the end of the connection
-pub data Next : Type 0 where
-  Exchange : Next
-  End : Next
+-- ---- the reply to a request
 
 -- the reply to a request is this
 pub record IsSent {H : Type 0} (answers : Answering H) (close : Bool) (host : H) (parts : RequestParts) (body sent : List ℕ) (next : H) : Type 0 where
   pub answer : Answer
   pub is_answer : answers host parts body answer next
   pub sent_is : sent ≡ sent_for close parts.method answer
-
--- what the answering of a request does
-abbrev pub Exchanges : {H : Type 0} → Answering H → (write_fails : Type 0) → Result Next ConnectionFault → Bool → H → RequestParts → List ℕ → Stream → Stream → H → Type 0
-Exchanges answers write_fails (Ok Exchange) close host parts body held new_held next =
-    (close ≡ false) × ((sent : List ℕ) × IsSent answers close host parts body sent next × Appends held new_held sent)
-Exchanges answers write_fails (Ok End) close host parts body held new_held next =
-    (close ≡ true) × ((sent : List ℕ) × IsSent answers close host parts body sent next × Appends held new_held sent)
-Exchanges answers write_fails (Err fault.InputFault) close host parts body held new_held next = ⊥
-Exchanges answers write_fails (Err fault.OutputFault) close host parts body held new_held next =
-    write_fails × ((sent : List ℕ) × (rest : List ℕ) × (0 < length rest)
-    × IsSent answers close host parts body (sent ++ rest) next × Appends held new_held sent)
-Exchanges answers write_fails (Err fault.OutOfMemory) close host parts body held new_held next = ⊥
-
--- what the turn of a connection does
-abbrev pub Turns : {H : Type 0} → Answering H → (read_fails write_fails : Type 0) → Result Next ConnectionFault → Bool → H → Stream → Stream → Stream → Stream → H → Type 0
-Turns answers read_fails write_fails (Ok Exchange) is_last host old new held new_held next =
-    (sent : List ℕ) × IsExchange answers host is_last old sent next new × Appends held new_held sent
-Turns answers read_fails write_fails (Ok End) is_last host old new held new_held next =
-    (sent : List ℕ) × ((IsCut old sent × (next ≡ host)) ⊎ IsLast answers host is_last old sent next) × Appends held new_held sent
-Turns answers read_fails write_fails (Err fault.InputFault) is_last host old new held new_held next =
-    read_fails × ((sent : List ℕ) × IsBegun old sent × (next ≡ host) × Appends held new_held sent)
-Turns answers read_fails write_fails (Err fault.OutputFault) is_last host old new held new_held next =
-    write_fails × ((sent : List ℕ) × IsFrontSent answers host is_last old sent next × Appends held new_held sent)
-Turns answers read_fails write_fails (Err fault.OutOfMemory) is_last host old new held new_held next = ⊥

@@ -44,10 +44,6 @@ pub record Connects {H : Type 0} (answers : Answering H) (result : Result (Unit 
 abbrev pub AwaitsRequest : (buffer got put : List ℕ) → Type 0
 AwaitsRequest buffer got put = IsCut (Some (buffer ++ got)) put
 
--- they hold only a part of the body that is announced, and all that was written since is what comes before it
-abbrev pub AwaitsAnnounced : RequestParts → (buffer got put : List ℕ) → Type 0
-AwaitsAnnounced parts buffer got put = (size : ℕ) × Invites parts size put × (length (buffer ++ got) < size)
-
 -- what is to be sent before the body of a head of these parts was written, or a front of it, since a write failed
 abbrev pub InvitesAs : Result (Unit {0}) Stop → RequestParts → List Event → Type 0
 InvitesAs (Ok done) parts events = GoesOn events × IsInterim parts (all_put events)
@@ -75,15 +71,6 @@ pub record ReadsHeadAs (result : Result RequestParts Stop) (buffer new_buffer : 
       → MatchResult result (ServesHead (prepend_known buffer left) (prepend_known new_buffer new_left))
       (HeadStops (IsLatest ReadFails events) (prepend_known buffer left))
 
--- the same of a body of this size
-pub record TakesBodyAs {A : Type 0} (result : Result (Vec ℕ A) Stop) (parts : RequestParts) (size : ℕ) (buffer new_buffer : List ℕ) (events : List Event)
-    : Type 0 where
-  pub nothing_put : all_put events ≡ []
-  pub ends : ReadEnds result events
-  pub of_stream : (left new_left : Stream) → Gives events left new_left
-      → MatchResult result (λ body. (length body.items ≡ size) × Consumes (prepend_known buffer left) (prepend_known new_buffer new_left) body.items)
-      (SizeStops parts size (IsLatest ReadFails events) (prepend_known buffer left))
-
 -- of each stream of which these reads are the next something was taken, or it says why not, and what was written
 pub record ReadsAs {A : Type 0} (result : Result A Stop) (takes : A → Stream → Stream → List ℕ → Type 0)
     (stops : (read_fails write_fails : Type 0) → Stream → List ℕ → Stop → Type 0) (buffer new_buffer : List ℕ) (events : List Event) : Type 0 where
@@ -91,36 +78,3 @@ pub record ReadsAs {A : Type 0} (result : Result A Stop) (takes : A → Stream �
   pub of_stream : (left new_left : Stream) → Gives events left new_left
       → MatchResult result (λ value. takes value (prepend_known buffer left) (prepend_known new_buffer new_left) (all_put events))
       (stops (IsLatest ReadFails events) (IsLatest WriteFails events) (prepend_known buffer left) (all_put events))
-
--- where the stream ended, or a read or a write failed, nothing is written
-abbrev pub IsSilent : Stop → List Event → Type 0
-IsSilent stop.Ended events = events ≡ []
-IsSilent stop.ReadFault events = events ≡ []
-IsSilent stop.WriteFault events = events ≡ []
-IsSilent (stop.Refused why head_only) events = Unit {0}
-IsSilent (stop.OutOfMemory head_only) events = Unit {0}
-
--- what is sent where no request is read, and that it is nothing where the stream ended, or a read or a write failed
-pub record RefusesAs (result : Result (Unit {0}) ConnectionFault) (why : Stop) (events : List Event) : Type 0 where
-  pub refuses : Refuses (IsLatest WriteFails events) result why (Some []) (Some (all_put events))
-  pub silent : IsSilent why events
-
--- what the answering of a request writes, and that another event may follow where it goes well
-pub record ExchangesAs {H : Type 0} (answers : Answering H) (result : Result Next ConnectionFault) (close : Bool) (host : H) (parts : RequestParts) (body : List ℕ) (next : H)
-    (events : List Event) : Type 0 where
-  pub exchanges : Exchanges answers (IsLatest WriteFails events) result close host parts body (Some []) (Some (all_put events)) next
-  pub goes_on : OnOk result (GoesOn events)
-
--- another exchange may follow
-abbrev pub IsFollowed : Result Next ConnectionFault → List Event → Type 0
-IsFollowed (Ok Exchange) events = GoesOn events
-IsFollowed (Ok End) events = Unit {0}
-IsFollowed (Err why) events = Unit {0}
-
--- what a turn of the connection does over each stream of which its reads are the next, and how its events end
-pub record TurnsAs {H : Type 0} (answers : Answering H) (result : Result Next ConnectionFault) (is_last : Bool) (host next : H) (buffer new_buffer : List ℕ) (events : List Event)
-    : Type 0 where
-  pub followed : IsFollowed result events
-  pub of_stream : (left new_left : Stream) → Gives events left new_left
-      → Turns answers (IsLatest ReadFails events) (IsLatest WriteFails events) result is_last host (prepend_known buffer left) (prepend_known new_buffer new_left)
-      (Some []) (Some (all_put events)) next

@@ -17,18 +17,18 @@ pub record Step (S H : Type 0) : Type 0 where
   pub progress : Progress
 
 -- that is a step from there: what the contract of a step says
-abbrev pub IsStep : {S H : Type 0} → Answering H → (saw : S → Event → S → Type 0) → (leaves waits : Type 0) → S → H → Connection → Step S H → Type 0
+abbrev pub IsStep : {S H : Type 0} → Answering H → (saw : S → Event → S → Type 0) → (leaves : Type 0) → (waits : S → Type 0) → S → H → Connection → Step S H → Type 0
 IsStep {S} {H} answers saw leaves waits now host c step = (start : S) (first : H) → Carries answers saw leaves start first now host c
     → Leads answers saw leaves waits start first step.now step.host step.connection step.progress
 
 -- these are steps, one after another, from there
-abbrev pub AreSteps : {S H : Type 0} → Answering H → (saw : S → Event → S → Type 0) → (leaves waits : Type 0) → S → H → Connection → List (Step S H) → Type 0
+abbrev pub AreSteps : {S H : Type 0} → Answering H → (saw : S → Event → S → Type 0) → (leaves : Type 0) → (waits : S → Type 0) → S → H → Connection → List (Step S H) → Type 0
 AreSteps answers saw leaves waits now host c [] = Unit {0}
 AreSteps answers saw leaves waits now host c (step ∷ more) =
     IsStep answers saw leaves waits now host c step × AreSteps answers saw leaves waits step.now step.host step.connection more
 
 -- what the last of them led to, of a connection that was carried before
-abbrev pub LastLeads : {S H : Type 0} → Answering H → (saw : S → Event → S → Type 0) → (leaves waits : Type 0) → (start : S) → (first : H) → S → H → Connection → List (Step S H) → Type 0
+abbrev pub LastLeads : {S H : Type 0} → Answering H → (saw : S → Event → S → Type 0) → (leaves : Type 0) → (waits : S → Type 0) → (start : S) → (first : H) → S → H → Connection → List (Step S H) → Type 0
 LastLeads answers saw leaves waits start first now host c [] = Carries answers saw leaves start first now host c
 LastLeads answers saw leaves waits start first now host c (step ∷ []) = Leads answers saw leaves waits start first step.now step.host step.connection step.progress
 LastLeads answers saw leaves waits start first now host c (step ∷ next ∷ more) = LastLeads answers saw leaves waits start first step.now step.host step.connection (next ∷ more)

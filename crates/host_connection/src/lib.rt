@@ -14,4 +14,4 @@ pub use connections::{ConnectionFault, serve_connection};
 pub use meters::Metered;
 pub use requests::Request;
 pub use services::Service;
-pub use steps::{Connection, Progress, Wants};
+pub use steps::{Connection, Progress, Stage, Wants};

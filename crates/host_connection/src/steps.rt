@@ -1,9 +1,14 @@
 //! A connection that goes on where it left off, step by step.
-ghost use Rattle.std.specs.Prelude.{◌≡◌, ◌<◌, IfOk};
+ghost use Rattle.std.specs.Prelude.{◌≡◌, List, IfOk, IsTrue};
 ghost use Rattle.http_wire.specs.Gathering.{nothing};
-ghost use Rattle.host_connection.specs.Carrying.{phases_left, AnswersOnce, Asks, Carries, Falls, IsFresh, Leads};
+ghost use Rattle.http_wire.specs.Timing.{Event, Steps};
+ghost use Rattle.host_connection.specs.Advancing.{is_body, phases_left, Advances, Goes, RemembersMemory, TellsBody};
+ghost use Rattle.host_connection.specs.Carrying.{AnswersOnce, Asks, Carries, IsFresh, Leads, MayWait};
 
+mod stages;
 mod turns;
+
+pub use stages::Stage;
 
 use crate::connections::ConnectionFault;
 use crate::meters::Metered;
@@ -32,7 +37,7 @@ pub enum Progress {
     Waits(Wants),
     /// It may go on at once.
     More,
-    /// It may go on at once, with a body of so many bytes, of which it has read none.
+    /// It may go on at once, with a body of this many bytes, of which it has taken none.
     Body(u64),
     /// The connection ended. Further steps do nothing.
     Ended(Result<(), ConnectionFault>),
@@ -61,8 +66,11 @@ impl Connection {
         })
     }
 
-    /// Goes on where the last step left off: reads what is there, answers a request, and writes what the stream takes. A step begins one answer at most,
-    /// and moves 262,144 bytes at most; then it may go on at once.
+    /// Goes on where the last step left off: reads what is there, answers a request, and writes what the stream takes. A step begins one answer at
+    /// most, and moves 262,144 bytes at most. Then it may go on at once: but only finitely often without a byte that is read or written.
+    ///
+    /// Before it reads a body that isn't empty, it tells once how long that is. It waits only where the stream has to, to read while no whole head
+    /// or body has come, and to write while some of a reply is left.
     pub fn go_on<D: Duplex, S: Service>(
         &mut self,
         alloc: Global,
@@ -70,18 +78,22 @@ impl Connection {
         service: &mut S,
     ) -> Progress
         ensures leads { (start : D) (first : S)
-            → Carries S.answers D.saw (Unit {0}) start first duplex.old service.old self.old
-            → Leads S.answers D.saw (Unit {0}) D.waits start first duplex.new service.new self.new result }
+            → Carries S.answers D.saw (Unit {0}) start first duplex.old.stream service.old self.old
+            → Leads S.answers D.saw (Unit {0}) D.waits start first duplex.new.stream service.new self.new result }
+        ensures goes { Goes D.saw duplex.old.stream duplex.new.stream result
+            (phases_left self.old.number self.old.phase) (phases_left self.new.number self.new.phase) }
+        ensures tells { TellsBody result self.old.number self.old.phase self.new.number self.new.phase }
+        ensures memory { RemembersMemory self.old.phase self.new.phase }
         ensures asks { AnswersOnce S.answers service.old service.new }
         ensures grows { S.grows service.old service.new }
     {
         duplex.begin();
         match self.go_through(alloc, duplex, service) {
             Progress::Waits(wants) => {
-                if duplex.has_waited() {
-                    Progress::Waits(wants)
-                } else {
+                if duplex.is_used_up() {
                     Progress::More
+                } else {
+                    Progress::Waits(wants)
                 }
             }
             progress => progress,
@@ -96,8 +108,10 @@ impl Connection {
         service: &mut S,
     ) -> Progress
         ensures leads { (start : D) (first : S)
-            → Carries S.answers D.saw D.waits start first duplex.old service.old self.old
-            → Leads S.answers D.saw D.waits D.waits start first duplex.new service.new self.new result }
+            → Carries S.answers D.saw (MayWait D.waits) start first duplex.old service.old self.old
+            → Leads S.answers D.saw (MayWait D.waits) D.waits start first duplex.new service.new self.new result }
+        ensures led { (events : List Event) × Steps D.saw duplex.old events duplex.new }
+        ensures advances { Advances result self.old.number self.old.phase self.new.number self.new.phase }
         ensures asks { AnswersOnce S.answers service.old service.new }
         ensures grows { S.grows service.old service.new }
     {
@@ -118,22 +132,42 @@ impl Connection {
         service: &mut S,
     ) -> Progress
         ensures leads { (start : D) (first : S)
-            → Carries S.answers D.saw D.waits start first duplex.old service.old self.old
-            → Leads S.answers D.saw D.waits D.waits start first duplex.new service.new self.new result }
-        ensures falls { Falls result (phases_left self.old.number self.old.phase)
-            (phases_left self.new.number self.new.phase) }
+            → Carries S.answers D.saw (MayWait D.waits) start first duplex.old service.old self.old
+            → Leads S.answers D.saw (MayWait D.waits) D.waits start first duplex.new service.new self.new result }
+        ensures led { (events : List Event) × Steps D.saw duplex.old events duplex.new }
+        ensures advances { Advances result self.old.number self.old.phase self.new.number self.new.phase }
+        ensures asks { Asks S.answers service.old service.new self.old.phase self.new.phase }
+        ensures grows { S.grows service.old service.new }
+    {
+        match &self.phase {
+            Phase::Head => self.read_head(alloc, duplex, service),
+            Phase::Invite(_) => self.go_through_body(alloc, duplex, service),
+            Phase::Body(_) => self.go_through_body(alloc, duplex, service),
+            Phase::Reply(_) => self.send(duplex, service),
+            Phase::Ended(result) => Progress::Ended(*result),
+        }
+    }
+
+    // Goes through an interim reply or a body.
+    fn go_through_body<D: Duplex, S: Service>(
+        &mut self,
+        alloc: Global,
+        duplex: &mut D,
+        service: &mut S,
+    ) -> Progress
+        requires { IsTrue (is_body self.old.phase) }
+        ensures leads { (start : D) (first : S)
+            → Carries S.answers D.saw (MayWait D.waits) start first duplex.old service.old self.old
+            → Leads S.answers D.saw (MayWait D.waits) D.waits start first duplex.new service.new self.new result }
+        ensures led { (events : List Event) × Steps D.saw duplex.old events duplex.new }
+        ensures advances { Advances result self.old.number self.old.phase self.new.number self.new.phase }
         ensures asks { Asks S.answers service.old service.new self.old.phase self.new.phase }
         ensures grows { S.grows service.old service.new }
     {
         match mem::replace(&mut self.phase, Phase::Head) {
-            Phase::Head => self.read_head(alloc, duplex, service),
             Phase::Invite(invitation) => self.invite(alloc, duplex, service, invitation),
             Phase::Body(part) => self.read_body(alloc, duplex, service, part),
-            Phase::Reply(sending) => self.send(duplex, service, sending),
-            Phase::Ended(result) => {
-                self.stay(Phase::Ended(result));
-                Progress::Ended(result)
-            }
+            _ => unreachable!(),
         }
     }
 

@@ -39,6 +39,10 @@ awaits : {S : Type 0} (saw : S → Event → S → Type 0) (old new : S) (size :
 awaits saw old new size buffer body rest so none less =
     (subst (λ b. length b < size) (all_moved saw old new size buffer body rest so none) less, so.nothing_put)
 
+-- the part that is there is all that came
+pub none_short : (body rest : List ℕ) (size : ℕ) → rest ≡ [] → length body < size → length (body ++ rest) < size
+none_short body rest size none less = subst (λ (b : List ℕ). length b < size) (sym (ap (λ u. body ++ u) none ∙ append-nil body)) less
+
 -- one read more, whose bytes go to the body, as many as it lacks
 pub read_more : {S : Type 0} (saw : S → Event → S → Type 0) (old mid new : S) (size : ℕ) (buffer body rest piece filled new_body new_rest : List ℕ)
     → BodySoFar saw old mid size buffer body rest → rest ≡ [] → length body < size → filled ≡ rest ++ piece → 0 < length piece → saw mid (read_of piece) new

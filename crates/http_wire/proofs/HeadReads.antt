@@ -46,6 +46,10 @@ awaits saw old new buffer bytes state scanned so scan nd room = (
   so.nothing_put,
 )
 
+-- so no whole head is there
+pub short_there : (bytes : List ℕ) (state : State) (scanned : ℕ) → HasScanned bytes state scanned → is_done state ≡ false → length bytes < head_limit → CutShort bytes
+short_there bytes state scanned scan nd room = cut_short_from (Some bytes) (Some []) bytes (append-nil bytes) refl room (none_found bytes state scanned scan nd)
+
 -- one read more
 pub read_more : {S : Type 0} (saw : S → Event → S → Type 0) (old mid new : S) (buffer bytes piece more : List ℕ) (state : State) (scanned : ℕ)
     (so : HeadSoFar saw old mid buffer bytes) → HasScanned bytes state scanned → is_done state ≡ false → length bytes < head_limit → more ≡ bytes ++ piece → 0 < length piece

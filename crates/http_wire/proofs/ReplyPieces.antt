@@ -24,6 +24,15 @@ pub status_is : (status : ℕ) (code phrase : List ℕ) → code ≡ code_digits
 unfolding status_line
 status_is status code phrase e f = rw (e, f) (simp append_assoc)
 
+-- the status lines that are one text
+pub ok_is : (status : ℕ) → status ≡ 200 → codes "HTTP/1.1 200 OK" ++ crlf ≡ ended_line (status_line status)
+unfolding status_line
+ok_is status is = rw is refl
+
+pub partial_is : (status : ℕ) → status ≡ 206 → codes "HTTP/1.1 206 Partial Content" ++ crlf ≡ ended_line (status_line status)
+unfolding status_line
+partial_is status is = rw is refl
+
 -- a line with its end, where it is there
 line_is : (before : List ℕ) (value : Option (List ℕ)) (behind : List ℕ) → flat_map ended_line (field_line before value behind) ≡ line_of before value (behind ++ crlf)
 line_is before None behind = refl

@@ -49,7 +49,7 @@ all_from saw old new text from at so full = record {
 }
 
 -- a write failed, or would have to wait
-pub halted : {S : Type 0} (saw : S → Event → S → Type 0) (waits : Type 0) (old mid new : S) (why : Halt WriteFailed) (text : List ℕ) (from at : ℕ) → FromSoFar saw old mid text from at
+pub halted : {S : Type 0} (saw : S → Event → S → Type 0) (waits : S → Type 0) (old mid new : S) (why : Halt WriteFailed) (text : List ℕ) (from at : ℕ) → FromSoFar saw old mid text from at
     → at < length text → Halts saw waits WriteFails mid new why → Ran saw NoRead old new (WritesFrom (Err why) text from at)
 halted saw waits old mid new (Failed why) text from at so room seen = record {
   events = WriteFails ∷ so.events;

@@ -11,9 +11,9 @@ use Rattle.http_wire.specs.Timing.{Event, WriteFails, all_got, all_put, GoesOn, 
 use Rattle.http_wire.specs.Wires.{FindsHead, ReadsBody, ReadsHead}
 
 -- a read or a write failed, which is this event; or it would have to wait, which is none: the stream is as it was
-abbrev pub Halts : {S E : Type 0} → (saw : S → Event → S → Type 0) → (waits : Type 0) → Event → S → S → Halt E → Type 0
+abbrev pub Halts : {S E : Type 0} → (saw : S → Event → S → Type 0) → (waits : S → Type 0) → Event → S → S → Halt E → Type 0
 Halts saw waits event old new (Failed why) = saw old event new
-Halts saw waits event old new WouldWait = waits × (new ≡ old)
+Halts saw waits event old new WouldWait = waits new × (new ≡ old)
 
 -- nothing was taken or written: all that came is behind what was there, and another event may follow
 pub record KeepsOn (before now : List ℕ) (events : List Event) : Type 0 where

@@ -1,5 +1,5 @@
 //! Bodies of requests.
-ghost use Rattle.std.specs.Prelude.{◌≡◌, ◌≤◌, ◌<◌, ◌+◌, ◌⊎◌, [], ◌++◌, IsErrOf, OnOk, OnErr, vec_len, vec_capacity};
+ghost use Rattle.std.specs.Prelude.{◌≡◌, ◌≤◌, ◌<◌, ◌+◌, ◌⊎◌, [], ◌++◌, length, IsErrOf, OnOk, OnErr, vec_len, vec_capacity};
 ghost use Rattle.http_wire.specs.Halting.{TriesBody};
 ghost use Rattle.http_wire.specs.Timing.{Ran};
 ghost use Rattle.http_wire.specs.Wires.{AwaitsBody, ReadsBody};
@@ -54,7 +54,8 @@ pub fn fill_body<D: Duplex>(
     ensures ran { Ran D.saw (AwaitsBody (body.old.items ++ buffer.old) size) duplex.old duplex.new
         (TriesBody result size (body.old.items ++ buffer.old) body.new buffer.new) }
     ensures within { vec_len body.new ≤ size }
-    ensures waits { IsErrOf result Halt.WouldWait → D.waits }
+    ensures waits { IsErrOf result Halt.WouldWait → D.waits duplex.new }
+    ensures short { IsErrOf result Halt.WouldWait → length (body.new.items ++ buffer.new) < size }
 {
     move_front(buffer, body, size)?;
     'reads: while body.len() < size {

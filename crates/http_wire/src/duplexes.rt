@@ -22,8 +22,8 @@ pub trait Duplex {
 
     ghost write_fails: { Type 0 };
 
-    // Whether reads and writes of such a stream may have to wait at all.
-    ghost waits: { Type 0 };
+    // Whether a read or a write of the stream as it is may have to wait.
+    ghost waits: { Self → Type 0 };
 
     // What a read or a write leads from and to.
     ghost saw: { Self → Event → Self → Type 0 };
@@ -49,7 +49,7 @@ pub trait Duplex {
 
 /// A stream whose reads and writes never have to wait: each of them gives bytes, finds the end or fails.
 pub trait Steady: Duplex {
-    ghost never_waits: { Self.Duplex.waits → ⊥ };
+    ghost never_waits: { (stream : Self) → Self.Duplex.waits stream → ⊥ };
 }
 
 /// A source and a sink as one stream in both directions, which never has to wait.
@@ -68,7 +68,7 @@ impl<R: Source, W: Sink> Duplex for Pair<R, W> {
 
     ghost write_fails = { W.may_fail };
 
-    ghost waits = { ⊥ };
+    ghost waits = { λ pair. ⊥ };
 
     ghost saw = { λ old event new. Moves R.may_fail W.may_fail event (R.left old.source) (W.held old.sink) (R.left new.source) (W.held new.sink) };
 
@@ -88,5 +88,5 @@ impl<R: Source, W: Sink> Duplex for Pair<R, W> {
 }
 
 impl<R: Source, W: Sink> Steady for Pair<R, W> {
-    ghost never_waits = { λ never. never };
+    ghost never_waits = { λ pair never. never };
 }

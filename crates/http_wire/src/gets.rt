@@ -22,7 +22,7 @@ fn put_all<D: Duplex>(
     ensures ran { Ran D.saw NoRead duplex.old duplex.new
         (Puts result (flat_map (λ p. p.now) pieces.now) out.old out.new) }
     ensures empty { OnOk result (out.new.rest ≡ []) }
-    ensures waits { IsErrOf result Halt.WouldWait → D.waits }
+    ensures waits { IsErrOf result Halt.WouldWait → D.waits duplex.new }
 {
     put_pieces(duplex, out, pieces)?;
     out.flush(duplex)

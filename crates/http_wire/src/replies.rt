@@ -1,12 +1,12 @@
 //! Replies.
-ghost use Rattle.std.specs.Prelude.{◌≡◌, ◌≤◌, ℕ, [], length, decimal, IfErr, IsErrOf, OnOk, OnErr};
+ghost use Rattle.std.specs.Prelude.{◌≡◌, ◌≤◌, ℕ, List, [], length, decimal, IfErr, IsErrOf, OnOk, OnErr};
 ghost use Rattle.http_wire.specs.Expectations.{continue_text};
 ghost use Rattle.http_wire.specs.Halting.{WritesFrom};
 ghost use Rattle.http_wire.specs.Replies.{range_text, sent_of, sent_reply};
 ghost use Rattle.std.specs.Io.KnownBytes.{Appends};
 ghost use Rattle.http_wire.specs.Gathering.{GoesOnFrom, IsAmid, IsCounted, Puts};
 ghost use Rattle.http_wire.specs.Sending.{SentFront, WritesText};
-ghost use Rattle.http_wire.specs.Timing.{NoRead, Ran};
+ghost use Rattle.http_wire.specs.Timing.{Event, NoRead, Ran, Steps};
 
 use crate::duplexes::{Duplex, Steady};
 use crate::entity_tags::EntityTag;
@@ -112,7 +112,7 @@ fn put_body<D: Duplex, P: BodyParts<Item: Drop> + Drop>(
     body: ReplyBody<P>,
 ) -> Result<(), Halt<WriteFailed>>
     ensures ran { Ran D.saw NoRead duplex.old duplex.new (Puts result (sent_of P.texts body) out.old out.new) }
-    ensures waits { IsErrOf result Halt.WouldWait → D.waits }
+    ensures waits { IsErrOf result Halt.WouldWait → D.waits duplex.new }
 {
     match body {
         ReplyBody::Sent(parts) => put_parts(duplex, out, parts),
@@ -130,7 +130,7 @@ fn put_both<D: Duplex, P: BodyParts<Item: Drop> + Drop>(
     ensures ran { Ran D.saw NoRead duplex.old duplex.new
         (Puts result (sent_reply P.texts head.now body) out.old out.new) }
     ensures empty { OnOk result (out.new.rest ≡ []) }
-    ensures waits { IsErrOf result Halt.WouldWait → D.waits }
+    ensures waits { IsErrOf result Halt.WouldWait → D.waits duplex.new }
 {
     put_head(duplex, out, head, body.size())?;
     put_body(duplex, out, body)?;
@@ -166,7 +166,8 @@ pub fn try_write_reply<D: Duplex, P: BodyParts<Item: Drop> + Drop>(
     ensures ran { (at : ℕ) → IsAmid (sent_reply P.texts head.now body) at out.old
         → Ran D.saw NoRead duplex.old duplex.new
         (GoesOnFrom result (sent_reply P.texts head.now body) at out.new) }
-    ensures waits { IsErrOf result Halt.WouldWait → D.waits }
+    ensures led { (events : List Event) × Steps D.saw duplex.old events duplex.new }
+    ensures waits { IsErrOf result Halt.WouldWait → D.waits duplex.new }
 {
     out.go_on();
     put_both(duplex, out, head, body)
@@ -200,7 +201,7 @@ pub fn write_reply<D: Steady, P: BodyParts<Item: Drop> + Drop>(
 pub fn try_write_interim<D: Duplex>(duplex: &mut D, at: &mut usize) -> Result<(), Halt<WriteFailed>>
     requires { at.old ≤ length continue_text }
     ensures ran { Ran D.saw NoRead duplex.old duplex.new (WritesFrom result continue_text at.old at.new) }
-    ensures waits { IsErrOf result Halt.WouldWait → D.waits }
+    ensures waits { IsErrOf result Halt.WouldWait → D.waits duplex.new }
 {
     send_on(duplex, b"HTTP/1.1 100 Continue\r\n\r\n", at)
 }

@@ -67,7 +67,7 @@ fn put_line<D: Duplex>(
     line: &Line<'_>,
 ) -> Result<(), Halt<WriteFailed>>
     ensures ran { Ran D.saw NoRead duplex.old duplex.new (Puts result (text_of_line line.now) out.old out.new) }
-    ensures waits { IsErrOf result Halt.WouldWait → D.waits }
+    ensures waits { IsErrOf result Halt.WouldWait → D.waits duplex.new }
 {
     let Some(value) = line.value else {
         return Ok(());
@@ -88,7 +88,7 @@ fn put_lines<D: Duplex>(
 ) -> Result<(), Halt<WriteFailed>>
     ensures ran { Ran D.saw NoRead duplex.old duplex.new
         (Puts result (flat_map text_of_line lines.now) out.old out.new) }
-    ensures waits { IsErrOf result Halt.WouldWait → D.waits }
+    ensures waits { IsErrOf result Halt.WouldWait → D.waits duplex.new }
 {
     for line in lines {
         put_line(duplex, out, line)?;
@@ -96,7 +96,7 @@ fn put_lines<D: Duplex>(
     Ok(())
 }
 
-// Puts the status line.
+// Puts the status line, which of most replies is one text.
 fn put_status<D: Duplex>(
     duplex: &mut D,
     out: &mut Outgoing,
@@ -104,8 +104,13 @@ fn put_status<D: Duplex>(
 ) -> Result<(), Halt<WriteFailed>>
     ensures ran { Ran D.saw NoRead duplex.old duplex.new
         (Puts result (ended_line (status_line status)) out.old out.new) }
-    ensures waits { IsErrOf result Halt.WouldWait → D.waits }
+    ensures waits { IsErrOf result Halt.WouldWait → D.waits duplex.new }
 {
+    match status.as_u16() {
+        200 => return out.put(duplex, b"HTTP/1.1 200 OK\r\n"),
+        206 => return out.put(duplex, b"HTTP/1.1 206 Partial Content\r\n"),
+        _ => {}
+    }
     let code = status.as_str();
     let phrase = status.canonical_reason().unwrap_or("");
     let pieces: [&[u8]; 5] = [
@@ -129,7 +134,7 @@ fn put_texts<'a, D: Duplex>(
     requires { option_map (λ v. v.now) range ≡ option_map range_text head.now.content_range }
     ensures ran { (size : ℕ) → digits.now ≡ decimal size → Ran D.saw NoRead duplex.old duplex.new
         (Puts result (head_text (fields_of head.now size)) out.old out.new) }
-    ensures waits { IsErrOf result Halt.WouldWait → D.waits }
+    ensures waits { IsErrOf result Halt.WouldWait → D.waits duplex.new }
 {
     let fields = field_lines(head, digits, range);
     put_status(duplex, out, head.status)?;
@@ -146,7 +151,7 @@ pub fn put_head<D: Duplex>(
 ) -> Result<(), Halt<WriteFailed>>
     ensures ran { Ran D.saw NoRead duplex.old duplex.new
         (Puts result (head_text (fields_of head.now size)) out.old out.new) }
-    ensures waits { IsErrOf result Halt.WouldWait → D.waits }
+    ensures waits { IsErrOf result Halt.WouldWait → D.waits duplex.new }
 {
     let digits = decimal_text(size);
     let range = head.content_range.map(range_value);

@@ -47,7 +47,7 @@ pub fn send_on<D: Duplex>(
 ) -> Result<(), Halt<WriteFailed>>
     requires { at.old ≤ length text.now }
     ensures ran { Ran D.saw NoRead duplex.old duplex.new (WritesFrom result text.now at.old at.new) }
-    ensures waits { IsErrOf result Halt.WouldWait → D.waits }
+    ensures waits { IsErrOf result Halt.WouldWait → D.waits duplex.new }
 {
     'writes: while *at < text.len() {
         let count = duplex.write_some(&text[*at..])?;
@@ -68,7 +68,7 @@ pub fn send_rest<D: Duplex>(
         (WritesOn result [] sent.old sent.new (drop at.old text.now) (drop at.new text.now)) }
     ensures within { at.new ≤ length text.now }
     ensures all { OnOk result (drop at.new text.now ≡ []) }
-    ensures waits { IsErrOf result Halt.WouldWait → D.waits }
+    ensures waits { IsErrOf result Halt.WouldWait → D.waits duplex.new }
 {
     let before = *at;
     let done = send_on(duplex, text, at);
@@ -129,7 +129,7 @@ impl Outgoing {
     }
 
     /// How many bytes of the text were written.
-    pub(crate) fn sent(&self) -> u64
+    pub fn sent(&self) -> u64
         ensures { result ≡ self.now.sent }
     {
         self.sent
@@ -141,7 +141,7 @@ impl Outgoing {
             (WritesOn result [] self.old.sent self.new.sent self.old.rest self.new.rest) }
         ensures empty { OnOk result (self.new.rest ≡ []) }
         ensures passed { self.new.passed ≡ self.old.passed }
-        ensures waits { IsErrOf result Halt.WouldWait → D.waits }
+        ensures waits { IsErrOf result Halt.WouldWait → D.waits duplex.new }
     {
         send_rest(
             duplex,
@@ -181,7 +181,7 @@ impl Outgoing {
         ensures ran { Ran D.saw NoRead duplex.old duplex.new
             (WritesOn result piece.now self.old.sent self.new.sent self.old.rest self.new.rest) }
         ensures passed { self.new.passed ≡ self.old.passed }
-        ensures waits { IsErrOf result Halt.WouldWait → D.waits }
+        ensures waits { IsErrOf result Halt.WouldWait → D.waits duplex.new }
     {
         if self.gather(piece) {
             return Ok(());
@@ -200,7 +200,7 @@ impl Outgoing {
             (WritesOn result [] self.old.sent self.new.sent piece.now []) }
         ensures rest { self.new.rest ≡ [] }
         ensures passed { self.new.passed ≡ self.old.passed }
-        ensures waits { IsErrOf result Halt.WouldWait → D.waits }
+        ensures waits { IsErrOf result Halt.WouldWait → D.waits duplex.new }
     {
         let mut at = 0;
         send_rest(duplex, &mut self.sent, piece, &mut at)
@@ -213,7 +213,7 @@ impl Outgoing {
         piece: &[u8],
     ) -> Result<(), Halt<WriteFailed>>
         ensures ran { Ran D.saw NoRead duplex.old duplex.new (Puts result piece.now self.old self.new) }
-        ensures waits { IsErrOf result Halt.WouldWait → D.waits }
+        ensures waits { IsErrOf result Halt.WouldWait → D.waits duplex.new }
     {
         let passed = self.pass(piece.len());
         self.take(duplex, &piece[passed..])
@@ -228,7 +228,7 @@ pub fn put_pieces<D: Duplex>(
 ) -> Result<(), Halt<WriteFailed>>
     ensures ran { Ran D.saw NoRead duplex.old duplex.new
         (Puts result (flat_map (λ p. p.now) pieces.now) out.old out.new) }
-    ensures waits { IsErrOf result Halt.WouldWait → D.waits }
+    ensures waits { IsErrOf result Halt.WouldWait → D.waits duplex.new }
 {
     for piece in pieces {
         out.put(duplex, piece)?;
@@ -243,7 +243,7 @@ pub fn put_parts<D: Duplex, P: BodyParts<Item: Drop> + Drop>(
     parts: P,
 ) -> Result<(), Halt<WriteFailed>>
     ensures ran { Ran D.saw NoRead duplex.old duplex.new (Puts result (concat (P.texts parts)) out.old out.new) }
-    ensures waits { IsErrOf result Halt.WouldWait → D.waits }
+    ensures waits { IsErrOf result Halt.WouldWait → D.waits duplex.new }
 {
     for part in parts {
         out.put(duplex, P::bytes(&part))?;

@@ -47,17 +47,25 @@ impl Wire {
         Ok(Wire { buffer, search })
     }
 
-    /// Reads the next head as `read_head` does, from a stream that may have to wait: then what came is kept, and the next call goes on
-    /// there.
+    /// How many bytes were read and not yet taken.
+    pub fn buffered(&self) -> usize
+        ensures { result ≡ length self.now }
+    {
+        self.buffer.as_slice().len()
+    }
+
+    /// Reads the next head as `read_head` does, from a stream that may have to wait. If it has to while no whole head has come, what came is
+    /// kept, and the next call goes on there.
     pub fn try_read_head<D: Duplex>(&mut self, duplex: &mut D) -> Result<Head, Halt<HeadFault>>
         ensures ran { Ran D.saw (AwaitsHead self.old) duplex.old duplex.new (TriesHead result self.old self.new) }
-        ensures waits { IsErrOf result Halt.WouldWait → D.waits }
+        ensures waits { IsErrOf result Halt.WouldWait → D.waits duplex.new }
+        ensures short { IsErrOf result Halt.WouldWait → CutShort self.new }
     {
         try_take_head(&mut self.buffer, duplex, &mut self.search)
     }
 
     /// Goes on reading a body of `size` bytes as `read_body` does, of which `body` is the part that is there, from a stream that may have to
-    /// wait: then what came is kept in `body` and in the wire, and the next call goes on there.
+    /// wait. If it has to while not all of it has come, what came is kept in `body` and in the wire, and the next call goes on there.
     pub fn try_read_body<D: Duplex>(
         &mut self,
         duplex: &mut D,
@@ -68,7 +76,8 @@ impl Wire {
         ensures ran { Ran D.saw (AwaitsBody (body.old.items ++ self.old) size) duplex.old duplex.new
             (TriesBody result size (body.old.items ++ self.old) body.new self.new) }
         ensures within { vec_len body.new ≤ size }
-        ensures waits { IsErrOf result Halt.WouldWait → D.waits }
+        ensures waits { IsErrOf result Halt.WouldWait → D.waits duplex.new }
+        ensures short { IsErrOf result Halt.WouldWait → length (body.new.items ++ self.new) < size }
     {
         self.search = Search::new();
         fill_body(&mut self.buffer, duplex, body, size)
@@ -149,7 +158,8 @@ fn try_take_head<D: Duplex>(
 ) -> Result<Head, Halt<HeadFault>>
     requires { HasSearched buffer.old search.old.state search.old.scanned }
     ensures ran { Ran D.saw (AwaitsHead buffer.old) duplex.old duplex.new (TriesHead result buffer.old buffer.new) }
-    ensures waits { IsErrOf result Halt.WouldWait → D.waits }
+    ensures waits { IsErrOf result Halt.WouldWait → D.waits duplex.new }
+    ensures short { IsErrOf result Halt.WouldWait → CutShort buffer.new }
     ensures searched { HasSearched buffer.new search.new.state search.new.scanned }
 {
     let count = find_head(buffer, duplex, search)?;
@@ -170,7 +180,8 @@ pub(crate) fn find_head<D: Duplex>(
 ) -> Result<usize, Halt<HeadFault>>
     requires { HasSearched buffer.old search.old.state search.old.scanned }
     ensures ran { Ran D.saw (AwaitsHead buffer.old) duplex.old duplex.new (TriesToFind result buffer.old buffer.new) }
-    ensures waits { IsErrOf result Halt.WouldWait → D.waits }
+    ensures waits { IsErrOf result Halt.WouldWait → D.waits duplex.new }
+    ensures short { IsErrOf result Halt.WouldWait → CutShort buffer.new }
     ensures searched { HasSearched buffer.new search.new.state search.new.scanned }
 {
     search.go_on(buffer.as_slice());

@@ -1,7 +1,9 @@
 //! The phases of a turn, each gone through as far as the stream doesn't have to wait.
-ghost use Rattle.std.specs.Prelude.{◌≡◌, ◌<◌, ◌≤◌};
+ghost use Rattle.std.specs.Prelude.{◌≡◌, ◌≤◌, List};
 ghost use Rattle.http_wire.specs.Gathering.{nothing};
-ghost use Rattle.host_connection.specs.Carrying.{phases_left, until_asked, AnswersOne, Asks, AwaitsBodyOf, Carried, Carries, Falls, FollowsHead, FollowsReply, FollowsStop, IsAnswering, Leads};
+ghost use Rattle.http_wire.specs.Timing.{Event, Steps};
+ghost use Rattle.host_connection.specs.Advancing.{size_in, Advances};
+ghost use Rattle.host_connection.specs.Carrying.{until_asked, AnswersOne, Asks, Carried, Carries, FollowsHead, FollowsReply, FollowsStop, IsAnswering, IsReply, Leads, MayWait};
 ghost use Rattle.host_connection.specs.declared.phases.Phase.TheVariants as phases;
 
 use super::{Connection, Progress, Wants};
@@ -58,8 +60,8 @@ fn after_head(alloc: Global, head: Head) -> Phase
 
 impl Phase {
     // How many bytes the body has that is read next, or 0.
-    fn awaited(&self) -> u64
-        ensures { 0 < result → AwaitsBodyOf result self.now }
+    fn size(&self) -> u64
+        ensures { result ≡ size_in self.now }
     {
         match self {
             Phase::Invite(invitation) => invitation.size as u64,
@@ -79,15 +81,15 @@ impl Connection {
     ) -> Progress
         requires { self.old.phase ≡ phases.Head }
         ensures leads { (start : D) (first : S)
-            → Carries S.answers D.saw D.waits start first duplex.old _service.now self.old
-            → Leads S.answers D.saw D.waits D.waits start first duplex.new _service.now self.new result }
-        ensures falls { Falls result (phases_left self.old.number self.old.phase)
-            (phases_left self.new.number self.new.phase) }
+            → Carries S.answers D.saw (MayWait D.waits) start first duplex.old _service.now self.old
+            → Leads S.answers D.saw (MayWait D.waits) D.waits start first duplex.new _service.now self.new result }
+        ensures led { (events : List Event) × Steps D.saw duplex.old events duplex.new }
+        ensures advances { Advances result self.old.number self.old.phase self.new.number self.new.phase }
     {
         match self.wire.try_read_head(duplex) {
             Ok(head) => {
                 let phase = after_head(alloc, head);
-                let size = phase.awaited();
+                let size = phase.size();
                 self.enter(phase);
                 if size > 0 {
                     return Progress::Body(size);
@@ -111,11 +113,11 @@ impl Connection {
         invitation: Invitation,
     ) -> Progress
         ensures leads { (start : D) (first : S)
-            → Carried S.answers D.saw D.waits start first duplex.old _service.now self.old.wire self.old.out
-            self.old.number (phases.Invite invitation)
-            → Leads S.answers D.saw D.waits D.waits start first duplex.new _service.now self.new result }
-        ensures falls { Falls result (phases_left self.old.number (phases.Invite invitation))
-            (phases_left self.new.number self.new.phase) }
+            → Carried S.answers D.saw (MayWait D.waits) start first duplex.old _service.now self.old.wire
+            self.old.out self.old.number (phases.Invite invitation)
+            → Leads S.answers D.saw (MayWait D.waits) D.waits start first duplex.new _service.now self.new result }
+        ensures led { (events : List Event) × Steps D.saw duplex.old events duplex.new }
+        ensures advances { Advances result self.old.number (phases.Invite invitation) self.new.number self.new.phase }
     {
         let Invitation { head, size, mut at } = invitation;
         match try_write_interim(duplex, &mut at) {
@@ -144,11 +146,11 @@ impl Connection {
         part: BodyPart,
     ) -> Progress
         ensures leads { (start : D) (first : S)
-            → Carried S.answers D.saw D.waits start first duplex.old service.old self.old.wire self.old.out
-            self.old.number (phases.Body part)
-            → Leads S.answers D.saw D.waits D.waits start first duplex.new service.new self.new result }
-        ensures falls { Falls result (phases_left self.old.number (phases.Body part))
-            (phases_left self.new.number self.new.phase) }
+            → Carried S.answers D.saw (MayWait D.waits) start first duplex.old service.old self.old.wire
+            self.old.out self.old.number (phases.Body part)
+            → Leads S.answers D.saw (MayWait D.waits) D.waits start first duplex.new service.new self.new result }
+        ensures led { (events : List Event) × Steps D.saw duplex.old events duplex.new }
+        ensures advances { Advances result self.old.number (phases.Body part) self.new.number self.new.phase }
         ensures asks { Asks S.answers service.old service.new (phases.Body part) self.new.phase }
         ensures grows { S.grows service.old service.new }
     {
@@ -203,29 +205,23 @@ impl Connection {
     }
 
     // Goes on with a reply, after which the next request is read, or the connection ends.
-    pub(super) fn send<D: Duplex, S: Service>(
-        &mut self,
-        duplex: &mut D,
-        _service: &S,
-        sending: Sending,
-    ) -> Progress
+    pub(super) fn send<D: Duplex, S: Service>(&mut self, duplex: &mut D, _service: &S) -> Progress
+        requires { IsReply self.old.phase }
         ensures leads { (start : D) (first : S)
-            → Carried S.answers D.saw D.waits start first duplex.old _service.now self.old.wire self.old.out
-            self.old.number (phases.Reply sending)
-            → Leads S.answers D.saw D.waits D.waits start first duplex.new _service.now self.new result }
-        ensures falls { Falls result (phases_left self.old.number (phases.Reply sending))
-            (phases_left self.new.number self.new.phase) }
+            → Carries S.answers D.saw (MayWait D.waits) start first duplex.old _service.now self.old
+            → Leads S.answers D.saw (MayWait D.waits) D.waits start first duplex.new _service.now self.new result }
+        ensures led { (events : List Event) × Steps D.saw duplex.old events duplex.new }
+        ensures advances { Advances result self.old.number self.old.phase self.new.number self.new.phase }
         ensures asks { 1 ≤ until_asked self.new.phase }
     {
+        let Phase::Reply(sending) = &self.phase else {
+            unreachable!()
+        };
         if !self.out.is_counted() {
-            self.stay(Phase::Reply(sending));
             return Progress::Waits(Wants::Write);
         }
         let close = sending.close;
-        match sending
-            .reply
-            .try_send(duplex, &mut self.out, close, sending.head_only)
-        {
+        match sending.go_on(duplex, &mut self.out) {
             Ok(()) => {
                 self.follow(close);
                 Progress::More
@@ -234,10 +230,7 @@ impl Connection {
                 self.enter(Phase::Ended(Err(ConnectionFault::OutputFault)));
                 Progress::More
             }
-            Err(Halt::WouldWait) => {
-                self.stay(Phase::Reply(sending));
-                Progress::Waits(Wants::Write)
-            }
+            Err(Halt::WouldWait) => Progress::Waits(Wants::Write),
         }
     }
 

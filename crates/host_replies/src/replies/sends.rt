@@ -1,46 +1,16 @@
 //! Replies on their way out.
-ghost use Rattle.std.specs.Prelude.{◌≡◌, ℕ, true, option_map, IsErrOf};
+ghost use Rattle.std.specs.Prelude.{◌≡◌, ℕ, List, true, option_map, IsErrOf};
 ghost use Rattle.http_wire.specs.Gathering.{GoesOnFrom, IsAmid, IsCounted};
-ghost use Rattle.http_wire.specs.Sending.{WritesText};
-ghost use Rattle.http_wire.specs.Timing.{NoRead, Ran};
+ghost use Rattle.http_wire.specs.Timing.{Event, NoRead, Ran, Steps};
 ghost use Rattle.host_replies.specs.Bodies.{answer_of};
 ghost use Rattle.host_replies.specs.Replies.{sent_text};
 
 use super::Reply;
-use http_wire::{
-    Duplex, EntityTag, Halt, Outgoing, ReplyBody, Steady, WriteFailed, WriteFault, try_write_reply,
-    write_reply,
-};
+use http_wire::{Duplex, EntityTag, Halt, Outgoing, ReplyBody, WriteFailed, try_write_reply};
 use range_reply::Parts;
 
 impl Reply {
-    /// Writes it with this entity tag, without its body where only the head is wanted.
-    fn send_with<D: Steady>(
-        &self,
-        duplex: &mut D,
-        out: &mut Outgoing,
-        etag: Option<EntityTag<'_>>,
-        close: bool,
-        head_only: bool,
-    ) -> Result<(), WriteFault>
-        requires tag { option_map (λ t. t.text.now) etag ≡ (answer_of self.now).etag }
-        requires sent { (answer_of self.now).withheld ≡ true → head_only ≡ true }
-        ensures { Ran D.saw NoRead duplex.old duplex.new
-            (WritesText result (sent_text close head_only (answer_of self.now))) }
-    {
-        let head = self.head(etag, close);
-        if head_only {
-            return write_reply(
-                duplex,
-                out,
-                &head,
-                ReplyBody::<Parts<'_>>::Withheld(self.body.length()),
-            );
-        }
-        write_reply(duplex, out, &head, ReplyBody::Sent(self.parts()))
-    }
-
-    /// Goes on with it, with this entity tag, as `send_with` writes it.
+    /// Goes on with it, with this entity tag.
     fn try_send_with<D: Duplex>(
         &self,
         duplex: &mut D,
@@ -55,7 +25,8 @@ impl Reply {
         ensures ran { (at : ℕ) → IsAmid (sent_text close head_only (answer_of self.now)) at out.old
             → Ran D.saw NoRead duplex.old duplex.new
             (GoesOnFrom result (sent_text close head_only (answer_of self.now)) at out.new) }
-        ensures waits { IsErrOf result Halt.WouldWait → D.waits }
+        ensures led { (events : List Event) × Steps D.saw duplex.old events duplex.new }
+        ensures waits { IsErrOf result Halt.WouldWait → D.waits duplex.new }
     {
         let head = self.head(etag, close);
         if head_only {
@@ -69,29 +40,8 @@ impl Reply {
         try_write_reply(duplex, out, &head, ReplyBody::Sent(self.parts()))
     }
 
-    /// Writes it, without its body where only the head is wanted (RFC 9110, section 9.3.2); its head says whether the
-    /// connection closes.
-    pub fn send<D: Steady>(
-        &self,
-        duplex: &mut D,
-        out: &mut Outgoing,
-        close: bool,
-        head_only: bool,
-    ) -> Result<(), WriteFault>
-        requires { (answer_of self.now).withheld ≡ true → head_only ≡ true }
-        ensures { Ran D.saw NoRead duplex.old duplex.new
-            (WritesText result (sent_text close head_only (answer_of self.now))) }
-    {
-        let Some(digest) = self.etag else {
-            return self.send_with(duplex, out, None, close, head_only);
-        };
-        let hex = digest.to_hex();
-        let etag = Some(EntityTag::new(hex.as_str()));
-        self.send_with(duplex, out, etag, close, head_only)
-    }
-
-    /// Goes on with it as `send` writes it, on a stream that may have to wait: behind the bytes of it that were written, and with those that
-    /// are gathered in `out`. It begins where `out` begins a text.
+    /// Goes on with the reply after the bytes of it that were written, and with those that are gathered in `out`; it begins where `out` begins a
+    /// text. It has no body if only the head is wanted (RFC 9110, section 9.3.2), and its head says whether the connection closes.
     pub fn try_send<D: Duplex>(
         &self,
         duplex: &mut D,
@@ -104,7 +54,8 @@ impl Reply {
         ensures ran { (at : ℕ) → IsAmid (sent_text close head_only (answer_of self.now)) at out.old
             → Ran D.saw NoRead duplex.old duplex.new
             (GoesOnFrom result (sent_text close head_only (answer_of self.now)) at out.new) }
-        ensures waits { IsErrOf result Halt.WouldWait → D.waits }
+        ensures led { (events : List Event) × Steps D.saw duplex.old events duplex.new }
+        ensures waits { IsErrOf result Halt.WouldWait → D.waits duplex.new }
     {
         let Some(digest) = self.etag else {
             return self.try_send_with(duplex, out, None, close, head_only);

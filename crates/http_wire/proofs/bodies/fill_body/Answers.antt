@@ -7,7 +7,7 @@ use Rattle.http_wire.specs.declared.sources.ReadFailed.{ReadFailed}
 use Rattle.http_wire.specs.Halting.{Halts, TriesBody}
 use Rattle.http_wire.specs.Timing.{ReadFails, Ran}
 use Rattle.http_wire.specs.Wires.{AwaitsBody}
-use Rattle.http_wire.proofs.BodyReads.{none_read, read_more, no_memory, read_failed, input_ended, would_wait}
+use Rattle.http_wire.proofs.BodyReads.{none_read, read_more, no_memory, read_failed, input_ended, none_short, would_wait}
 use Rattle.http_wire.proofs.bodies.fill_body.Goals as goal
 
 pub returns-in_err-move_front-clause-ran : goal.returns-in_err-move_front-clause-ran
@@ -38,6 +38,14 @@ returns-in-Err-WouldWait-clause-ran g c =
     let P : Halt ReadFailed → Type 0 = λ why. Halts g.D.Duplex.saw g.D.Duplex.waits ReadFails seen.duplex c.fill.new.duplex why in
     would_wait g.D.Duplex.saw c.args.duplex.now seen.duplex c.fill.new.duplex c.args.size before seen.body.items seen.buffer c.fill.new.self
     seen.invariant.so c.in-Err-WouldWait.ensures.err.0 (subst P c.in-Err-WouldWait.field-0-is c.in-Err-WouldWait.ensures.err.1).1
+
+pub returns-in-Err-WouldWait-clause-short : goal.returns-in-Err-WouldWait-clause-short
+returns-in-Err-WouldWait-clause-short g c = λ waits. (
+    let seen = c.reads in
+    let less : length seen.body.items < c.args.size = search (rules, arith) in
+    let none : seen.buffer ≡ [] = search (rules, arith) in
+    none_short seen.body.items c.fill.new.self c.args.size (c.in-Err-WouldWait.ensures.err.0 ∙ none) less
+    )
 
 pub returns-then-came-eq0-clause-ran : goal.returns-then-came-eq0-clause-ran
 returns-then-came-eq0-clause-ran g c =

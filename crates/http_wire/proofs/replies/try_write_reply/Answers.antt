@@ -11,3 +11,6 @@ returns-clause-ran g c = λ at amid. (
     reply_goes_on g.D.Duplex.saw c.args.duplex.now c.put_both.new.duplex c.put_both.result (sent_reply g.P.BodyParts.texts c.args.head.now c.args.body) at c.args.out.now c.put_both.new.out
     c.requires amid c.put_both.ensures.empty (subst P c.go_on.ensures c.put_both.ensures.ran)
     )
+
+pub returns-clause-led : goal.returns-clause-led
+returns-clause-led g c = (c.put_both.ensures.ran.events, c.put_both.ensures.ran.steps)

@@ -1,10 +1,20 @@
-use Rattle.std.proofs.Common.{◌≡◌, [], ◌++◌, ◌∙◌, List, ℕ, Bor, refl, ap, subst, append-nil}
+use Rattle.std.proofs.Common.{◌≡◌, [], ◌++◌, ◌∙◌, List, ℕ, Bor, refl, rules, ap, subst, append-nil}
 use Rattle.std.specs.Prelude.{codes}
 use Rattle.http_wire.specs.Gathering.{Puts}
 use Rattle.http_wire.specs.Replies.{crlf}
 use Rattle.http_wire.specs.Timing.{NoRead, Ran}
-use Rattle.http_wire.proofs.ReplyPieces.{phrase_is, status_is}
+use Rattle.http_wire.proofs.ReplyPieces.{ok_is, partial_is, phrase_is, status_is}
 use Rattle.http_wire.proofs.reply_heads.put_status.Goals as goal
+
+pub returns-in-200-clause-ran : goal.returns-in-200-clause-ran
+returns-in-200-clause-ran g c =
+    let is : c.args.status ≡ 200 = search rules in
+    subst (λ (t : List ℕ). Ran g.D.Duplex.saw NoRead c.args.duplex.now c.put.new.duplex (Puts c.put.result t c.args.out.now c.put.new.self)) (ok_is c.args.status is) c.put.ensures.ran
+
+pub returns-in-206-clause-ran : goal.returns-in-206-clause-ran
+returns-in-206-clause-ran g c =
+    let is : c.args.status ≡ 206 = search rules in
+    subst (λ (t : List ℕ). Ran g.D.Duplex.saw NoRead c.args.duplex.now c.put-in-206.new.duplex (Puts c.put-in-206.result t c.args.out.now c.put-in-206.new.self)) (partial_is c.args.status is) c.put-in-206.ensures.ran
 
 pub returns-clause-ran : goal.returns-clause-ran
 returns-clause-ran g c =

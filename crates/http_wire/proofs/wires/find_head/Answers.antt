@@ -2,9 +2,10 @@ use Rattle.std.proofs.Common.{◌<◌, List, ℕ, refl, sym, subst, ap, arith, l
 use Rattle.http_wire.specs.declared.halts.Halt.{Halt}
 use Rattle.http_wire.specs.declared.sources.ReadFailed.{ReadFailed}
 use Rattle.http_wire.specs.Halting.{Halts}
+use Rattle.http_wire.specs.HeadText.{CutShort}
 use Rattle.http_wire.specs.Scanning.{HasSearched}
 use Rattle.http_wire.specs.Timing.{ReadFails}
-use Rattle.http_wire.proofs.HeadReads.{none_read, read_more, found, too_long, read_failed, input_ended, would_wait}
+use Rattle.http_wire.proofs.HeadReads.{none_read, read_more, found, too_long, read_failed, input_ended, short_there, would_wait}
 use Rattle.http_wire.proofs.Searches.{searched_more, scanned_shown}
 use Rattle.http_wire.proofs.wires.find_head.Goals as goal
 
@@ -42,6 +43,13 @@ returns-in-Err-WouldWait-clause-ran g c =
     let P : Halt ReadFailed → Type 0 = λ why. Halts g.D.Duplex.saw g.D.Duplex.waits ReadFails seen.duplex c.fill.new.duplex why in
     would_wait g.D.Duplex.saw c.args.duplex.now seen.duplex c.fill.new.duplex c.args.buffer.now seen.buffer c.fill.new.self seen.invariant.so
     c.in-Err-WouldWait.ensures.err.0 (subst P c.in-Err-WouldWait.field-0-is c.in-Err-WouldWait.ensures.err.1).1
+
+pub returns-in-Err-WouldWait-clause-short : goal.returns-in-Err-WouldWait-clause-short
+returns-in-Err-WouldWait-clause-short g c = λ waits. (
+    let seen = c.reads in
+    let room : length seen.buffer < 16384 = omega (arith, ap length c.as_slice-in-reads.ensures.value) in
+    subst CutShort (sym c.in-Err-WouldWait.ensures.err.0) (short_there seen.buffer seen.search.state seen.search.scanned seen.invariant.scan (sym c.reads-test.ensures) room)
+    )
 
 pub returns-in-Err-WouldWait-clause-searched : goal.returns-in-Err-WouldWait-clause-searched
 returns-in-Err-WouldWait-clause-searched g c =
