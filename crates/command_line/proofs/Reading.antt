@@ -32,14 +32,13 @@ has_name (Some p) name rows n r = let first : p.0 ≡ name = cc n in let second 
 
 -- where the words are taken, a refusal is for want of memory
 pub refused : (words : List Text) (refusal : Refusal) → (fault_of filehost words ≡ [] → refusal ≡ OutOfMemory) → HasText refusal → Reads words (Err refusal)
-refused words (Shown text) memory told =
-    (
-      record {
-        no_solo = λ store asks. let other : Shown text ≡ OutOfMemory = memory asks.0 in cc;
-        no_serve = λ options asks. let other : Shown text ≡ OutOfMemory = memory asks.0 in cc;
-      },
-      told,
-    )
+refused words (Shown text) memory told = (
+  record {
+    no_solo = λ store asks. let other : Shown text ≡ OutOfMemory = memory asks.0 in cc;
+    no_serve = λ options asks. let other : Shown text ≡ OutOfMemory = memory asks.0 in cc;
+  },
+  told,
+)
 refused words OutOfMemory memory told = tt
 
 -- where the parse ends well and the command is `solo`, the words ask for it, with what is read of it
@@ -64,12 +63,11 @@ pub served : (words : List Text) (m : ArgMatches) (read : Result Wanted Refusal)
     → (subcommand_name_of m ≡ Some (codes "solo") → ⊥) → ReadsServe m read → Reads words read
 served words m (Ok (Solo store)) none matches other reads = absurd reads
 served words m (Ok (Serve options)) none matches other reads = (none, (reads.0, (sym (matches is_plain).1 ∙ reads.1.0, reads.1.1)))
-served words m (Err (Shown text)) none matches other reads =
-    (
-      record {
-        no_solo = asks_not words m matches other;
-        no_serve = λ options asks. reads.0 options (asks.1.0, ((matches is_plain).1 ∙ asks.1.1.0, asks.1.1.1));
-      },
-      reads.1,
-    )
+served words m (Err (Shown text)) none matches other reads = (
+  record {
+    no_solo = asks_not words m matches other;
+    no_serve = λ options asks. reads.0 options (asks.1.0, ((matches is_plain).1 ∙ asks.1.1.0, asks.1.1.1));
+  },
+  reads.1,
+)
 served words m (Err OutOfMemory) none matches other reads = tt

@@ -11,12 +11,11 @@ ghost use Rattle.clap.specs.Words.{app_of, first_of, found_of, kind_of, rows_of}
 ghost use Rattle.command_line.specs.CommandLine.{HasText, Reads, ReadsServe, filehost};
 ghost use Rattle.command_line.specs.declared.Refusal.TheVariants.{OutOfMemory};
 
-pub use serve_words::ServeOptions;
-
 use crate::serve_words::{Misread, serve_command, serve_options};
 use crate::texts::{ABOUT, ABOUT_SOLO, ABOUT_STORE, EXAMPLE, MORE_ON_SOLO};
 use clap::error::ErrorKind;
 use clap::{Arg, ArgAction, ArgMatches, Command, Error};
+pub use serve_words::ServeOptions;
 use std::alloc::{AllocError, Global};
 use std::convert::AsStr;
 

@@ -39,7 +39,8 @@ file in DIR is missing or damaged, or can't be read.
 `journal: Device` means that DIR is not an existing folder, that another program has its journal
 open, or that the journal can't be made, read or written.";
 
-pub(crate) const ABOUT_SERVE: &str = "Serves any number of clients over TCP, from one or more nodes";
+pub(crate) const ABOUT_SERVE: &str =
+    "Serves any number of clients over TCP, from one or more nodes";
 
 pub(crate) const ABOUT_LISTEN: &str =
     "Where the first node serves clients, as in 127.0.0.1:8080; the port is from 1 to 65520";

@@ -27,12 +27,12 @@ finds first (w ∷ ws) = go (nat_lt w.1 first.1) refl (finds w ws) (finds first 
   where
     go : (b : Bool) → nat_lt w.1 first.1 ≡ b → Finds w ws (found_after (Some w) ws) → Finds first ws (found_after (Some first) ws)
         → Finds first (w ∷ ws) (found_after (if b then Some w else Some first) ws)
-    go true is f g =
+    go true is (p, found, near, far, among) g =
         let shorter : w.1 ≤ first.1 = grind (arith, nat_tests) in
-        (f.0, f.1.0, omega (arith, f.1.1.0, shorter), (f.1.1.0, f.1.1.1.0), inr (either_of w f.0 ws f.1.1.1.1))
-    go false is f g =
+        (p, found, omega (arith, near, shorter), (near, far), inr (either_of w p ws among))
+    go false is f (p, found, near, far, among) =
         let longer : first.1 ≤ w.1 = grind (arith, nat_tests) in
-        (g.0, g.1.0, g.1.1.0, (omega (arith, g.1.1.0, longer), g.1.1.1.0), rest_of first w g.0 ws g.1.1.1.1)
+        (p, found, near, (omega (arith, near, longer), far), rest_of first w p ws among)
 
 is_longest_of : (w : ℕ × ℕ) (ws : List (ℕ × ℕ)) (found : Option (ℕ × ℕ)) → Finds w ws found → IsLongest (w ∷ ws) found
 is_longest_of w ws found (p, is, first, rest, among) = subst (IsLongest (w ∷ ws)) (sym is) (either_of w p ws among, (first, rest))

@@ -1,5 +1,5 @@
 //! Which of the connections has waited longest.
-ghost use Rattle.std.specs.Prelude.{◌≡◌, option_map};
+ghost use Rattle.std.specs.Prelude.{◌≡◌};
 ghost use Rattle.event_loop.specs.Waiting.{longer_of, nobody};
 
 use std::marker::Model;
@@ -40,13 +40,10 @@ impl Longest {
         }
     }
 
-    /// The place of the one that has waited longest.
-    pub fn place(&self) -> Option<usize>
-        ensures { result ≡ option_map (λ found. found.0) self.now }
+    /// The place of the one that has waited longest, and since when it has.
+    pub fn found(&self) -> Option<(usize, u64)>
+        ensures { result ≡ self.now }
     {
-        match self.found {
-            Some((place, _)) => Some(place),
-            None => None,
-        }
+        self.found
     }
 }

@@ -12,6 +12,9 @@ use std::time::Clock;
 /// How many connections a node has at most.
 const PLACES: usize = 1024;
 
+/// How often it is looked for the connection that has waited longest, where that goes on meanwhile.
+const MOST_LOOKS: u32 = 8;
+
 /// The number of the listener in the set; the connections have those of their places.
 pub(crate) const LISTENER: u64 = u64::MAX;
 
@@ -88,8 +91,7 @@ impl<C: Drop> Node<C> {
     /// Waits for the next client, if there is to be one.
     pub(crate) fn listen_again(&self) {
         if self.to_accept.load(Ordering::SeqCst) > 0 {
-            self.ready
-                .rearm(&self.listener, LISTENER, Interest::Read);
+            self.ready.rearm(&self.listener, LISTENER, Interest::Read);
         }
     }
 
@@ -99,9 +101,7 @@ impl<C: Drop> Node<C> {
             return false;
         };
         let mut place = place.lock(rt);
-        let is_added = self
-            .ready
-            .add(&client.stream, at as u64, Interest::Read);
+        let is_added = self.ready.add(&client.stream, at as u64, Interest::Read);
         if is_added {
             place.client = Some(client);
         }
@@ -124,11 +124,12 @@ impl<C: Drop> Node<C> {
         self.count_gone();
     }
 
-    /// A free place: where there is none, that of the connection that has waited longest, which ends.
+    /// A free place: where there is none, that of the connection that has waited longest, which ends. One worker at a time looks for it: else a second one
+    /// could end the connection that the first put into the place.
     pub(crate) fn claim<R: Wait>(&self, rt: &R) -> Option<usize> {
-        let free = self.free.lock(rt).pop();
-        if free.is_some() {
-            return free;
+        let mut free = self.free.lock(rt);
+        if let Some(at) = free.pop() {
+            return Some(at);
         }
         let at = self.end_longest()?;
         self.count_gone();
@@ -137,17 +138,28 @@ impl<C: Drop> Node<C> {
 
     /// Gives up the connection that has waited longest, for its descriptor. Answers whether there was one.
     pub(crate) fn give_up_longest<R: Wait>(&self, rt: &R) -> bool {
-        match self.end_longest() {
-            Some(at) => {
-                self.release(rt, at);
-                true
-            }
-            None => false,
-        }
+        let mut free = self.free.lock(rt);
+        let Some(at) = self.end_longest() else {
+            return false;
+        };
+        let _ = free.push(at);
+        self.count_gone();
+        true
     }
 
     /// Ends the connection that has waited longest, of those that no worker has, and answers its place.
     fn end_longest(&self) -> Option<usize> {
+        for _ in 0..MOST_LOOKS {
+            let (at, since) = self.longest()?;
+            if self.ends_idle(at, since) {
+                return Some(at);
+            }
+        }
+        None
+    }
+
+    /// The place of the connection that has waited longest, of those that no worker has, and since when it has.
+    fn longest(&self) -> Option<(usize, u64)> {
         let mut longest = Longest::new();
         for at in 0..self.places.len() {
             if let Some(place) = self.places[at].try_lock() {
@@ -156,10 +168,7 @@ impl<C: Drop> Node<C> {
                 }
             }
         }
-        let at = longest.place()?;
-        let mut place = self.places.get(at)?.try_lock()?;
-        place.client.take()?;
-        Some(at)
+        longest.found()
     }
 
     /// Ends the connections that are late, if the connections weren't looked through for a while.
@@ -183,7 +192,24 @@ impl<C: Drop> Node<C> {
         }
     }
 
-    /// Ends the connection in a place if it is late and no worker has it. Answers whether it did.
+    /// Ends the connection in a place if no worker has it and no bytes moved since this time. Answers whether it did.
+    fn ends_idle(&self, at: usize, since: u64) -> bool {
+        let Some(place) = self.places.get(at) else {
+            return false;
+        };
+        let Some(mut place) = place.try_lock() else {
+            return false;
+        };
+        match &place.client {
+            Some(client) if client.active == since => {
+                place.client = None;
+                true
+            }
+            _ => false,
+        }
+    }
+
+    /// Ends the connection in a place if no worker has it and it is late. Answers whether it did.
     fn ends_late(&self, at: usize, now: u64) -> bool {
         let Some(place) = self.places.get(at) else {
             return false;

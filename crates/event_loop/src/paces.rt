@@ -78,7 +78,8 @@ impl Pace {
     pub fn left(&self, limits: &Limits, now: u64) -> u64
         ensures { result ≡ spec.left_of limits.now self.now now }
     {
-        self.limit(limits).saturating_sub(now.saturating_sub(self.since))
+        self.limit(limits)
+            .saturating_sub(now.saturating_sub(self.since))
     }
 
     /// Whether it is late: its stage has lasted as long as it may.

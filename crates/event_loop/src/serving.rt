@@ -6,12 +6,11 @@ use crate::nodes::{Node, milliseconds};
 use crate::turns::Turn;
 use crate::workers::Takes;
 use std::alloc::Global;
-use std::io;
 use std::io::ErrorKind;
 use std::net::TcpStream;
 use std::sync::Wait;
-use std::thread;
 use std::time::{Clock, Duration};
+use std::{io, thread};
 
 /// How many milliseconds a worker pauses where there is no descriptor, and no connection that could give one.
 const PAUSE: u64 = 10;
@@ -46,7 +45,9 @@ impl<'a, R: Wait + Clock, S: Steps + Drop> Worker<'a, R, S> {
     }
 
     /// Accepts a client.
-    fn accept(&mut self) {
+    fn accept(&mut self)
+        ensures { self.new.done ≡ self.old.done }
+    {
         let accepted = self.node.listener.accept();
         if accepted.is_ok() {
             self.node.count_accepted();
@@ -73,7 +74,9 @@ impl<'a, R: Wait + Clock, S: Steps + Drop> Worker<'a, R, S> {
     }
 
     /// Gives a client a place, and waits for its first bytes.
-    fn begin(&mut self, stream: TcpStream) {
+    fn begin(&mut self, stream: TcpStream)
+        ensures { self.new.done ≡ self.old.done }
+    {
         let Some(at) = self.node.claim(self.rt) else {
             self.node.count_gone();
             return;
@@ -89,7 +92,9 @@ impl<'a, R: Wait + Clock, S: Steps + Drop> Worker<'a, R, S> {
     }
 
     /// Goes on with the connection in a place.
-    fn go_on(&mut self, at: usize) {
+    fn go_on(&mut self, at: usize)
+        ensures { self.new.done ≡ self.old.done }
+    {
         let Some(place) = self.node.places.get(at) else {
             return;
         };

@@ -1,11 +1,14 @@
 //! The turns of a node's workers.
-ghost use Rattle.std.specs.Prelude.{◌≡◌, true};
+ghost use Rattle.std.specs.Prelude.{◌≡◌, None, true};
 
 use crate::nodes::{LISTENER, Node};
 use crate::ready_sets::Event;
 use crate::workers::Turns;
 use std::sync::Wait;
 use std::time::Clock;
+
+/// How many milliseconds a worker waits at most before it looks through the connections.
+const LONGEST_TICK: i32 = 1_000;
 
 /// What a worker does next.
 #[derive(Clone, Copy, Debug, PartialEq, Eq)]
@@ -39,9 +42,32 @@ impl<'a, R, C: Drop> NodeTurns<'a, R, C> {
         }
     }
 
-    fn end(&mut self) -> Option<Turn> {
+    /// Ends the turns.
+    fn end(&mut self) -> Option<Turn>
+        ensures none { result ≡ None }
+        ensures taken { self.new.taken ≡ self.old.taken }
+        ensures over { self.new.is_over ≡ true }
+    {
         self.is_over = true;
         None
+    }
+}
+
+impl<R: Wait + Clock, C: Drop> NodeTurns<'_, R, C> {
+    /// Waits for the next turn; there is none once the node is over.
+    fn wait(&self) -> Option<Turn> {
+        let rt = self.rt;
+        let tick = i32::try_from(self.node.limits.sweep).unwrap_or(LONGEST_TICK);
+        for _ in rt.forever() {
+            if self.node.is_over() {
+                return None;
+            }
+            self.node.sweep(rt);
+            if let Event::Ready(number) = self.node.ready.wait(tick) {
+                return Some(turn_of(number));
+            }
+        }
+        unreachable!()
     }
 }
 
@@ -53,19 +79,16 @@ impl<R: Wait + Clock, C: Drop> Turns for NodeTurns<'_, R, C> {
     ghost ended = { λ turns. turns.is_over ≡ true };
 
     fn next(&mut self) -> Option<Turn> {
-        let rt = self.rt;
-        for _ in rt.forever() {
-            if self.taken == u64::MAX || self.node.is_over() {
-                return self.end();
-            }
-            self.node.sweep(rt);
-            let tick = i32::try_from(self.node.limits.sweep).unwrap_or(1_000);
-            if let Event::Ready(number) = self.node.ready.wait(tick) {
-                self.taken += 1;
-                return Some(turn_of(number));
-            }
+        if self.taken == u64::MAX {
+            return self.end();
         }
-        unreachable!()
+        match self.wait() {
+            Some(turn) => {
+                self.taken += 1;
+                Some(turn)
+            }
+            None => self.end(),
+        }
     }
 }
 

@@ -23,15 +23,27 @@ use std::sync::Mutex;
 type HostDesk<'r, J, K, D, S, R> = Desk<J, K, D, S, Shown<Entry, J, HostSnap>, &'r R>;
 
 /// The desk from the seat of a node.
-type HostSeat<'a, 'r, J, K, D, S, R> =
-    SeatedDesk<'a, J, K, D, S, Shown<Entry, J, HostSnap>, &'r R, R>;
+type HostSeat<'a, 'r, J, K, D, S, R> = SeatedDesk<
+    'a,
+    J,
+    K,
+    D,
+    S,
+    Shown<Entry, J, HostSnap>,
+    &'r R,
+    R,
+>;
 
 /// The files of a node.
 type HostFiles<'a, 'g, R, S> = GroupFiles<'a, R, HostGroup<'g, R, S>>;
 
 /// A worker of a node.
-type HostJob<'a, 'r, 'g, J, K, D, S, R> =
-    Job<'a, J, HostSeat<'a, 'r, J, K, D, S, R>, HostFiles<'a, 'g, R, S>>;
+type HostJob<'a, 'r, 'g, J, K, D, S, R> = Job<
+    'a,
+    J,
+    HostSeat<'a, 'r, J, K, D, S, R>,
+    HostFiles<'a, 'g, R, S>,
+>;
 
 /// A seat for each node, behind a lock.
 fn seats_of<J: DeskName>(
@@ -170,7 +182,14 @@ pub(crate) struct Plan {
 }
 
 /// Serves from a desk at these ports.
-pub(crate) fn serve_desk<J: DeskName + Send + Sync, K: ListName<BlobInfo> + Send + Sync, D: Disk + Send, S: Shelf + Send, R: Serving, O: Sink>(
+pub(crate) fn serve_desk<
+    J: DeskName + Send + Sync,
+    K: ListName<BlobInfo> + Send + Sync,
+    D: Disk + Send,
+    S: Shelf + Send,
+    R: Serving,
+    O: Sink,
+>(
     rt: &R,
     alloc: Global,
     desk: &HostDesk<'_, J, K, D, S, R>,
@@ -196,6 +215,13 @@ pub(crate) fn serve_desk<J: DeskName + Send + Sync, K: ListName<BlobInfo> + Send
         plan.workers,
     )?;
     open_all(alloc, nodes.as_slice(), ports.as_slice(), lines)?;
-    serve_all(rt, alloc, ports.as_slice(), groups.as_slice(), jobs, plan.limits)?;
+    serve_all(
+        rt,
+        alloc,
+        ports.as_slice(),
+        groups.as_slice(),
+        jobs,
+        plan.limits,
+    )?;
     Ok(())
 }

@@ -15,8 +15,12 @@ use std::time::Clock;
 const CACHE_LIMIT: usize = 67_108_864;
 
 /// A node of the group, which reads the shelf that all nodes share.
-pub(crate) type HostGroup<'a, R, S> =
-    Group<DigestHash, SharedSource<'a, R, S>, TcpLink<'a, R>, Counter>;
+pub(crate) type HostGroup<'a, R, S> = Group<
+    DigestHash,
+    SharedSource<'a, R, S>,
+    TcpLink<'a, R>,
+    Counter,
+>;
 
 /// Where the nodes are asked for chunks.
 pub(crate) fn peer_addresses(alloc: Global, all: &[Ports]) -> Result<Vec<SocketAddr>, AllocError> {

@@ -1,6 +1,6 @@
 //! What the workers answer over.
 use event_loop::{Interest, Stage, Step, Steps};
-use host_connection::{Connection, Metered, Progress, Wants};
+use host_connection::{Connection, Metered, Progress, Stage as Phase, Wants};
 use shared_house::{DeskAccess, FileAccess, Guest, Note};
 use site_desk::DeskName;
 use std::alloc::{AllocError, Global};
@@ -32,25 +32,26 @@ impl<J: DeskName, D: DeskAccess<J> + Drop, G: FileAccess + Drop> Steps for Guest
 
     fn go_on(&mut self, alloc: Global, noted: &mut Noted<J>, stream: &TcpStream) -> Step {
         let mut duplex = Metered::new(Socket::new(stream));
-        let progress =
-            self.guest
-                .go_on(&mut noted.connection, &mut noted.note, alloc, &mut duplex);
+        let progress = self
+            .guest
+            .go_on(&mut noted.connection, &mut noted.note, alloc, &mut duplex);
         let socket = duplex.stream();
         Step {
             waits: interest_of(progress),
-            stage: stage_of(progress, socket.read(), socket.written()),
+            stage: stage_of(noted.connection.stage()),
             read: socket.read(),
             written: socket.written(),
         }
     }
 }
 
-/// The stage of a connection after a step.
-fn stage_of(progress: Progress, read: u64, written: u64) -> Stage {
-    match progress {
-        Progress::Waits(Wants::Write) => Stage::Reply,
-        _ if read > 0 && written == 0 => Stage::Head,
-        _ => Stage::Idle,
+/// What a connection is doing, as far as its deadline goes.
+fn stage_of(phase: Phase) -> Stage {
+    match phase {
+        Phase::Idle | Phase::Ended => Stage::Idle,
+        Phase::Head(_) => Stage::Head,
+        Phase::Interim { .. } | Phase::Body { .. } => Stage::Body,
+        Phase::Reply(_) => Stage::Reply,
     }
 }
 

@@ -20,11 +20,12 @@ pub(crate) struct Job<'a, J: DeskName, D: Drop, G: Drop> {
 }
 
 /// Serves the clients of a node, until it has served as many as it is to serve.
-fn serve_clients<R: Serving, J: DeskName + Send + Sync, D: DeskAccess<J> + Send + Drop, G: FileAccess + Send + Drop>(
-    rt: &R,
-    alloc: Global,
-    job: Job<'_, J, D, G>,
-) {
+fn serve_clients<
+    R: Serving,
+    J: DeskName + Send + Sync,
+    D: DeskAccess<J> + Send + Drop,
+    G: FileAccess + Send + Drop,
+>(rt: &R, alloc: Global, job: Job<'_, J, D, G>) {
     let Job { node, steps } = job;
     let mut turns = NodeTurns::new(rt, node);
     let mut worker = Worker::new(rt, alloc, node, steps);
@@ -32,11 +33,12 @@ fn serve_clients<R: Serving, J: DeskName + Send + Sync, D: DeskAccess<J> + Send 
 }
 
 /// Serves the clients of all nodes, each worker in a thread of its own, until each node has served as many as it is to serve.
-fn serve_all_clients<R: Serving, J: DeskName + Send + Sync, D: DeskAccess<J> + Send + Drop, G: FileAccess + Send + Drop>(
-    rt: &R,
-    alloc: Global,
-    jobs: Vec<Job<'_, J, D, G>>,
-) -> Result<(), AllocError> {
+fn serve_all_clients<
+    R: Serving,
+    J: DeskName + Send + Sync,
+    D: DeskAccess<J> + Send + Drop,
+    G: FileAccess + Send + Drop,
+>(rt: &R, alloc: Global, jobs: Vec<Job<'_, J, D, G>>) -> Result<(), AllocError> {
     thread::map_vec(rt, jobs, &|job| serve_clients(rt, alloc, job))?;
     Ok(())
 }
@@ -61,7 +63,13 @@ fn serve_all_peers<R: Serving, S: Shelf + Send>(
 }
 
 /// Serves clients and other nodes, until each node has served as many clients as it is to serve. Each thread is joined.
-pub(crate) fn serve_all<R: Serving, J: DeskName + Send + Sync, D: DeskAccess<J> + Send + Drop, G: FileAccess + Send + Drop, S: Shelf + Send>(
+pub(crate) fn serve_all<
+    R: Serving,
+    J: DeskName + Send + Sync,
+    D: DeskAccess<J> + Send + Drop,
+    G: FileAccess + Send + Drop,
+    S: Shelf + Send,
+>(
     rt: &R,
     alloc: Global,
     all: &[Ports],

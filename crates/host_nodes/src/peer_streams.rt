@@ -1,5 +1,5 @@
 //! The connection of another node, until it is late.
-ghost use Rattle.std.specs.Prelude.{◌≡◌, None, ⊤, ⊥};
+ghost use Rattle.std.specs.Prelude.{◌<◌, ◌≤◌, IfSome, None, length, ⊤, ⊥};
 ghost use Rattle.http_wire.specs.Timing.{Moves};
 
 use event_loop::{Limits, Pace, Stage};
@@ -59,8 +59,7 @@ impl<'a, R: Clock> PeerStream<'a, R> {
 
     /// Notes what moved.
     fn note(&mut self, stage: Stage, read: u64, written: u64) {
-        self.pace
-            .step(stage, read, written, milliseconds(self.rt));
+        self.pace.step(stage, read, written, milliseconds(self.rt));
     }
 
     /// Reads some bytes, if they come in time.
@@ -107,7 +106,7 @@ impl<R: Clock> Duplex for PeerStream<'_, R> {
 
     ghost write_fails = { ⊤ };
 
-    ghost waits = { ⊥ };
+    ghost waits = { λ _. ⊥ };
 
     ghost saw = { λ _ event _. Moves ⊤ ⊤ event None None None None };
 
@@ -141,5 +140,5 @@ impl<R: Clock> Duplex for PeerStream<'_, R> {
 }
 
 impl<R: Clock> Steady for PeerStream<'_, R> {
-    ghost never_waits = { λ never. never };
+    ghost never_waits = { λ _ never. never };
 }

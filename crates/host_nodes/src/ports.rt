@@ -59,7 +59,10 @@ pub(crate) fn bind_all<R: Net<Listener = TcpListener, Stream = TcpStream>>(
     };
     for node in 0..nodes {
         let (clients, ports) = bind(rt, first, node).map_err(|_| Failure::CannotListen)?;
-        bound.clients.push(clients).map_err(|_| Failure::OutOfMemory)?;
+        bound
+            .clients
+            .push(clients)
+            .map_err(|_| Failure::OutOfMemory)?;
         bound.ports.push(ports).map_err(|_| Failure::OutOfMemory)?;
     }
     Ok(bound)

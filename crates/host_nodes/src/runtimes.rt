@@ -5,8 +5,11 @@ use std::thread::Threads;
 use std::time::Clock;
 
 /// Sockets, threads, waiting and the clock.
-pub(crate) trait Serving:
-    Net<Listener = TcpListener, Stream = TcpStream> + Threads + Wait + Clock + Sync {}
+pub(crate) trait Serving: Net<Listener = TcpListener, Stream = TcpStream>
+    + Threads
+    + Wait
+    + Clock
+    + Sync {}
 
 impl<R: Net<Listener = TcpListener, Stream = TcpStream> + Threads + Wait + Clock + Sync> Serving
     for R {}

@@ -50,7 +50,14 @@ fn second<R: Env>(rt: &R) -> u64 {
 }
 
 /// Serves from the desk of what was found.
-fn serve_found<J: DeskName + Send + Sync, K: ListName<BlobInfo> + Send + Sync, D: Disk + Drop + Send, S: Shelf + Drop + Send, R: Serving, O: Sink>(
+fn serve_found<
+    J: DeskName + Send + Sync,
+    K: ListName<BlobInfo> + Send + Sync,
+    D: Disk + Drop + Send,
+    S: Shelf + Drop + Send,
+    R: Serving,
+    O: Sink,
+>(
     rt: &R,
     alloc: Global,
     options: &ServeOptions,
@@ -65,8 +72,13 @@ fn serve_found<J: DeskName + Send + Sync, K: ListName<BlobInfo> + Send + Sync, D
     requires limit { found.limit ≡ 1000000 }
 {
     let visitors = options.nodes * options.workers;
-    let Ok((desk, seats, visitor)) = open::<J, K, D, S, &R>(alloc, rt, new, found, visitors as usize)
-    else {
+    let Ok((desk, seats, visitor)) = open::<J, K, D, S, &R>(
+        alloc,
+        rt,
+        new,
+        found,
+        visitors as usize,
+    ) else {
         return Err(Failure::OutOfMemory);
     };
     let bound = bind_all(rt, alloc, &options.listen, options.nodes as u16)?;

@@ -61,7 +61,7 @@ impl Duplex for Socket<'_> {
 
     ghost write_fails = { ⊤ };
 
-    ghost waits = { ⊤ };
+    ghost waits = { λ _. ⊤ };
 
     ghost saw = { λ _ event _. Moves ⊤ ⊤ event None None None None };
 
