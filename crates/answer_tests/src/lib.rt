@@ -1,8 +1,5 @@
-//! A house whose history others change: `answer` is proved over it, too.
+//! Tests of connections that go from one worker to another, over two nodes of one desk.
 #![tactic(auto)]
 
-mod desks;
-mod shared;
-
-pub use desks::{Desk, Files, NotTaken, Receipt, Refused, Taken, Visits};
-pub use shared::{SharedHouse, answer_shared};
+#[cfg(test)]
+mod tests;

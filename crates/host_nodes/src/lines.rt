@@ -9,6 +9,8 @@ use std::alloc::AllocError;
 pub(crate) enum Failure {
     /// The host can't be opened.
     NotOpened(OpenFault),
+    /// The port leaves no room for those of all nodes.
+    BadAddress,
     /// A port can't be listened on.
     CannotListen,
     OutOfMemory,
@@ -36,6 +38,10 @@ pub(crate) fn fail<E: Sink>(errors: &mut E, failure: &Failure) -> u8 {
         Failure::NotOpened(fault) => {
             say(errors, line_of(fault).as_str());
             status_of(fault)
+        }
+        Failure::BadAddress => {
+            say(errors, "filehost: bad address\n");
+            1
         }
         Failure::CannotListen => {
             say(errors, "filehost: cannot listen\n");

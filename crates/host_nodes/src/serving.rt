@@ -32,6 +32,9 @@ use std::time::Clock;
 /// How many bytes a journal in memory has: 64 MiB.
 const JOURNAL_ROOM: usize = 67_108_864;
 
+/// The last port that leaves room for the ports of eight nodes.
+const LAST_PORT: u16 = 65_520;
+
 /// How many milliseconds a second of the deadlines has. Tests shorten it by this variable of the environment.
 const SECOND: &str = "FILEHOST_DEADLINE_SECOND";
 
@@ -115,6 +118,9 @@ fn serve_asked<R: Serving + Files<File = File> + Env, O: Sink>(
     options: &ServeOptions,
     lines: &mut O,
 ) -> Result<(), Failure> {
+    if !(1..=LAST_PORT).contains(&options.listen.port()) {
+        return Err(Failure::BadAddress);
+    }
     let limits = Limits::with_second(second(rt));
     match &options.store {
         None => {

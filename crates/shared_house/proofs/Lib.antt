@@ -1,0 +1,7 @@
+pub mod Fronts
+pub mod Turns
+pub mod Entering
+pub mod FileReplies
+pub mod Standing
+pub mod Notes
+pub mod Running

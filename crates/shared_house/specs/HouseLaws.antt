@@ -63,22 +63,22 @@ stays log = ([], sym (append-nil log))
 pub goes_on : (first mid last : Log) → BeginsWith mid first → BeginsWith last mid → BeginsWith last first
 goes_on first mid last a b = (a.0 ++ b.0, b.1 ∙ ap (λ l. l ++ b.0) a.1 ∙ append_assoc first a.0 b.0)
 
-same_known : (old new : Log) → new ≡ old → BeginsWith new old
+pub same_known : (old new : Log) → new ≡ old → BeginsWith new old
 same_known old new is = subst (λ (l : Log). BeginsWith l old) (sym is) (stays old)
 
-enters_known : (entry : Entry) (reason : Reason) (old : Log) (done : Result ℕ Stop) (new : Log) → EntersAs by_front entry reason old done new → BeginsWith new old
+pub enters_known : (entry : Entry) (reason : Reason) (old : Log) (done : Result ℕ Stop) (new : Log) → EntersAs by_front entry reason old done new → BeginsWith new old
 enters_known entry reason old (Ok number) new (before, judged, is, learnt) = learnt.0
 enters_known entry reason old (Err (stop.Refused why)) new (log, judged, learnt) = learnt.0
 enters_known entry reason old (Err stop.Broken) new same = same_known old new same
 enters_known entry reason old (Err stop.OutOfMemory) new (inl same) = same_known old new same
-enters_known entry reason old (Err stop.OutOfMemory) new (inr (number, before, judged, is, learnt)) = learnt.0
+enters_known entry reason old (Err stop.OutOfMemory) new (inr (number, (before, judged, is, learnt))) = learnt.0
 enters_known entry reason old (Err stop.Device) new same = same_known old new same
 
 published_known : (old : Log) (site : SiteName) (n : ℕ) (published : Option ℕ) (new : Log) → PublishesAs by_front old site n published new → BeginsWith new old
 published_known old site n None new same = same_known old new same
 published_known old site n (Some number) new (before, judged, is, learnt) = learnt.0
 
-takes_known : (old : Log) (site : SiteName) (n : ℕ) (bytes : List ℕ) (done : Result Uploaded Refusal) (new : Log) → TakesAs by_front old site n bytes done new → BeginsWith new old
+pub takes_known : (old : Log) (site : SiteName) (n : ℕ) (bytes : List ℕ) (done : Result Uploaded Refusal) (new : Log) → TakesAs by_front old site n bytes done new → BeginsWith new old
 takes_known old site n bytes (Ok done) new (digest, published) = published_known old site n done.published new published
 takes_known old site n bytes (Err why) new (inl same) = same_known old new same
 takes_known old site n bytes (Err why) new (inr (stopped, commits, is)) = enters_known (Change (Publish site n)) _ old (Err stopped) new commits

@@ -4,6 +4,7 @@ pub mod Sights
 pub mod Entering
 pub mod Shared
 pub mod Guests
+pub mod Running
 -- ---- what the house's calls do, and the laws of that
 pub mod Receipts
 pub mod Houses

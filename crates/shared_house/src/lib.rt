@@ -7,9 +7,11 @@ mod file_access;
 mod guests;
 mod houses;
 pub mod laws;
+mod seated_desks;
 
 pub use answering::answer_shared;
-pub use desk_access::{DeskAccess, SeatedDesk};
+pub use desk_access::DeskAccess;
 pub use file_access::{FileAccess, GroupFiles};
 pub use guests::{Guest, Note};
 pub use houses::{DeskVisitor, SharedHouse};
+pub use seated_desks::SeatedDesk;

@@ -1,5 +1,0 @@
-pub mod Visits
-pub mod Shared
-pub mod Receipts
-pub mod SharedHouses
-pub mod SharedLaws

@@ -1,0 +1,70 @@
+-- What is learnt of what a desk answers.
+use Rattle.std.proofs.Common.{◌≡◌, inl, inr, ℕ, ◌+◌, ◌-◌, ◌<◌, ◌==◌, List, [], ◌∷◌, ◌++◌, length, slice_get, true, false, cond, Option, Some, None, Result, Ok, Err, refl, sym, ap, subst, ◌∙◌, arith}
+use Rattle.std.proofs.lemmas.Bool.{eqb-true}
+use Rattle.std.proofs.lemmas.List.{length-append}
+use Rattle.host_names.specs.declared.names.SiteName.{SiteName}
+use Rattle.site_change.specs.declared.commands.Command.TheVariants.{Publish}
+use Rattle.change_undo.specs.Logs.{Log, entry_at, last_number, next_number, with_entry}
+use Rattle.change_undo.specs.declared.entries.Entry.{Entry}
+use Rattle.change_undo.specs.declared.entries.Entry.TheVariants.{Change, Undo}
+use Rattle.host_api.specs.declared.refusals.Refusal.{Refusal}
+use Rattle.host_answers.specs.Answers.{told_stop}
+use Rattle.host_answers.specs.declared.stops.Stop.{Stop}
+use Rattle.host_answers.specs.declared.stops.Stop.TheVariants as stop
+use Rattle.site_desk.specs.declared.errors.DeskError.{DeskError}
+use Rattle.site_desk.specs.declared.errors.DeskError.TheVariants as desk
+use Rattle.shared_desk.specs.declared.upload_errors.UploadError.{UploadError}
+use Rattle.shared_desk.specs.declared.upload_errors.UploadError.TheVariants as upload
+use Rattle.shared_house.specs.Entering.{IsEntryAnswer, IsUploadAnswer, Reason, reason_of_command}
+use Rattle.shared_house.specs.Receipts.{NotTakenAs, StopsAs}
+use Rattle.shared_house.specs.Seeing.{by_front}
+use Rattle.shared_house.specs.Shared.{EntersAs, IsEntered, TakesAs}
+
+-- ---- an entry is shown under its number
+
+at_end : (entries : List Entry) (entry : Entry) → slice_get (entries ++ entry ∷ []) (length entries) ≡ Some entry
+at_end [] entry = refl
+at_end (other ∷ entries) entry = at_end entries entry
+
+nonzero : (k : ℕ) → 0 < k → (k == 0) ≡ false
+nonzero k h = elim (k == 0) as (λ t. (k == 0) ≡ t → t ≡ false) [ true ↦ λ e. absurd (omega (arith, eqb-true k 0 e, h)) | false ↦ λ e. refl ] refl
+
+pub last_shown : (log before : Log) (entry : Entry) (number : ℕ) → log ≡ with_entry before entry → number ≡ last_number log → entry_at log number ≡ Some entry
+last_shown log before entry number is last =
+    let long : length log ≡ length before + 1 = ap length is ∙ length-append before (entry ∷ []) in
+    let count : number ≡ length log = last in
+    let some : 0 < number = omega (arith, long, count) in
+    let place : number - 1 ≡ length before = omega (arith, long, count) in
+    ap (λ t. cond t None (slice_get log (number - 1))) (nonzero number some) ∙ ap (slice_get log) place ∙ ap (λ l. slice_get l (length before)) is ∙ at_end before entry
+
+-- ---- what is learnt
+
+learnt_of : (entry : Entry) (old receipt new : Log) (before : Log) → receipt ≡ with_entry before entry → by_front.learns old receipt new → by_front.learns old (with_entry before entry) new
+learnt_of entry old receipt new before is learnt = subst (λ (l : Log). by_front.learns old l new) is learnt
+
+-- an entry that was made, whose number is the last of its receipt
+pub entered : (entry : Entry) (reason : Reason) (old receipt : Log) (number : ℕ) (new : Log) → IsEntryAnswer entry reason (Ok receipt) → number ≡ last_number receipt
+    → by_front.learns old receipt new → IsEntered by_front entry reason old number new
+entered entry reason old receipt number new (before, judged_so, is) last learnt =
+    (before, judged_so, last ∙ ap length is ∙ length-append before (entry ∷ []), learnt_of entry old receipt new before is learnt)
+
+-- why there is none
+pub stops : (entry : Entry) (reason : Reason) (old : Log) (why : DeskError Log) (stopped : Stop) (new : Log) → IsEntryAnswer entry reason (Err why) → StopsAs old why stopped new
+    → EntersAs by_front entry reason old (Err stopped) new
+stops entry reason old desk.Broken stopped new answer (is, same) = subst (λ (s : Stop). EntersAs by_front entry reason old (Err s) new) (sym is) same
+stops entry reason old (desk.Refused why seen) stopped new answer (is, learnt) =
+    subst (λ (s : Stop). EntersAs by_front entry reason old (Err s) new) (sym is) (seen, answer, learnt)
+stops entry reason old (desk.NoReceipt why) stopped new answer (is, same) = subst (λ (s : Stop). EntersAs by_front entry reason old (Err s) new) (sym is) (inl same)
+stops entry reason old desk.OutOfMemory stopped new answer (is, same) = subst (λ (s : Stop). EntersAs by_front entry reason old (Err s) new) (sym is) (inl same)
+stops entry reason old desk.Device stopped new answer (is, same) = subst (λ (s : Stop). EntersAs by_front entry reason old (Err s) new) (sym is) same
+
+-- why an upload isn't taken
+pub not_taken : (site : SiteName) (n : ℕ) (bytes : List ℕ) (old : Log) (error : UploadError Log) (why : Refusal) (new : Log) → IsUploadAnswer site n (Err error)
+    → NotTakenAs old error why new → TakesAs by_front old site n bytes (Err why) new
+not_taken site n bytes old (upload.NotPublished error) why new answer (stopped, is, told) =
+    inr (stopped, stops (Change (Publish site n)) (reason_of_command (Publish site n)) old error stopped new answer is, told)
+not_taken site n bytes old upload.Broken why new answer (is, same) = inl same
+not_taken site n bytes old upload.NoSuchDeploy why new answer (is, same) = inl same
+not_taken site n bytes old upload.NotListed why new answer (is, same) = inl same
+not_taken site n bytes old upload.WrongDigest why new answer (is, same) = inl same
+not_taken site n bytes old (upload.NotStored fault) why new answer (is, same) = inl same
