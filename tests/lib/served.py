@@ -2,6 +2,7 @@
 
 import contextlib
 import http.client
+import json
 import os
 import pathlib
 import signal
@@ -11,9 +12,10 @@ import tempfile
 import time
 import unittest
 
-from lib.client import PATIENCE, PROGRAM, SECONDS
+from lib.client import PATIENCE, PROGRAM, SECONDS, digest_of
 
 HOST = "127.0.0.1"
+FILE = "/s/one/a.txt"
 # The ports of eight nodes and of their peers.
 PORTS = 16
 
@@ -80,6 +82,21 @@ def ask(client, method, target, body=None, **fields):
     client.request(method, target, body=body, headers={name.replace("_", "-"): value for name, value in fields.items()})
     reply = client.getresponse()
     return reply.status, reply.read()
+
+
+def publish(client, files, site="one"):
+    """Deploys these files, and returns the number of the entry that published them."""
+    listed = {path: digest_of(content) for path, content in files.items()}
+    status, told = ask(client, "POST", f"/api/v1/sites/{site}/deploys", json.dumps({"files": listed}))
+    assert status == 200, told
+    told = json.loads(told)
+    published = told["published"]
+    for path, content in files.items():
+        if digest_of(content) in told["required"]:
+            status, answer = ask(client, "PUT", f"/api/v1/deploys/{told['id']}/files{path}", content)
+            assert status == 200, answer
+            published = json.loads(answer)["published"] or published
+    return published
 
 
 def seconds_until_closed(plug, most):

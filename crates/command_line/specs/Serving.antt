@@ -1,42 +1,30 @@
 -- The command `serve`, and what its words ask for.
-use Rattle.std.specs.Prelude.{◌≡◌, ◌≤◌, ℕ, true, List, [], ◌∷◌, Option, None, Some, codes, option_map}
+use Rattle.std.specs.Prelude.{◌≡◌, ℕ, List, Option, None, Some, codes, option_map}
 use Rattle.std.specs.String.{string_bytes}
 use Rattle.std.specs.Str.Parse.{digits_value, without_leading_plus}
 use Rattle.std.specs.Net.Grammar.{IsSocketText}
 use Rattle.std.specs.declared.net.socket_addr.SocketAddr.{SocketAddr}
 use Rattle.clap.specs.Values.{IsUnsignedIn}
-use Rattle.clap.specs.Words.{App, Row, Rule, Shape, Text, first_of, new_app, new_rule, with_rule}
-use Rattle.clap.specs.declared.builder.action.ArgAction.TheVariants.{Set}
-use Rattle.clap.specs.declared.builder.value_parser.ValueParser.TheVariants.{Unsigned}
-use Rattle.command_line.specs.declared.serve_words.ServeOptions.{ServeOptions}
+use Rattle.clap.specs.Words.{App, Row, Rule, Text, first_of, new_app, with_rule}
+use Rattle.command_line.specs.Options.{option_rule, number_rule, required, with_default}
+use Rattle.command_line.specs.declared.serve_options.ServeOptions.{ServeOptions}
 
 -- ---- the command
 
--- an option with one value
-abbrev pub option_rule : Text → Rule
-option_rule name = record (new_rule name) { long = Some name; value_names = 1; action = Some Set }
-
--- an option for a number from 1 on
-abbrev pub number_rule : Text → ℕ → Rule
-number_rule name most = record (option_rule name) { parser = Some (Unsigned 1 most) }
-
 abbrev pub listen_rule : Rule
-listen_rule = record (option_rule (codes "listen")) { required = true }
+listen_rule = required (option_rule (codes "listen"))
 
 abbrev pub nodes_rule : Rule
-nodes_rule = record (number_rule (codes "nodes") 8) { defaults = codes "1" ∷ [] }
+nodes_rule = with_default (number_rule (codes "nodes") 8) (codes "1")
 
 abbrev pub workers_rule : Rule
-workers_rule = record (number_rule (codes "workers") 8) { defaults = codes "2" ∷ [] }
+workers_rule = with_default (number_rule (codes "workers") 8) (codes "2")
 
 abbrev pub conns_rule : Rule
 conns_rule = number_rule (codes "conns") 1000000
 
-abbrev pub serve_app : App
-serve_app = with_rule (with_rule (with_rule (with_rule (with_rule (new_app (codes "serve")) listen_rule) nodes_rule) workers_rule) (option_rule (codes "store"))) conns_rule
-
-abbrev pub serve : Shape
-serve = serve_app.top
+abbrev pub serve : App
+serve = with_rule (with_rule (with_rule (with_rule (with_rule (new_app (codes "serve")) listen_rule) nodes_rule) workers_rule) (option_rule (codes "store"))) conns_rule
 
 -- ---- what it is told
 

@@ -2,20 +2,24 @@
 #![tactic(auto)]
 
 pub mod laws;
+mod options;
+mod serve_options;
 mod serve_words;
 mod texts;
 
-ghost use Rattle.std.specs.Prelude.{◌≡◌, ◌≢◌, [], IfOk, codes, map, option_map};
+ghost use Rattle.std.specs.Prelude.{◌≡◌, ◌≢◌, [], IfOk, codes, false, map, option_map};
 ghost use Rattle.std.specs.String.{string_bytes};
-ghost use Rattle.clap.specs.Words.{app_of, first_of, found_of, kind_of, rows_of};
-ghost use Rattle.command_line.specs.CommandLine.{HasText, Reads, ReadsServe, filehost};
+ghost use Rattle.clap.specs.Words.{app_of, first_of, found_of, kind_of, new_app, rows_of};
+ghost use Rattle.clap.specs.declared.builder.command.Command.TheViews.{out-Command};
+ghost use Rattle.command_line.specs.CommandLine.{HasText, Reads, ReadsMatches, filehost, wanting};
 ghost use Rattle.command_line.specs.declared.Refusal.TheVariants.{OutOfMemory};
 
-use crate::serve_words::{Misread, serve_command, serve_options};
+use crate::options::{text_option, with_command, with_option};
+use crate::serve_words::{Misread, options_in, serve_command};
 use crate::texts::{ABOUT, ABOUT_SOLO, ABOUT_STORE, EXAMPLE, MORE_ON_SOLO};
 use clap::error::ErrorKind;
-use clap::{Arg, ArgAction, ArgMatches, Command, Error};
-pub use serve_words::ServeOptions;
+use clap::{ArgMatches, Command, Error};
+pub use serve_options::ServeOptions;
 use std::alloc::{AllocError, Global};
 use std::convert::AsStr;
 
@@ -63,24 +67,24 @@ pub fn read<S: AsStr>(alloc: Global, words: &[S]) -> Result<Wanted, Refusal>
 {
     let command = commands(alloc)?;
     match command.try_get_matches_from(words) {
-        Ok(matches) => match matches.subcommand_matches("solo") {
-            Some(solo) => Ok(Wanted::Solo {
-                store: store_in(alloc, solo)?,
-            }),
-            None => read_serve(alloc, &matches),
-        },
+        Ok(matches) => read_matches(alloc, &matches),
         Err(error) => Err(make_refusal(alloc, &error)),
     }
 }
 
-/// What is wanted where the words don't ask for `solo`.
-fn read_serve(alloc: Global, matches: &ArgMatches) -> Result<Wanted, Refusal>
-    ensures { ReadsServe matches.now result }
+/// What is wanted by what a parse found.
+fn read_matches(alloc: Global, matches: &ArgMatches) -> Result<Wanted, Refusal>
+    ensures { ReadsMatches matches.now result }
 {
+    if let Some(solo) = matches.subcommand_matches("solo") {
+        return Ok(Wanted::Solo {
+            store: store_in(alloc, solo)?,
+        });
+    }
     let Some(serve) = matches.subcommand_matches("serve") else {
         return Err(shown(alloc, NOT_TAKEN));
     };
-    match serve_options(alloc, serve) {
+    match options_in(alloc, serve) {
         Ok(options) => Ok(Wanted::Serve(options)),
         Err(Misread::BadAddress) => Err(shown(alloc, BAD_ADDRESS)),
         Err(Misread::BadNumber) => Err(shown(alloc, NOT_TAKEN)),
@@ -134,27 +138,38 @@ fn text_of(alloc: Global, error: &Error) -> Result<String, AllocError>
     Ok(text)
 }
 
+/// The program, without its commands.
+fn program<'a>(alloc: Global) -> Result<Command<'a>, AllocError>
+    ensures { IfOk result (λ program. app_of program ≡ wanting) }
+{
+    let named = Command::new(alloc, "filehost").bin_name("filehost")?;
+    Ok(
+        named
+            .no_binary_name(true)
+            .version("0.1.0")
+            .about(ABOUT)
+            .after_help(EXAMPLE)
+            .subcommand_required(true)
+            .arg_required_else_help(true),
+    )
+}
+
+/// The command `solo`, without its option.
+fn bare_solo<'a>(alloc: Global) -> Command<'a>
+    ensures app { app_of result ≡ new_app (codes "solo") }
+    ensures plain { (out-Command result).has_globals ≡ false }
+{
+    Command::new(alloc, "solo")
+        .about(ABOUT_SOLO)
+        .after_help(MORE_ON_SOLO)
+}
+
 /// The program with its commands.
 fn commands<'a>(alloc: Global) -> Result<Command<'a>, AllocError>
     ensures { IfOk result (λ command. app_of command ≡ filehost) }
 {
-    let store = Arg::new(alloc, "store")
-        .long("store")
-        .value_name("DIR")
-        .help(ABOUT_STORE)
-        .action(ArgAction::Set);
-    let solo = Command::new(alloc, "solo")
-        .about(ABOUT_SOLO)
-        .after_help(MORE_ON_SOLO)
-        .arg(store)?;
-    Command::new(alloc, "filehost")
-        .bin_name("filehost")?
-        .no_binary_name(true)
-        .version("0.1.0")
-        .about(ABOUT)
-        .after_help(EXAMPLE)
-        .subcommand_required(true)
-        .arg_required_else_help(true)
-        .subcommand(solo)?
-        .subcommand(serve_command(alloc)?)
+    let store = text_option(alloc, "store", "DIR", ABOUT_STORE);
+    let solo = with_option(bare_solo(alloc), store)?;
+    let with_solo = with_command(program(alloc)?, solo)?;
+    with_command(with_solo, serve_command(alloc)?)
 }

@@ -1,38 +1,22 @@
 //! The words of the command `serve`.
 ghost use Rattle.std.specs.Prelude.{◌≡◌, ◌≢◌, ◌≤◌, ℕ, Option, IfErr, IfNone, IfOk, IfSome, codes, false};
 ghost use Rattle.std.specs.declared.net.socket_addr.SocketAddr.{SocketAddr as Address};
-ghost use Rattle.clap.specs.Words.{app_of, first_of, found_of, rows_of, rule_of};
+ghost use Rattle.clap.specs.Words.{app_of, first_of, found_of, new_app, rows_of};
 ghost use Rattle.clap.specs.declared.builder.command.Command.TheViews.{out-Command};
 ghost use Rattle.command_line.specs.Serving as spec;
-ghost use Rattle.command_line.specs.Serving.{AreServeRows, IsAddressAt, IsNumberAt, IsOptionalAt, serve_app};
+ghost use Rattle.command_line.specs.Serving.{AreServeRows, IsAddressAt, IsNumberAt, IsOptionalAt};
 ghost use Rattle.command_line.specs.declared.serve_words.Misread.TheVariants.{OutOfMemory};
-ghost use Rattle.command_line.specs.declared.serve_words.ServeOptions.{ServeOptions as Options};
+ghost use Rattle.command_line.specs.declared.serve_options.ServeOptions.{ServeOptions as Options};
 
+use crate::options::{number_option, required, text_option, with_default, with_option};
+use crate::serve_options::ServeOptions;
 use crate::texts::{
     ABOUT_CONNS, ABOUT_LISTEN, ABOUT_NODES, ABOUT_SERVE, ABOUT_SERVED_STORE, ABOUT_WORKERS,
     MORE_ON_SERVE,
 };
-use clap::builder::ValueParser;
-use clap::{Arg, ArgAction, ArgMatches, Command};
+use clap::{ArgMatches, Command};
 use std::alloc::{AllocError, Global};
 use std::net::SocketAddr;
-
-/// What `serve` is told.
-#[derive(Debug, Drop, PartialEq, Eq)]
-pub struct ServeOptions {
-    /// Where the first node serves clients. Each other node has the next port.
-    pub listen: SocketAddr,
-    /// How many nodes there are, from 1 to 8.
-    pub nodes: u64,
-    /// How many workers each node has, from 1 to 8.
-    pub workers: u64,
-    /// The folder that keeps the host, if one does.
-    pub store: Option<String>,
-    /// After how many client connections each node ends, from 1 to 1,000,000, if it ends.
-    pub conns: Option<u64>,
-    ghost few_nodes: { (1 ≤ nodes) × (nodes ≤ 8) },
-    ghost few_workers: { (1 ≤ workers) × (workers ≤ 8) },
-}
 
 /// Why the words of `serve` can't be followed.
 #[derive(Debug, Drop)]
@@ -46,76 +30,90 @@ pub(crate) enum Misread {
 
 /// The command, with its options.
 pub(crate) fn serve_command<'a>(alloc: Global) -> Result<Command<'a>, AllocError>
-    ensures app { IfOk result (λ command. app_of command ≡ serve_app) }
-    ensures local { IfOk result (λ command. (out-Command command).has_globals ≡ false) }
+    ensures app { IfOk result (λ command. app_of command ≡ spec.serve) }
+    ensures plain { IfOk result (λ command. (out-Command command).has_globals ≡ false) }
 {
-    let listen = text_option(alloc, "listen", "IP:PORT", ABOUT_LISTEN).required(true);
-    let nodes = number_option(alloc, "nodes", ABOUT_NODES, 8).default_value("1");
-    let workers = number_option(alloc, "workers", ABOUT_WORKERS, 8).default_value("2");
+    let listen = required(text_option(alloc, "listen", "IP:PORT", ABOUT_LISTEN));
+    let nodes = with_default(number_option(alloc, "nodes", ABOUT_NODES, 8), "1");
+    let workers = with_default(number_option(alloc, "workers", ABOUT_WORKERS, 8), "2");
     let store = text_option(alloc, "store", "DIR", ABOUT_SERVED_STORE);
     let conns = number_option(alloc, "conns", ABOUT_CONNS, 1_000_000);
+    let command = with_option(bare_command(alloc), listen)?;
+    let command = with_option(command, nodes)?;
+    let command = with_option(command, workers)?;
+    let command = with_option(command, store)?;
+    with_option(command, conns)
+}
+
+/// The command, without its options.
+fn bare_command<'a>(alloc: Global) -> Command<'a>
+    ensures app { app_of result ≡ new_app (codes "serve") }
+    ensures plain { (out-Command result).has_globals ≡ false }
+{
     Command::new(alloc, "serve")
         .about(ABOUT_SERVE)
         .after_help(MORE_ON_SERVE)
-        .arg(listen)?
-        .arg(nodes)?
-        .arg(workers)?
-        .arg(store)?
-        .arg(conns)
 }
 
-/// An option with one value.
-fn text_option<'a>(
-    alloc: Global,
-    name: &'static str,
-    value: &'static str,
-    help: &'static str,
-) -> Arg<'a>
-    ensures rule { rule_of result ≡ spec.option_rule name.entry.now }
-    ensures local { result.global ≡ false }
+/// The text of an option, if it was given or has a default.
+fn text_in<'a>(given: &ArgMatches<'a>, name: &str) -> Option<&'a str>
+    ensures { option_map (λ text. text.now) result ≡ first_of name.now (rows_of (found_of given.now)) }
 {
-    Arg::new(alloc, name)
-        .long(name)
-        .value_name(value)
-        .help(help)
-        .action(ArgAction::Set)
+    given.get_str(name)
 }
 
-/// An option for a number from 1 to `most`.
-fn number_option<'a>(alloc: Global, name: &'static str, help: &'static str, most: u64) -> Arg<'a>
-    ensures rule { rule_of result ≡ spec.number_rule name.entry.now most }
-    ensures local { result.global ≡ false }
+/// The number that a text writes, if it is one from 1 to `most`.
+fn number_of(text: &str, most: u64) -> Option<u64>
+    ensures some { IfSome result (IsNumberAt most (Some text.now)) }
+    ensures none { IfNone result ((n : ℕ) → ¬ (IsNumberAt most (Some text.now) n)) }
 {
-    text_option(alloc, name, "N", help).value_parser(ValueParser::unsigned(1, most))
+    match text.parse::<u64>() {
+        Ok(number) => {
+            if 1 <= number && number <= most {
+                Some(number)
+            } else {
+                None
+            }
+        }
+        Err(_) => None,
+    }
 }
 
-/// The number of an option, if its text writes one from 1 to `most`.
+/// The number of an option that was given or has a default, if it is one from 1 to `most`.
 fn number_in(given: &ArgMatches, name: &str, most: u64) -> Option<u64>
-    ensures some { IfSome result (λ n. IsNumberAt most (first_of name.now (rows_of (found_of given.now))) n) }
+    ensures some { IfSome result (IsNumberAt most (first_of name.now (rows_of (found_of given.now)))) }
     ensures none { IfNone result ((n : ℕ)
         → ¬ (IsNumberAt most (first_of name.now (rows_of (found_of given.now))) n)) }
-    ensures bounds { IfSome result (λ n. (1 ≤ n) × (n ≤ most)) }
 {
-    let number = given.get_str(name)?.parse::<u64>().ok()?;
-    if 1 <= number && number <= most {
-        Some(number)
-    } else {
-        None
+    match text_in(given, name) {
+        Some(text) => number_of(text, most),
+        None => None,
     }
 }
 
-/// The same of an option that may be left out.
+/// The number of an option that may be left out, if it is one from 1 to `most`.
 fn optional_in(given: &ArgMatches, name: &str, most: u64) -> Result<Option<u64>, Misread>
-    ensures ok { IfOk result (λ n. IsOptionalAt most (first_of name.now (rows_of (found_of given.now))) n) }
-    ensures err { IfErr result (λ _. (n : Option ℕ)
+    ensures ok { IfOk result (IsOptionalAt most (first_of name.now (rows_of (found_of given.now)))) }
+    ensures err { OnErr result ((n : Option ℕ)
         → ¬ (IsOptionalAt most (first_of name.now (rows_of (found_of given.now))) n)) }
 {
-    if given.get_str(name).is_none() {
-        return Ok(None);
+    match text_in(given, name) {
+        Some(text) => match number_of(text, most) {
+            Some(number) => Ok(Some(number)),
+            None => Err(Misread::BadNumber),
+        },
+        None => Ok(None),
     }
-    match number_in(given, name, most) {
-        Some(number) => Ok(Some(number)),
-        None => Err(Misread::BadNumber),
+}
+
+/// The address that a text writes, if it writes one.
+fn address_of(text: &str) -> Option<SocketAddr>
+    ensures some { IfSome result (IsAddressAt (Some text.now)) }
+    ensures none { IfNone result ((address : Address) → ¬ (IsAddressAt (Some text.now) address)) }
+{
+    match text.parse::<SocketAddr>() {
+        Ok(address) => Some(address),
+        Err(_) => None,
     }
 }
 
@@ -125,11 +123,14 @@ fn address_in(given: &ArgMatches) -> Option<SocketAddr>
     ensures none { IfNone result ((address : Address)
         → ¬ (IsAddressAt (first_of (codes "listen") (rows_of (found_of given.now))) address)) }
 {
-    given.get_str("listen")?.parse::<SocketAddr>().ok()
+    match text_in(given, "listen") {
+        Some(text) => address_of(text),
+        None => None,
+    }
 }
 
 /// What the command is told.
-pub(crate) fn serve_options(alloc: Global, given: &ArgMatches) -> Result<ServeOptions, Misread>
+pub(crate) fn options_in(alloc: Global, given: &ArgMatches) -> Result<ServeOptions, Misread>
     ensures ok { IfOk result (AreServeRows (rows_of (found_of given.now))) }
     ensures err { IfErr result (λ why. why ≢ OutOfMemory
         → (options : Options) → ¬ (AreServeRows (rows_of (found_of given.now)) options)) }

@@ -181,6 +181,32 @@ pub(crate) struct Plan {
     pub(crate) clients: u64,
 }
 
+/// Opens these nodes, and serves from a desk until they end.
+fn serve_nodes<
+    J: DeskName + Send + Sync,
+    K: ListName<BlobInfo> + Send + Sync,
+    D: Disk + Send,
+    S: Shelf + Send,
+    R: Serving,
+    O: Sink,
+>(
+    rt: &R,
+    alloc: Global,
+    desk: &HostDesk<'_, J, K, D, S, R>,
+    seats: &[Mutex<Seat<J>>],
+    groups: &[HostGroup<'_, R, S>],
+    nodes: &[Node<Noted<J>>],
+    ports: &[Ports],
+    visitor: DeskVisitor<J>,
+    plan: &Plan,
+    lines: &mut O,
+) -> Result<(), Failure> {
+    let jobs = jobs_of(rt, alloc, desk, seats, groups, nodes, visitor, plan.workers)?;
+    open_all(alloc, nodes, ports, lines)?;
+    serve_all(rt, alloc, ports, groups, jobs, plan.limits)?;
+    Ok(())
+}
+
 /// Serves from a desk at these ports.
 pub(crate) fn serve_desk<
     J: DeskName + Send + Sync,
@@ -200,28 +226,12 @@ pub(crate) fn serve_desk<
     lines: &mut O,
 ) -> Result<(), Failure> {
     let Bound { clients, ports } = bound;
-    let peers = peer_addresses(alloc, ports.as_slice())?;
+    let (ports, peers) = (ports.as_slice(), peer_addresses(alloc, ports.as_slice())?);
     let groups = groups_of(rt, alloc, desk.files(), peers.as_slice())?;
     let seats = seats_of(alloc, seats, ports.len())?;
     let nodes = nodes_of::<J>(alloc, clients, plan.limits, plan.clients)?;
-    let jobs = jobs_of(
-        rt,
-        alloc,
-        desk,
-        seats.as_slice(),
-        groups.as_slice(),
-        nodes.as_slice(),
-        visitor,
-        plan.workers,
-    )?;
-    open_all(alloc, nodes.as_slice(), ports.as_slice(), lines)?;
-    serve_all(
-        rt,
-        alloc,
-        ports.as_slice(),
-        groups.as_slice(),
-        jobs,
-        plan.limits,
-    )?;
-    Ok(())
+    let (seats, groups, nodes) = (seats.as_slice(), groups.as_slice(), nodes.as_slice());
+    serve_nodes(
+        rt, alloc, desk, seats, groups, nodes, ports, visitor, plan, lines,
+    )
 }

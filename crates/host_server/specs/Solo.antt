@@ -4,7 +4,7 @@ use Rattle.std.specs.Prelude.{◌≡◌, ◌≢◌, ◌⊎◌, ℕ, List, [], Op
 use Rattle.std.specs.FinMap as map
 use Rattle.std.specs.Io.KnownBytes.{Appends}
 use Rattle.command_line.specs.CommandLine.{AskForNothing, AskForServe, AskForSolo}
-use Rattle.command_line.specs.declared.serve_words.ServeOptions.{ServeOptions}
+use Rattle.command_line.specs.declared.serve_options.ServeOptions.{ServeOptions}
 use Rattle.http_wire.specs.Sending.{AppendsFront}
 use Rattle.http_wire.specs.Timing.{Ran}
 use Rattle.http_wire.specs.declared.duplexes.Duplex as duplexes
