@@ -60,10 +60,10 @@ read_of words m (Err (Shown text)) none matches (no_solo, no_serve, told) = (
 )
   where
     finds_solo : (store : Option Text) → AskForSolo words store → FindsSolo m store
-    finds_solo store (ended, rows, found, is) = (rows, (matches is_plain).1 ∙ found, is)
+    finds_solo store (ended, (rows, found, is)) = (rows, (matches is_plain).1 ∙ found, is)
 
     finds_serve : (options : ServeOptions) → AskForServe words options → FindsServe m options
-    finds_serve options (ended, rows, found, are) = (rows, (matches is_plain).1 ∙ found, are)
+    finds_serve options (ended, (rows, found, are)) = (rows, (matches is_plain).1 ∙ found, are)
 read_of words m (Err OutOfMemory) none matches reads = tt
 
 -- a command that was found by its name, with its rows

@@ -97,10 +97,10 @@ fn shown(alloc: Global, text: &str) -> Refusal
     requires { text.now ≢ [] }
     ensures { HasText result }
 {
-    match String::from_str(alloc, text) {
-        Ok(text) => Refusal::Shown(text),
-        Err(_) => Refusal::OutOfMemory,
-    }
+    let Ok(text) = String::from_str(alloc, text) else {
+        return Refusal::OutOfMemory;
+    };
+    Refusal::Shown(text)
 }
 
 /// The folder that is given to a command.

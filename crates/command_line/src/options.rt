@@ -40,16 +40,16 @@ pub(crate) fn number_option<'a>(
 
 /// The option, which has to be given.
 pub(crate) fn required<'a>(option: Arg<'a>) -> Arg<'a>
-    ensures rule { rule_of result ≡ spec.required (rule_of option) }
-    ensures local { result.global ≡ option.global }
+    ensures rule { rule_of result ≡ spec.required (rule_of option.entry) }
+    ensures local { result.global ≡ option.entry.global }
 {
     option.required(true)
 }
 
 /// The option, with the value that it has where it isn't given.
 pub(crate) fn with_default<'a>(option: Arg<'a>, value: &'static str) -> Arg<'a>
-    ensures rule { rule_of result ≡ spec.with_default (rule_of option) value.entry.now }
-    ensures local { result.global ≡ option.global }
+    ensures rule { rule_of result ≡ spec.with_default (rule_of option.entry) value.entry.now }
+    ensures local { result.global ≡ option.entry.global }
 {
     option.default_value(value)
 }
@@ -59,9 +59,9 @@ pub(crate) fn with_option<'a>(
     command: Command<'a>,
     option: Arg<'a>,
 ) -> Result<Command<'a>, AllocError>
-    requires local { option.global ≡ false }
-    requires plain { (out-Command command).has_globals ≡ false }
-    ensures app { IfOk result (λ new. app_of new ≡ with_rule (app_of command) (rule_of option)) }
+    requires local { option.entry.global ≡ false }
+    requires plain { (out-Command command.entry).has_globals ≡ false }
+    ensures app { IfOk result (λ new. app_of new ≡ with_rule (app_of command.entry) (rule_of option.entry)) }
     ensures plain { IfOk result (λ new. (out-Command new).has_globals ≡ false) }
 {
     command.arg(option)
@@ -72,8 +72,8 @@ pub(crate) fn with_command<'a>(
     program: Command<'a>,
     command: Command<'a>,
 ) -> Result<Command<'a>, AllocError>
-    requires plain { (out-Command command).has_globals ≡ false }
-    ensures { IfOk result (λ new. app_of new ≡ with_subcommand (app_of program) (app_of command).top) }
+    requires plain { (out-Command command.entry).has_globals ≡ false }
+    ensures { IfOk result (λ new. app_of new ≡ with_subcommand (app_of program.entry) (app_of command.entry).top) }
 {
     program.subcommand(command)
 }

@@ -1,5 +1,5 @@
 //! The words of the command `serve`.
-ghost use Rattle.std.specs.Prelude.{◌≡◌, ◌≢◌, ◌≤◌, ℕ, Option, IfErr, IfNone, IfOk, IfSome, codes, false};
+ghost use Rattle.std.specs.Prelude.{◌≡◌, ◌≢◌, ℕ, Option, Some, IfErr, IfNone, IfOk, IfSome, OnErr, codes, false, option_map};
 ghost use Rattle.std.specs.declared.net.socket_addr.SocketAddr.{SocketAddr as Address};
 ghost use Rattle.clap.specs.Words.{app_of, first_of, found_of, new_app, rows_of};
 ghost use Rattle.clap.specs.declared.builder.command.Command.TheViews.{out-Command};
