@@ -59,8 +59,8 @@ pub(crate) fn with_option<'a>(
     command: Command<'a>,
     option: Arg<'a>,
 ) -> Result<Command<'a>, AllocError>
-    requires local { option.entry.global ≡ false }
-    requires plain { (out-Command command.entry).has_globals ≡ false }
+    requires local { option.global ≡ false }
+    requires plain { (out-Command command).has_globals ≡ false }
     ensures app { IfOk result (λ new. app_of new ≡ with_rule (app_of command.entry) (rule_of option.entry)) }
     ensures plain { IfOk result (λ new. (out-Command new).has_globals ≡ false) }
 {
@@ -72,7 +72,7 @@ pub(crate) fn with_command<'a>(
     program: Command<'a>,
     command: Command<'a>,
 ) -> Result<Command<'a>, AllocError>
-    requires plain { (out-Command command.entry).has_globals ≡ false }
+    requires plain { (out-Command command).has_globals ≡ false }
     ensures { IfOk result (λ new. app_of new ≡ with_subcommand (app_of program.entry) (app_of command.entry).top) }
 {
     program.subcommand(command)
