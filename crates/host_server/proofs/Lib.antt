@@ -14,6 +14,7 @@ pub mod ReadBacks
 pub mod Kept
 pub mod Reached
 pub mod Refusing
+pub mod Opened
 pub mod Growing
 pub mod Refuted
 pub mod EntryAnswers

@@ -6,11 +6,10 @@ ghost use Rattle.change_journal.specs.entries.Files.{HasRecord, IsNoJournal, IsR
 ghost use Rattle.change_journal.specs.entries.Texts.{HoldsEntries, IsText, MayHoldNext};
 ghost use Rattle.change_undo.specs.Logs as logs;
 ghost use Rattle.change_undo.specs.declared.entries.Entry.{Entry as Line};
-ghost use Rattle.chunk_lru.specs.Caches.{empty};
 ghost use Rattle.found_host.specs.Openings.{HadJournal, IsNoRecordFault, IsOpenFault};
 ghost use Rattle.found_host.specs.declared.faults.OpenFault.TheVariants.{BadHeader, BlobsDevice, JournalDevice, OutOfMemory};
 ghost use Rattle.host_disk.specs.Crashes.{LeavesOnly};
-ghost use Rattle.host_server.specs.Openings.{IsOpened};
+ghost use Rattle.host_server.specs.Openings.{IsGivenBack, IsOpened, IsServerOf};
 
 use crate::host::SoloHouse;
 use crate::servers::Server;
@@ -24,19 +23,7 @@ impl<S: Shelf, D: Disk> Server<S, D> {
     /// The server of what is found. Its cache is empty, and is all that takes memory: if there is none for it, the disk and the shelf are
     /// handed back.
     fn of_found(alloc: Global, found: Found<D, S>) -> Result<Self, NotOpened<S, D>>
-        ensures house { IfOk result (λ server. server.house ≡ record {
-          limit = found.limit;
-          entries = found.journal.entries;
-          uploads = found.store.known;
-        }) }
-        ensures journal { IfOk result (λ server. server.journal ≡ Some found.journal) }
-        ensures files { IfOk result (λ server.
-            server.files ≡ record { shelf = found.store.shelf; cache = empty 67108864 }) }
-        ensures memory { IfErr result (λ stop. stop ≡ record {
-          fault = OutOfMemory;
-          disk = found.journal.disk;
-          shelf = found.store.shelf;
-        }) }
+        ensures { MatchResult result (IsServerOf found) (IsGivenBack found) }
     {
         let (history, journal, blobs) = found.into_parts();
         let (known, files) = blobs.into_parts();
