@@ -1,2 +1,3 @@
 pub mod FoundFiles
 pub mod UploadTurns
+pub mod Some

@@ -1,14 +1,14 @@
 -- What is learnt of what a desk answers.
-use Rattle.std.proofs.Common.{◌≡◌, inl, inr, ℕ, ◌+◌, ◌-◌, ◌<◌, ◌==◌, List, [], ◌∷◌, ◌++◌, length, slice_get, true, false, cond, Option, Some, None, Result, Ok, Err, refl, sym, ap, subst, ◌∙◌, arith}
+use Rattle.std.proofs.Common.{◌≡◌, inl, inr, ℕ, ◌+◌, ◌-◌, ◌<◌, ◌==◌, List, [], ◌∷◌, ◌++◌, length, slice_get, true, false, cond, Some, None, Result, Ok, Err, refl, sym, ap, subst, ◌∙◌, arith}
+use Rattle.std.specs.Prelude.{IfErr, IfOk, OnOk}
 use Rattle.std.proofs.lemmas.Bool.{eqb-true}
 use Rattle.std.proofs.lemmas.List.{length-append}
 use Rattle.host_names.specs.declared.names.SiteName.{SiteName}
 use Rattle.site_change.specs.declared.commands.Command.TheVariants.{Publish}
-use Rattle.change_undo.specs.Logs.{Log, entry_at, last_number, next_number, with_entry}
+use Rattle.change_undo.specs.Logs.{Log, entry_at, last_number, with_entry}
 use Rattle.change_undo.specs.declared.entries.Entry.{Entry}
-use Rattle.change_undo.specs.declared.entries.Entry.TheVariants.{Change, Undo}
+use Rattle.change_undo.specs.declared.entries.Entry.TheVariants.{Change}
 use Rattle.host_api.specs.declared.refusals.Refusal.{Refusal}
-use Rattle.host_answers.specs.Answers.{told_stop}
 use Rattle.host_answers.specs.declared.stops.Stop.{Stop}
 use Rattle.host_answers.specs.declared.stops.Stop.TheVariants as stop
 use Rattle.site_desk.specs.declared.errors.DeskError.{DeskError}
@@ -47,6 +47,20 @@ pub entered : (entry : Entry) (reason : Reason) (old receipt : Log) (number : �
     → by_front.learns old receipt new → IsEntered by_front entry reason old number new
 entered entry reason old receipt number new (before, judged_so, is) last learnt =
     (before, judged_so, last ∙ ap length is ∙ length-append before (entry ∷ []), learnt_of entry old receipt new before is learnt)
+
+-- the same, unless there is no memory to show it
+pub taken : (entry : Entry) (reason : Reason) (old receipt : Log) (result : Result ℕ Stop) (new : Log) → IsEntryAnswer entry reason (Ok receipt)
+    → IfOk result (λ number. number ≡ last_number receipt) → IfErr result (λ why. why ≡ stop.OutOfMemory) → by_front.learns old receipt new
+    → EntersAs by_front entry reason old result new
+taken entry reason old receipt (Ok number) new answer last memory learnt = entered entry reason old receipt number new answer last learnt
+taken entry reason old receipt (Err why) new answer last memory learnt =
+    subst (λ (s : Stop). EntersAs by_front entry reason old (Err s) new) (sym memory)
+    (inr (last_number receipt, entered entry reason old receipt (last_number receipt) new answer refl learnt))
+
+pub shown_taken : (entry : Entry) (reason : Reason) (log receipt : Log) (result : Result ℕ Stop) → IsEntryAnswer entry reason (Ok receipt)
+    → IfOk result (λ number. number ≡ last_number receipt) → OnOk result (log ≡ receipt) → IfOk result (λ number. entry_at log number ≡ Some entry)
+shown_taken entry reason log receipt (Ok number) (before, judged, made) last is = last_shown log before entry number (is ∙ made) (last ∙ ap last_number (sym is))
+shown_taken entry reason log receipt (Err why) answer last is = tt
 
 -- why there is none
 pub stops : (entry : Entry) (reason : Reason) (old : Log) (why : DeskError Log) (stopped : Stop) (new : Log) → IsEntryAnswer entry reason (Err why) → StopsAs old why stopped new

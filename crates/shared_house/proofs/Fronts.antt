@@ -1,5 +1,5 @@
 -- Logs that begin with others.
-use Rattle.std.proofs.Common.{◌≡◌, List, [], ◌∷◌, ◌++◌, sym}
+use Rattle.std.proofs.Common.{List, [], ◌∷◌, ◌++◌, sym}
 use Rattle.std.specs.Prelude.{All}
 use Rattle.std.specs.List.{AllByRecursion}
 use Rattle.std.proofs.lemmas.List.Elements.{recursion_from_All, All-from_recursion, All-append}

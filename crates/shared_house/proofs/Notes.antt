@@ -1,8 +1,6 @@
 -- A note stands for all that its connection saw.
-use Rattle.std.proofs.Common.{◌≡◌, List, ℕ, refl, sym, subst}
-use Rattle.http_wire.specs.Requests.{RequestParts}
+use Rattle.std.proofs.Common.{refl, sym, subst}
 use Rattle.change_undo.specs.Logs.{BeginsWith, Log}
-use Rattle.host_replies.specs.Replies.{Answer}
 use Rattle.host_connection.specs.StandingIn.{StandsIn}
 use Rattle.shared_house.specs.Guests.{IsGuestAnswer}
 use Rattle.shared_house.specs.HouseLaws.{stays}

@@ -1,15 +1,12 @@
 -- What running nodes answer.
-use Rattle.std.proofs.Common.{◌≡◌, ◌⊎◌, inl, inr, ℕ, List, Bool, true, false, Option, Some, None, Result, Ok, Err, cond, refl, sym, subst, ap, ◌∙◌}
+use Rattle.std.proofs.Common.{◌≡◌, inl, inr, ℕ, List, true, false, Some, None, Result, Ok, Err, cond, sym, subst}
 use Rattle.std.specs.Prelude.{nat_le}
 use Rattle.byte_view.specs.Contents.{Contents}
 use Rattle.host_names.specs.declared.names.SiteName.{SiteName}
 use Rattle.site_change.specs.Changes.{run_from}
-use Rattle.site_change.specs.declared.commands.Command.TheVariants.{Publish}
-use Rattle.site_change.specs.declared.refusals.ChangeRefusal.{ChangeRefusal}
 use Rattle.site_change.specs.declared.refusals.ChangeRefusal.TheVariants.{HistoryFull}
-use Rattle.change_undo.specs.Histories.{change_refusal, live_changes, undo_refusal}
-use Rattle.change_undo.specs.Live.{without}
-use Rattle.change_undo.specs.Logs.{BeginsWith, Log, base_cells, last_number, with_entry}
+use Rattle.change_undo.specs.Histories.{change_refusal, undo_refusal}
+use Rattle.change_undo.specs.Logs.{BeginsWith, Log, base_cells, last_number}
 use Rattle.change_undo.specs.declared.entries.Entry.TheVariants.{Change, Undo}
 use Rattle.change_undo.proofs.Live.{live_changes-undo}
 use Rattle.change_undo.proofs.Runs.{undo-leaves}
@@ -30,9 +27,9 @@ use Rattle.host_answers.proofs.Growing.{StaysBy}
 use Rattle.shared_house.specs.Entering.{IsJudged, reason_of_undo}
 use Rattle.shared_house.specs.Guests.{IsGuestAnswer}
 use Rattle.shared_house.specs.HouseLaws.{enters_known, goes_on, same_known, stays, takes_known}
-use Rattle.shared_house.specs.Running.{IsReadReply, IsUndoReply, IsUnable, LeavesOut}
+use Rattle.shared_house.specs.Running.{IsReadReply, IsUndoReply, LeavesOut}
 use Rattle.shared_house.specs.Seeing.{by_front}
-use Rattle.shared_house.specs.Shared.{EntersAs, IsSharedAnswer, RespondsAs, ServesAs, UndoesAs, calls_over, fails, gives}
+use Rattle.shared_house.specs.Shared.{IsSharedAnswer, RespondsAs, ServesAs, UndoesAs, calls_over, fails, gives}
 use Rattle.shared_house.proofs.FileReplies.{file_reply}
 
 -- ---- what is known
@@ -63,7 +60,7 @@ answers_known : (old : Log) (parts : RequestParts) (body : List ℕ) (answer : A
 answers_known old parts body answer new (inl is) = responds_known old parts body (asked_for parts body) answer new is
 answers_known old parts body answer new (inr (takes, (tells, is))) = same_known old new is
 
-serves_known : (old : Log) (parts : RequestParts) (body : List ℕ) (answer : Answer) (new : Log) → ServesAs by_front old parts body answer new → BeginsWith new old
+pub serves_known : (old : Log) (parts : RequestParts) (body : List ℕ) (answer : Answer) (new : Log) → ServesAs by_front old parts body answer new → BeginsWith new old
 serves_known old parts body answer new (inl (mid, shown, looks, is)) = goes_on old mid new (looked old shown mid looks) (answers_known mid parts body answer new is)
 serves_known old parts body answer new (inr (told, is)) = same_known old new is
 

@@ -1,5 +1,5 @@
 -- Answers by what a house keeps of what was seen are answers by all that this stands for.
-use Rattle.std.proofs.Common.{◌≡◌, inl, inr, ℕ, List, [], ◌∷◌, Bool, true, false, Option, Some, None, Result, Ok, Err, refl, sym, subst, ◌∙◌}
+use Rattle.std.proofs.Common.{◌≡◌, inl, inr, ℕ, List, [], ◌∷◌, Bool, true, false, Option, Some, None, Result, Ok, Err, refl, sym, subst}
 use Rattle.std.specs.declared.alloc.AllocError.{AllocError}
 use Rattle.host_names.specs.declared.digests.Digest.{Digest}
 use Rattle.host_names.specs.declared.names.SiteName.{SiteName}
@@ -15,10 +15,9 @@ use Rattle.http_wire.specs.Requests.{RequestParts}
 use Rattle.host_api.specs.declared.bodies.Ask.{Ask}
 use Rattle.host_api.specs.declared.bodies.Ask.TheVariants as ask
 use Rattle.host_api.specs.declared.refusals.Refusal.{Refusal}
-use Rattle.host_api.specs.declared.texts.Told.{Told}
 use Rattle.host_replies.specs.Replies.{Answer}
 use Rattle.host_replies.specs.Versions.{file_of}
-use Rattle.host_answers.specs.Answers.{ChangesBy, DoesBy, FollowsBy, InSite, LacksBy, OnlyTells, PublishesBy, ShowsBy, UndoesBy, UploadsBy}
+use Rattle.host_answers.specs.Answers.{ChangesBy, DoesBy, FollowsBy, InSite, LacksBy, PublishesBy, ShowsBy, UndoesBy, UploadsBy}
 use Rattle.host_answers.specs.Asking.{asked_for}
 use Rattle.host_answers.specs.Deploys.{Opening, opened_by, site_of_deploy}
 use Rattle.host_answers.specs.Houses.{Seen}
@@ -80,23 +79,20 @@ module _ {H K : Type 0} (narrow : Seeing H) (wide : Seeing K) (R : H → K → T
   -- ---- what is done
 
   module _ (seen : Seen) (answer : Answer) where
-    only : (old : H) (all : K) (told : Told) (new : H) → R old all → OnlyTells old told answer new → (after : K) × OnlyTells all told answer after × R new after
-    only old all told new r (tells, is) = (all, (tells, refl), same old new all r is)
-
     publishes : (old : H) (all : K) (site : SiteName) (id : ℕ) (auto : Bool) (required : List Digest) (new : H) → R old all
         → PublishesBy (calls_over narrow seen) old site id auto required answer new
         → (after : K) × PublishesBy (calls_over wide seen) all site id auto required answer after × R new after
     publishes old all site id true [] new r (done, commits, tells) =
         let more = enters (Change (command.Publish site id)) _ old all done new r commits in
         (more.0, (done, more.1, tells), more.2)
-    publishes old all site id true (digest ∷ required) new r is = only old all _ new r is
-    publishes old all site id false [] new r is = only old all _ new r is
-    publishes old all site id false (digest ∷ required) new r is = only old all _ new r is
+    publishes old all site id true (digest ∷ required) new r (tells, is) = (all, (tells, refl), same old new all r is)
+    publishes old all site id false [] new r (tells, is) = (all, (tells, refl), same old new all r is)
+    publishes old all site id false (digest ∷ required) new r (tells, is) = (all, (tells, refl), same old new all r is)
 
     lacks : (old : H) (all : K) (opening : Opening) (id : ℕ) (required : Result (List Digest) AllocError) (new : H) → R old all
         → LacksBy (calls_over narrow seen) old opening id required answer new
         → (after : K) × LacksBy (calls_over wide seen) all opening id required answer after × R new after
-    lacks old all opening id (Err why) new r is = only old all _ new r is
+    lacks old all opening id (Err why) new r (tells, is) = (all, (tells, refl), same old new all r is)
     lacks old all opening id (Ok required) new r is = publishes old all opening.site id opening.auto required new r is
 
     follows : (old : H) (all : K) (opening : Option Opening) (done : Result ℕ Stop) (new : H) → R old all → FollowsBy (calls_over narrow seen) old opening done answer new
@@ -104,9 +100,9 @@ module _ {H K : Type 0} (narrow : Seeing H) (wide : Seeing K) (R : H → K → T
     follows old all (Some opening) (Ok id) new r (required, misses, is) =
         let more = lacks old all opening id required new r is in
         (more.0, (required, misses, more.1), more.2)
-    follows old all (Some opening) (Err why) new r is = only old all _ new r is
-    follows old all None (Ok id) new r is = only old all _ new r is
-    follows old all None (Err why) new r is = only old all _ new r is
+    follows old all (Some opening) (Err why) new r (tells, is) = (all, (tells, refl), same old new all r is)
+    follows old all None (Ok id) new r (tells, is) = (all, (tells, refl), same old new all r is)
+    follows old all None (Err why) new r (tells, is) = (all, (tells, refl), same old new all r is)
 
     changes : (old : H) (all : K) (command : Command) (new : H) → R old all → ChangesBy (calls_over narrow seen) old command answer new
         → (after : K) × ChangesBy (calls_over wide seen) all command answer after × R new after
@@ -130,16 +126,14 @@ module _ {H K : Type 0} (narrow : Seeing H) (wide : Seeing K) (R : H → K → T
     shows : (old : H) (all : K) (site : SiteName) (n : ℕ) (draft : Option Draft) (tree : Option (Paths (List ℕ))) (new : H) → R old all
         → ShowsBy (calls_over narrow seen) old site n draft tree answer new
         → (after : K) × ShowsBy (calls_over wide seen) all site n draft tree answer after × R new after
-    shows old all site n (Some draft) tree new r (required, misses, is) =
-        let more = only old all _ new r is in
-        (more.0, (required, misses, more.1), more.2)
-    shows old all site n None (Some tree) new r is = only old all _ new r is
-    shows old all site n None None new r is = only old all _ new r is
+    shows old all site n (Some draft) tree new r (required, misses, (tells, is)) = (all, (required, misses, (tells, refl)), same old new all r is)
+    shows old all site n None (Some tree) new r (tells, is) = (all, (tells, refl), same old new all r is)
+    shows old all site n None None new r (tells, is) = (all, (tells, refl), same old new all r is)
 
     in_site : (old : H) (all : K) (site : Option SiteName) (new : H) (does : SiteName → Answer → H → Type 0) (does_all : SiteName → Answer → K → Type 0) → R old all
         → ((owner : SiteName) → does owner answer new → (after : K) × does_all owner answer after × R new after)
         → InSite (calls_over narrow seen) old site does answer new → (after : K) × InSite (calls_over wide seen) all site does_all answer after × R new after
-    in_site old all None new does does_all r each is = only old all _ new r is
+    in_site old all None new does does_all r each (tells, is) = (all, (tells, refl), same old new all r is)
     in_site old all (Some site) new does does_all r each is = each site is
 
     reads : (old : H) (all : K) (parts : RequestParts) (path : List ℕ) (found : Result (List ℕ) Refusal) (new : H) → R old all
@@ -158,7 +152,7 @@ module _ {H K : Type 0} (narrow : Seeing H) (wide : Seeing K) (R : H → K → T
     does parts body old all (ask.Read site version path) new r is = reads old all parts path (file_of seen.state site version path) new r is
     does parts body old all (ask.Command command) new r is = changes old all command new r is
     does parts body old all (ask.Undo site k) new r is = undoes old all site k new r is
-    does parts body old all (ask.Changes site) new r is = only old all _ new r is
+    does parts body old all (ask.Changes site) new r (tells, is) = (all, (tells, refl), same old new all r is)
     does parts body old all (ask.Deploy n) new r is =
         in_site old all (site_of_deploy (entry_at seen.entries n)) new
         (λ site. ShowsBy (calls_over narrow seen) old site n (draft_at seen.state site n) (kept_at seen.state site n))

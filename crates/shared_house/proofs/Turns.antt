@@ -42,9 +42,9 @@ of_undo disk floor site k result (old, new, is) = turn disk floor (Undo site k) 
 pub of_upload : {D : Type 0} (disk : Ghosts D) (floor : ℕ) (site : SiteName) (n : ℕ) (path bytes : List ℕ) (result : Result (Option Log) (UploadError Log))
     → DoesUpload disk floor site n path bytes result → IsUploadAnswer site n result
 of_upload disk floor site n path bytes (Ok None) is = tt
-of_upload disk floor site n path bytes (Ok (Some receipt)) (judges, files, some, old, new, commits, within, ready) =
+of_upload disk floor site n path bytes (Ok (Some receipt)) (judges, (files, some, (old, new, (commits, within, ready)))) =
     turn disk floor (Change (Publish site n)) (reason_of_command (Publish site n)) _ old (Ok receipt) new commits
-of_upload disk floor site n path bytes (Err (upload.NotPublished why)) (judges, files, some, old, new, commits, within, ready) =
+of_upload disk floor site n path bytes (Err (upload.NotPublished why)) (judges, (files, some, (old, new, (commits, within, ready)))) =
     turn disk floor (Change (Publish site n)) (reason_of_command (Publish site n)) _ old (Err why) new commits
 of_upload disk floor site n path bytes (Err upload.Broken) is = tt
 of_upload disk floor site n path bytes (Err upload.NoSuchDeploy) is = tt

@@ -13,7 +13,7 @@ use Rattle.http_wire.specs.Requests.{RequestParts}
 use Rattle.host_api.specs.declared.refusals.Refusal.TheVariants.{Broken, Change, Device, OutOfMemory}
 use Rattle.host_api.specs.declared.texts.Told.TheVariants.{Entered, Refused}
 use Rattle.host_api.specs.declared.versions.Version.{Version}
-use Rattle.host_replies.specs.Replies.{Answer, Tells, refused_answer}
+use Rattle.host_replies.specs.Replies.{Answer, Tells}
 use Rattle.host_replies.specs.Versions.{file_of}
 use Rattle.host_answers.specs.FileReplies.{IsFileReply}
 use Rattle.host_answers.specs.Houses.{Seen}

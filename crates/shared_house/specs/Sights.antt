@@ -1,5 +1,5 @@
 -- What contracts see of a house.
-use Rattle.std.specs.Prelude.{◌≡◌, refl}
+use Rattle.std.specs.Prelude.{refl}
 use Rattle.std.specs.Coded.{Coded, code_by, coded×}
 use Rattle.change_undo.specs.Histories.{Past}
 use Rattle.change_undo.specs.Logs.{Log}

@@ -74,7 +74,7 @@ impl<J: DeskName, D: DeskAccess<J>, G: FileAccess> House for SharedHouse<J, D, G
 
     fn commit(&mut self, command: Command) -> Result<u64, Stop> {
         match self.desk.commit(command) {
-            Ok(receipt) => self.take(receipt).map_err(|_| Stop::OutOfMemory),
+            Ok(receipt) => self.take(receipt),
             Err(why) => Err(self.stop(why)),
         }
     }
@@ -115,7 +115,23 @@ impl<J: DeskName, D: DeskAccess<J>, G: FileAccess> House for SharedHouse<J, D, G
 }
 
 /// The reply to a request over the history that is shown by then. If the desk doesn't show what the visitor saw or learnt, nor any longer log, the reply is
-/// Broken: a visitor that learnt a front asks a desk that has shown it, so that this desk is gone.
+/// Broken: a visitor learns fronts of a desk that has shown them, so that this desk is gone.
+fn serve_over_a_look<J: DeskName, D: DeskAccess<J>, G: FileAccess>(
+    alloc: Global,
+    house: &mut SharedHouse<J, D, G>,
+    head: &Head,
+    body: &[u8],
+) -> Reply
+    ensures { ServesAs by_front house.old.known head.now body.now (answer_of result) house.new.known }
+{
+    match house.visitor.look() {
+        Ok(_) => answer(alloc, house, head, body),
+        Err(LookFault::Behind) => Reply::plain(Refusal::Broken),
+        Err(LookFault::OutOfMemory) => Reply::out_of_memory(),
+    }
+}
+
+/// The same. What is known then begins with what was known.
 pub(crate) fn serve<J: DeskName, D: DeskAccess<J>, G: FileAccess>(
     alloc: Global,
     house: &mut SharedHouse<J, D, G>,
@@ -125,11 +141,7 @@ pub(crate) fn serve<J: DeskName, D: DeskAccess<J>, G: FileAccess>(
     ensures replied { ServesAs by_front house.old.known head.now body.now (answer_of result) house.new.known }
     ensures grows { BeginsWith house.new.known house.old.known }
 {
-    match house.visitor.look() {
-        Ok(_) => answer(alloc, house, head, body),
-        Err(LookFault::Behind) => Reply::plain(Refusal::Broken),
-        Err(LookFault::OutOfMemory) => Reply::out_of_memory(),
-    }
+    serve_over_a_look(alloc, house, head, body)
 }
 
 /// A house answers the requests of a connection.

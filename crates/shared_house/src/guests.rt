@@ -92,6 +92,20 @@ impl<J: DeskName, D: DeskAccess<J>, G: FileAccess> Guest<J, D, G> {
         self.house.visitor.front()
     }
 
+    /// Takes the note of the connection that it goes to.
+    fn take_note(&mut self, note: &mut Note<J>)
+        ensures { self.new ≡ note.old }
+    {
+        mem::swap(&mut self.note, note);
+    }
+
+    /// Gives the connection its note back.
+    fn give_note(&mut self, note: &mut Note<J>)
+        ensures { note.new ≡ self.old }
+    {
+        mem::swap(note, &mut self.note);
+    }
+
     /// Goes on with a connection, of which this is the note, whichever worker served it before.
     pub fn go_on<X: Duplex>(
         &mut self,
@@ -106,9 +120,9 @@ impl<J: DeskName, D: DeskAccess<J>, G: FileAccess> Guest<J, D, G> {
         ensures asks { AnswersOnce IsGuestAnswer note.old note.new }
         ensures grows { BeginsWith note.new note.old }
     {
-        mem::swap(&mut self.note, note);
+        self.take_note(note);
         let progress = connection.go_on(alloc, duplex, self);
-        mem::swap(&mut self.note, note);
+        self.give_note(note);
         progress
     }
 }

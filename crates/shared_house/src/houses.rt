@@ -1,6 +1,7 @@
 //! A house whose history others change.
-ghost use Rattle.std.specs.Prelude.{◌≡◌, IfOk, MatchOption, None, OnOk, Some};
+ghost use Rattle.std.specs.Prelude.{◌≡◌, IfErr, IfOk, MatchOption, None, OnOk, Some};
 ghost use Rattle.change_undo.specs.Logs.{BeginsWith, last_number};
+ghost use Rattle.host_answers.specs.declared.stops.Stop.TheVariants.{OutOfMemory};
 ghost use Rattle.shared_house.specs.Receipts as spec;
 ghost use Rattle.shared_house.specs.Receipts.{NotTakenAs, StopsAs};
 ghost use Rattle.shared_house.specs.Seeing.{by_front};
@@ -13,7 +14,6 @@ use seen_lists::{LookFault, Visitor};
 use shared_desk::UploadError;
 use site_change::ChangeRefusal;
 use site_desk::{DeskError, DeskName, HostSnap, Notice};
-use std::alloc::AllocError;
 use std::marker::Model;
 use std::sync::Arc;
 
@@ -75,14 +75,18 @@ impl<J: DeskName, D, G> SharedHouse<J, D, G> {
     }
 
     /// The same, and shows the snapshot that has the entry. There may be no memory for an owner of the snapshot.
-    pub(crate) fn take(&mut self, receipt: Notice<J>) -> Result<u64, AllocError>
+    pub(crate) fn take(&mut self, receipt: Notice<J>) -> Result<u64, Stop>
         ensures number { IfOk result (λ number. number ≡ last_number receipt) }
         ensures shown { OnOk result (self.new.past.entries ≡ receipt) }
         ensures learnt { by_front.learns self.old.known receipt self.new.known }
+        ensures memory { IfErr result (λ why. why ≡ OutOfMemory) }
     {
         let snap = Arc::try_clone(receipt.snap());
         let number = self.learn(receipt);
-        self.snap = snap?;
+        let Ok(snap) = snap else {
+            return Err(Stop::OutOfMemory);
+        };
+        self.snap = snap;
         Ok(number)
     }
 
