@@ -1,5 +1,5 @@
 -- How far the phases of a connection come, one after another.
-use Rattle.std.proofs.Common.{◌≡◌, ◌⊎◌, inl, inr, ℕ, ◌+◌, ◌*◌, ◌-◌, ◌<◌, ◌≤◌, IsTrue, Ok, Err, refl, sym, ◌∙◌, subst, arith}
+use Rattle.std.proofs.Common.{◌≡◌, ◌⊎◌, inl, inr, ℕ, Bool, ◌<◌, ◌≤◌, Err, refl, sym, ◌∙◌, subst, arith}
 use Rattle.host_connection.specs.declared.connections.ConnectionFault.TheVariants as fault
 use Rattle.host_connection.specs.declared.phases.Phase.{Phase}
 use Rattle.host_connection.specs.declared.phases.Phase.TheVariants as phase
@@ -7,11 +7,10 @@ use Rattle.host_connection.specs.declared.requests.Request.{Request}
 use Rattle.host_connection.specs.declared.steps.Connection.{Connection}
 use Rattle.host_connection.specs.declared.steps.Progress.{Progress}
 use Rattle.host_connection.specs.declared.steps.Progress.TheVariants as progress
-use Rattle.host_connection.specs.declared.steps.Wants.{Wants}
 use Rattle.host_connection.specs.declared.stops.Stop.{Stop}
 use Rattle.host_connection.specs.declared.stops.Stop.TheVariants as stop
 use Rattle.http_wire.specs.Requests.{RequestParts}
-use Rattle.host_connection.specs.Advancing.{Advances, AreInOne, Falls, TellsBody, is_body, left_of_turn, phases_left, size_in, told_size}
+use Rattle.host_connection.specs.Advancing.{Advances, Falls, TellsBody, IsBody, left_of_turn, phases_left, size_in, told_size}
 use Rattle.host_connection.specs.Carrying.{AwaitsBodyOf, FollowsHead, FollowsReply, FollowsStop, IsAnswering, ReadsNext, Tells}
 use Rattle.host_connection.specs.Serving.{Answering}
 use Rattle.host_connection.proofs.Fallen.{between, is_body_between, falls_at_most, falls_twice}
@@ -53,7 +52,7 @@ advanced_in_all gone_through n m p q (inr first) some = first
 -- ---- of one phase
 
 -- nothing is told outside of a body
-no_size : (p : Phase) → (IsTrue (is_body p) → ⊥) → size_in p ≡ 0
+no_size : (p : Phase) → (IsBody p → ⊥) → size_in p ≡ 0
 no_size phase.Head none = refl
 no_size (phase.Invite i) none = absurd (none tt)
 no_size (phase.Body b) none = absurd (none tt)
@@ -62,7 +61,7 @@ no_size (phase.Ended result) none = refl
 
 -- it is a reply, or the end for another reason than memory
 abbrev Leaves : Phase → Type 0
-Leaves p = (left_of_turn p ≤ 1) × (IsTrue (is_body p) → ⊥) × (p ≡ phase.Ended (Err fault.OutOfMemory) → ⊥)
+Leaves p = (left_of_turn p ≤ 1) × (IsBody p → ⊥) × (p ≡ phase.Ended (Err fault.OutOfMemory) → ⊥)
 
 told_leaves : (why : Stop) (p : Phase) → Tells why p → Leaves p
 told_leaves why phase.Head tells = absurd tells
@@ -134,7 +133,7 @@ answer_advances answers host next request n old new before answering =
     }
 
 -- after a reply
-pub reply_advances : (close : Bool) (n new_n : ℕ) (old new : Phase) → left_of_turn old ≡ 1 → (IsTrue (is_body old) → ⊥) → FollowsReply close n new_n new → Advances progress.More n old new_n new
+pub reply_advances : (close : Bool) (n new_n : ℕ) (old new : Phase) → left_of_turn old ≡ 1 → (IsBody old → ⊥) → FollowsReply close n new_n new → Advances progress.More n old new_n new
 reply_advances close n new_n old new at none (inl last) =
     subst (λ (p : Phase). Advances progress.More n old new_n p) (sym last.2) (record {
       falls = omega (arith, at, last.1);
@@ -153,7 +152,7 @@ reply_advances close n new_n old new at none (inr more) =
 -- ---- where the phase stays
 
 -- it is the same phase, in no body
-pub rests : (result : Progress) (n : ℕ) (p : Phase) → told_size result ≡ 0 → ((left : ℕ) → Falls result left left) → (IsTrue (is_body p) → ⊥) → Advances result n p n p
+pub rests : (result : Progress) (n : ℕ) (p : Phase) → told_size result ≡ 0 → ((left : ℕ) → Falls result left left) → (IsBody p → ⊥) → Advances result n p n p
 rests result n p told falls none = record {
   falls = falls (phases_left n p);
   counts = omega arith;
@@ -162,13 +161,13 @@ rests result n p told falls none = record {
 }
 
 -- it is still in the same body
-pub inside : (result : Progress) (n : ℕ) (old new : Phase) → IsTrue (is_body old) → IsTrue (is_body new) → size_in new ≡ size_in old → told_size result ≡ 0
+pub inside : (result : Progress) (n : ℕ) (old new : Phase) → IsBody old → IsBody new → size_in new ≡ size_in old → told_size result ≡ 0
     → Falls result (phases_left n old) (phases_left n new) → Advances result n old n new
 inside result n old new was is same told falls = record {
   falls = falls;
   counts = omega arith;
   tells = inl ((was, is, refl), told, same);
-  memory = λ ended. absurd (subst (λ (p : Phase). IsTrue (is_body p)) ended is);
+  memory = λ ended. absurd (subst (λ (p : Phase). IsBody p) ended is);
 }
 
 -- ---- as a connection has it

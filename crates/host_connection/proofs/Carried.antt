@@ -274,6 +274,10 @@ answered {A = A} answers saw waits start now new first host next n buffer rest o
 
 -- ---- in a reply
 
+pub at_reply : {S H : Type 0} (answers : Answering H) (saw : S → Event → S → Type 0) (waits : Type 0) (start now : S) (first host : H) (c : Connection) (s : Sending) → c.phase ≡ phase.Reply s
+    → Carries answers saw waits start first now host c → Carried answers saw waits start first now host c.wire c.out c.number (phase.Reply s)
+at_reply answers saw waits start now first host c s is carries = subst (λ (p : Phase). Carried answers saw waits start first now host c.wire c.out c.number p) is carries
+
 -- it goes on as a text does, wherever it was left
 abbrev pub SendsOn : {S : Type 0} → (saw : S → Event → S → Type 0) → (now new : S) → Result (Unit {0}) (Halt WriteFailed) → (text : List ℕ) → (out new_out : Gathered) → Type 0
 SendsOn saw now new result text out new_out = (at : ℕ) → IsAmid text at out → Ran saw NoRead now new (GoesOnFrom result text at new_out)

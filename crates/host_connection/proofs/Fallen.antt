@@ -1,26 +1,26 @@
 -- How many phases of a connection are left.
-use Rattle.std.proofs.Common.{◌≡◌, ℕ, ◌+◌, ◌*◌, ◌-◌, ◌<◌, ◌≤◌, IsTrue, refl, arith}
+use Rattle.std.proofs.Common.{◌≡◌, ℕ, ◌<◌, ◌≤◌, arith}
 use Rattle.host_connection.specs.declared.phases.Phase.{Phase}
 use Rattle.host_connection.specs.declared.phases.Phase.TheVariants as phase
 use Rattle.host_connection.specs.declared.steps.Progress.{Progress}
 use Rattle.host_connection.specs.declared.steps.Progress.TheVariants as progress
-use Rattle.host_connection.specs.Advancing.{Falls, is_body, left_of_turn, phases_left}
+use Rattle.host_connection.specs.Advancing.{Falls, IsBody, left_of_turn, phases_left}
 
-pub body_at_most : (p : Phase) → IsTrue (is_body p) → left_of_turn p ≤ 3
+pub body_at_most : (p : Phase) → IsBody p → left_of_turn p ≤ 3
 body_at_most phase.Head is = absurd is
 body_at_most (phase.Invite i) is = omega arith
 body_at_most (phase.Body b) is = omega arith
 body_at_most (phase.Reply s) is = absurd is
 body_at_most (phase.Ended result) is = absurd is
 
-pub body_at_least : (p : Phase) → IsTrue (is_body p) → 2 ≤ left_of_turn p
+pub body_at_least : (p : Phase) → IsBody p → 2 ≤ left_of_turn p
 body_at_least phase.Head is = absurd is
 body_at_least (phase.Invite i) is = omega arith
 body_at_least (phase.Body b) is = omega arith
 body_at_least (phase.Reply s) is = absurd is
 body_at_least (phase.Ended result) is = absurd is
 
-is_body_where : (p : Phase) → 2 ≤ left_of_turn p → left_of_turn p ≤ 3 → IsTrue (is_body p)
+is_body_where : (p : Phase) → 2 ≤ left_of_turn p → left_of_turn p ≤ 3 → IsBody p
 is_body_where phase.Head least most = absurd (omega (arith, most))
 is_body_where (phase.Invite i) least most = tt
 is_body_where (phase.Body b) least most = tt
@@ -31,8 +31,8 @@ pub between : (n m k : ℕ) → n ≡ k → n ≤ m → m ≤ k → n ≡ m
 between n m k is before after = omega (arith, is, before, after)
 
 -- a phase between two in the body of one request is in it too
-pub is_body_between : (n m k : ℕ) (p q r : Phase) → IsTrue (is_body p) → IsTrue (is_body r) → n ≡ k → phases_left m q < phases_left n p → phases_left k r ≤ phases_left m q → n ≤ m → m ≤ k
-    → IsTrue (is_body q)
+pub is_body_between : (n m k : ℕ) (p q r : Phase) → IsBody p → IsBody r → n ≡ k → phases_left m q < phases_left n p → phases_left k r ≤ phases_left m q → n ≤ m → m ≤ k
+    → IsBody q
 is_body_between n m k p q r first last is fell falls before after =
     let same : n ≡ m = between n m k is before after in
     let most = body_at_most p first in

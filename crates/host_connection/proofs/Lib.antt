@@ -14,5 +14,5 @@ pub mod Asking
 mod Fallen
 pub mod Advancing
 pub mod Simulated
-pub mod Metered
+pub mod Metering
 pub mod Stepping

@@ -1,8 +1,6 @@
 -- What a connection did on one stream, as what it did on another that sees the same events.
-use Rattle.std.proofs.Common.{◌≡◌, ◌⊎◌, inl, inr, ℕ, List, [], ◌∷◌, Bool, Ok, refl, sym, subst}
-use Rattle.http_wire.specs.Expectations.{continue_text}
+use Rattle.std.proofs.Common.{◌≡◌, ◌⊎◌, inl, inr, ℕ, List, [], ◌∷◌, Bool, refl, subst}
 use Rattle.http_wire.specs.Gathering.{Gathered, IsCounted}
-use Rattle.http_wire.specs.Halting.{KeepsOn}
 use Rattle.http_wire.specs.Requests.{RequestParts}
 use Rattle.http_wire.specs.Timing.{Event, NoRead, Ran, Steps}
 use Rattle.http_wire.specs.Wires.{AwaitsBody, AwaitsHead}
@@ -13,9 +11,9 @@ use Rattle.host_connection.specs.declared.requests.Request.{Request}
 use Rattle.host_connection.specs.declared.steps.Connection.{Connection}
 use Rattle.host_connection.specs.declared.stops.Stop.{Stop}
 use Rattle.host_connection.specs.Carrying.{Carried, Carries, ConnectionSoFar, InTurn, Refusing, Replying, text_of}
-use Rattle.host_connection.specs.Phases.{BodySoFar, HeadSoFar, InviteSoFar, RefusalSoFar, ReplySoFar, SentUpTo}
+use Rattle.host_connection.specs.Phases.{BodySoFar, HeadSoFar, InviteSoFar, RefusalSoFar, ReplySoFar}
 use Rattle.host_connection.specs.Serving.{Answering, is_last_at}
-use Rattle.host_connection.specs.Timing.{Connects, IsCaughtUp, InvitesAs}
+use Rattle.host_connection.specs.Timing.{Connects, IsCaughtUp}
 
 -- each event that one stream saw led, on the other, from a state to the one that is alike after it
 abbrev pub Simulates : {S T : Type 0} → (saw : S → Event → S → Type 0) → (seen : T → Event → T → Type 0) → (R : S → T → Type 0) → Type 0
@@ -107,26 +105,26 @@ carried_back : {S T H : Type 0} (answers : Answering H) (saw : S → Event → S
 carried_back answers saw seen R by leaves other to start now after first host buffer out n phase.Head c r =
     turn_back answers saw seen R by start first n _ (λ began before begun. HeadSoFar seen began after begun buffer × (host ≡ before))
     (λ began before begun turn. (
-      let back = ran_back saw seen R by (AwaitsHead begun) began now after _ turn.0 r in
-      (back.0, back.1, back.2, turn.1)
+    let back = ran_back saw seen R by (AwaitsHead begun) began now after _ turn.0 r in
+    (back.0, back.1, (back.2, turn.1))
     )) c
 carried_back answers saw seen R by leaves other to start now after first host buffer out n (phase.Invite i) c r =
     turn_back answers saw seen R by start first n _ (λ began before begun. InviteSoFar seen began after i.head i.size i.at begun buffer × (host ≡ before))
     (λ began before begun turn. (
-      let back = invite_back saw seen R by began now after i.head i.size i.at begun buffer turn.0 r in
-      (back.0, back.1, back.2, turn.1)
+    let back = invite_back saw seen R by began now after i.head i.size i.at begun buffer turn.0 r in
+    (back.0, back.1, (back.2, turn.1))
     )) c
 carried_back answers saw seen R by leaves other to start now after first host buffer out n (phase.Body b) c r =
     turn_back answers saw seen R by start first n _ (λ began before begun. BodySoFar seen began after b.head b.size begun b.body.items buffer × (host ≡ before))
     (λ began before begun turn. (
-      let back = body_back saw seen R by began now after b.head b.size begun b.body.items buffer turn.0 r in
-      (back.0, back.1, back.2, turn.1)
+    let back = body_back saw seen R by began now after b.head b.size begun b.body.items buffer turn.0 r in
+    (back.0, back.1, (back.2, turn.1))
     )) c
 carried_back answers saw seen R by leaves other to start now after first host buffer out n (phase.Reply s) c r =
     let back = turn_back answers saw seen R by start first n _ (λ began before begun. Replying answers seen began after before host (is_last_at n) begun buffer out s
-        ⊎ Refusing seen began after before host (is_last_at n) begun buffer out s)
-        (λ began before begun turn. either_back answers saw seen R by began now after before host (is_last_at n) begun buffer out s turn r) c.0 in
-    (back.0, back.1, back.2, counted_or leaves other to out c.1, c.2)
+    ⊎ Refusing seen began after before host (is_last_at n) begun buffer out s)
+    (λ began before begun turn. either_back answers saw seen R by began now after before host (is_last_at n) begun buffer out s turn r) c.0 in
+    (back.0, back.1, (back.2, counted_or leaves other to out c.1, c.2))
 carried_back answers saw seen R by leaves other to start now after first host buffer out n (phase.Ended result) c r =
     ran_back saw seen R by (IsCaughtUp answers first) start now after (Connects answers result first host) c r
 

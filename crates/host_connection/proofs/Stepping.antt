@@ -1,6 +1,6 @@
 -- A step of a connection: it goes through some phases on a metered stream.
-use Rattle.std.proofs.Common.{◌≡◌, ◌⊎◌, inl, inr, ℕ, ◌+◌, ◌<◌, ◌≤◌, List, refl, sym, ◌∙◌, subst, arith}
-use Rattle.http_wire.specs.Gathering.{Gathered, IsCounted}
+use Rattle.std.proofs.Common.{◌≡◌, ◌⊎◌, inl, inr, ℕ, ◌≤◌, List, refl, ◌∙◌, subst, arith}
+use Rattle.http_wire.specs.Gathering.{Gathered}
 use Rattle.http_wire.specs.Timing.{Event, Ran, Steps}
 use Rattle.host_connection.specs.declared.meters.Metered.{Metered}
 use Rattle.host_connection.specs.declared.phases.Phase.{Phase}
@@ -11,10 +11,9 @@ use Rattle.host_connection.specs.declared.steps.Progress.TheVariants as progress
 use Rattle.host_connection.specs.declared.steps.Wants.{Wants}
 use Rattle.host_connection.specs.Advancing.{Falls, Goes}
 use Rattle.host_connection.specs.Carrying.{Carries, IsHeld, Leads, MayWait}
-use Rattle.host_connection.specs.Metering.{moved}
 use Rattle.host_connection.specs.Serving.{Answering}
 use Rattle.host_connection.specs.Timing.{Connects, IsCaughtUp}
-use Rattle.host_connection.proofs.Metered.{IsMetered, IsStream, Sees, from_meter, left_after, streams, to_meter}
+use Rattle.host_connection.proofs.Metering.{IsMetered, IsStream, Sees, from_meter, left_after, streams, to_meter}
 use Rattle.host_connection.proofs.Simulated.{carries_back, ran_back}
 
 -- where a metered stream has to wait

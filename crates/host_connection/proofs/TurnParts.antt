@@ -1,5 +1,5 @@
 -- What the parts of a turn do, in the words of lemmas.
-use Rattle.std.specs.Prelude.{◌≡◌, ◌⊎◌, ℕ, ◌+◌, ◌<◌, List, [], ◌++◌, length, Bool, true, false, Result, Ok, Err, IfSome, codes, Some, OnOk, MatchResult}
+use Rattle.std.specs.Prelude.{◌≡◌, ◌⊎◌, ℕ, ◌<◌, List, [], ◌++◌, length, Bool, true, false, Result, Ok, Err, IfSome, codes, Some, OnOk, MatchResult}
 use Rattle.std.specs.Io.KnownBytes.{Consumes, Appends, prepend_known}
 use Rattle.std.specs.Str.{bytes_eq}
 use Rattle.http_wire.specs.Fields.{AnnouncesBody}

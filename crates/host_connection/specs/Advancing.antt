@@ -1,5 +1,5 @@
 -- How far a step of a connection comes.
-use Rattle.std.specs.Prelude.{◌≡◌, ◌⊎◌, ℕ, ◌+◌, ◌*◌, ◌-◌, ◌<◌, ◌≤◌, List, Bool, true, false, IsTrue, Err}
+use Rattle.std.specs.Prelude.{◌≡◌, ◌⊎◌, ℕ, ◌+◌, ◌*◌, ◌-◌, ◌<◌, ◌≤◌, List, Err}
 use Rattle.http_wire.specs.Timing.{Event, Steps}
 use Rattle.host_connection.specs.declared.connections.ConnectionFault.TheVariants as fault
 use Rattle.host_connection.specs.declared.phases.Phase.{Phase}
@@ -39,12 +39,12 @@ pub record Goes {S : Type 0} (saw : S → Event → S → Type 0) (old new : S) 
 -- ---- bodies
 
 -- a body is read, or is read next
-abbrev pub is_body : Phase → Bool
-is_body phase.Head = false
-is_body (phase.Invite i) = true
-is_body (phase.Body b) = true
-is_body (phase.Reply s) = false
-is_body (phase.Ended result) = false
+abbrev pub IsBody : Phase → Type 0
+IsBody phase.Head = ⊥
+IsBody (phase.Invite i) = Unit {0}
+IsBody (phase.Body b) = Unit {0}
+IsBody (phase.Reply s) = ⊥
+IsBody (phase.Ended result) = ⊥
 
 -- how many bytes it has
 abbrev pub size_in : Phase → ℕ
@@ -56,7 +56,7 @@ size_in (phase.Ended result) = 0
 
 -- both are in the body of the same request
 abbrev pub AreInOne : (n : ℕ) → Phase → (new_n : ℕ) → Phase → Type 0
-AreInOne n old new_n new = IsTrue (is_body old) × IsTrue (is_body new) × (n ≡ new_n)
+AreInOne n old new_n new = IsBody old × IsBody new × (n ≡ new_n)
 
 -- how long the body is that a step tells of
 abbrev pub told_size : Progress → ℕ

@@ -1,5 +1,5 @@
 -- How far a connection has come.
-use Rattle.std.specs.Prelude.{ℕ, List, length, vec_len}
+use Rattle.std.specs.Prelude.{ℕ, zero, suc, List, length, vec_len}
 use Rattle.http_wire.specs.Gathering.{Gathered}
 use Rattle.host_connection.specs.declared.phases.Phase.{Phase}
 use Rattle.host_connection.specs.declared.phases.Phase.TheVariants as phase
@@ -9,7 +9,7 @@ use Rattle.host_connection.specs.declared.steps.stages.Stage.TheVariants as stag
 
 -- where a head is read, by how many bytes came and were not taken
 abbrev pub head_stage : ℕ → Stage
-head_stage 0 = stage.Idle
+head_stage zero = stage.Idle
 head_stage (suc more) = stage.Head (suc more)
 
 -- by what it is in the middle of, with these bytes that were read and not taken, and so much gathered of a reply

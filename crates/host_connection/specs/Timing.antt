@@ -1,7 +1,6 @@
 -- When a connection reads and writes.
-use Rattle.std.specs.Prelude.{◌≡◌, ℕ, ◌<◌, List, [], ◌++◌, length, Some, Bool, Result, Ok, Err, OnOk, MatchResult}
-use Rattle.std.specs.Io.KnownBytes.{Consumes, prepend_known}
-use Rattle.std.specs.declared.vec.Vec.{Vec}
+use Rattle.std.specs.Prelude.{◌≡◌, ℕ, ◌<◌, List, [], ◌++◌, length, Some, Result, Ok, Err, MatchResult}
+use Rattle.std.specs.Io.KnownBytes.{prepend_known}
 use Rattle.std.specs.List.{concat}
 use Rattle.http_wire.specs.Requests.{RequestParts}
 use Rattle.http_wire.specs.Timing.{Event, AtEnd, ReadFails, WriteFails, all_put, IsLatest, GoesOn, Gives}
@@ -10,7 +9,7 @@ use Rattle.host_connection.specs.declared.connections.ConnectionFault.{Connectio
 use Rattle.host_connection.specs.declared.connections.ConnectionFault.TheVariants as fault
 use Rattle.host_connection.specs.declared.stops.Stop.{Stop}
 use Rattle.host_connection.specs.declared.stops.Stop.TheVariants as stop
-use Rattle.host_connection.specs.Serving.{Answering, Stream, AreServed, IsCut, Serves, IsInterim, Invites, HeadStops, SizeStops, Refuses, Exchanges, Turns, Next, Exchange, End}
+use Rattle.host_connection.specs.Serving.{Answering, Stream, AreServed, IsCut, Serves, IsInterim, HeadStops}
 
 -- A connection may read: the bytes that came are whole requests after each of which it goes on, and then no whole one and no
 -- head that is refused; all that was written is what is sent for these, and what comes before the body of one that is cut in

@@ -69,5 +69,8 @@ pub fn serve_connection<D: Steady, S: Service>(
     let Ok(mut connection) = Connection::new(alloc) else {
         return Err(ConnectionFault::OutOfMemory);
     };
-    serve(alloc, &mut connection, duplex, service)
+    let result = serve(alloc, &mut connection, duplex, service);
+    // By a call: at the end of the function its proof would go through all that a connection owns.
+    drop(connection);
+    result
 }

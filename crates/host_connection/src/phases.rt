@@ -1,14 +1,11 @@
 //! What a connection is in the middle of.
-ghost use Rattle.std.specs.Prelude.{◌≡◌, ◌<◌, ◌≤◌, ℕ, List, true, IsErrOf, length, vec_len};
+ghost use Rattle.std.specs.Prelude.{◌≡◌, ◌<◌, ◌≤◌, true, length, vec_len};
 ghost use Rattle.http_wire.specs.Expectations.{continue_text};
-ghost use Rattle.http_wire.specs.Gathering.{GoesOnFrom, IsAmid, IsCounted};
-ghost use Rattle.http_wire.specs.Timing.{Event, NoRead, Ran, Steps};
-ghost use Rattle.host_connection.specs.Carrying.{text_of};
 ghost use Rattle.host_replies.specs.Bodies.{answer_of};
 
 use crate::connections::ConnectionFault;
 use host_replies::Reply;
-use http_wire::{Duplex, Halt, Head, Outgoing, WriteFailed};
+use http_wire::Head;
 
 /// An interim reply that is on its way to a client, which sends a body of this size after it.
 #[derive(Drop)]
@@ -37,24 +34,6 @@ pub struct Sending {
     pub close: bool,
     pub head_only: bool,
     ghost withheld: { (answer_of reply).withheld ≡ true → head_only ≡ true },
-}
-
-impl Sending {
-    /// Goes on with it, behind the bytes of it that were written, and with those that are gathered in `out`. It begins where `out` begins a text.
-    pub(crate) fn go_on<D: Duplex>(
-        &self,
-        duplex: &mut D,
-        out: &mut Outgoing,
-    ) -> Result<(), Halt<WriteFailed>>
-        requires { IsCounted out.old }
-        ensures ran { (at : ℕ) → IsAmid (text_of self.now) at out.old
-            → Ran D.saw NoRead duplex.old duplex.new (GoesOnFrom result (text_of self.now) at out.new) }
-        ensures led { (events : List Event) × Steps D.saw duplex.old events duplex.new }
-        ensures waits { IsErrOf result Halt.WouldWait → D.waits duplex.new }
-    {
-        self.reply
-            .try_send(duplex, out, self.close, self.head_only)
-    }
 }
 
 /// What a connection is in the middle of.

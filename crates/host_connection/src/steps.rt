@@ -1,20 +1,19 @@
 //! A connection that goes on where it left off, step by step.
-ghost use Rattle.std.specs.Prelude.{◌≡◌, List, IfOk, IsTrue};
+ghost use Rattle.std.specs.Prelude.{◌≡◌, List, IfOk};
 ghost use Rattle.http_wire.specs.Gathering.{nothing};
 ghost use Rattle.http_wire.specs.Timing.{Event, Steps};
-ghost use Rattle.host_connection.specs.Advancing.{is_body, phases_left, Advances, Goes, RemembersMemory, TellsBody};
+ghost use Rattle.host_connection.specs.Advancing.{phases_left, Advances, Goes, IsBody, RemembersMemory, TellsBody};
 ghost use Rattle.host_connection.specs.Carrying.{AnswersOnce, Asks, Carries, IsFresh, Leads, MayWait};
 
 mod stages;
 mod turns;
-
-pub use stages::Stage;
 
 use crate::connections::ConnectionFault;
 use crate::meters::Metered;
 use crate::phases::Phase;
 use crate::services::Service;
 use http_wire::{Duplex, Outgoing, Wire};
+pub use stages::Stage;
 use std::alloc::{AllocError, Global};
 use std::mem;
 
@@ -155,7 +154,7 @@ impl Connection {
         duplex: &mut D,
         service: &mut S,
     ) -> Progress
-        requires { IsTrue (is_body self.old.phase) }
+        requires { IsBody self.old.phase }
         ensures leads { (start : D) (first : S)
             → Carries S.answers D.saw (MayWait D.waits) start first duplex.old service.old self.old
             → Leads S.answers D.saw (MayWait D.waits) D.waits start first duplex.new service.new self.new result }

@@ -1,11 +1,10 @@
 -- A text that goes on behind what was written of it.
-use Rattle.std.proofs.Common.{◌≡◌, ℕ, ◌+◌, ◌-◌, ◌^◌, ◌<◌, ◌≤◌, min, List, [], ◌++◌, length, length-append, take, drop, Some, Result, Ok, Err, OnOk, refl, sym, ap, subst, ◌∙◌, append_assoc, append-nil, arith}
+use Rattle.std.proofs.Common.{◌≡◌, ℕ, ◌+◌, ◌-◌, ◌^◌, ◌≤◌, min, List, [], ◌++◌, length, length-append, take, drop, Result, Ok, Err, OnOk, refl, sym, ap, subst, ◌∙◌, append_assoc, append-nil, arith}
 use Rattle.std.proofs.lemmas.List.{append_cancel_left, length-take-le, take_at, take-append-drop}
 use Rattle.http_wire.specs.declared.halts.Halt.{Halt}
 use Rattle.http_wire.specs.declared.halts.Halt.TheVariants.{Failed, WouldWait}
 use Rattle.http_wire.specs.declared.sinks.WriteFailed.{WriteFailed}
 use Rattle.http_wire.specs.Gathering.{Gathered, from_front, nothing, GoesOnFrom, IsAmid, IsCounted, Written, WrittenNow, WritesEnd, Puts}
-use Rattle.http_wire.specs.Halting.{TextEnds, WritesFrom}
 use Rattle.http_wire.specs.Timing.{Event, all_put, NoRead, Ran}
 
 -- the text is what was written of it, and what is left

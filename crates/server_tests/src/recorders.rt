@@ -50,7 +50,7 @@ impl Duplex for Recorder<'_> {
 
     ghost write_fails = { ⊤ };
 
-    ghost waits = { ⊥ };
+    ghost waits = { λ _. ⊥ };
 
     ghost saw = { λ old event new. Records event old.input.now old.steps.items new.input.now new.steps.items };
 
@@ -83,7 +83,7 @@ impl Duplex for Recorder<'_> {
 }
 
 impl Steady for Recorder<'_> {
-    ghost never_waits = { λ never. never };
+    ghost never_waits = { λ recorder never. never };
 }
 
 /// Serves a connection. Its record is the trail of what it did: each read came where it may.

@@ -72,7 +72,7 @@ impl Duplex for Script {
 
     ghost write_fails = { ⊤ };
 
-    ghost waits = { Unit {0} };
+    ghost waits = { λ _. Unit {0} };
 
     ghost saw = { λ _ event _. Moves ⊤ ⊤ event None None None None };
 

@@ -19,6 +19,9 @@ fn digest_of(alloc: Global, reply: &Reply) -> Result<Digest>
         sink: Writing(Vec::new(alloc)),
     };
     let mut out = Outgoing::new(alloc)?;
+    if !out.is_counted() {
+        return Err(anyhow!("a reply is too long to be counted"));
+    }
     match reply.try_send(&mut duplex, &mut out, false, false) {
         Ok(()) => Ok(Digest::of_bytes(duplex.sink.0.as_slice())),
         Err(_) => Err(anyhow!("a reply isn't sent")),

@@ -17,8 +17,8 @@ pub returns-clause-served : goal.returns-clause-served
 returns-clause-served g c =
     let d = g.D.Duplex in
     let old = c.args.duplex.now in
-    let new = c.serve.new.duplex in
-    let ran = c.serve.ensures.timely in
+    let new = c.serve-result.new.duplex in
+    let ran = c.serve-result.ensures.timely in
     let told = all_told d.saw d.left d.held d.read_fails d.write_fails g.met.D.Duplex.told old new ran.events ran.steps in
-    serves_told g.S.Service.answers (IsLatest ReadFails ran.events) (IsLatest WriteFails ran.events) d.read_fails d.write_fails c.serve.result c.args.service.now c.serve.new.service
+    serves_told g.S.Service.answers (IsLatest ReadFails ran.events) (IsLatest WriteFails ran.events) d.read_fails d.write_fails c.serve-result.result c.args.service.now c.serve-result.new.service
     (d.left old) (d.held old) (d.held new) (all_put ran.events) told.read told.write (ran.claimed.serves (d.left old) (d.left new) told.gives) told.taken

@@ -1,4 +1,4 @@
-use Rattle.std.proofs.Common.{length, slice_range, subst, sym, [], None, Some}
+use Rattle.std.proofs.Common.{length, slice_range, subst, sym, []}
 use Rattle.memchr.specs.Find.{IsFirstByte, is_byte}
 use Rattle.http_wire.specs.Scanning.{ScansTo}
 use Rattle.http_wire.proofs.LineEnds.{scans_all_text, scans_text}

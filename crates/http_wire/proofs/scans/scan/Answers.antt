@@ -1,5 +1,5 @@
-use Rattle.std.proofs.Common.{rules, ◌∷◌, ◌∙◌, subst, sym}
-use Rattle.http_wire.specs.Scanning.{ScansTo, step_of}
+use Rattle.std.proofs.Common.{rules, ◌∙◌, subst, sym}
+use Rattle.http_wire.specs.Scanning.{ScansTo}
 use Rattle.http_wire.proofs.LineEnds.{scans_byte, scans_on}
 use Rattle.http_wire.proofs.scans.scan.Goals as goal
 

@@ -1,4 +1,3 @@
-use Rattle.std.proofs.Common.{rules}
 use Rattle.host_connection.proofs.Stepping.{from_metered, step_else, step_full, step_goes, step_waits, to_metered}
 use Rattle.host_connection.proofs.steps.Connection.go_on.Goals as goal
 
@@ -31,7 +30,7 @@ returns-else-is_used_up g c =
     record {
       leads = λ start first so. (
           let up = to_metered answers saw waits start c.args.duplex.now.stream c.begin.new.self first c.args.service.now c.args.self.now c.begin.ensures.stream so in
-          step_waits answers saw waits start up.0 new first c.go_through.new.service c.go_through.new.self c.in-Waits.wants up.1 (λ none. absurd (c.if-is_used_up.false (c.is_used_up.ensures.1 none)))
+          step_waits answers saw waits start up.0 new first c.go_through.new.service c.go_through.new.self c.in-Waits.wants up.1 (λ none. cc (c.if-is_used_up.false, c.is_used_up.ensures.1 none))
           (c.in-Waits.ensures.leads up.0 first up.2)
           );
       goes = step_goes saw c.args.duplex.now.stream c.begin.new.self new led.0 _ _ _ c.begin.ensures.stream c.begin.ensures.left led.1 c.in-Waits.ensures.advances.falls;

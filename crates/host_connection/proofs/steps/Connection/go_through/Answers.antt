@@ -1,7 +1,7 @@
-use Rattle.std.proofs.Common.{◌≡◌, ◌+◌, ◌++◌, ◌<◌, [], inl, inr, refl, rules, arith}
+use Rattle.std.proofs.Common.{◌+◌, ◌++◌, [], inl, inr, refl}
 use Rattle.http_wire.proofs.Trails.{steps_joined}
 use Rattle.host_connection.specs.declared.steps.Progress.TheVariants as progress
-use Rattle.host_connection.proofs.Advancing.{advanced_in_all, advanced_on}
+use Rattle.host_connection.proofs.Advancing.{advanced_on}
 use Rattle.host_connection.proofs.Asking.{asked_in_all, asked_on}
 use Rattle.host_connection.proofs.steps.Connection.go_through.Goals as goal
 

@@ -1,4 +1,4 @@
-use Rattle.std.proofs.Common.{◌≤◌, ◌<◌, Err, ap, arith, refl, subst, sym}
+use Rattle.std.proofs.Common.{Err, ap, arith, refl, subst, sym}
 use Rattle.http_wire.specs.declared.halts.Halt.{Halt}
 use Rattle.http_wire.specs.declared.sinks.WriteFailed.{WriteFailed}
 use Rattle.http_wire.specs.Expectations.{continue_text}
@@ -8,6 +8,7 @@ use Rattle.host_connection.specs.declared.steps.Connection.{Connection}
 use Rattle.host_connection.specs.declared.phases.Phase.TheVariants as phase
 use Rattle.host_connection.specs.declared.steps.Progress.TheVariants as progress
 use Rattle.host_connection.specs.declared.steps.Wants.TheVariants as wants
+use Rattle.host_connection.specs.declared.stops.Stop.TheVariants as stop
 use Rattle.host_connection.specs.Carrying.{Awaits, IsHeld, MayWait}
 use Rattle.host_connection.proofs.Advancing.{at_new, inside, stop_advances}
 use Rattle.host_connection.proofs.Carried.{at_connection, invited, not_invited, waits_in_invitation}
@@ -50,7 +51,7 @@ returns-in-Ok-clause-advances g c =
 pub returns-in-Err-Failed-clause-advances : goal.returns-in-Err-Failed-clause-advances
 returns-in-Err-Failed-clause-advances g c =
     at_new progress.More c.args.self.now.number (phase.Invite c.args.invitation) c.enter-in-Err-Failed.new.self _ c.enter-in-Err-Failed.ensures
-    (stop_advances c.args.self.now.number (phase.Invite c.args.invitation) c.after_stop.result _ (omega arith) c.after_stop.ensures)
+    (stop_advances c.args.self.now.number (phase.Invite c.args.invitation) c.after_stop.result stop.WriteFault (omega arith) c.after_stop.ensures)
 
 pub returns-in-Err-WouldWait-clause-advances : goal.returns-in-Err-WouldWait-clause-advances
 returns-in-Err-WouldWait-clause-advances g c =

@@ -1,12 +1,22 @@
-use Rattle.std.proofs.Common.{◌≡◌, rules, subst}
+use Rattle.std.proofs.Common.{◌≡◌, [], inl, refl, rules, arith, subst}
 use Rattle.host_connection.specs.declared.phases.Phase.{Phase}
-use Rattle.host_connection.specs.Carrying.{Carried}
+use Rattle.host_connection.specs.declared.phases.Phase.TheVariants as phase
+use Rattle.host_connection.specs.declared.steps.Progress.TheVariants as progress
+use Rattle.host_connection.specs.Carrying.{Carried, MayWait}
+use Rattle.host_connection.proofs.Advancing.{at_both, rests}
 use Rattle.host_connection.proofs.steps.Connection.pass.Goals as goal
 
-pub returns-in-Head-clause-leads : goal.returns-in-Head-clause-leads
-returns-in-Head-clause-leads g c = λ start first so. (
+pub returns-in-Ended : goal.returns-in-Ended
+returns-in-Ended g c =
     let a = c.args.self.now in
-    let same : a.phase ≡ c.replace.new.dest = search rules in
-    c.read_head.ensures.leads start first
-    (subst (λ (p : Phase). Carried g.S.Service.answers g.D.Duplex.saw g.D.Duplex.waits start first c.args.duplex.now c.args.service.now a.wire a.out a.number p) same so)
-    )
+    let is : a.phase ≡ phase.Ended c.in-Ended.result = search rules in
+    record {
+      leads = λ start first so. (
+        subst (λ (p : Phase). Carried g.S.Service.answers g.D.Duplex.saw (MayWait g.D.Duplex.waits) start first c.args.duplex.now c.args.service.now a.wire a.out a.number p) is so,
+        is,
+      );
+      led = ([], refl);
+      advances = at_both (progress.Ended c.in-Ended.result) a.number a.phase (phase.Ended c.in-Ended.result) is (rests (progress.Ended c.in-Ended.result) a.number _ refl (λ left. omega arith) (λ no. no));
+      asks = inl (refl, omega arith);
+      grows = g.met.S.Service.stays c.args.service.now;
+    }

@@ -1,4 +1,4 @@
-use Rattle.std.proofs.Common.{◌≡◌, ◌≤◌, ◌++◌, ℕ, arith, Err, Global, ap, length, refl, rules, subst, sym, vec_len}
+use Rattle.std.proofs.Common.{◌≡◌, ◌++◌, ℕ, arith, Err, Global, ap, length, refl, rules, subst, sym, vec_len}
 use Rattle.http_wire.specs.declared.faults.BodyFault.{BodyFault}
 use Rattle.http_wire.specs.declared.halts.Halt.{Halt}
 use Rattle.http_wire.specs.Halting.{TriesBody}
@@ -10,7 +10,7 @@ use Rattle.host_connection.specs.declared.steps.Progress.TheVariants as progress
 use Rattle.host_connection.specs.declared.steps.Wants.TheVariants as wants
 use Rattle.host_connection.specs.declared.stops.Stop.{Stop}
 use Rattle.host_connection.specs.Advancing.{Advances}
-use Rattle.host_connection.specs.Carrying.{Awaits, FollowsStop, IsAnswering, IsHeld, MayWait}
+use Rattle.host_connection.specs.Carrying.{Awaits, FollowsStop, IsHeld, MayWait}
 use Rattle.host_connection.specs.Serving.{is_last_at}
 use Rattle.host_connection.specs.Stopping.{stop_of_body}
 use Rattle.host_connection.proofs.Advancing.{answer_advances, at_new, inside, stop_advances}
@@ -65,7 +65,7 @@ returns-in-Ok-clause-advances g c =
     let n = c.args.self.now.number in
     let k = c.answer.new.self in
     subst (λ (m : ℕ). Advances progress.More n (phase.Body b) m k.phase) (sym c.answer.ensures.number)
-    (answer_advances g.S.Service.answers c.args.service.now c.answer.new.service _ n (phase.Body b) k.phase (omega arith) c.answer.ensures.answering)
+    (answer_advances g.S.Service.answers c.args.service.now c.answer.new.service (record { head = b.head; body = c.try_read_body.new.body; is_last = is_last_at n }) n (phase.Body b) k.phase (omega arith) c.answer.ensures.answering)
 
 pub returns-in-Err-Failed-clause-advances : goal.returns-in-Err-Failed-clause-advances
 returns-in-Err-Failed-clause-advances g c =

@@ -1,4 +1,4 @@
-use Rattle.std.proofs.Common.{◌≡◌, ◌≤◌, ◌∙◌, Err, ap, arith, refl, rules, subst, sym}
+use Rattle.std.proofs.Common.{◌≡◌, ◌∙◌, Err, ap, arith, refl, rules, subst, sym}
 use Rattle.http_wire.specs.declared.faults.HeadFault.{HeadFault}
 use Rattle.http_wire.specs.declared.halts.Halt.{Halt}
 use Rattle.http_wire.specs.Halting.{TriesHead}
@@ -23,8 +23,8 @@ returns-then-size-gt0-clause-leads g c = λ start first so. (
       at_connection g.S.Service.answers g.D.Duplex.saw (MayWait g.D.Duplex.waits) start c.try_read_head.new.duplex first c.args._service.now c.enter.new.self _ c.enter.ensures
           (head_came g.S.Service.answers g.D.Duplex.saw (MayWait g.D.Duplex.waits) start c.args.duplex.now c.try_read_head.new.duplex first c.args._service.now a.number a.wire c.try_read_head.new.self a.out _
           c.in-Ok.head c.after_head-phase.result (subst P c.requires so) c.in-Ok.ensures.ran c.after_head-phase.ensures refl),
-      subst (λ (k : Connection). AwaitsBodyOf c.size.result k.phase) (sym c.enter.ensures)
-          (awaits_body c.in-Ok.head c.size.result c.after_head-phase.result c.after_head-phase.ensures c.size.ensures (search rules)),
+      subst (λ (k : Connection). AwaitsBodyOf c.size-size.result k.phase) (sym c.enter.ensures)
+          (awaits_body c.in-Ok.head c.size-size.result c.after_head-phase.result c.after_head-phase.ensures c.size-size.ensures (search rules)),
       search rules,
     )
     )
@@ -68,14 +68,14 @@ pub returns-then-size-gt0-clause-advances : goal.returns-then-size-gt0-clause-ad
 returns-then-size-gt0-clause-advances g c =
     let a = c.args.self.now in
     at_old _ a.number _ a.phase phase.Head _ c.requires (at_new _ a.number phase.Head c.enter.new.self _ c.enter.ensures
-    (head_advances (progress.Body c.size.result) a.number c.after_head-phase.result c.in-Ok.head c.after_head-phase.ensures (λ old_left new_left fell. fell) c.size.ensures))
+    (head_advances (progress.Body c.size-size.result) a.number c.after_head-phase.result c.in-Ok.head c.after_head-phase.ensures (λ old_left new_left fell. fell) c.size-size.ensures))
 
 pub returns-else-size-gt0-clause-advances : goal.returns-else-size-gt0-clause-advances
 returns-else-size-gt0-clause-advances g c =
     let a = c.args.self.now in
-    let none : 0 ≡ c.size.result = omega arith in
+    let none : 0 ≡ c.size-size.result = omega arith in
     at_old _ a.number _ a.phase phase.Head _ c.requires (at_new _ a.number phase.Head c.enter.new.self _ c.enter.ensures
-    (head_advances progress.More a.number c.after_head-phase.result c.in-Ok.head c.after_head-phase.ensures (λ old_left new_left fell. fell) (none ∙ c.size.ensures)))
+    (head_advances progress.More a.number c.after_head-phase.result c.in-Ok.head c.after_head-phase.ensures (λ old_left new_left fell. fell) (none ∙ c.size-size.ensures)))
 
 pub returns-in-Err-Failed-clause-advances : goal.returns-in-Err-Failed-clause-advances
 returns-in-Err-Failed-clause-advances g c =

@@ -1,14 +1,10 @@
 -- A connection on a metered stream, as one on the stream itself.
-use Rattle.std.proofs.Common.{◌≡◌, ◌⊎◌, inl, inr, ℕ, ◌+◌, ◌<◌, ◌≤◌, List, [], ◌∷◌, ◌++◌, length, Result, refl, sym, ap, ◌∙◌, subst, arith}
+use Rattle.std.proofs.Common.{◌≡◌, ℕ, ◌+◌, List, [], ◌∷◌, length, refl, sym, ap, ◌∙◌, subst, arith}
 use Rattle.std.proofs.lemmas.List.{length-append}
-use Rattle.http_wire.specs.Timing.{Event, Got, AtEnd, ReadFails, Put, WriteFails, Ran, Steps, all_got, all_put, read_of}
+use Rattle.http_wire.specs.Timing.{Event, Got, AtEnd, ReadFails, Put, WriteFails, Steps, all_got, all_put, read_of}
 use Rattle.host_connection.specs.declared.meters.Metered.{Metered}
-use Rattle.host_connection.specs.declared.steps.Connection.{Connection}
-use Rattle.host_connection.specs.Carrying.{Carries, MayWait}
 use Rattle.host_connection.specs.Metering.{Meters, moved, moved_by}
-use Rattle.host_connection.specs.Serving.{Answering}
-use Rattle.host_connection.specs.Timing.{Connects, IsCaughtUp}
-use Rattle.host_connection.proofs.Simulated.{Simulates, carries_back, ran_back, steps_back}
+use Rattle.host_connection.proofs.Simulated.{Simulates, steps_back}
 
 -- ---- how many bytes
 
