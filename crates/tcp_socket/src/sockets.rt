@@ -15,6 +15,8 @@ pub struct Socket<'a> {
     stream: &'a TcpStream,
     read: u64,
     written: u64,
+    // Whether a read gave less than it had room for, so that nothing more is there. The set tells of what comes then.
+    is_drained: bool,
 }
 
 impl<'a> Model for Socket<'a> {
@@ -30,6 +32,7 @@ impl<'a> Socket<'a> {
             stream,
             read: 0,
             written: 0,
+            is_drained: false,
         }
     }
 
@@ -66,9 +69,13 @@ impl Duplex for Socket<'_> {
     ghost saw = { λ _ event _. Moves ⊤ ⊤ event None None None None };
 
     fn read_some(&mut self, buf: &mut [u8]) -> Result<usize, Halt<ReadFailed>> {
+        if self.is_drained {
+            return Err(Halt::WouldWait);
+        }
         let mut stream = self.stream;
         match stream.read(buf) {
             Ok(count) => {
+                self.is_drained = count > 0 && count < buf.len();
                 self.read = self.read.saturating_add(count as u64);
                 Ok(count)
             }
