@@ -1,0 +1,4 @@
+-- when a connection is late
+pub mod Paces
+-- which one has waited longest
+pub mod Waiting

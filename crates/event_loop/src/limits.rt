@@ -1,0 +1,43 @@
+//! How long a connection may take.
+ghost use Rattle.std.specs.Prelude.{◌≡◌, min};
+ghost use Rattle.event_loop.specs.Paces as spec;
+
+/// How many seconds a head has from its first byte on.
+const HEAD_SECONDS: u64 = 10;
+
+/// How many seconds a connection may be idle.
+const IDLE_SECONDS: u64 = 15;
+
+/// How many seconds each 60 KiB of a body or of a reply have.
+const TRANSFER_SECONDS: u64 = 60;
+
+/// The longest second that a test may set, in milliseconds.
+const LONGEST_SECOND: u64 = 1_000;
+
+/// How long a connection may take, in milliseconds.
+#[derive(Clone, Copy, Debug, PartialEq, Eq)]
+pub struct Limits {
+    /// A head, from its first byte on.
+    pub head: u64,
+    /// Idle, between two requests or before the first.
+    pub idle: u64,
+    /// Each 60 KiB of a body or of a reply.
+    pub transfer: u64,
+    /// How often the connections are looked through.
+    pub sweep: u64,
+}
+
+impl Limits {
+    /// The limits where a second has so many milliseconds; tests shorten it, and it is no longer than a second.
+    pub fn with_second(milliseconds: u64) -> Limits
+        ensures { result ≡ spec.limits_of (min milliseconds 1000) }
+    {
+        let second = milliseconds.min(LONGEST_SECOND);
+        Limits {
+            head: HEAD_SECONDS * second,
+            idle: IDLE_SECONDS * second,
+            transfer: TRANSFER_SECONDS * second,
+            sweep: second,
+        }
+    }
+}

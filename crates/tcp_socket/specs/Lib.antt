@@ -1,0 +1,1 @@
+-- no definitions: what a socket carries is not known

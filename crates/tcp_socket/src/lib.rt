@@ -1,0 +1,6 @@
+//! Sockets that don't block, as streams in both directions.
+#![tactic(auto)]
+
+mod sockets;
+
+pub use sockets::Socket;
