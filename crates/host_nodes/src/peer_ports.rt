@@ -1,5 +1,5 @@
 //! The threads that answer other nodes.
-ghost use Rattle.std.specs.Prelude.{◌≡◌, true};
+ghost use Rattle.std.specs.Prelude.{◌≡◌, None, true};
 
 use crate::peer_streams::PeerStream;
 use crate::runtimes::Serving;
@@ -24,6 +24,36 @@ struct PeerTurns<'a, R> {
     is_over: bool,
 }
 
+impl<R> PeerTurns<'_, R> {
+    /// Ends the turns.
+    fn end(&mut self) -> Option<TcpStream>
+        ensures none { result ≡ None }
+        ensures taken { self.new.taken ≡ self.old.taken }
+        ensures over { self.new.is_over ≡ true }
+    {
+        self.is_over = true;
+        None
+    }
+}
+
+impl<R: Serving> PeerTurns<'_, R> {
+    /// Waits for the next connection; there is none once the nodes have ended.
+    fn wait(&self) -> Option<TcpStream> {
+        let rt = self.rt;
+        for _ in rt.forever() {
+            let accepted = self.listener.accept();
+            if self.stop.is_set() {
+                return None;
+            }
+            match accepted {
+                Ok((stream, _)) => return Some(stream),
+                Err(_) => thread::sleep(rt, Duration::from_millis(PAUSE)),
+            }
+        }
+        unreachable!()
+    }
+}
+
 impl<R: Serving> Turns for PeerTurns<'_, R> {
     type Turn = TcpStream;
 
@@ -32,22 +62,16 @@ impl<R: Serving> Turns for PeerTurns<'_, R> {
     ghost ended = { λ turns. turns.is_over ≡ true };
 
     fn next(&mut self) -> Option<TcpStream> {
-        let rt = self.rt;
-        for _ in rt.forever() {
-            let accepted = self.listener.accept();
-            if self.taken == u64::MAX || self.stop.is_set() {
-                self.is_over = true;
-                return None;
-            }
-            match accepted {
-                Ok((stream, _)) => {
-                    self.taken += 1;
-                    return Some(stream);
-                }
-                Err(_) => thread::sleep(rt, Duration::from_millis(PAUSE)),
-            }
+        if self.taken == u64::MAX {
+            return self.end();
         }
-        unreachable!()
+        match self.wait() {
+            Some(stream) => {
+                self.taken += 1;
+                Some(stream)
+            }
+            None => self.end(),
+        }
     }
 }
 
