@@ -2,12 +2,12 @@
 ghost use Rattle.std.specs.Prelude.{◌≡◌, None, true};
 
 use crate::peer_streams::PeerStream;
-use crate::runtimes::Serving;
 use crate::stopping::Stop;
 use event_loop::{Limits, Takes, Turns, work};
 use peer_link::{LocalChunks, serve_peer};
 use std::alloc::Global;
 use std::net::{TcpListener, TcpStream};
+use std::sync::Wait;
 use std::thread;
 use std::time::{Clock, Duration};
 
@@ -36,7 +36,7 @@ impl<R> PeerTurns<'_, R> {
     }
 }
 
-impl<R: Serving> PeerTurns<'_, R> {
+impl<R: Wait + Clock> PeerTurns<'_, R> {
     /// Waits for the next connection; there is none once the nodes have ended.
     fn wait(&self) -> Option<TcpStream> {
         let rt = self.rt;
@@ -54,7 +54,7 @@ impl<R: Serving> PeerTurns<'_, R> {
     }
 }
 
-impl<R: Serving> Turns for PeerTurns<'_, R> {
+impl<R: Wait + Clock> Turns for PeerTurns<'_, R> {
     type Turn = TcpStream;
 
     ghost taken = { λ turns. turns.taken };
@@ -85,7 +85,7 @@ struct PeerService<'a, R, C> {
     done: u64,
 }
 
-impl<R: Serving, C: LocalChunks> Takes<TcpStream> for PeerService<'_, R, C> {
+impl<R: Wait + Clock, C: LocalChunks> Takes<TcpStream> for PeerService<'_, R, C> {
     ghost done = { λ service. service.done };
 
     fn take(&mut self, stream: TcpStream) {
@@ -97,7 +97,7 @@ impl<R: Serving, C: LocalChunks> Takes<TcpStream> for PeerService<'_, R, C> {
 }
 
 /// Answers other nodes from the chunks of a node, one connection after another, until the nodes end.
-pub(crate) fn serve_peers<R: Serving, C: LocalChunks>(
+pub(crate) fn serve_peers<R: Wait + Clock, C: LocalChunks>(
     rt: &R,
     alloc: Global,
     listener: &TcpListener,
