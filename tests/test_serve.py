@@ -272,8 +272,8 @@ class Many(Served):
                 at += 1
             self.assertLess(at, len(shown), f"{wanted} is no state after {max(reached.get(client, 2), least)} entries")
             reached[client] = at
-        self.assertGreater(len(many.reads), 500)
-        self.assertGreater(len(shown), 40)
+        self.assertGreater(len(many.reads), 100)
+        self.assertGreater(len(shown), 10)
 
 
 if __name__ == "__main__":

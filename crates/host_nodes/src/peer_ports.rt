@@ -1,13 +1,13 @@
 //! The threads that answer other nodes.
-ghost use Rattle.std.specs.Prelude.{◌≡◌, true};
+ghost use Rattle.std.specs.Prelude.{◌≡◌, None, true};
 
 use crate::peer_streams::PeerStream;
-use crate::runtimes::Serving;
 use crate::stopping::Stop;
 use event_loop::{Limits, Takes, Turns, work};
 use peer_link::{LocalChunks, serve_peer};
 use std::alloc::Global;
 use std::net::{TcpListener, TcpStream};
+use std::sync::Wait;
 use std::thread;
 use std::time::{Clock, Duration};
 
@@ -24,7 +24,37 @@ struct PeerTurns<'a, R> {
     is_over: bool,
 }
 
-impl<R: Serving> Turns for PeerTurns<'_, R> {
+impl<R> PeerTurns<'_, R> {
+    /// Ends the turns.
+    fn end(&mut self) -> Option<TcpStream>
+        ensures none { result ≡ None }
+        ensures taken { self.new.taken ≡ self.old.taken }
+        ensures over { self.new.is_over ≡ true }
+    {
+        self.is_over = true;
+        None
+    }
+}
+
+impl<R: Wait + Clock> PeerTurns<'_, R> {
+    /// Waits for the next connection; there is none once the nodes have ended.
+    fn wait(&self) -> Option<TcpStream> {
+        let rt = self.rt;
+        for _ in rt.forever() {
+            let accepted = self.listener.accept();
+            if self.stop.is_set() {
+                return None;
+            }
+            match accepted {
+                Ok((stream, _)) => return Some(stream),
+                Err(_) => thread::sleep(rt, Duration::from_millis(PAUSE)),
+            }
+        }
+        unreachable!()
+    }
+}
+
+impl<R: Wait + Clock> Turns for PeerTurns<'_, R> {
     type Turn = TcpStream;
 
     ghost taken = { λ turns. turns.taken };
@@ -32,22 +62,16 @@ impl<R: Serving> Turns for PeerTurns<'_, R> {
     ghost ended = { λ turns. turns.is_over ≡ true };
 
     fn next(&mut self) -> Option<TcpStream> {
-        let rt = self.rt;
-        for _ in rt.forever() {
-            let accepted = self.listener.accept();
-            if self.taken == u64::MAX || self.stop.is_set() {
-                self.is_over = true;
-                return None;
-            }
-            match accepted {
-                Ok((stream, _)) => {
-                    self.taken += 1;
-                    return Some(stream);
-                }
-                Err(_) => thread::sleep(rt, Duration::from_millis(PAUSE)),
-            }
+        if self.taken == u64::MAX {
+            return self.end();
         }
-        unreachable!()
+        match self.wait() {
+            Some(stream) => {
+                self.taken += 1;
+                Some(stream)
+            }
+            None => self.end(),
+        }
     }
 }
 
@@ -61,7 +85,7 @@ struct PeerService<'a, R, C> {
     done: u64,
 }
 
-impl<R: Serving, C: LocalChunks> Takes<TcpStream> for PeerService<'_, R, C> {
+impl<R: Wait + Clock, C: LocalChunks> Takes<TcpStream> for PeerService<'_, R, C> {
     ghost done = { λ service. service.done };
 
     fn take(&mut self, stream: TcpStream) {
@@ -73,7 +97,7 @@ impl<R: Serving, C: LocalChunks> Takes<TcpStream> for PeerService<'_, R, C> {
 }
 
 /// Answers other nodes from the chunks of a node, one connection after another, until the nodes end.
-pub(crate) fn serve_peers<R: Serving, C: LocalChunks>(
+pub(crate) fn serve_peers<R: Wait + Clock, C: LocalChunks>(
     rt: &R,
     alloc: Global,
     listener: &TcpListener,

@@ -1,5 +1,5 @@
 //! The connection of another node, until it is late.
-ghost use Rattle.std.specs.Prelude.{◌<◌, ◌≤◌, IfSome, None, length, ⊤, ⊥};
+ghost use Rattle.std.specs.Prelude.{◌<◌, ◌≤◌, IfSome, None, length, ⊤};
 ghost use Rattle.http_wire.specs.Timing.{Moves};
 
 use event_loop::{Limits, Pace, Stage};
