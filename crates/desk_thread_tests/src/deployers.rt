@@ -44,15 +44,13 @@ fn told_of<J: DeskName>(answer: Result<Notice<J>, DeskError<Notice<J>>>) -> Told
     }
 }
 
-fn told_of_upload<J: DeskName>(
-    answer: Result<Option<Notice<J>>, UploadError<Notice<J>>>,
-) -> Told {
+fn told_of_upload<J: DeskName>(answer: Result<Option<Notice<J>>, UploadError<Notice<J>>>) -> Told {
     match answer {
         Ok(Some(receipt)) => Told::Made(receipt.number()),
         Ok(None) => Told::Stored,
         Err(UploadError::NotPublished(error)) => told_of_error(&error),
         Err(UploadError::NoSuchDeploy) => Told::NotTaken,
-        Err(_) => Told::Failed,
+        Err(_why) => Told::Failed,
     }
 }
 
@@ -129,7 +127,10 @@ pub(crate) fn deploy<
     tasks: Vec<Task>,
 ) -> Result<()> {
     for task in tasks {
-        let Task { entry, upload: file } = task;
+        let Task {
+            entry,
+            upload: file,
+        } = task;
         let site = site_of(&entry);
         let told = enter(rt, desk, seat, entry);
         tell(rt, deployer, told)?;

@@ -44,17 +44,23 @@ fn number_of(word: &str) -> Result<usize> {
 fn task_of(alloc: Global, line: &str) -> Result<(usize, Task)> {
     let words: Vec<&str> = line.split(' ').collect(alloc)?;
     match words.as_slice() {
-        [deployer, digits] => Ok((number_of(deployer)?, Task {
-            entry: entry_of(alloc, digits)?,
-            upload: None,
-        })),
-        [deployer, digits, path, text] => Ok((number_of(deployer)?, Task {
-            entry: entry_of(alloc, digits)?,
-            upload: Some(Upload {
-                path: FilePath::read(alloc, path)?,
-                text: String::from_str(alloc, text)?,
-            }),
-        })),
+        [deployer, digits] => Ok((
+            number_of(deployer)?,
+            Task {
+                entry: entry_of(alloc, digits)?,
+                upload: None,
+            },
+        )),
+        [deployer, digits, path, text] => Ok((
+            number_of(deployer)?,
+            Task {
+                entry: entry_of(alloc, digits)?,
+                upload: Some(Upload {
+                    path: FilePath::read(alloc, path)?,
+                    text: String::from_str(alloc, text)?,
+                }),
+            },
+        )),
         _ => Err(anyhow!("a line has two words or four")),
     }
 }

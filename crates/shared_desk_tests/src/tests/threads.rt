@@ -14,7 +14,7 @@ use found_host::Found;
 use host_disk::{Disk, LentDisk};
 use seen_lists::ListName;
 use shared_desk::NewDesk;
-use site_desk::{DeskError, DeskName, Seat};
+use site_desk::{DeskError, DeskName, Notice, Seat};
 use std::alloc::{AllocError, Global};
 use std::marker::Brand;
 use std::process::Abort;
@@ -31,6 +31,14 @@ fn openings(alloc: Global, count: usize) -> Result<Vec<Entry>, Fail> {
     Ok(entries)
 }
 
+/// Goes on after any error but that memory ran out.
+fn check_memory<J: DeskName>(why: &DeskError<Notice<J>>) -> Result<(), AllocError> {
+    match why {
+        DeskError::OutOfMemory => Err(AllocError),
+        _ => Ok(()),
+    }
+}
+
 /// Makes these entries from a seat, and hands it back with the numbers of the receipts. A refusal has none.
 fn make_all<J: DeskName, K: ListName<BlobInfo>, D: Disk + Drop, S: Shelf + Drop, R: Wait + Drop>(
     rt: &impl Wait,
@@ -44,8 +52,7 @@ fn make_all<J: DeskName, K: ListName<BlobInfo>, D: Disk + Drop, S: Shelf + Drop,
     for entry in entries {
         match answered(rt, desk, &mut seat, entry) {
             Ok(receipt) => numbers.push(receipt.number())?,
-            Err(DeskError::OutOfMemory) => return Err(AllocError),
-            Err(_) => {}
+            Err(why) => check_memory(&why)?,
         }
     }
     Ok((seat, numbers))
