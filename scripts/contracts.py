@@ -4,6 +4,7 @@ scripts/try-wrong-bodies keeps it once all wrong bodies of the crate were refuse
 changed since: a clause that says less might let one of them through. What a clause cites of the crates below is watched there.
 """
 
+import collections
 import hashlib
 import re
 
@@ -28,6 +29,19 @@ def end_of(text, start):
 def clauses_of(text):
     """The clauses and ghost items in a source, each in one line."""
     return [" ".join(text[found.start():end_of(text, found.start())].split()) for found in BEGINS.finditer(text)]
+
+
+def sayings_of(files):
+    """How often each line of a definition and each clause is in these files, given by their names: without comments, and without the lines
+    that say in which file a word is."""
+    found = collections.Counter()
+    for name, text in files.items():
+        if name.endswith(".antt"):
+            lines = (line.strip() for line in text.splitlines())
+            found.update(line for line in lines if line and not re.match(r"--|(pub )?(use|mod) ", line))
+        elif name.endswith(".rt"):
+            found.update(clause for clause in clauses_of(text) if not clause.startswith("ghost use "))
+    return found
 
 
 def digest_of(crate):

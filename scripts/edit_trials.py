@@ -39,11 +39,25 @@ def check_as_it_stands(script, crate, *flags):
         sys.exit(f"{script}: {crate.name} is not proved as it stands")
 
 
+def is_proved(rt, crate):
+    """Whether a crate's text is proved: by a library in its out/, or where it is in the repository, by the last check of it."""
+    made = getattr(rt, "places_of", lambda _crate: [])(crate)
+    return crate.is_built() or (f"{TOP}/crates/{crate.name}", crate.stamp()) in made
+
+
 def kept_of(crate, room):
-    """A copy of what the crate's last check kept, which the checks of its edits go on with."""
+    """A copy of what the crate's last check kept, if there is any, which the checks of its edits go on with."""
     kept = f"{room}/kept"
-    subprocess.run(["cp", "--archive", f"{crate.folder}/out/incremental", kept], check=True)
+    if os.path.isdir(made := f"{crate.folder}/out/incremental"):
+        subprocess.run(["cp", "--archive", made, kept], check=True)
+    else:
+        os.mkdir(kept)
     return kept
+
+
+def is_unreadable(rt, outcome):
+    """Whether an edit can't be applied, compiled or read, wherever it is tried."""
+    return outcome is not None and outcome == getattr(rt, "BAD", None)
 
 
 def is_refusal(rt, outcome):
@@ -98,14 +112,22 @@ def in_different_functions(wrongs):
 
 def refused_together(rt, crate, wrongs, kept):
     """Those of these edits, which are in different functions, that the prover refuses in one check: a function is proved from the contracts
-    of others alone, so each that isn't proved there is refused for its own edit. Of the others nothing is known."""
-    texts = {}
-    for wrong in wrongs:
-        wrong.put_into(texts)
-    lines = rt.checked(crate, texts, ["--jobs", "1"], kept).stdout.rstrip("\n").split("\n")
-    if not lines[-1].startswith("logic=not-proved") or any(rt.unread(line, texts) for line in lines):
-        return {}
-    return {wrong.edit: told for wrong in wrongs if (told := goal_of(wrong.function, crate, lines))}
+    of others alone, so each that isn't proved there is refused for its own edit. Of the others nothing is known. Those that the compiler
+    or the prover can't read are left out, and the rest is tried again."""
+    while len(wrongs) > 1:
+        texts = {}
+        for wrong in wrongs:
+            wrong.put_into(texts)
+        lines = rt.checked(crate, texts, ["--jobs", "1"], kept).stdout.rstrip("\n").split("\n")
+        is_judged = lines[-1].startswith("logic=not-proved")
+        unread = [line for line in lines if (rt.unread(line, texts) if is_judged else re.search(r"\berror\[[\w-]+\]", line))]
+        if is_judged and not unread:
+            return {wrong.edit: told for wrong in wrongs if (told := goal_of(wrong.function, crate, lines))}
+        readable = [wrong for wrong in wrongs if not any(wrong.function.is_at(line) for line in unread)]
+        if len(readable) == len(wrongs):
+            return {}
+        wrongs = readable
+    return {}
 
 
 def goal_of(function, crate, lines):

@@ -46,27 +46,33 @@ def pairs_of(words):
 
 @dataclasses.dataclass(frozen=True)
 class Function:
-    """A function of a file in src/: the lines where its head, its body and the end of both are."""
+    """A function of a file in src/: the lines where its head, its body and the end of both are. The prover names an impl by its type, and
+    then by its trait. If others of the file have the same name, its impl tells it from them; if not even that does, it has a namesake."""
 
     file: str
     name: str
     first: int
     body: int
     last: int
-    has_namesake: bool
+    owner: str = r"\w+"
+    has_namesake: bool = False
+
+    def module(self):
+        parts = self.file.removeprefix("src/").removesuffix(".rt").split("/")
+        return parts[:-1] if parts[-1] in ("lib", "main", "mod") else parts
 
     def is_at(self, line):
         """Whether a line of the prover is of this function: of its code, or of what is written of its proof."""
-        module = self.file.removeprefix("src/").removesuffix(".rt")
         if at := re.match(r"(?:note: )?(?:\./)?(src/\S+?):(\d+):", line):
             return at[1] == self.file and self.first <= int(at[2]) <= self.last
-        return bool(re.match(rf"(note: )?(\./)?proofs/{module}/(\S+/)?{self.name}/", line))
+        owner = r"(\S+/)?" if self.owner == r"\w+" else self.owner + "/" if self.owner else ""
+        return bool(re.match(rf"(note: )?(\./)?{'/'.join(['proofs', *self.module()])}/{owner}{self.name}/", line))
 
     def is_unproved_by(self, line, crate):
         """Whether a line of the prover says that this function, or a closure in it, isn't proved."""
-        module = self.file.removeprefix("src/").removesuffix(".rt").replace("/", "::")
-        found = re.match(rf"fn {crate}::{module}::(fn::)?(\w+::)?{self.name}(::\S+)?: (.*)", line)
-        return bool(found) and (found[4] == "not proved" or found[4].startswith("no proof: expected"))
+        owner = rf"({self.owner}::)?" if self.owner == r"\w+" else f"{self.owner}::" if self.owner else ""
+        found = re.match(rf"fn {'::'.join([crate, *self.module()])}::(fn::)?{owner}{self.name}(::\S+)?: (?P<told>.*)", line)
+        return bool(found) and (found["told"] == "not proved" or found["told"].startswith("no proof: expected"))
 
 
 class Source:
@@ -119,10 +125,36 @@ class Source:
 
     def functions(self):
         """The functions that have a body and are no tests, in their order."""
+        impls = list(self.impls())
         bodies = list(self.bodies())
-        names = [self.word(parameters + 1) for *_, parameters in bodies]
-        return [Function(self.file, name, self.line(head), self.line(body), self.line(end), names.count(name) > 1)
-                for (body, end, head), name in zip(bodies, names)]
+        named = [(next((owner for first, last, owner in impls if first < body < last), ""), self.word(head + 1)) for body, _, head in bodies]
+        names = [name for _, name in named]
+        owners = [{"owner": owner, "has_namesake": named.count((owner, name)) > 1} if names.count(name) > 1 else {} for owner, name in named]
+        return [Function(self.file, name, self.line(head), self.line(body), self.line(end), **owner)
+                for (body, end, head), name, owner in zip(bodies, names, owners)]
+
+    def impls(self):
+        """The brackets of each impl, and the name that the prover gives it: those of its type, its trait and what that is of, in a row."""
+        for at, (_, word, *_) in enumerate(self.words):
+            if word == "impl" and self.word(at - 1) in ("", "}", ";", "]", "{"):
+                opening = next(here for here in range(at, len(self.words)) if self.word(here) == "{")
+                yield opening, self.pairs[opening], self.owner_between(at, opening)
+
+    def owner_between(self, impl, opening):
+        """The name of the impl whose head is between these places. Of what is in angle brackets, the first ones may be its own parameters."""
+        depth, parts, is_own = 0, [[]], self.word(impl + 1) == "<"
+        for at in range(impl + 1, opening):
+            word = self.word(at)
+            depth += {"<": 1, ">": -1, ">>": -2}.get(word, 0)
+            if word == "where":
+                break
+            if word == "for" and depth == 0:
+                parts.append([])
+            elif self.kind(at) == "name" and self.word(at + 1) != "::" and depth < 2 and not is_own:
+                parts[-1].append((depth, word))
+            is_own = is_own and depth > 0
+        of = [word for depth, word in parts[-1] if depth == 0]
+        return "".join([*of, *(word for _, word in parts[0])] if len(parts) > 1 else of)
 
     def after_block(self, at):
         while self.word(at) not in ("{", ";"):

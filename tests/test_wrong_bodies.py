@@ -5,12 +5,15 @@ import pathlib
 import re
 import sys
 import tempfile
+import types
 import unittest
 
 TOP = pathlib.Path(__file__).resolve().parent.parent
 sys.path.insert(0, str(TOP / "scripts"))
 
 import contracts  # noqa: E402
+import edit_trials  # noqa: E402
+from source_words import Source  # noqa: E402
 
 CRATES = sorted(folder for folder in (TOP / "crates").iterdir() if folder.is_dir())
 FOLDERS = ("must-fail", "wrong-bodies")
@@ -86,6 +89,120 @@ impl Model for Bytes {
         for old, new in (("place < length", "place ≤ length"), ("≡ 7", "≡ 8"), ("ensures found", "ensures none"), ("List ℕ", "ℕ")):
             self.assertNotEqual(digest, self.digest(self.code.replace(old, new)))
         self.assertNotEqual(digest, self.digest(self.code, "other"))
+
+    def test_what_moves_is_said_as_before(self):
+        said = contracts.sayings_of({"specs/Lib.antt": "-- one\nuse Rattle.std.specs.Prelude.{length}\nsize = length", "src/lib.rt": self.code})
+        moved = contracts.sayings_of({"specs/Sizes.antt": "size = length\n", "src/bytes.rt": self.code.replace("ghost use Rattle.std", "ghost use std")})
+        self.assertEqual(said, moved)
+        self.assertEqual(sorted(said)[-1], "size = length")
+        other = contracts.sayings_of({"specs/Lib.antt": "size = length", "src/lib.rt": self.code.replace("≡ 7", "≡ 8")})
+        self.assertEqual([sum(one.values()) for one in (said - other, other - said)], [1, 1])
+
+
+class Functions(unittest.TestCase):
+    """Of which function a line of the prover is."""
+
+    code = """impl From<AllocError> for Fault {
+    fn from(_error: AllocError) -> Fault {
+        Fault::OutOfMemory
+    }
+}
+
+impl<E: Clone> From<Entry<E>> for Fault {
+    fn from(_entry: Entry<E>) -> Fault {
+        Fault::Device
+    }
+}
+
+impl Fault {
+    fn is_device(&self) -> bool {
+        *self == Fault::Device
+    }
+}
+
+fn from(fault: &impl Copy) -> &impl Copy {
+    fault
+}
+"""
+
+    def setUp(self):
+        self.functions = Source("src/file/faults.rt", self.code).functions()
+
+    def assert_of(self, is_of, *wanted):
+        self.assertEqual([at for at, function in enumerate(self.functions) if is_of(function)], list(wanted))
+
+    def test_an_impl_tells_those_of_one_name(self):
+        self.assertEqual([one.owner for one in self.functions], ["FaultFromAllocError", "FaultFromEntry", r"\w+", ""])
+        self.assertFalse(any(one.has_namesake for one in self.functions))
+        for at, name in enumerate(("FaultFromAllocError::from", "FaultFromEntry::from", "Fault::is_device", "from")):
+            self.assert_of(lambda one: one.is_unproved_by(f"fn few::file::faults::{name}: not proved", "few"), at)
+            self.assert_of(lambda one: one.is_at(f"./proofs/file/faults/{name.replace('::', '/')}/Answers.antt:3:1: error: no"), at)
+        self.assert_of(lambda one: one.is_unproved_by("fn few::file::faults::Fault::is_device::closure: not proved", "few"), 2)
+        self.assert_of(lambda one: one.is_unproved_by("fn few::file::faults::from: proved", "few"))
+        self.assert_of(lambda one: one.is_at("src/file/faults.rt:8:9: error: no"), 1)
+
+    def test_two_of_one_impl_have_a_namesake(self):
+        functions = Source("src/faults.rt", self.code + "impl Fault {\n    fn is_device(&self) -> u8 {\n        0\n    }\n}\n").functions()
+        self.assertEqual([one.has_namesake for one in functions], [False, False, True, False, True])
+
+    def test_the_root_file_has_no_module(self):
+        [function] = Source("src/lib.rt", "fn words() -> u8 {\n    1\n}\n").functions()
+        self.assertTrue(function.is_unproved_by("fn few::words: not proved", "few"))
+        self.assertTrue(function.is_at("proofs/words/Proof.antt:1:1: error: no"))
+
+
+class MadeUpProver:
+    """Refuses each function whose sum isn't the number of its name, and reads no text with a question mark. An edit is an old and a new text."""
+
+    code = "fn one() -> u8 {\n    1\n}\n\nfn two() -> u8 {\n    2\n}\n\nfn three() -> u8 {\n    3\n}\n"
+
+    def __init__(self):
+        self.checks = 0
+
+    def read_edit(self, edit, _folder):
+        return {"src/numbers.rt": self.code.replace(*edit)}, None
+
+    def unread(self, _line, _texts):
+        return False
+
+    def checked(self, _crate, texts, _flags, _kept):
+        self.checks += 1
+        lines = texts["src/numbers.rt"].split("\n")
+        said = [f"src/numbers.rt:{at}:5: error[no-name]: no such name" for at, line in enumerate(lines, 1) if "?" in line]
+        if not said:
+            sums = {name: sum(map(int, lines[at].split(" + "))) for name, at in (("one", 1), ("two", 5), ("three", 9))}
+            wrong = [name for name, number in zip(sums, (1, 2, 3)) if sums[name] != number]
+            said = [f"src/numbers.rt:{4 * list(sums).index(name) + 2}:5: error: the result isn't {name}" for name in wrong]
+            said += [f"fn few::numbers::{name}: not proved" for name in wrong] + ["logic=not-proved" if wrong else "logic=proved"]
+        return types.SimpleNamespace(stdout="\n".join(said) + "\n")
+
+
+class Together(unittest.TestCase):
+    """Several wrong bodies in one check, over a prover that is made up."""
+
+    def setUp(self):
+        room = tempfile.TemporaryDirectory()
+        self.addCleanup(room.cleanup)
+        self.prover, self.crate = MadeUpProver(), types.SimpleNamespace(name="few", folder=room.name)
+        pathlib.Path(room.name, "src").mkdir()
+        pathlib.Path(room.name, "src", "numbers.rt").write_text(self.prover.code)
+
+    def tried(self, *edits):
+        """Those of them that are refused in one check, and how many checks that took."""
+        [together] = edit_trials.in_different_functions([edit_trials.Wrong(self.prover, self.crate, edit) for edit in edits])
+        self.prover.checks = 0
+        return set(edit_trials.refused_together(self.prover, self.crate, together, None)), self.prover.checks
+
+    def test_each_is_refused_for_its_own_function(self):
+        one, two, three, right = ("    1", "    4"), ("    2", "    2 + 4"), ("    3", "    5"), ("    2", "    1 + 1")
+        self.assertEqual(self.tried(one, two, three), ({one, two, three}, 1))
+        self.assertEqual(self.tried(one, right, three), ({one, three}, 1))
+        self.assertEqual(self.tried(right, one), ({one}, 1))
+
+    def test_one_that_does_not_compile_leaves_the_others(self):
+        one, unread, three = ("    1", "    4"), ("    2", "    ?"), ("    3", "    5")
+        self.assertEqual(self.tried(one, unread, three), ({one, three}, 2))
+        self.assertEqual(self.tried(one, unread), (set(), 1))
 
 
 if __name__ == "__main__":
