@@ -40,9 +40,7 @@ type HostFiles<'a, 'g, R, S> = GroupFiles<'a, R, HostGroup<'g, R, S>>;
 /// A worker of a node.
 type HostJob<'a, 'r, 'g, J, K, D, S, R> = Job<
     'a,
-    J,
-    HostSeat<'a, 'r, J, K, D, S, R>,
-    HostFiles<'a, 'g, R, S>,
+    GuestSteps<J, HostSeat<'a, 'r, J, K, D, S, R>, HostFiles<'a, 'g, R, S>>,
 >;
 
 /// A seat for each node, behind a lock.

@@ -1,31 +1,25 @@
 //! The threads of the nodes.
 use crate::groups::HostGroup;
-use crate::guests::{GuestSteps, Noted};
 use crate::peer_ports::serve_peers;
 use crate::ports::Ports;
 use crate::runtimes::Serving;
 use crate::stopping::{PEER_THREADS, Stop};
 use blob_store::Shelf;
 use event_loop::{Limits, Node, NodeTurns, Steps, Worker, work};
-use shared_house::{DeskAccess, FileAccess};
-use site_desk::DeskName;
 use std::alloc::{AllocError, Global};
+use std::sync::Wait;
 use std::thread;
+use std::time::Clock;
 
 /// A worker, and the node whose clients it serves.
 #[derive(Drop)]
-pub(crate) struct Job<'a, J: DeskName, D: Drop, G: Drop> {
-    pub(crate) node: &'a Node<Noted<J>>,
-    pub(crate) steps: GuestSteps<J, D, G>,
+pub(crate) struct Job<'a, S: Steps + Drop> {
+    pub(crate) node: &'a Node<S::Connection>,
+    pub(crate) steps: S,
 }
 
 /// Serves the clients of a node, until it has served as many as it is to serve.
-fn serve_clients<
-    R: Serving,
-    J: DeskName + Send + Sync,
-    D: DeskAccess<J> + Send + Drop,
-    G: FileAccess + Send + Drop,
->(rt: &R, alloc: Global, job: Job<'_, J, D, G>) {
+fn serve_clients<R: Wait + Clock, S: Steps + Drop>(rt: &R, alloc: Global, job: Job<'_, S>) {
     let Job { node, steps } = job;
     let mut turns = NodeTurns::new(rt, node);
     let mut worker = Worker::new(rt, alloc, node, steps);
@@ -33,22 +27,24 @@ fn serve_clients<
 }
 
 /// Serves the clients of all nodes, each worker in a thread of its own, until each node has served as many as it is to serve.
-fn serve_all_clients<
-    R: Serving,
-    J: DeskName + Send + Sync,
-    D: DeskAccess<J> + Send + Drop,
-    G: FileAccess + Send + Drop,
->(rt: &R, alloc: Global, jobs: Vec<Job<'_, J, D, G>>) -> Result<(), AllocError> {
+fn serve_all_clients<R: Serving, S: Steps + Send + Drop>(
+    rt: &R,
+    alloc: Global,
+    jobs: Vec<Job<'_, S>>,
+) -> Result<(), AllocError>
+where
+    S::Connection: Send,
+{
     thread::map_vec(rt, jobs, &|job| serve_clients(rt, alloc, job))?;
     Ok(())
 }
 
 /// Answers other nodes, at the ports of all nodes, until the nodes end.
-fn serve_all_peers<R: Serving, S: Shelf + Send>(
+fn serve_all_peers<R: Serving, F: Shelf + Send>(
     rt: &R,
     alloc: Global,
     all: &[Ports],
-    groups: &[HostGroup<'_, R, S>],
+    groups: &[HostGroup<'_, R, F>],
     limits: Limits,
     stop: &Stop,
 ) -> Result<(), AllocError> {
@@ -63,20 +59,17 @@ fn serve_all_peers<R: Serving, S: Shelf + Send>(
 }
 
 /// Serves clients and other nodes, until each node has served as many clients as it is to serve. Each thread is joined.
-pub(crate) fn serve_all<
-    R: Serving,
-    J: DeskName + Send + Sync,
-    D: DeskAccess<J> + Send + Drop,
-    G: FileAccess + Send + Drop,
-    S: Shelf + Send,
->(
+pub(crate) fn serve_all<R: Serving, S: Steps + Send + Drop, F: Shelf + Send>(
     rt: &R,
     alloc: Global,
     all: &[Ports],
-    groups: &[HostGroup<'_, R, S>],
-    jobs: Vec<Job<'_, J, D, G>>,
+    groups: &[HostGroup<'_, R, F>],
+    jobs: Vec<Job<'_, S>>,
     limits: Limits,
-) -> Result<(), AllocError> {
+) -> Result<(), AllocError>
+where
+    S::Connection: Send,
+{
     let stop = Stop::new();
     let stop = &stop;
     let (clients, peers) = thread::join(
