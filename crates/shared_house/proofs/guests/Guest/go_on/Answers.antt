@@ -6,9 +6,9 @@ use Rattle.shared_house.proofs.guests.Guest.go_on.Goals as goal
 
 pub returns-clause-leads : goal.returns-clause-leads
 returns-clause-leads g c = λ start first so.
-    subst (λ (l : Log). Leads IsGuestAnswer g.X.Duplex.saw (Unit {0}) g.X.Duplex.waits start first c.go_on-progress.new.duplex l c.go_on-progress.new.self c.go_on-progress.result) (sym c.give_note.ensures)
+    subst (λ (l : Log). Leads IsGuestAnswer g.X.Duplex.saw (Unit {0}) g.X.Duplex.waits start first c.go_on-progress.new.duplex.stream l c.go_on-progress.new.self c.go_on-progress.result) (sym c.give_note.ensures)
     (c.go_on-progress.ensures.leads start first
-    (subst (λ (l : Log). Carries IsGuestAnswer g.X.Duplex.saw (Unit {0}) start first c.args.duplex.now l c.args.connection.now) (sym c.take_note.ensures) so))
+    (subst (λ (l : Log). Carries IsGuestAnswer g.X.Duplex.saw (Unit {0}) start first c.args.duplex.now.stream l c.args.connection.now) (sym c.take_note.ensures) so))
 
 pub returns-clause-asks : goal.returns-clause-asks
 returns-clause-asks g c =
