@@ -116,7 +116,8 @@ impl<J: DeskName, D: DeskAccess<J>, G: FileAccess> Guest<J, D, G> {
     ) -> Progress
         ensures leads { (start : X) (first : Log)
             → Carries IsGuestAnswer X.saw (Unit {0}) start first duplex.old.stream note.old connection.old
-            → Leads IsGuestAnswer X.saw (Unit {0}) X.waits start first duplex.new.stream note.new connection.new result }
+            → Leads IsGuestAnswer X.saw (Unit {0}) X.waits start first duplex.new.stream note.new connection.new
+            result }
         ensures asks { AnswersOnce IsGuestAnswer note.old note.new }
         ensures grows { BeginsWith note.new note.old }
     {
