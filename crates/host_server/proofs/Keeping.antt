@@ -3,6 +3,7 @@ use Rattle.std.proofs.Common.{◌≡◌, ◌≢◌, ◌⊎◌, inl, inr, ℕ, Li
 use Rattle.host_names.specs.declared.digests.Digest.{Digest}
 use Rattle.host_names.specs.declared.names.SiteName.{SiteName}
 use Rattle.blob_store.specs.Calls.{Call}
+use Rattle.site_state.specs.Deploys.{listed_at}
 use Rattle.site_state.specs.States.{State, draft_at, kept_at}
 use Rattle.host_api.specs.declared.refusals.Refusal.{Refusal}
 use Rattle.host_api.specs.declared.refusals.Refusal.TheVariants as reason
@@ -13,7 +14,7 @@ use Rattle.host_disk.specs.declared.disks.Disk.{Ghosts}
 use Rattle.host_server.specs.Hosts.{Host, state_of, with_upload}
 use Rattle.host_server.specs.Journals.{IsJournaled, IsStopped, KeepsUp}
 use Rattle.host_server.specs.Memory.{is_published}
-use Rattle.host_server.specs.Outcomes.{Publishes, judge_at, judge_listed, listed_at, published_if_ready, told_of, uploaded, with_site}
+use Rattle.host_server.specs.Outcomes.{Publishes, judge_at, judge_listed, published_if_ready, told_of, uploaded, with_site}
 use Rattle.host_server.specs.ServerJournals.{Breaks, GoesOn}
 use Rattle.host_server.specs.Storing.{DoesUpload, IsStored, IsStoredIf, IsUnpublished}
 use Rattle.host_server.specs.declared.servers.Server.{Server}

@@ -7,6 +7,7 @@ use Rattle.host_names.specs.declared.digests.Digest.{Digest}
 use Rattle.host_names.specs.declared.names.SiteName.{SiteName}
 use Rattle.byte_view.specs.Contents.{Contents}
 use Rattle.blob_store.specs.Calls.{Call}
+use Rattle.site_state.specs.Deploys.{is_ready_draft}
 use Rattle.site_state.specs.Listings.{Listed}
 use Rattle.site_state.specs.Missing.{AreMissing, least_missing_of}
 use Rattle.site_state.specs.States.{as_draft, draft_at}
@@ -31,7 +32,7 @@ use Rattle.host_answers.specs.declared.stops.Stop.TheVariants as stop
 use Rattle.host_server.specs.Hosts.{Host, IsLawful, next_number, state_of, with_entry}
 use Rattle.host_server.specs.Journals.{Puts, is_broken}
 use Rattle.host_server.specs.Memory.{CommandRunsOut, is_published, opens_published}
-use Rattle.host_server.specs.Outcomes.{AreRequired, Outcome, Publishing, commit_outcome, is_ready, is_ready_draft, published_if_ready, publishing, refused, then_published}
+use Rattle.host_server.specs.Outcomes.{AreRequired, Outcome, Publishing, commit_outcome, is_ready, published_if_ready, publishing, refused, then_published}
 use Rattle.host_server.specs.Reasons.{commit_refusal}
 use Rattle.host_server.specs.ServerHouses.{CommitsAt, EntersAt, MissesAt, calls_of}
 use Rattle.host_server.specs.ServerJournals.{GoesOn}

@@ -1,17 +1,15 @@
 -- What a host tells of a change, an undo or an upload, and what it has then.
-use Rattle.std.specs.Prelude.{◌≡◌, ◌⊎◌, ℕ, List, [], Bool, false, ◌&&◌, Option, Some, None, Result, Ok, Err, is_none, option_map, if◌then◌else◌}
-use Rattle.std.specs.Option.{option_flatten}
+use Rattle.std.specs.Prelude.{◌≡◌, ◌⊎◌, ℕ, List, [], Bool, Option, Some, None, Result, Ok, Err, if◌then◌else◌}
 use Rattle.host_names.specs.Digests.{digest_of}
 use Rattle.byte_view.specs.Contents.{Contents}
 use Rattle.host_names.specs.declared.digests.Digest.{Digest}
 use Rattle.host_names.specs.declared.names.SiteName.{SiteName}
 use Rattle.site_change.specs.declared.refusals.ChangeRefusal.{ChangeRefusal}
 use Rattle.site_change.specs.declared.refusals.ChangeRefusal.TheVariants.{NoSuchDeploy}
-use Rattle.site_state.specs.Files.{Paths, at_path}
-use Rattle.site_state.specs.Missing.{AreMissing, least_missing_of}
+use Rattle.site_state.specs.Deploys.{is_ready_draft, listed_at}
+use Rattle.site_state.specs.Missing.{AreMissing}
 use Rattle.site_state.specs.States.{draft_at, kept_at}
 use Rattle.site_state.specs.Values.{digest_eq}
-use Rattle.site_state.specs.declared.values.Draft.{Draft}
 use Rattle.site_change.specs.declared.commands.Command.{Command}
 use Rattle.site_change.specs.declared.commands.Command.TheVariants.{Open, Publish}
 use Rattle.change_undo.specs.declared.entries.Entry.{Entry}
@@ -36,11 +34,6 @@ abbrev pub refused : Host → Refusal → Outcome
 refused host why = record { told = Refused why; host = host }
 
 -- ---- deploys that publish themselves
-
--- such a deploy is open, and nothing that it lists is missing
-abbrev pub is_ready_draft : Contents → Option Draft → Bool
-is_ready_draft uploads None = false
-is_ready_draft uploads (Some draft) = draft.auto && is_none (least_missing_of uploads draft.files.1)
 
 -- whether the deploy of a number publishes itself now
 abbrev pub is_ready : Host → SiteName → ℕ → Bool
@@ -122,12 +115,6 @@ abbrev pub undone : Host → SiteName → ℕ → Option ChangeRefusal → Outco
 undone host site k refusal = enter_outcome host (Undo site k) refusal
 
 -- ---- uploads
-
--- the digest at the path, where the deploy is open or kept and lists a file there
-abbrev pub listed_at : Option Draft → Option (Paths (List ℕ)) → List ℕ → Option (Option Digest)
-listed_at (Some draft) tree path = Some (option_flatten (at_path draft.files.1 path))
-listed_at None (Some tree) path = Some (option_map digest_of (at_path tree path))
-listed_at None None path = None
 
 -- the digest that is listed, where it is that of the bytes, or the first reason against them
 abbrev pub judge_listed : Option (Option Digest) → List ℕ → Result Digest Refusal

@@ -1,17 +1,14 @@
 -- What an upload finds at a desk, answers and does.
-use Rattle.std.specs.Prelude.{◌≡◌, ◌≢◌, ◌↔◌, ◌<◌, ℕ, ◌&&◌, Bool, true, false, List, length, Option, Some, None, IsSome, is_none, option_map, Result, Ok, Err}
+use Rattle.std.specs.Prelude.{◌≡◌, ◌≢◌, ◌↔◌, ◌<◌, ℕ, Bool, true, false, List, length, Option, Some, None, IsSome, Result, Ok, Err}
 use Rattle.std.specs.FinMap as map
-use Rattle.std.specs.Option.{option_flatten}
 use Rattle.byte_view.specs.Contents.{Contents}
 use Rattle.blob_store.specs.declared.blobs.UploadFault.TheVariants.{TooLarge}
 use Rattle.host_names.specs.Digests.{digest_of}
 use Rattle.host_names.specs.declared.digests.Digest.{Digest}
 use Rattle.host_names.specs.declared.names.SiteName.{SiteName}
 use Rattle.host_disk.specs.declared.disks.Disk.{Ghosts}
-use Rattle.site_state.specs.Files.{Paths, at_path}
-use Rattle.site_state.specs.Missing.{least_missing_of}
+use Rattle.site_state.specs.Deploys.{is_ready_draft, listed_at}
 use Rattle.site_state.specs.States.{draft_at, kept_at}
-use Rattle.site_state.specs.declared.values.Draft.{Draft}
 use Rattle.site_change.specs.Changes.{IsWithin}
 use Rattle.site_change.specs.declared.commands.Command.TheVariants.{Publish}
 use Rattle.change_undo.specs.Logs.{Log}
@@ -19,17 +16,6 @@ use Rattle.site_desk.specs.Books.{Kept, state_of}
 use Rattle.shared_desk.specs.Turns.{IsCommit, IsMet}
 use Rattle.shared_desk.specs.declared.upload_errors.UploadError.{UploadError}
 use Rattle.shared_desk.specs.declared.upload_errors.UploadError.TheVariants.{Broken, NoSuchDeploy, NotListed, WrongDigest, NotStored, NotPublished}
-
--- the digest at the path, where the deploy is open or kept and lists a file there
-abbrev pub listed_at : Option Draft → Option (Paths (List ℕ)) → List ℕ → Option (Option Digest)
-listed_at (Some draft) tree path = Some (option_flatten (at_path draft.files.1 path))
-listed_at None (Some tree) path = Some (option_map digest_of (at_path tree path))
-listed_at None None path = None
-
--- such a deploy is open, is to publish itself, and nothing that it lists is missing
-abbrev pub is_ready_draft : Contents → Option Draft → Bool
-is_ready_draft uploads None = false
-is_ready_draft uploads (Some draft) = draft.auto && is_none (least_missing_of uploads draft.files.1)
 
 -- the digest at a path of a site's deploy, in the state of a book
 abbrev pub listed_in : {D : Type 0} → Kept D → SiteName → ℕ → List ℕ → Option (Option Digest)

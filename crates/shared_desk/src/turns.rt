@@ -7,7 +7,7 @@ ghost use Rattle.shared_desk.specs.Uploads.{IsJudged, IsPublishing};
 ghost use Rattle.site_change.specs.Changes.{IsWithin};
 ghost use Rattle.site_desk.specs.Books.{with_known};
 
-use crate::listings::{is_ready, listed_at};
+use crate::listings::is_ready;
 use crate::upload_errors::UploadError;
 use byte_view::BlobInfo;
 use change_undo::Entry;
@@ -89,7 +89,7 @@ pub(crate) fn judge<
     if book.is_broken() {
         return Err(UploadError::Broken);
     }
-    match listed_at(snap.state(), site, number, path) {
+    match snap.state().listed(site, number, path) {
         Some(Some(digest)) => Ok(digest),
         Some(None) => Err(UploadError::NotListed),
         None => Err(UploadError::NoSuchDeploy),

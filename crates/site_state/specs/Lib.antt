@@ -7,6 +7,7 @@ pub mod Named
 pub mod Aliases
 pub mod Values
 pub mod Missing
+pub mod Deploys
 -- what the comparisons of values show of their equality
 pub mod SameValues
 -- what only private functions need: how a state is kept, and where a cell is in it

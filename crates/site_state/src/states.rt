@@ -9,7 +9,7 @@ use crate::changes::{Change, Side, are_rising, writes_of, written_in_turn};
 use crate::files::File;
 use crate::site_cells::{AliasesOf, LiveOf, Sought, first_alias};
 use crate::values::{Draft, Tree, Value};
-use host_names::{AliasName, Cell, CellRef, FilePath, SiteName};
+use host_names::{AliasName, Cell, CellRef, Digest, FilePath, SiteName};
 use persistent_collections::{Range, SharedMap};
 use std::alloc::{AllocError, Global};
 use std::marker::Model;
@@ -39,6 +39,7 @@ impl Model for State {
 
 impl State {
     ghost use Rattle.site_state.specs.Aliases.{alias_for};
+    ghost use Rattle.site_state.specs.Deploys.{listed_at};
     ghost use Rattle.site_state.specs.States.{live_at, kept_at, alias_at, alias_entries, draft_at, live_entries, AreOfKind, is_of_kind, may_stand, with_cell, with_cells};
 
     /// A state with nothing in it.
@@ -127,6 +128,17 @@ impl State {
             Some(Value::Draft(draft)) => Some(draft),
             _ => None,
         }
+    }
+
+    /// The digest that a deploy of a site, open or kept, lists at a path; none if it removes the file there.
+    pub fn listed(&self, site: &SiteName, number: u64, path: &FilePath) -> Option<Option<Digest>>
+        ensures { result ≡ listed_at (draft_at self.now site.now number) (kept_at self.now site.now number) path.now }
+    {
+        if let Some(draft) = self.draft(site, number) {
+            return Some(draft.files.get(path).copied().flatten());
+        }
+        let tree = self.kept(site, number)?;
+        Some(tree.get(path).map(|file| file.digest()))
     }
 
     /// Each alias names a deploy of its site that is kept.
