@@ -1,24 +1,30 @@
 -- What is learnt of what a desk answers.
 use Rattle.std.proofs.Common.{◌≡◌, inl, inr, ℕ, ◌+◌, ◌-◌, ◌<◌, ◌==◌, List, [], ◌∷◌, ◌++◌, length, slice_get, true, false, cond, Some, None, Result, Ok, Err, refl, sym, ap, subst, ◌∙◌, arith}
-use Rattle.std.specs.Prelude.{IfErr, IfOk, OnOk}
+use Rattle.std.specs.Prelude.{◌↔◌, IfErr, IfOk, MatchOption, OnOk, Option}
 use Rattle.std.proofs.lemmas.Bool.{eqb-true}
 use Rattle.std.proofs.lemmas.List.{length-append}
+use Rattle.blob_store.specs.declared.blobs.UploadFault.{UploadFault}
+use Rattle.blob_store.specs.declared.blobs.UploadFault.TheVariants as faults
+use Rattle.host_names.specs.Digests.{digest_of}
 use Rattle.host_names.specs.declared.names.SiteName.{SiteName}
 use Rattle.site_change.specs.declared.commands.Command.TheVariants.{Publish}
+use Rattle.site_change.specs.declared.refusals.ChangeRefusal.TheVariants.{NoSuchDeploy}
 use Rattle.change_undo.specs.Logs.{Log, entry_at, last_number, with_entry}
 use Rattle.change_undo.specs.declared.entries.Entry.{Entry}
 use Rattle.change_undo.specs.declared.entries.Entry.TheVariants.{Change}
 use Rattle.host_api.specs.declared.refusals.Refusal.{Refusal}
+use Rattle.host_api.specs.declared.refusals.Refusal.TheVariants as reason
 use Rattle.host_answers.specs.declared.stops.Stop.{Stop}
 use Rattle.host_answers.specs.declared.stops.Stop.TheVariants as stop
+use Rattle.host_answers.specs.declared.uploads.Uploaded.{Uploaded}
 use Rattle.site_desk.specs.declared.errors.DeskError.{DeskError}
 use Rattle.site_desk.specs.declared.errors.DeskError.TheVariants as desk
 use Rattle.shared_desk.specs.declared.upload_errors.UploadError.{UploadError}
 use Rattle.shared_desk.specs.declared.upload_errors.UploadError.TheVariants as upload
-use Rattle.shared_house.specs.Entering.{IsEntryAnswer, IsUploadAnswer, Reason, reason_of_command}
-use Rattle.shared_house.specs.Receipts.{NotTakenAs, StopsAs}
+use Rattle.shared_house.specs.Entering.{IsEntryAnswer, IsUploadAnswer, ListsThem, Reason, reason_of_command}
+use Rattle.shared_house.specs.Receipts.{NotTakenAs, StopsAs, refusal_of_fault}
 use Rattle.shared_house.specs.Seeing.{by_front}
-use Rattle.shared_house.specs.Shared.{EntersAs, IsEntered, TakesAs}
+use Rattle.shared_house.specs.Shared.{EntersAs, IsEntered, IsNotTaken, PublishesAs, TakesAs}
 
 -- ---- an entry is shown under its number
 
@@ -72,13 +78,41 @@ stops entry reason old (desk.NoReceipt why) stopped new answer (is, same) = subs
 stops entry reason old desk.OutOfMemory stopped new answer (is, same) = subst (λ (s : Stop). EntersAs by_front entry reason old (Err s) new) (sym is) (inl same)
 stops entry reason old desk.Device stopped new answer (is, same) = subst (λ (s : Stop). EntersAs by_front entry reason old (Err s) new) (sym is) same
 
+-- ---- uploads
+
+-- an upload that is taken, and what is learnt of the publishing
+pub took : (site : SiteName) (n : ℕ) (path bytes : List ℕ) (old : Log) (published : Option Log) (done : Uploaded) (new : Log)
+    → IsUploadAnswer site n path bytes (Ok published)
+    → MatchOption published ((done.published ≡ None) × (new ≡ old)) (λ receipt. (done.published ≡ Some (last_number receipt)) × by_front.learns old receipt new)
+    → done.digest ≡ digest_of bytes → TakesAs by_front old site n path bytes (Ok done) new
+took site n path bytes old None done new (lists, unready) (none, same) digest =
+    (digest, lists, subst (λ (p : Option ℕ). PublishesAs by_front old site n bytes p new) (sym none) (unready, same))
+took site n path bytes old (Some receipt) done new (lists, answer) (some, learnt) digest = (
+  digest,
+  lists,
+  subst (λ (p : Option ℕ). PublishesAs by_front old site n bytes p new) (sym some)
+      (entered (Change (Publish site n)) (reason_of_command (Publish site n)) old receipt (last_number receipt) new answer refl learnt),
+)
+
+-- why a file isn't stored
+not_stored : (site : SiteName) (n : ℕ) (path bytes : List ℕ) (fault : UploadFault) → ListsThem site n path bytes → (fault ≡ faults.TooLarge) ↔ (16777216 < length bytes)
+    → IsNotTaken site n path bytes (refusal_of_fault fault)
+not_stored site n path bytes faults.TooLarge lists (large, back) = (lists, large refl)
+not_stored site n path bytes faults.Device lists (large, back) = (lists, λ more. cc (back more))
+not_stored site n path bytes faults.OutOfMemory lists (large, back) = (lists, λ more. cc (back more))
+
+refused : (site : SiteName) (n : ℕ) (path bytes : List ℕ) (old : Log) (why told : Refusal) (new : Log) → IsNotTaken site n path bytes told → why ≡ told → new ≡ old
+    → TakesAs by_front old site n path bytes (Err why) new
+refused site n path bytes old why told new not_taken is same = inl (subst (λ (r : Refusal). IsNotTaken site n path bytes r) (sym is) not_taken, same)
+
 -- why an upload isn't taken
-pub not_taken : (site : SiteName) (n : ℕ) (bytes : List ℕ) (old : Log) (error : UploadError Log) (why : Refusal) (new : Log) → IsUploadAnswer site n (Err error)
-    → NotTakenAs old error why new → TakesAs by_front old site n bytes (Err why) new
-not_taken site n bytes old (upload.NotPublished error) why new answer (stopped, is, told) =
-    inr (stopped, stops (Change (Publish site n)) (reason_of_command (Publish site n)) old error stopped new answer is, told)
-not_taken site n bytes old upload.Broken why new answer (is, same) = inl same
-not_taken site n bytes old upload.NoSuchDeploy why new answer (is, same) = inl same
-not_taken site n bytes old upload.NotListed why new answer (is, same) = inl same
-not_taken site n bytes old upload.WrongDigest why new answer (is, same) = inl same
-not_taken site n bytes old (upload.NotStored fault) why new answer (is, same) = inl same
+pub not_taken : (site : SiteName) (n : ℕ) (path bytes : List ℕ) (old : Log) (error : UploadError Log) (why : Refusal) (new : Log)
+    → IsUploadAnswer site n path bytes (Err error) → NotTakenAs old error why new → TakesAs by_front old site n path bytes (Err why) new
+not_taken site n path bytes old (upload.NotPublished error) why new (lists, answer) (stopped, is, told) =
+    inr (lists, (stopped, stops (Change (Publish site n)) (reason_of_command (Publish site n)) old error stopped new answer is, told))
+not_taken site n path bytes old upload.Broken why new answer (is, same) = refused site n path bytes old why reason.Broken new answer is same
+not_taken site n path bytes old upload.NoSuchDeploy why new answer (is, same) = refused site n path bytes old why (reason.Change NoSuchDeploy) new answer is same
+not_taken site n path bytes old upload.NotListed why new answer (is, same) = refused site n path bytes old why reason.NotListed new answer is same
+not_taken site n path bytes old upload.WrongDigest why new answer (is, same) = refused site n path bytes old why reason.WrongDigest new answer is same
+not_taken site n path bytes old (upload.NotStored fault) why new (lists, large) (is, same) =
+    refused site n path bytes old why (refusal_of_fault fault) new (not_stored site n path bytes fault lists large) is same

@@ -42,7 +42,7 @@ known_over seen = record {
   failed_grows = λ old file first last why new. same_known old new;
   commits = λ old command done new. enters_known (Change command) _ old done new;
   undoes = λ old site change done new. enters_known (Undo site change) _ old done new;
-  uploads = λ old site n path bytes done new. takes_known old site n bytes done new;
+  uploads = λ old site n path bytes done new. takes_known old site n path bytes done new;
 }
 
 looked : (old shown mid : Log) → by_front.looks old shown mid → BeginsWith mid old

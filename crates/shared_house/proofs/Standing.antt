@@ -61,20 +61,21 @@ module _ {H K : Type 0} (narrow : Seeing H) (wide : Seeing K) (R : H → K → T
   enters entry reason old all (Err stop.Broken) new r is = (all, refl, same old new all r is)
   enters entry reason old all (Err stop.Device) new r is = (all, refl, same old new all r is)
 
-  published : (old : H) (all : K) (site : SiteName) (n : ℕ) (number : Option ℕ) (new : H) → R old all → PublishesAs narrow old site n number new
-      → (after : K) × PublishesAs wide all site n number after × R new after
-  published old all site n None new r is = (all, refl, same old new all r is)
-  published old all site n (Some number) new r is = enters (Change (command.Publish site n)) _ old all (Ok number) new r is
+  published : (old : H) (all : K) (site : SiteName) (n : ℕ) (bytes : List ℕ) (number : Option ℕ) (new : H) → R old all → PublishesAs narrow old site n bytes number new
+      → (after : K) × PublishesAs wide all site n bytes number after × R new after
+  published old all site n bytes None new r (unready, is) = (all, (unready, refl), same old new all r is)
+  published old all site n bytes (Some number) new r is = enters (Change (command.Publish site n)) _ old all (Ok number) new r is
 
-  takes : (old : H) (all : K) (site : SiteName) (n : ℕ) (bytes : List ℕ) (done : Result Uploaded Refusal) (new : H) → R old all → TakesAs narrow old site n bytes done new
-      → (after : K) × TakesAs wide all site n bytes done after × R new after
-  takes old all site n bytes (Ok done) new r (digest, is) =
-      let more = published old all site n done.published new r is in
-      (more.0, (digest, more.1), more.2)
-  takes old all site n bytes (Err why) new r (inl is) = (all, inl refl, same old new all r is)
-  takes old all site n bytes (Err why) new r (inr (stopped, commits, is)) =
+  takes : (old : H) (all : K) (site : SiteName) (n : ℕ) (path bytes : List ℕ) (done : Result Uploaded Refusal) (new : H) → R old all
+      → TakesAs narrow old site n path bytes done new
+      → (after : K) × TakesAs wide all site n path bytes done after × R new after
+  takes old all site n path bytes (Ok done) new r (digest, lists, is) =
+      let more = published old all site n bytes done.published new r is in
+      (more.0, (digest, lists, more.1), more.2)
+  takes old all site n path bytes (Err why) new r (inl (not_taken, is)) = (all, inl (not_taken, refl), same old new all r is)
+  takes old all site n path bytes (Err why) new r (inr (lists, (stopped, commits, is))) =
       let more = enters (Change (command.Publish site n)) _ old all (Err stopped) new r commits in
-      (more.0, inr (stopped, more.1, is), more.2)
+      (more.0, inr (lists, (stopped, more.1, is)), more.2)
 
   -- ---- what is done
 
@@ -120,7 +121,7 @@ module _ {H K : Type 0} (narrow : Seeing H) (wide : Seeing K) (R : H → K → T
     uploads : (old : H) (all : K) (site : SiteName) (n : ℕ) (path bytes : List ℕ) (new : H) → R old all → UploadsBy (calls_over narrow seen) old site n path bytes answer new
         → (after : K) × UploadsBy (calls_over wide seen) all site n path bytes answer after × R new after
     uploads old all site n path bytes new r (done, is, tells) =
-        let more = takes old all site n bytes done new r is in
+        let more = takes old all site n path bytes done new r is in
         (more.0, (done, more.1, tells), more.2)
 
     shows : (old : H) (all : K) (site : SiteName) (n : ℕ) (draft : Option Draft) (tree : Option (Paths (List ℕ))) (new : H) → R old all

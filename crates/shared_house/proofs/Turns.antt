@@ -1,6 +1,11 @@
 -- What a desk answers in its turns.
 use Rattle.std.proofs.Common.{◌≡◌, ℕ, List, Option, Some, None, Result, Ok, Err, sym, subst}
+use Rattle.std.specs.FinMap as map
+use Rattle.std.specs.Prelude.{IsSome}
+use Rattle.byte_view.specs.Contents.{Contents}
 use Rattle.host_disk.specs.declared.disks.Disk.{Ghosts}
+use Rattle.host_names.specs.Digests.{digest_of}
+use Rattle.host_names.specs.declared.digests.Digest.{Digest}
 use Rattle.host_names.specs.declared.names.SiteName.{SiteName}
 use Rattle.site_change.specs.declared.commands.Command.{Command}
 use Rattle.site_change.specs.declared.commands.Command.TheVariants.{Publish}
@@ -12,10 +17,10 @@ use Rattle.site_desk.specs.Books.{Kept, state_of}
 use Rattle.site_desk.specs.declared.errors.DeskError.{DeskError}
 use Rattle.site_desk.specs.declared.errors.DeskError.TheVariants as desk
 use Rattle.shared_desk.specs.Turns.{Commits, IsMet, IsTurn, Undoes}
-use Rattle.shared_desk.specs.Uploads.{DoesUpload}
+use Rattle.shared_desk.specs.Uploads.{DoesUpload, IsPublishing, Judges}
 use Rattle.shared_desk.specs.declared.upload_errors.UploadError.{UploadError}
 use Rattle.shared_desk.specs.declared.upload_errors.UploadError.TheVariants as upload
-use Rattle.shared_house.specs.Entering.{IsEntryAnswer, IsJudged, IsUploadAnswer, Reason, reason_of_command, reason_of_undo}
+use Rattle.shared_house.specs.Entering.{IsEntryAnswer, IsJudged, IsUnready, IsUploadAnswer, Lists, Moment, Reason, reason_of_command, reason_of_undo}
 
 judged : {D : Type 0} (floor : ℕ) (kept : Kept D) (reason : Reason) (why : Option ChangeRefusal) → IsMet floor kept
     → reason kept.known kept.journal.entries (state_of kept) ≡ why → IsJudged reason kept.journal.entries why
@@ -39,15 +44,31 @@ pub of_undo : {D : Type 0} (disk : Ghosts D) (floor : ℕ) (site : SiteName) (k 
     → IsEntryAnswer (Undo site k) (reason_of_undo site k) result
 of_undo disk floor site k result (old, new, is) = turn disk floor (Undo site k) (reason_of_undo site k) _ old result new is
 
+moment : {D : Type 0} (floor : ℕ) (kept : Kept D) → IsMet floor kept → Moment
+moment floor kept met = record { uploads = kept.known; log = kept.journal.entries; state = state_of kept; legal = met.legal; ran = met.ran }
+
+listed : {D : Type 0} (disk : Ghosts D) (floor : ℕ) (site : SiteName) (n : ℕ) (path : List ℕ) (digest : Digest) → Judges disk floor site n path (Ok digest)
+    → Lists site n path (Some (Some digest))
+listed disk floor site n path digest (kept, (met, whole, is)) = (moment floor kept met, is)
+
+unready : {D : Type 0} (disk : Ghosts D) (floor : ℕ) (site : SiteName) (n : ℕ) (bytes : List ℕ) (files : Contents) (old new : Kept D)
+    → IsSome (map.get files (digest_of bytes)) → IsPublishing disk floor files site n old (Ok None) new → IsUnready site n bytes
+unready disk floor site n bytes files old new known (met, within, ready, same) = (moment floor old met, (within _ known, ready))
+
 pub of_upload : {D : Type 0} (disk : Ghosts D) (floor : ℕ) (site : SiteName) (n : ℕ) (path bytes : List ℕ) (result : Result (Option Log) (UploadError Log))
-    → DoesUpload disk floor site n path bytes result → IsUploadAnswer site n result
-of_upload disk floor site n path bytes (Ok None) is = tt
-of_upload disk floor site n path bytes (Ok (Some receipt)) (judges, (files, some, (old, new, (commits, within, ready)))) =
-    turn disk floor (Change (Publish site n)) (reason_of_command (Publish site n)) _ old (Ok receipt) new commits
-of_upload disk floor site n path bytes (Err (upload.NotPublished why)) (judges, (files, some, (old, new, (commits, within, ready)))) =
-    turn disk floor (Change (Publish site n)) (reason_of_command (Publish site n)) _ old (Err why) new commits
+    → DoesUpload disk floor site n path bytes result → IsUploadAnswer site n path bytes result
+of_upload disk floor site n path bytes (Ok None) (judges, (files, known, (old, new, is))) =
+    (listed disk floor site n path (digest_of bytes) judges, unready disk floor site n bytes files old new known is)
+of_upload disk floor site n path bytes (Ok (Some receipt)) (judges, (files, known, (old, new, (commits, within, ready)))) = (
+  listed disk floor site n path (digest_of bytes) judges,
+  turn disk floor (Change (Publish site n)) (reason_of_command (Publish site n)) _ old (Ok receipt) new commits,
+)
+of_upload disk floor site n path bytes (Err (upload.NotPublished why)) (judges, (files, known, (old, new, (commits, within, ready)))) = (
+  listed disk floor site n path (digest_of bytes) judges,
+  turn disk floor (Change (Publish site n)) (reason_of_command (Publish site n)) _ old (Err why) new commits,
+)
 of_upload disk floor site n path bytes (Err upload.Broken) is = tt
-of_upload disk floor site n path bytes (Err upload.NoSuchDeploy) is = tt
-of_upload disk floor site n path bytes (Err upload.NotListed) is = tt
-of_upload disk floor site n path bytes (Err upload.WrongDigest) is = tt
-of_upload disk floor site n path bytes (Err (upload.NotStored why)) is = tt
+of_upload disk floor site n path bytes (Err upload.NoSuchDeploy) (kept, (met, whole, is)) = (moment floor kept met, is)
+of_upload disk floor site n path bytes (Err upload.NotListed) (kept, (met, whole, is)) = (moment floor kept met, is)
+of_upload disk floor site n path bytes (Err upload.WrongDigest) (other, differs, judges) = (other, (differs, listed disk floor site n path other judges))
+of_upload disk floor site n path bytes (Err (upload.NotStored why)) (judges, large) = (listed disk floor site n path (digest_of bytes) judges, large)

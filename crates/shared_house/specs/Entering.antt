@@ -1,8 +1,13 @@
 -- What a desk answers, in terms of logs.
-use Rattle.std.specs.Prelude.{◌≡◌, ℕ, Option, Some, None, Result, Ok, Err}
+use Rattle.std.specs.Prelude.{◌≡◌, ◌≢◌, ◌↔◌, ◌<◌, ℕ, false, List, length, Option, Some, None, IsSome, Result, Ok, Err}
+use Rattle.std.specs.FinMap as map
+use Rattle.blob_store.specs.declared.blobs.UploadFault.TheVariants.{TooLarge}
 use Rattle.byte_view.specs.Contents.{Contents}
+use Rattle.host_names.specs.Digests.{digest_of}
+use Rattle.host_names.specs.declared.digests.Digest.{Digest}
 use Rattle.host_names.specs.declared.names.SiteName.{SiteName}
-use Rattle.site_state.specs.States.{State}
+use Rattle.site_state.specs.Deploys.{is_ready_draft, listed_at}
+use Rattle.site_state.specs.States.{State, draft_at, kept_at}
 use Rattle.site_change.specs.declared.commands.Command.{Command}
 use Rattle.site_change.specs.declared.commands.Command.TheVariants.{Publish}
 use Rattle.site_change.specs.declared.refusals.ChangeRefusal.{ChangeRefusal}
@@ -44,9 +49,41 @@ IsEntryAnswer entry reason (Err other) = Unit {0}
 abbrev pub IsPublishAnswer : SiteName → ℕ → Result Log (DeskError Log) → Type 0
 IsPublishAnswer site n result = IsEntryAnswer (Change (Publish site n)) (reason_of_command (Publish site n)) result
 
--- what it answers to an upload for a deploy: what comes of the publishing, if the deploy is ready then
-abbrev pub IsUploadAnswer : SiteName → ℕ → Result (Option Log) (UploadError Log) → Type 0
-IsUploadAnswer site n (Ok None) = Unit {0}
-IsUploadAnswer site n (Ok (Some receipt)) = IsPublishAnswer site n (Ok receipt)
-IsUploadAnswer site n (Err (upload.NotPublished why)) = IsPublishAnswer site n (Err why)
-IsUploadAnswer site n (Err other) = Unit {0}
+-- ---- uploads
+
+-- a moment of a desk: its log, which is legal over the uploads of then, and the state that it gives
+pub record Moment : Type 0 where
+  pub uploads : Contents
+  pub log : Log
+  pub state : State
+  pub legal : IsLegal uploads log
+  pub ran : run uploads log ≡ Some state
+
+-- at some moment a site's deploy listed this at a path: no such deploy, no file there, or its digest
+abbrev pub Lists : SiteName → ℕ → (path : List ℕ) → Option (Option Digest) → Type 0
+Lists site n path listed = (m : Moment) × (listed_at (draft_at m.state site n) (kept_at m.state site n) path ≡ listed)
+
+-- the digest of these bytes
+abbrev pub ListsThem : SiteName → ℕ → (path bytes : List ℕ) → Type 0
+ListsThem site n path bytes = Lists site n path (Some (Some (digest_of bytes)))
+
+-- another digest than that
+abbrev pub ListsOthers : SiteName → ℕ → (path bytes : List ℕ) → Type 0
+ListsOthers site n path bytes = (listed : Digest) × (listed ≢ digest_of bytes) × Lists site n path (Some (Some listed))
+
+-- at some moment the file of these bytes was known, and the deploy wasn't ready
+abbrev pub IsUnready : SiteName → ℕ → (bytes : List ℕ) → Type 0
+IsUnready site n bytes =
+    (m : Moment) × IsSome (map.get m.uploads (digest_of bytes)) × (is_ready_draft m.uploads (draft_at m.state site n) ≡ false)
+
+-- What it answers to an upload of these bytes to a path of a deploy: that they are taken, and what comes of the publishing, if the deploy is ready then; or
+-- the first reason against that.
+abbrev pub IsUploadAnswer : SiteName → ℕ → (path bytes : List ℕ) → Result (Option Log) (UploadError Log) → Type 0
+IsUploadAnswer site n path bytes (Ok None) = ListsThem site n path bytes × IsUnready site n bytes
+IsUploadAnswer site n path bytes (Ok (Some receipt)) = ListsThem site n path bytes × IsPublishAnswer site n (Ok receipt)
+IsUploadAnswer site n path bytes (Err upload.Broken) = Unit {0}
+IsUploadAnswer site n path bytes (Err upload.NoSuchDeploy) = Lists site n path None
+IsUploadAnswer site n path bytes (Err upload.NotListed) = Lists site n path (Some None)
+IsUploadAnswer site n path bytes (Err upload.WrongDigest) = ListsOthers site n path bytes
+IsUploadAnswer site n path bytes (Err (upload.NotStored why)) = ListsThem site n path bytes × ((why ≡ TooLarge) ↔ (16777216 < length bytes))
+IsUploadAnswer site n path bytes (Err (upload.NotPublished why)) = ListsThem site n path bytes × IsPublishAnswer site n (Err why)

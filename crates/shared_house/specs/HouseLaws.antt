@@ -74,14 +74,15 @@ enters_known entry reason old (Err stop.OutOfMemory) new (inl same) = same_known
 enters_known entry reason old (Err stop.OutOfMemory) new (inr (number, (before, judged, is, learnt))) = learnt.0
 enters_known entry reason old (Err stop.Device) new same = same_known old new same
 
-published_known : (old : Log) (site : SiteName) (n : ℕ) (published : Option ℕ) (new : Log) → PublishesAs by_front old site n published new → BeginsWith new old
-published_known old site n None new same = same_known old new same
-published_known old site n (Some number) new (before, judged, is, learnt) = learnt.0
+published_known : (old : Log) (site : SiteName) (n : ℕ) (bytes : List ℕ) (published : Option ℕ) (new : Log) → PublishesAs by_front old site n bytes published new → BeginsWith new old
+published_known old site n bytes None new (unready, same) = same_known old new same
+published_known old site n bytes (Some number) new (before, judged, is, learnt) = learnt.0
 
-pub takes_known : (old : Log) (site : SiteName) (n : ℕ) (bytes : List ℕ) (done : Result Uploaded Refusal) (new : Log) → TakesAs by_front old site n bytes done new → BeginsWith new old
-takes_known old site n bytes (Ok done) new (digest, published) = published_known old site n done.published new published
-takes_known old site n bytes (Err why) new (inl same) = same_known old new same
-takes_known old site n bytes (Err why) new (inr (stopped, commits, is)) = enters_known (Change (Publish site n)) _ old (Err stopped) new commits
+pub takes_known : (old : Log) (site : SiteName) (n : ℕ) (path bytes : List ℕ) (done : Result Uploaded Refusal) (new : Log) → TakesAs by_front old site n path bytes done new
+    → BeginsWith new old
+takes_known old site n path bytes (Ok done) new (digest, lists, published) = published_known old site n bytes done.published new published
+takes_known old site n path bytes (Err why) new (inl (not_taken, same)) = same_known old new same
+takes_known old site n path bytes (Err why) new (inr (lists, (stopped, commits, is))) = enters_known (Change (Publish site n)) _ old (Err stopped) new commits
 
 looks_known : (old : Sight) (done : Result (Unit {0}) AllocError) (new : Sight) → calls_of.looks old done new → BeginsWith new.known old.known
 looks_known old (Ok done) new looks = subst (λ (l : Log). BeginsWith l old.known) (sym looks.0.1) looks.0.0
@@ -95,7 +96,7 @@ known = record {
   failed_grows = λ old file first last why new. same_known old.known new.known;
   commits = λ old command done new. enters_known (Change command) _ old.known done new.known;
   undoes = λ old site change done new. enters_known (Undo site change) _ old.known done new.known;
-  uploads = λ old site n path bytes done new. takes_known old.known site n bytes done new.known;
+  uploads = λ old site n path bytes done new. takes_known old.known site n path bytes done new.known;
 }
 
 pub grew : (old new : Sight) (parts : RequestParts) (body : List ℕ) (answer : Answer) → AnswersBy calls_of gave_at failed_at old parts body answer new

@@ -28,5 +28,5 @@ calls_of = record {
   misses = λ house files required. LacksAs files required;
   commits = λ old command done new. CommitsAs by_front old.known command done new.known;
   undoes = λ old site change done new. UndoesAs by_front old.known site change done new.known;
-  uploads = λ old site n path bytes done new. TakesAs by_front old.known site n bytes done new.known;
+  uploads = λ old site n path bytes done new. TakesAs by_front old.known site n path bytes done new.known;
 }

@@ -1,5 +1,5 @@
 -- What a house answers whose history others change: what its last look shows, and what its own receipts and refusals say.
-use Rattle.std.specs.Prelude.{◌≡◌, ◌⊎◌, ℕ, List, Option, Some, None, Result, Ok, Err, IsSome, IsTrue}
+use Rattle.std.specs.Prelude.{◌≡◌, ◌⊎◌, ◌<◌, ℕ, List, length, Option, Some, None, Result, Ok, Err, IsSome, IsTrue}
 use Rattle.std.specs.declared.alloc.AllocError.{AllocError}
 use Rattle.host_names.specs.Digests.{digest_of}
 use Rattle.host_names.specs.declared.digests.Digest.{Digest}
@@ -9,6 +9,7 @@ use Rattle.site_state.specs.Files.{Paths}
 use Rattle.site_state.specs.Missing.{AreMissing, least_missing_of}
 use Rattle.site_change.specs.declared.commands.Command.{Command}
 use Rattle.site_change.specs.declared.commands.Command.TheVariants.{Publish}
+use Rattle.site_change.specs.declared.refusals.ChangeRefusal.TheVariants.{NoSuchDeploy}
 use Rattle.change_undo.specs.Histories.{IsLegal, run}
 use Rattle.change_undo.specs.Logs.{Log, next_number, with_entry}
 use Rattle.change_undo.specs.declared.entries.Entry.{Entry}
@@ -28,7 +29,7 @@ use Rattle.host_answers.specs.Houses.{Calls, Failed, Gave, Seen}
 use Rattle.host_answers.specs.declared.stops.Stop.{Stop}
 use Rattle.host_answers.specs.declared.stops.Stop.TheVariants as stop
 use Rattle.host_answers.specs.declared.uploads.Uploaded.{Uploaded}
-use Rattle.shared_house.specs.Entering.{IsJudged, Reason, reason_of_command, reason_of_undo}
+use Rattle.shared_house.specs.Entering.{IsJudged, IsUnready, Lists, ListsOthers, ListsThem, Reason, reason_of_command, reason_of_undo}
 use Rattle.shared_house.specs.Seeing.{Seeing}
 
 -- what is shown is a legal log and the state that it gives, over some uploads
@@ -39,6 +40,17 @@ IsLegalRun seen = (uploads : Contents) × IsLegal uploads seen.entries × (run u
 abbrev pub LacksAs : Paths (Option Digest) → Result (List Digest) AllocError → Type 0
 LacksAs files (Ok required) = (uploads : Contents) × AreMissing uploads files required
 LacksAs files (Err why) = (uploads : Contents) × IsSome (least_missing_of uploads files)
+
+-- why an upload isn't taken, the first reason that holds
+abbrev pub IsNotTaken : SiteName → ℕ → (path bytes : List ℕ) → Refusal → Type 0
+IsNotTaken site n path bytes reason.Broken = Unit {0}
+IsNotTaken site n path bytes (reason.Change NoSuchDeploy) = Lists site n path None
+IsNotTaken site n path bytes reason.NotListed = Lists site n path (Some None)
+IsNotTaken site n path bytes reason.WrongDigest = ListsOthers site n path bytes
+IsNotTaken site n path bytes reason.TooLarge = ListsThem site n path bytes × (16777216 < length bytes)
+IsNotTaken site n path bytes reason.Device = ListsThem site n path bytes × ¬ (16777216 < length bytes)
+IsNotTaken site n path bytes reason.OutOfMemory = ListsThem site n path bytes × ¬ (16777216 < length bytes)
+IsNotTaken site n path bytes other = ⊥
 
 module _ {K : Type 0} (sees : Seeing K) where
   -- ---- changes
@@ -65,15 +77,18 @@ module _ {K : Type 0} (sees : Seeing K) where
   -- ---- uploads
 
   -- what comes of the publishing of a deploy that an upload leaves ready or not
-  abbrev pub PublishesAs : (old : K) → SiteName → ℕ → Option ℕ → (new : K) → Type 0
-  PublishesAs old site n None new = new ≡ old
-  PublishesAs old site n (Some number) new = CommitsAs old (Publish site n) (Ok number) new
+  abbrev pub PublishesAs : (old : K) → SiteName → ℕ → (bytes : List ℕ) → Option ℕ → (new : K) → Type 0
+  PublishesAs old site n bytes None new = IsUnready site n bytes × (new ≡ old)
+  PublishesAs old site n bytes (Some number) new = CommitsAs old (Publish site n) (Ok number) new
 
-  -- what comes of an upload: its digest is told; or it is refused, or the publishing is
-  abbrev pub TakesAs : (old : K) → SiteName → ℕ → (bytes : List ℕ) → Result Uploaded Refusal → (new : K) → Type 0
-  TakesAs old site n bytes (Ok done) new = (done.digest ≡ digest_of bytes) × PublishesAs old site n done.published new
-  TakesAs old site n bytes (Err why) new =
-      (new ≡ old) ⊎ ((stopped : Stop) × CommitsAs old (Publish site n) (Err stopped) new × (why ≡ told_stop stopped))
+  -- What comes of an upload to a path of a deploy: the deploy lists its digest there, which is told; or it is refused for the first reason, or the
+  -- publishing is.
+  abbrev pub TakesAs : (old : K) → SiteName → ℕ → (path bytes : List ℕ) → Result Uploaded Refusal → (new : K) → Type 0
+  TakesAs old site n path bytes (Ok done) new =
+      (done.digest ≡ digest_of bytes) × ListsThem site n path bytes × PublishesAs old site n bytes done.published new
+  TakesAs old site n path bytes (Err why) new =
+      (IsNotTaken site n path bytes why × (new ≡ old))
+      ⊎ (ListsThem site n path bytes × ((stopped : Stop) × CommitsAs old (Publish site n) (Err stopped) new × (why ≡ told_stop stopped)))
 
   -- ---- answers
 
@@ -85,7 +100,7 @@ module _ {K : Type 0} (sees : Seeing K) where
     misses = λ k files required. LacksAs files required;
     commits = CommitsAs;
     undoes = UndoesAs;
-    uploads = λ old site n path bytes done new. TakesAs old site n bytes done new;
+    uploads = λ old site n path bytes done new. TakesAs old site n path bytes done new;
   }
 
   -- nothing is learnt where files are held

@@ -51,6 +51,7 @@ impl<J: DeskName, D: DeskAccess<J>, G: FileAccess> House for SharedHouse<J, D, G
         let Ok(snap) = self.visitor.look() else {
             return Err(AllocError);
         };
+        // Its clause says that the state is what the entries give.
         let _ = snap.state();
         self.snap = snap;
         Ok(())

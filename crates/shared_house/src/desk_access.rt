@@ -23,7 +23,7 @@ pub trait DeskAccess<J: DeskName> {
     fn undo(&self, site: &SiteName, change: u64) -> Result<Notice<J>, DeskError<Notice<J>>>
         ensures { IsEntryAnswer (entry.Undo site.now change) (reason_of_undo site.now change) result };
 
-    /// Takes bytes as a file of a deploy, and publishes the deploy if it is ready then. Gives the receipt of that.
+    /// Takes bytes as the file that a deploy lists at a path, and publishes the deploy if it is ready then. Gives the receipt of that.
     fn upload(
         &self,
         site: &SiteName,
@@ -31,7 +31,7 @@ pub trait DeskAccess<J: DeskName> {
         path: &FilePath,
         bytes: &[u8],
     ) -> Result<Option<Notice<J>>, UploadError<Notice<J>>>
-        ensures { IsUploadAnswer site.now deploy result };
+        ensures { IsUploadAnswer site.now deploy path.now bytes.now result };
 
     /// The listed digests whose files aren't uploaded by now.
     fn missing(&self, alloc: Global, files: &Listing) -> Result<Vec<Digest>, AllocError>

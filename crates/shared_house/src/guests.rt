@@ -1,6 +1,7 @@
 //! Connections that go from one worker to another, each with a note of what it saw.
 ghost use Rattle.std.specs.Prelude.{◌≡◌};
 ghost use Rattle.change_undo.specs.Logs.{BeginsWith, Log};
+ghost use Rattle.host_connection.specs.Advancing.{Goes, RemembersMemory, TellsBody, phases_left};
 ghost use Rattle.host_connection.specs.Carrying.{AnswersOnce, Carries, Leads};
 ghost use Rattle.host_replies.specs.Bodies.{answer_of};
 ghost use Rattle.shared_house.specs.GuestLaws as laws;
@@ -120,6 +121,13 @@ impl<J: DeskName, D: DeskAccess<J>, G: FileAccess> Guest<J, D, G> {
             result }
         ensures asks { AnswersOnce IsGuestAnswer note.old note.new }
         ensures grows { BeginsWith note.new note.old }
+        ensures goes { Goes X.saw duplex.old.stream duplex.new.stream result
+            (phases_left connection.old.number connection.old.phase)
+            (phases_left connection.new.number connection.new.phase) }
+        ensures tells { TellsBody result
+            connection.old.number connection.old.phase
+            connection.new.number connection.new.phase }
+        ensures memory { RemembersMemory connection.old.phase connection.new.phase }
     {
         self.take_note(note);
         let progress = connection.go_on(alloc, duplex, self);
