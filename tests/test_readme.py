@@ -16,11 +16,12 @@ import unittest
 from lib.client import PROGRAM, SECONDS, TOP, Program, content_length, cut_after
 from lib.repository import read
 from lib.sandbox import FAKE_RT
+from lib.served import free_ports
 
 # The commands of the system with which an indented line may begin. Others are files of the repository.
 OF_THE_SYSTEM = ("cat", "cd", "cp", "curl", "for", "git", "mkdir", "printf", "python3", "tar", "wget")
 # Those that say something on standard error alone, and end with 1.
-TELLING = ("./filehost", "./filehost --help", "./filehost solo --help", "./filehost --version")
+TELLING = ("./filehost", "./filehost --help", "./filehost solo --help", "./filehost serve --help", "./filehost --version")
 PORT = "8080"
 # What a reader puts in the place of these words. DIR is a folder of this name.
 OWN_WORDS = {"FOLDER": "examples/small-site", "SITE": "small"}
@@ -29,7 +30,7 @@ TESTS = "print('the tests')\nprint('2 passed, 0 failed')\n"
 
 def left_out(folder, names):
     """What of a folder is no source: what git, rt and Python keep, and the store that README.md makes at the top."""
-    return {".git", "out", "__pycache__"} | ({"store", "DIR"} if pathlib.Path(folder) == TOP else set())
+    return {".git", "out", "__pycache__"} | ({"store", "site-store", "DIR"} if pathlib.Path(folder) == TOP else set())
 
 
 def is_command(words, others=()):
@@ -84,8 +85,7 @@ class Readme(Program):
         (self.top / "DIR").mkdir()
         (self.room / "toolchain").mkdir()
         shutil.copy(FAKE_RT, self.room / "toolchain" / "rt")
-        with socket.create_server(("127.0.0.1", 0)) as listener:
-            self.port = str(listener.getsockname()[1])
+        self.port = str(free_ports())
 
     def start(self, command):
         """Begins a command in a process group that is ended with the test, however that ends."""
@@ -135,6 +135,10 @@ class Readme(Program):
         started.wait(SECONDS)
         return told
 
+    def answered(self, command):
+        """What a page shows below a command, in a line of its own."""
+        return re.search(rf"(?m)^    {re.escape(command)}\n    (.*)$", self.text)[1]
+
     def test_shows_commands_that_do_what_it_says(self):
         """In order, so each over what those before it left. If an example has a file of replies, the program answers these."""
         there = sorted(path.name for path in TOP.iterdir())
@@ -145,8 +149,13 @@ class Readme(Program):
                 if f"--port {PORT}" in command:
                     self.assertEqual(self.listen(command), self.run_to_its_end("printf 'GET /s/one/ HTTP/1.1\\n\\n' | ./filehost solo --store DIR"))
                     continue
+                if "filehost serve --listen" in command:
+                    self.assertIn(self.port.encode(), self.start(command).stdout.readline())
+                    continue
                 out = self.run_to_its_end(command)
-                if found := re.search(r"< (examples/[\w-]+)\.http$", command):
+                if command.startswith("curl"):
+                    self.assertEqual(out.decode(), self.answered(command))
+                elif found := re.search(r"< (examples/[\w-]+)\.http$", command):
                     self.assertEqual(out, (TOP / f"{found[1]}.replies").read_bytes())
                 elif command.startswith("examples/make-deploy"):
                     self.assertEqual(out, (TOP / "examples/small-site.http").read_bytes())

@@ -69,6 +69,7 @@ STATUS_OF = documented_statuses()
 HELP = {
     "filehost.txt": ("--help", "-h", "help"),
     "solo.txt": ("solo --help", "solo -h", "help solo"),
+    "serve.txt": ("serve --help", "serve -h", "help serve"),
     "version.txt": ("--version", "-V"),
 }
 

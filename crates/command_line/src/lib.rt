@@ -2,58 +2,30 @@
 #![tactic(auto)]
 
 pub mod laws;
+mod options;
+mod serve_options;
+mod serve_words;
+mod texts;
 
-ghost use Rattle.std.specs.Prelude.{◌≡◌, ◌≢◌, [], IfOk, codes, map, option_map};
+ghost use Rattle.std.specs.Prelude.{◌≡◌, ◌≢◌, [], IfOk, codes, false, map, option_map};
 ghost use Rattle.std.specs.String.{string_bytes};
-ghost use Rattle.clap.specs.Words.{app_of, first_of, found_of, kind_of, rows_of};
-ghost use Rattle.command_line.specs.CommandLine.{HasText, Reads, filehost};
+ghost use Rattle.clap.specs.Words.{app_of, first_of, found_of, kind_of, new_app, rows_of};
+ghost use Rattle.clap.specs.declared.builder.command.Command.TheViews.{out-Command};
+ghost use Rattle.command_line.specs.CommandLine.{HasText, Reads, ReadsMatches, filehost, wanting};
 ghost use Rattle.command_line.specs.declared.Refusal.TheVariants.{OutOfMemory};
 
+use crate::options::{text_option, with_command, with_option};
+use crate::serve_words::{Misread, options_in, serve_command};
+use crate::texts::{ABOUT, ABOUT_SOLO, ABOUT_STORE, EXAMPLE, MORE_ON_SOLO};
 use clap::error::ErrorKind;
-use clap::{Arg, ArgAction, ArgMatches, Command, Error};
+use clap::{ArgMatches, Command, Error};
+pub use serve_options::ServeOptions;
 use std::alloc::{AllocError, Global};
 use std::convert::AsStr;
 
-const ABOUT: &str =
-    "An immutable file host: it serves sites over HTTP/1.1, and keeps each file under its SHA-1.
-
-A deploy lists the paths of a site with the digests of their contents. The host asks for the contents
-that it lacks, and publishes the deploy whole or not at all. Each change has a number, by which it can
-be undone while no later change reads or writes what it changed.";
-
-const EXAMPLE: &str = "Example, at the top of the repository:
-  ./filehost solo < examples/first-run.http
-It opens a deploy of one file, uploads the file, reads a part of it, undoes the deploy and reads again,
-and prints the five replies.
-
-Documents, in the repository:
-  README.md        how to build it, a first run, and what is proved
-  docs/HTTP.md     each request and its reply
-  docs/CHANGES.md  deploys, aliases, and what an undo does";
-
-const ABOUT_SOLO: &str =
-    "Serves one connection: HTTP/1.1 requests on standard input, replies on standard output";
-
-const ABOUT_STORE: &str =
-    "An existing folder in which the host is kept, and which nothing else uses";
-
-const MORE_ON_SOLO: &str =
-    "To type a request at a terminal, end each line with the return key and the head with an empty line,
-as in `GET /s/one/ HTTP/1.1` and an empty line. Ctrl-D ends the input.
-
-Without --store the host starts empty, and all it holds is gone when the connection ends.
-
-With it the host continues where it last stopped, or starts empty where DIR holds no host yet. Let
-nothing else write into DIR: files there with the program's own names are read and written over.
-
-Exit status: 0 if the input has ended or a reply has closed the connection, 1 for arguments that
-are not taken, 2 if input, output or memory failed, 3 if the journal in DIR can't be opened, 4 if a
-file in DIR is missing or damaged, or can't be read.
-
-`journal: Device` means that DIR is not an existing folder, that another program has its journal
-open, or that the journal can't be made, read or written.";
-
 const NOT_TAKEN: &str = "filehost: these arguments are not taken\n";
+
+const BAD_ADDRESS: &str = "filehost: bad address\n";
 
 /// What the command line asks for.
 #[derive(Debug, Drop, PartialEq, Eq)]
@@ -63,6 +35,8 @@ pub enum Wanted {
         /// The folder that keeps the host, if one does.
         store: Option<String>,
     },
+    /// Serve clients over TCP.
+    Serve(ServeOptions),
 }
 
 /// Why the command line asks for nothing that the program does.
@@ -93,14 +67,40 @@ pub fn read<S: AsStr>(alloc: Global, words: &[S]) -> Result<Wanted, Refusal>
 {
     let command = commands(alloc)?;
     match command.try_get_matches_from(words) {
-        Ok(matches) => match matches.subcommand_matches("solo") {
-            Some(solo) => Ok(Wanted::Solo {
-                store: store_in(alloc, solo)?,
-            }),
-            None => Err(Refusal::Shown(String::from_str(alloc, NOT_TAKEN)?)),
-        },
+        Ok(matches) => read_matches(alloc, &matches),
         Err(error) => Err(make_refusal(alloc, &error)),
     }
+}
+
+/// What is wanted by what a parse found.
+fn read_matches(alloc: Global, matches: &ArgMatches) -> Result<Wanted, Refusal>
+    ensures { ReadsMatches matches.now result }
+{
+    if let Some(solo) = matches.subcommand_matches("solo") {
+        return Ok(Wanted::Solo {
+            store: store_in(alloc, solo)?,
+        });
+    }
+    let Some(serve) = matches.subcommand_matches("serve") else {
+        return Err(shown(alloc, NOT_TAKEN));
+    };
+    match options_in(alloc, serve) {
+        Ok(options) => Ok(Wanted::Serve(options)),
+        Err(Misread::BadAddress) => Err(shown(alloc, BAD_ADDRESS)),
+        Err(Misread::BadNumber) => Err(shown(alloc, NOT_TAKEN)),
+        Err(Misread::OutOfMemory) => Err(Refusal::OutOfMemory),
+    }
+}
+
+/// A refusal that shows this text, unless memory runs out.
+fn shown(alloc: Global, text: &str) -> Refusal
+    requires { text.now ≢ [] }
+    ensures { HasText result }
+{
+    let Ok(text) = String::from_str(alloc, text) else {
+        return Refusal::OutOfMemory;
+    };
+    Refusal::Shown(text)
 }
 
 /// The folder that is given to a command.
@@ -138,26 +138,38 @@ fn text_of(alloc: Global, error: &Error) -> Result<String, AllocError>
     Ok(text)
 }
 
+/// The program, without its commands.
+fn program<'a>(alloc: Global) -> Result<Command<'a>, AllocError>
+    ensures { IfOk result (λ program. app_of program ≡ wanting) }
+{
+    let named = Command::new(alloc, "filehost").bin_name("filehost")?;
+    Ok(
+        named
+            .no_binary_name(true)
+            .version("0.1.0")
+            .about(ABOUT)
+            .after_help(EXAMPLE)
+            .subcommand_required(true)
+            .arg_required_else_help(true),
+    )
+}
+
+/// The command `solo`, without its option.
+fn bare_solo<'a>(alloc: Global) -> Command<'a>
+    ensures app { app_of result ≡ new_app (codes "solo") }
+    ensures plain { (out-Command result).has_globals ≡ false }
+{
+    Command::new(alloc, "solo")
+        .about(ABOUT_SOLO)
+        .after_help(MORE_ON_SOLO)
+}
+
 /// The program with its commands.
 fn commands<'a>(alloc: Global) -> Result<Command<'a>, AllocError>
     ensures { IfOk result (λ command. app_of command ≡ filehost) }
 {
-    let store = Arg::new(alloc, "store")
-        .long("store")
-        .value_name("DIR")
-        .help(ABOUT_STORE)
-        .action(ArgAction::Set);
-    let solo = Command::new(alloc, "solo")
-        .about(ABOUT_SOLO)
-        .after_help(MORE_ON_SOLO)
-        .arg(store)?;
-    Command::new(alloc, "filehost")
-        .bin_name("filehost")?
-        .no_binary_name(true)
-        .version("0.1.0")
-        .about(ABOUT)
-        .after_help(EXAMPLE)
-        .subcommand_required(true)
-        .arg_required_else_help(true)
-        .subcommand(solo)
+    let store = text_option(alloc, "store", "DIR", ABOUT_STORE);
+    let solo = with_option(bare_solo(alloc), store)?;
+    let with_solo = with_command(program(alloc)?, solo)?;
+    with_command(with_solo, serve_command(alloc)?)
 }

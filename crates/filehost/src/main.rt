@@ -3,6 +3,8 @@
 
 ghost use Rattle.std.specs.Prelude.{◌≡◌, ◌⊎◌};
 
+use command_line::ServeOptions;
+use host_nodes::run_serve;
 use host_server::run_solo;
 use http_wire::{Pair, Reading, Writing};
 use std::io::ErrorKind;
@@ -16,11 +18,18 @@ const NOT_TAKEN: u8 = 1;
 const FAILED: u8 = 2;
 
 fn main(rt: HostRuntime) -> ExitCode {
-    let status = match words(&rt) {
+    let ran = match words(&rt) {
         Ok(words) => run(&rt, words.as_slice()),
-        Err(error) => fail(&rt, &error),
+        Err(error) => Ok(fail(&rt, &error)),
     };
-    ExitCode::from(status)
+    ExitCode::from(match ran {
+        Ok(status) => status,
+        Err(options) => {
+            let mut lines = Writing(rt.stdout());
+            let mut errors = Writing(rt.stderr());
+            run_serve(&rt, rt.alloc(), &options, &mut lines, &mut errors)
+        }
+    })
 }
 
 /// The words after the program's name.
@@ -28,8 +37,8 @@ fn words(rt: &HostRuntime) -> io::Result<Vec<String>> {
     Ok(env::args(rt)?.skip(1).collect(rt.alloc())?)
 }
 
-/// Runs the program on its standard streams, and answers its exit status.
-fn run(rt: &HostRuntime, words: &[String]) -> u8 {
+/// Runs the program on its standard streams, and answers its exit status; or what `serve` is told, if the words ask for that.
+fn run(rt: &HostRuntime, words: &[String]) -> Result<u8, ServeOptions> {
     let mut duplex = Pair {
         source: Reading(rt.stdin()),
         sink: Writing(rt.stdout()),

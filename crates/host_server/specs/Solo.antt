@@ -3,7 +3,8 @@
 use Rattle.std.specs.Prelude.{◌≡◌, ◌≢◌, ◌⊎◌, ℕ, List, [], Option, Some, None, Result, Ok, Err, codes}
 use Rattle.std.specs.FinMap as map
 use Rattle.std.specs.Io.KnownBytes.{Appends}
-use Rattle.command_line.specs.CommandLine.{AskForSolo}
+use Rattle.command_line.specs.CommandLine.{AskForNothing, AskForServe, AskForSolo}
+use Rattle.command_line.specs.declared.serve_options.ServeOptions.{ServeOptions}
 use Rattle.http_wire.specs.Sending.{AppendsFront}
 use Rattle.http_wire.specs.Timing.{Ran}
 use Rattle.http_wire.specs.declared.duplexes.Duplex as duplexes
@@ -67,7 +68,7 @@ SaysFault says_fail why status said new_said = (status ≡ opening_status why) �
 -- the words ask for nothing that the program does, and some text is said
 abbrev pub IsRefused : (says_fail : Type 0) → List (List ℕ) → ℕ → (said new_said : Stream) → Type 0
 IsRefused says_fail words status said new_said =
-    ((store : Option (List ℕ)) → ¬ (AskForSolo words store)) × (status ≡ 1) × ((text : List ℕ) × (text ≢ []) × IsSaid says_fail text said new_said)
+    AskForNothing words × (status ≡ 1) × ((text : List ℕ) × (text ≢ []) × IsSaid says_fail text said new_said)
 
 -- memory ran out while the words were read, and that is said
 abbrev pub IsNotRead : (says_fail : Type 0) → ℕ → (said new_said : Stream) → Type 0
@@ -145,3 +146,9 @@ abbrev pub Runs : {S D X : Type 0} → Ghosts MemDisk → (disk : Ghosts D) → 
 Runs in_memory disk shelf duplex says_fail words status old new said new_said =
     (IsNotServed says_fail words status said new_said × (new ≡ old))
     ⊎ ((store : Option (List ℕ)) × AskForSolo words store × RunsOver in_memory disk shelf duplex says_fail store status old new said new_said)
+
+-- A run, unless the words ask for `serve`: then these options are handed back, and nothing is read, answered or said.
+abbrev pub RunsSolo : {S D X : Type 0} → Ghosts MemDisk → (disk : Ghosts D) → (shelf : shelves.Ghosts S) → (duplex : duplexes.Ghosts X) → (says_fail : Type 0)
+    → List (List ℕ) → Result ℕ ServeOptions → (old new : X) → (said new_said : Stream) → Type 0
+RunsSolo in_memory disk shelf duplex says_fail words (Ok status) old new said new_said = Runs in_memory disk shelf duplex says_fail words status old new said new_said
+RunsSolo in_memory disk shelf duplex says_fail words (Err options) old new said new_said = AskForServe words options × (new ≡ old) × (new_said ≡ said)

@@ -46,7 +46,7 @@ fn push_detail(line: &mut ArrayString<LONGEST>, fault: &OpenFault)
 }
 
 /// The line that says why a store can't be opened. Takes no memory.
-pub(crate) fn line_of(fault: &OpenFault) -> ArrayString<LONGEST>
+pub fn line_of(fault: &OpenFault) -> ArrayString<LONGEST>
     ensures { result.bytes ≡ opening_line fault.now }
 {
     let mut line = ArrayString::new();
@@ -58,7 +58,7 @@ pub(crate) fn line_of(fault: &OpenFault) -> ArrayString<LONGEST>
 }
 
 /// The exit status if a store can't be opened.
-pub(crate) fn status_of(fault: &OpenFault) -> u8
+pub fn status_of(fault: &OpenFault) -> u8
     ensures { result ≡ opening_status fault.now }
 {
     match fault {

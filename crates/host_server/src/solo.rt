@@ -1,14 +1,14 @@
 //! The program's run: its words are read, and one connection is served.
 ghost use Rattle.std.specs.Prelude.{ℕ, Err, List, map};
 ghost use Rattle.command_line.specs.CommandLine.{Reads};
-ghost use Rattle.host_server.specs.Solo.{IsEmptyServed, IsNotServed, Runs};
+ghost use Rattle.host_server.specs.Solo.{IsEmptyServed, IsNotServed, RunsSolo};
 
 use crate::runs::{FAILED, OUT_OF_MEMORY, fail, serve_server};
 use crate::servers::Server;
 use crate::stores::run_folder;
 use blob_store::{DirShelf, MemShelf, Shelf};
 use change_undo::GREATEST_LIMIT;
-use command_line::{Refusal, Wanted, read};
+use command_line::{Refusal, ServeOptions, Wanted, read};
 use host_disk::{Disk, FileDisk, MemDisk};
 use http_wire::{Sink, Steady};
 use std::alloc::{AllocError, Global};
@@ -48,7 +48,7 @@ fn run_in_memory<D: Steady, E: Sink>(alloc: Global, duplex: &mut D, errors: &mut
 
 /// Runs the program for the words after its name, and answers its exit status. `solo` serves one connection over an empty server;
 /// `solo --store DIR` serves one over the server that the folder keeps. If the status isn't 0, `errors` is told why; else nothing is written
-/// there.
+/// there. If the words ask for `serve`, they are handed back, and nothing is read or written.
 ///
 /// Memory may run out while the words are read, whatever they are: no contract tells when it does.
 ///
@@ -60,17 +60,18 @@ pub fn run_solo<R: Files<File = File>, S: AsStr, D: Steady, E: Sink>(
     words: &[S],
     duplex: &mut D,
     errors: &mut E,
-) -> u8
-    ensures { Runs ⟦<MemDisk as Disk>⟧ ⟦<FileDisk as Disk>⟧ ⟦<DirShelf<'static, R> as Shelf>⟧ D.Duplex
+) -> Result<u8, ServeOptions>
+    ensures { RunsSolo ⟦<MemDisk as Disk>⟧ ⟦<FileDisk as Disk>⟧ ⟦<DirShelf<'static, R> as Shelf>⟧ D.Duplex
         E.may_fail (map S.text words.now) result duplex.old duplex.new (E.held errors.old) (E.held errors.new) }
 {
     match read(alloc, words) {
-        Ok(Wanted::Solo { store: None }) => run_in_memory(alloc, duplex, errors),
+        Ok(Wanted::Solo { store: None }) => Ok(run_in_memory(alloc, duplex, errors)),
         Ok(
             Wanted::Solo {
                 store: Some(folder),
             },
-        ) => { run_folder(rt, alloc, folder.as_str(), duplex, errors) }
-        Err(refusal) => refuse(errors, refusal),
+        ) => Ok(run_folder(rt, alloc, folder.as_str(), duplex, errors)),
+        Ok(Wanted::Serve(options)) => Err(options),
+        Err(refusal) => Ok(refuse(errors, refusal)),
     }
 }

@@ -45,7 +45,7 @@ fn refuse<E: Sink>(errors: &mut E, fault: &OpenFault) -> u8
 }
 
 /// The disk and the shelf in an existing folder.
-fn open_folder<'a, R: Files<File = File>>(
+pub fn open_folder<'a, R: Files<File = File>>(
     rt: &'a R,
     alloc: Global,
     folder: &str,

@@ -1,0 +1,14 @@
+use Rattle.shared_desk.specs.FoundFiles.{files_of}
+use Rattle.desk_thread_tests.proofs.desks.run.Given as goal
+
+-- the ledger that was just made
+abbrev pub ghosts-run_at-J-Ledger : goal.ghosts-run_at-J-Ledger
+ghosts-run_at-J-Ledger g a = record { name = a.new.ledger; parts = a.new.seats }
+
+-- the list of the entries that are found
+abbrev pub ghosts-run_at-J-ListName : goal.ghosts-run_at-J-ListName
+ghosts-run_at-J-ListName g a = record { book = a.new.entries; found = a.found.journal.entries }
+
+-- the list of the files that are found
+abbrev pub ghosts-run_at-K-ListName : goal.ghosts-run_at-K-ListName
+ghosts-run_at-K-ListName g a = record { book = a.new.uploads; found = files_of a.found.store.known }

@@ -1,0 +1,17 @@
+//! The nodes of a host: each serves clients and other nodes over TCP, in threads.
+#![tactic(auto)]
+
+mod addresses;
+mod desks;
+mod groups;
+mod guests;
+mod lines;
+mod nodes;
+mod peer_ports;
+mod peer_streams;
+mod ports;
+mod runtimes;
+mod serving;
+mod stopping;
+
+pub use serving::run_serve;

@@ -1,0 +1,69 @@
+//! The ports of the nodes.
+ghost use Rattle.std.specs.Prelude.{◌+◌, ◌<◌, ◌≤◌};
+ghost use Rattle.std.specs.Net.Socket.{socket_port};
+
+use crate::addresses::{client_address, peer_address};
+use crate::lines::Failure;
+use std::alloc::Global;
+use std::io;
+use std::net::{Net, SocketAddr, TcpListener, TcpStream};
+
+/// The port of a node for other nodes, and the addresses of both its ports.
+#[derive(Drop)]
+pub(crate) struct Ports {
+    pub(crate) peers: TcpListener,
+    pub(crate) client_address: SocketAddr,
+    pub(crate) peer_address: SocketAddr,
+}
+
+/// The ports of all nodes, and beside them their listeners for clients, which don't block.
+#[derive(Drop)]
+pub(crate) struct Bound {
+    pub(crate) clients: Vec<TcpListener>,
+    pub(crate) ports: Vec<Ports>,
+}
+
+/// The ports of a node, where those of the first begin at this address.
+fn bind<R: Net<Listener = TcpListener, Stream = TcpStream>>(
+    rt: &R,
+    first: &SocketAddr,
+    node: u16,
+) -> io::Result<(TcpListener, Ports)>
+    requires room { socket_port first.now + node + 8 < 65536 }
+{
+    let client_address = client_address(first, node);
+    let peer_address = peer_address(first, node);
+    let clients = TcpListener::bind(rt, client_address)?;
+    clients.set_nonblocking(true)?;
+    let peers = TcpListener::bind(rt, peer_address)?;
+    let ports = Ports {
+        peers,
+        client_address,
+        peer_address,
+    };
+    Ok((clients, ports))
+}
+
+/// The ports of so many nodes.
+pub(crate) fn bind_all<R: Net<Listener = TcpListener, Stream = TcpStream>>(
+    rt: &R,
+    alloc: Global,
+    first: &SocketAddr,
+    nodes: u16,
+) -> Result<Bound, Failure>
+    requires room { socket_port first.now + nodes + 8 ≤ 65536 }
+{
+    let mut bound = Bound {
+        clients: Vec::new(alloc),
+        ports: Vec::new(alloc),
+    };
+    for node in 0..nodes {
+        let (clients, ports) = bind(rt, first, node).map_err(|_| Failure::CannotListen)?;
+        bound
+            .clients
+            .push(clients)
+            .map_err(|_| Failure::OutOfMemory)?;
+        bound.ports.push(ports).map_err(|_| Failure::OutOfMemory)?;
+    }
+    Ok(bound)
+}

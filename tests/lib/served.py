@@ -1,0 +1,109 @@
+"""A program that serves over TCP, and clients of it."""
+
+import contextlib
+import http.client
+import json
+import os
+import pathlib
+import signal
+import socket
+import subprocess
+import tempfile
+import time
+import unittest
+
+from lib.client import PATIENCE, PROGRAM, SECONDS, digest_of
+
+HOST = "127.0.0.1"
+FILE = "/s/one/a.txt"
+# The ports of eight nodes and of their peers.
+PORTS = 16
+
+
+def free_ports(count=PORTS):
+    """The first of so many ports in a row on which nobody listens."""
+    for first in range(20_000 + os.getpid() * 37 % 30_000, 65_000, count):
+        with contextlib.ExitStack() as held:
+            try:
+                for port in range(first, first + count):
+                    held.enter_context(socket.create_server((HOST, port)))
+            except OSError:
+                continue
+            return first
+    raise AssertionError("no ports are free")
+
+
+class Served(unittest.TestCase):
+    """Tests of a program that serves."""
+
+    def folder(self):
+        folder = tempfile.TemporaryDirectory()
+        self.addCleanup(folder.cleanup)
+        return pathlib.Path(folder.name)
+
+    def serve(self, *words, nodes=1, port=None, second=None, **how):
+        """Starts a program, and waits until its nodes listen. The port of the first is `self.port`."""
+        self.port = port or free_ports()
+        environment = dict(os.environ)
+        if second is not None:
+            environment["FILEHOST_DEADLINE_SECOND"] = str(second)
+        words = ["serve", "--listen", f"{HOST}:{self.port}", "--nodes", str(nodes), *words]
+        started = subprocess.Popen([PROGRAM, *words], stdout=subprocess.PIPE, stderr=subprocess.PIPE, env=environment, **how)
+        self.addCleanup(self.end, started)
+        for node in range(nodes):
+            self.assertEqual(started.stdout.readline().decode(), f"node {node} listening on {HOST}:{self.port + node}\n")
+        return started
+
+    def end(self, started, by=signal.SIGKILL):
+        """Ends a program that was started here, and returns its status."""
+        if started.poll() is None:
+            started.send_signal(by)
+        status = started.wait(SECONDS)
+        started.stdout.close()
+        started.stderr.close()
+        return status
+
+    def client(self, node=0):
+        """A connection to a node, that is kept alive."""
+        client = http.client.HTTPConnection(HOST, self.port + node, timeout=PATIENCE)
+        self.addCleanup(client.close)
+        return client
+
+    def plug(self, given=b"", node=0):
+        """A bare connection to a node, over which these bytes were sent."""
+        plug = socket.create_connection((HOST, self.port + node), timeout=PATIENCE)
+        self.addCleanup(plug.close)
+        plug.sendall(given)
+        return plug
+
+
+def ask(client, method, target, body=None, **fields):
+    """The status and the body of a reply."""
+    client.request(method, target, body=body, headers={name.replace("_", "-"): value for name, value in fields.items()})
+    reply = client.getresponse()
+    return reply.status, reply.read()
+
+
+def publish(client, files, site="one"):
+    """Deploys these files, and returns the number of the entry that published them."""
+    listed = {path: digest_of(content) for path, content in files.items()}
+    status, told = ask(client, "POST", f"/api/v1/sites/{site}/deploys", json.dumps({"files": listed}))
+    assert status == 200, told
+    told = json.loads(told)
+    published = told["published"]
+    for path, content in files.items():
+        if digest_of(content) in told["required"]:
+            status, answer = ask(client, "PUT", f"/api/v1/deploys/{told['id']}/files{path}", content)
+            assert status == 200, answer
+            published = json.loads(answer)["published"] or published
+    return published
+
+
+def seconds_until_closed(plug, most):
+    """How long a connection stays open, with what comes over it thrown away; `most` if it is longer."""
+    began = time.monotonic()
+    plug.settimeout(most)
+    with contextlib.suppress(ConnectionError, TimeoutError):
+        while plug.recv(65_536):
+            plug.settimeout(max(0.01, began + most - time.monotonic()))
+    return time.monotonic() - began
