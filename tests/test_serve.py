@@ -3,7 +3,9 @@
 What is expected follows from README.md, docs/HTTP.md and `serve --help`.
 """
 
+import itertools
 import json
+import os
 import random
 import signal
 import socket
@@ -12,12 +14,14 @@ import threading
 import time
 import unittest
 
-from lib.client import ABC, HELLO, PATIENCE, SECONDS, digest_of, opening, request, run
+from lib.client import ABC, HELLO, PATIENCE, SECONDS, digest_of, request, run
 from lib.over_tcp import needs_curl
 from lib.plain_history import Deploy, History, Refused
 from lib.served import FILE, HOST, Served, ask, free_ports, publish
 
 DEPLOYS = "/api/v1/sites/one/deploys"
+# How many seconds deployers and readers go on beside one another.
+MANY_SECONDS = float(os.environ.get("FILEHOST_MANY_SECONDS", "4"))
 
 
 class Serving(Served):
@@ -180,43 +184,60 @@ class Deployers:
 
     def __init__(self, test, seconds):
         self.test, self.until = test, time.monotonic() + seconds
-        self.contents = [b"version %d" % number for number in range(8)]
-        self.made, self.reads, self.faults = {}, [], []
+        self.contents, self.made, self.reads, self.faults = [], {}, [], []
+        self.connections = itertools.count()
+        # The number of the last entry that anyone was told of.
+        self.told = 0
 
-    def ask(self, client, method, target, **members):
-        status, told = ask(client, method, target, json.dumps(members) if members else None)
-        return status, json.loads(told)
+    def look(self, client, connection):
+        """Reads the file, and keeps the reply with the number of the last entry that anyone was told of before."""
+        told = self.told
+        self.reads.append((connection, told, ask(client, "GET", FILE)))
+
+    def publish(self, client, content):
+        """Deploys two paths with this content, and returns the number of the entry that published them."""
+        self.contents.append(content)
+        files = dict.fromkeys(("/a.txt", "/b.txt"), digest_of(content))
+        status, told = ask(client, "POST", DEPLOYS, json.dumps({"files": files, "patch": True}))
+        assert status == 200, told
+        deploy = int(json.loads(told)["id"])
+        self.made[deploy] = ("open", Deploy(files, True, True))
+        status, told = ask(client, "PUT", f"/api/v1/deploys/{deploy}/files/b.txt", content)
+        assert status == 200, told
+        published = json.loads(told)["published"]
+        self.made[published] = ("publish", deploy)
+        return published
+
+    def take_back(self, client, change):
+        """Undoes a change, unless another one touched what it changed."""
+        status, told = ask(client, "POST", "/api/v1/sites/one/undo", json.dumps({"change": change}))
+        told = json.loads(told)
+        if status != 200:
+            assert (status, told["error"]) == (409, "Clash") and told["change"] > change, told
+            return change
+        self.made[told["entry"]] = ("undo", change)
+        return told["entry"]
 
     def deploy(self, node, seed):
-        """Deploys, renames and takes back, over one connection after another, and keeps which entry each made."""
+        """Deploys and takes back, over one connection after another, and keeps which entry each made."""
         draw = random.Random(seed)
         while time.monotonic() < self.until:
-            client = self.test.client(node)
-            for _ in range(20):
-                content = draw.choice(self.contents)
-                files = {path: digest_of(content) for path in ("/a.txt", "/b.txt")}
-                status, told = self.ask(client, "POST", DEPLOYS, files=files, patch=True)
-                assert status == 200, told
-                self.made[int(told["id"])] = ("open", Deploy(files, True, True))
-                self.made[told["published"]] = ("publish", int(told["id"]))
-                seen = told["published"]
+            client, connection = self.test.client(node), next(self.connections)
+            for turn in range(20):
+                last = self.publish(client, b"turn %d of connection %d" % (turn, connection))
                 if draw.random() < 0.4:
-                    status, told = self.ask(client, "POST", "/api/v1/sites/one/undo", change=seen)
-                    if status == 200:
-                        self.made[told["entry"]] = ("undo", seen)
-                        seen = told["entry"]
-                reply = ask(client, "GET", FILE)
-                self.reads.append((id(client), seen, reply))
+                    last = self.take_back(client, last)
+                self.told = max(self.told, last)
+                self.look(client, connection)
                 time.sleep(0.02)
             client.close()
 
     def read(self, node):
         while time.monotonic() < self.until:
-            client = self.test.client(node)
+            client, connection = self.test.client(node), next(self.connections)
             for _ in range(60):
-                self.reads.append((id(client), 0, ask(client, "GET", FILE)))
+                self.look(client, connection)
                 time.sleep(0.002)
-            self.kept.append(client)
             client.close()
 
     def run(self, work, *words):
@@ -226,8 +247,6 @@ class Deployers:
             self.faults.append(fault)
 
     def go(self):
-        # Connections are told apart by their identity, so each is kept until the end.
-        self.kept = []
         works = [(self.deploy, 0, 5), (self.deploy, 1, 6), *[(self.read, node) for node in (0, 1, 0, 1)]]
         threads = [threading.Thread(target=self.run, args=work) for work in works]
         for thread in threads:
@@ -254,24 +273,19 @@ class Many(Served):
             shown.append((404, None) if content is None else (200, content))
         return shown
 
-    def test_each_reply_is_of_one_state_no_older_than_its_client_has_seen(self):
+    def test_each_reply_is_of_one_state_no_older_than_anyone_was_told(self):
         self.serve(nodes=2)
-        many = Deployers(self, 4)
-        first = {f"/{number}": content for number, content in enumerate(many.contents)}
-        uploads = {digest_of(content): content for content in many.contents}
-        self.assertEqual(publish(self.client(), first), 2)
-        many.made[1] = ("open", Deploy({path: digest_of(content) for path, content in first.items()}, True, False))
-        many.made[2] = ("publish", 1)
+        many = Deployers(self, MANY_SECONDS)
+        many.told = many.publish(self.client(), b"first")
         many.go()
-        shown = self.states(many.made, uploads)
+        shown = self.states(many.made, {digest_of(content): content for content in many.contents})
         reached = {}
-        for client, least, (status, body) in many.reads:
+        for connection, told, (status, body) in many.reads:
             wanted = (status, body if status == 200 else None)
-            at = max(reached.get(client, 2), least)
-            while at < len(shown) and shown[at] != wanted:
-                at += 1
-            self.assertLess(at, len(shown), f"{wanted} is no state after {max(reached.get(client, 2), least)} entries")
-            reached[client] = at
+            least = max(reached.get(connection, 0), told)
+            at = next((number for number in range(least, len(shown)) if shown[number] == wanted), None)
+            self.assertIsNotNone(at, f"{wanted} is no state after {least} entries")
+            reached[connection] = at
         self.assertGreater(len(many.reads), 100)
         self.assertGreater(len(shown), 10)
 

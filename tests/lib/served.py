@@ -76,6 +76,13 @@ class Served(unittest.TestCase):
         plug.sendall(given)
         return plug
 
+    def received(self, plug, count):
+        """So many bytes of what comes over a bare connection, or fewer if it ends before."""
+        came = b""
+        while len(came) < count and (more := plug.recv(count - len(came))):
+            came += more
+        return came
+
 
 def ask(client, method, target, body=None, **fields):
     """The status and the body of a reply."""
