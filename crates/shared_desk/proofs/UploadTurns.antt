@@ -34,11 +34,11 @@ module _ {D : Type 0} (disk : Ghosts D) (floor : ℕ) (site : SiteName) (n : ℕ
 
   -- the file is known, and the last turn comes
   pub stored : (listed : Digest) (files : Contents) (result : Result (Option Log) (UploadError Log)) → listed ≡ digest_of bytes → Judges disk floor site n path (Ok listed)
-      → IsSome (map.get files (digest_of bytes)) → Publishes disk floor files site n result → DoesUpload disk floor site n path bytes result
-  stored listed files (Ok published) same judged known done = (of_bytes listed same judged, (files, known, done))
-  stored listed files (Err Broken) same judged known done = let (old, new, none) = done in absurd none
-  stored listed files (Err NoSuchDeploy) same judged known done = let (old, new, none) = done in absurd none
-  stored listed files (Err NotListed) same judged known done = let (old, new, none) = done in absurd none
-  stored listed files (Err WrongDigest) same judged known done = let (old, new, none) = done in absurd none
-  stored listed files (Err (NotStored fault)) same judged known done = let (old, new, none) = done in absurd none
-  stored listed files (Err (NotPublished why)) same judged known done = (of_bytes listed same judged, (files, known, done))
+      → ¬ (16777216 < length bytes) → IsSome (map.get files (digest_of bytes)) → Publishes disk floor files site n result → DoesUpload disk floor site n path bytes result
+  stored listed files (Ok published) same judged fits known done = (of_bytes listed same judged, fits, (files, known, done))
+  stored listed files (Err Broken) same judged fits known done = let (old, new, none) = done in absurd none
+  stored listed files (Err NoSuchDeploy) same judged fits known done = let (old, new, none) = done in absurd none
+  stored listed files (Err NotListed) same judged fits known done = let (old, new, none) = done in absurd none
+  stored listed files (Err WrongDigest) same judged fits known done = let (old, new, none) = done in absurd none
+  stored listed files (Err (NotStored fault)) same judged fits known done = let (old, new, none) = done in absurd none
+  stored listed files (Err (NotPublished why)) same judged fits known done = (of_bytes listed same judged, fits, (files, known, done))

@@ -50,9 +50,9 @@ Judges {D} disk floor site n path result = (kept : Kept D) × IsJudged floor sit
 abbrev pub Publishes : {D : Type 0} → Ghosts D → ℕ → Contents → SiteName → ℕ → Result (Option Log) (UploadError Log) → Type 0
 Publishes {D} disk floor files site n result = (old : Kept D) × (new : Kept D) × IsPublishing disk floor files site n old result new
 
--- the deploy lists the digest of these bytes there; then their file was known, among others, when the deploy was looked at again
+-- the deploy lists the digest of these bytes there, and they fit into a file; then their file was known, among others, when the deploy was looked at again
 abbrev pub Stores : {D : Type 0} → Ghosts D → ℕ → SiteName → ℕ → List ℕ → List ℕ → Result (Option Log) (UploadError Log) → Type 0
-Stores disk floor site n path bytes result = Judges disk floor site n path (Ok (digest_of bytes))
+Stores disk floor site n path bytes result = Judges disk floor site n path (Ok (digest_of bytes)) × ¬ (16777216 < length bytes)
     × ((files : Contents) × IsSome (map.get files (digest_of bytes)) × Publishes disk floor files site n result)
 
 -- what is answered to an upload of these bytes to a path of a site's deploy

@@ -57,14 +57,14 @@ unready disk floor site n bytes files old new known (met, within, ready, same) =
 
 pub of_upload : {D : Type 0} (disk : Ghosts D) (floor : ℕ) (site : SiteName) (n : ℕ) (path bytes : List ℕ) (result : Result (Option Log) (UploadError Log))
     → DoesUpload disk floor site n path bytes result → IsUploadAnswer site n path bytes result
-of_upload disk floor site n path bytes (Ok None) (judges, (files, known, (old, new, is))) =
-    (listed disk floor site n path (digest_of bytes) judges, unready disk floor site n bytes files old new known is)
-of_upload disk floor site n path bytes (Ok (Some receipt)) (judges, (files, known, (old, new, (commits, within, ready)))) = (
-  listed disk floor site n path (digest_of bytes) judges,
+of_upload disk floor site n path bytes (Ok None) (judges, fits, (files, known, (old, new, is))) =
+    ((listed disk floor site n path (digest_of bytes) judges, fits), unready disk floor site n bytes files old new known is)
+of_upload disk floor site n path bytes (Ok (Some receipt)) (judges, fits, (files, known, (old, new, (commits, within, ready)))) = (
+  (listed disk floor site n path (digest_of bytes) judges, fits),
   turn disk floor (Change (Publish site n)) (reason_of_command (Publish site n)) _ old (Ok receipt) new commits,
 )
-of_upload disk floor site n path bytes (Err (upload.NotPublished why)) (judges, (files, known, (old, new, (commits, within, ready)))) = (
-  listed disk floor site n path (digest_of bytes) judges,
+of_upload disk floor site n path bytes (Err (upload.NotPublished why)) (judges, fits, (files, known, (old, new, (commits, within, ready)))) = (
+  (listed disk floor site n path (digest_of bytes) judges, fits),
   turn disk floor (Change (Publish site n)) (reason_of_command (Publish site n)) _ old (Err why) new commits,
 )
 of_upload disk floor site n path bytes (Err upload.Broken) is = tt

@@ -67,6 +67,10 @@ Lists site n path listed = (m : Moment) × (listed_at (draft_at m.state site n) 
 abbrev pub ListsThem : SiteName → ℕ → (path bytes : List ℕ) → Type 0
 ListsThem site n path bytes = Lists site n path (Some (Some (digest_of bytes)))
 
+-- that, and they fit into a file
+abbrev pub MayStore : SiteName → ℕ → (path bytes : List ℕ) → Type 0
+MayStore site n path bytes = ListsThem site n path bytes × ¬ (16777216 < length bytes)
+
 -- another digest than that
 abbrev pub ListsOthers : SiteName → ℕ → (path bytes : List ℕ) → Type 0
 ListsOthers site n path bytes = (listed : Digest) × (listed ≢ digest_of bytes) × Lists site n path (Some (Some listed))
@@ -79,11 +83,11 @@ IsUnready site n bytes =
 -- What it answers to an upload of these bytes to a path of a deploy: that they are taken, and what comes of the publishing, if the deploy is ready then; or
 -- the first reason against that.
 abbrev pub IsUploadAnswer : SiteName → ℕ → (path bytes : List ℕ) → Result (Option Log) (UploadError Log) → Type 0
-IsUploadAnswer site n path bytes (Ok None) = ListsThem site n path bytes × IsUnready site n bytes
-IsUploadAnswer site n path bytes (Ok (Some receipt)) = ListsThem site n path bytes × IsPublishAnswer site n (Ok receipt)
+IsUploadAnswer site n path bytes (Ok None) = MayStore site n path bytes × IsUnready site n bytes
+IsUploadAnswer site n path bytes (Ok (Some receipt)) = MayStore site n path bytes × IsPublishAnswer site n (Ok receipt)
 IsUploadAnswer site n path bytes (Err upload.Broken) = Unit {0}
 IsUploadAnswer site n path bytes (Err upload.NoSuchDeploy) = Lists site n path None
 IsUploadAnswer site n path bytes (Err upload.NotListed) = Lists site n path (Some None)
 IsUploadAnswer site n path bytes (Err upload.WrongDigest) = ListsOthers site n path bytes
 IsUploadAnswer site n path bytes (Err (upload.NotStored why)) = ListsThem site n path bytes × ((why ≡ TooLarge) ↔ (16777216 < length bytes))
-IsUploadAnswer site n path bytes (Err (upload.NotPublished why)) = ListsThem site n path bytes × IsPublishAnswer site n (Err why)
+IsUploadAnswer site n path bytes (Err (upload.NotPublished why)) = MayStore site n path bytes × IsPublishAnswer site n (Err why)

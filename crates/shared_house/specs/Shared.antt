@@ -29,7 +29,7 @@ use Rattle.host_answers.specs.Houses.{Calls, Failed, Gave, Seen}
 use Rattle.host_answers.specs.declared.stops.Stop.{Stop}
 use Rattle.host_answers.specs.declared.stops.Stop.TheVariants as stop
 use Rattle.host_answers.specs.declared.uploads.Uploaded.{Uploaded}
-use Rattle.shared_house.specs.Entering.{IsJudged, IsUnready, Lists, ListsOthers, ListsThem, Reason, reason_of_command, reason_of_undo}
+use Rattle.shared_house.specs.Entering.{IsJudged, IsUnready, Lists, ListsOthers, ListsThem, MayStore, Reason, reason_of_command, reason_of_undo}
 use Rattle.shared_house.specs.Seeing.{Seeing}
 
 -- what is shown is a legal log and the state that it gives, over some uploads
@@ -48,8 +48,8 @@ IsNotTaken site n path bytes (reason.Change NoSuchDeploy) = Lists site n path No
 IsNotTaken site n path bytes reason.NotListed = Lists site n path (Some None)
 IsNotTaken site n path bytes reason.WrongDigest = ListsOthers site n path bytes
 IsNotTaken site n path bytes reason.TooLarge = ListsThem site n path bytes × (16777216 < length bytes)
-IsNotTaken site n path bytes reason.Device = ListsThem site n path bytes × ¬ (16777216 < length bytes)
-IsNotTaken site n path bytes reason.OutOfMemory = ListsThem site n path bytes × ¬ (16777216 < length bytes)
+IsNotTaken site n path bytes reason.Device = MayStore site n path bytes
+IsNotTaken site n path bytes reason.OutOfMemory = MayStore site n path bytes
 IsNotTaken site n path bytes other = ⊥
 
 module _ {K : Type 0} (sees : Seeing K) where
@@ -81,14 +81,14 @@ module _ {K : Type 0} (sees : Seeing K) where
   PublishesAs old site n bytes None new = IsUnready site n bytes × (new ≡ old)
   PublishesAs old site n bytes (Some number) new = CommitsAs old (Publish site n) (Ok number) new
 
-  -- What comes of an upload to a path of a deploy: the deploy lists its digest there, which is told; or it is refused for the first reason, or the
-  -- publishing is.
+  -- What comes of an upload to a path of a deploy: the deploy lists its digest there, which is told, and it fits into a file; or it is refused for the
+  -- first reason, or the publishing is.
   abbrev pub TakesAs : (old : K) → SiteName → ℕ → (path bytes : List ℕ) → Result Uploaded Refusal → (new : K) → Type 0
   TakesAs old site n path bytes (Ok done) new =
-      (done.digest ≡ digest_of bytes) × ListsThem site n path bytes × PublishesAs old site n bytes done.published new
+      (done.digest ≡ digest_of bytes) × MayStore site n path bytes × PublishesAs old site n bytes done.published new
   TakesAs old site n path bytes (Err why) new =
       (IsNotTaken site n path bytes why × (new ≡ old))
-      ⊎ (ListsThem site n path bytes × ((stopped : Stop) × CommitsAs old (Publish site n) (Err stopped) new × (why ≡ told_stop stopped)))
+      ⊎ (MayStore site n path bytes × ((stopped : Stop) × CommitsAs old (Publish site n) (Err stopped) new × (why ≡ told_stop stopped)))
 
   -- ---- answers
 

@@ -25,7 +25,8 @@ returns-in-Err-store-clause-done g c =
 pub returns-in-Ok-store-clause-done : goal.returns-in-Ok-store-clause-done
 returns-in-Ok-store-clause-done g c =
     let same : c.in-Ok.listed ≡ digest_of c.args.bytes.now = search rules in
+    let fits : ¬ (16777216 < length c.args.bytes.now) = search rules in
     let done = subst (λ (made : ℕ). Publishes g.D.Disk (last_number g.J.ListName.found + made) c.in-Ok-store.known c.args.site.now c.args.number c.publish_if_ready.result)
     c.in-Ok.ensures.made c.publish_if_ready.ensures.done in
     stored g.D.Disk (last_number g.J.ListName.found + c.args.mine.now) c.args.site.now c.args.number c.args.path.now c.args.bytes.now c.in-Ok.listed c.in-Ok-store.known
-    c.publish_if_ready.result same c.in-Ok.ensures.judged c.in-Ok-store.ensures.known done
+    c.publish_if_ready.result same c.in-Ok.ensures.judged fits c.in-Ok-store.ensures.known done
