@@ -1,4 +1,5 @@
-"""The servers of bench/compare, each on another port of 127.0.0.1: nginx and caddy over a folder, and filehost over a store."""
+"""The servers of bench/compare, each on another port of 127.0.0.1: nginx and caddy over a folder, and filehost over a store; and what they share with those
+of bench/serve."""
 
 import contextlib
 import getpass
@@ -30,7 +31,7 @@ PATH = os.pathsep.join((os.environ.get("PATH", os.defpath), "/usr/sbin", "/sbin"
 
 
 class Failure(Exception):
-    """What ends the comparison, in one line."""
+    """What ends a comparison, in one line."""
 
 
 class Refusal(Failure):
@@ -111,12 +112,19 @@ class Server:
     def get(self, path, *fields, method="GET"):
         return self.reader.ask(method, self.target(path), fields)
 
-    def wait(self, process, log):
-        """Waits until the server answers. That must be the process that was started, which is then alive."""
+    def start(self):
+        """Starts the server's command, with a log in its folder, and waits until it answers. That must be the process that was started, which is then
+        alive."""
+        log = self.folder / "log"
+        environment = os.environ | {"HOME": str(self.folder), "XDG_DATA_HOME": str(self.folder), "XDG_CONFIG_HOME": str(self.folder)}
+        with log.open("wb") as file:
+            # A process group for the server alone: it has all that the server starts, and no key of the terminal reaches it.
+            self.process = subprocess.Popen(self.command(), stdin=subprocess.DEVNULL, stdout=file, stderr=file, env=environment, start_new_session=True)
+        self.stack.callback(stop, self.process)
         end = time.monotonic() + PATIENCE
-        while time.monotonic() < end and process.poll() is None:
-            with contextlib.suppress(OSError, http.client.HTTPException):
-                Reader(self.stack, self.port).ask("GET", "/")
+        while time.monotonic() < end and self.process.poll() is None:
+            with contextlib.suppress(OSError, http.client.HTTPException), contextlib.ExitStack() as stack:
+                Reader(stack, self.port).ask("GET", "/")
                 return
             time.sleep(0.05)
         said = log.read_text(errors="replace").strip().splitlines()
@@ -130,13 +138,7 @@ class FolderServer(Server):
         super().__init__(stack, title, free_port())
         self.folder, self.root = folder, folder / "root"
         self.root.mkdir(parents=True)
-        log = folder / "log"
-        environment = os.environ | {"HOME": str(folder), "XDG_DATA_HOME": str(folder), "XDG_CONFIG_HOME": str(folder)}
-        with log.open("wb") as file:
-            # A process group for the server alone: it has all that the server starts, and no key of the terminal reaches it.
-            process = subprocess.Popen(self.command(), stdin=subprocess.DEVNULL, stdout=file, stderr=file, env=environment, start_new_session=True)
-        stack.callback(stop, process)
-        self.wait(process, log)
+        self.start()
 
     def target(self, path):
         return path
@@ -151,15 +153,18 @@ class FolderServer(Server):
 
 
 class Nginx(FolderServer):
+    # How many processes serve, how many connections each has room for, which is the default, and more of its configuration: for all, and for the site.
+    workers, connections, more, more_of_site = "auto", 512, "", ""
+
     def command(self):
         user = f"user {getpass.getuser()} {grp.getgrgid(os.getgid()).gr_name};" if os.geteuid() == 0 else ""
         kept = "".join(f'{name}_temp_path "{self.folder}/{name}";\n' for name in ("client_body", "proxy", "fastcgi", "uwsgi", "scgi"))
         configuration = self.folder / "nginx.conf"
-        configuration.write_text(f"""daemon off; worker_processes auto; pid "{self.folder}/pid"; error_log stderr; {user}
-events {{}}
+        configuration.write_text(f"""daemon off; worker_processes {self.workers}; pid "{self.folder}/pid"; error_log stderr; {user}
+events {{ worker_connections {self.connections}; }}
 http {{
-access_log off; sendfile on; tcp_nopush on;
-{kept}server {{ listen {HOST}:{self.port}; root "{self.root}"; }}
+access_log off; sendfile on; tcp_nopush on; {self.more}
+{kept}server {{ listen {HOST}:{self.port}; root "{self.root}"; {self.more_of_site} }}
 }}
 """)
         return [find("nginx"), "-p", self.folder, "-e", "stderr", "-c", configuration]
@@ -172,6 +177,37 @@ class Caddy(FolderServer):
         configuration = self.folder / "caddy.json"
         configuration.write_text(json.dumps({"admin": {"disabled": True, "config": {"persist": False}}, "apps": {"http": {"servers": {"one": server}}}}))
         return [find("caddy"), "run", "--config", configuration]
+
+
+class Host(Server):
+    """The program, and a site that it serves."""
+
+    def target(self, path):
+        return f"/s/{SITE}{path}"
+
+    def tell(self, target, asked):
+        """The status of a request that changes something, and what its reply says."""
+        status, _, body = self.reader.ask("POST", f"/api/v1/{target}", [], json.dumps(asked).encode())
+        return status, json.loads(body)
+
+    def deploy(self, files, is_patch=False):
+        """Deploys files, sends those that the host lacks, and returns the deploy's number and that of the change that published it."""
+        listed = {path: digest_of(content) for path, content in files.items()}
+        paths = {digest: path for path, digest in listed.items()}
+        status, told = self.tell(f"sites/{SITE}/deploys", {"files": listed, "patch": is_patch})
+        for digest in told.get("required", ()):
+            target = f"/api/v1/deploys/{told['id']}/files{paths[digest]}"
+            status, _, body = self.reader.ask("PUT", target, [], files[paths[digest]])
+            told |= json.loads(body)
+            if status != 200:
+                break
+        if status != 200:
+            raise Refusal(f"filehost refused a deploy: {status}, {told.get('error')}")
+        return int(told["id"]), told["published"]
+
+    def put(self, path, content, modified=None):
+        """Deploys one file, and leaves all others as they are. A deploy has no time of a file."""
+        self.deploy({path: content}, is_patch=True)
 
 
 class Front:
@@ -235,7 +271,7 @@ class FrontServer(socketserver.ThreadingTCPServer):
             print(f"bench/compare: {fault or type(fault).__name__}", file=sys.stderr)
 
 
-class Filehost(Server):
+class Filehost(Host):
     """The program over a store, reached through a front."""
 
     def __init__(self, stack, program, folder):
@@ -259,33 +295,6 @@ class Filehost(Server):
         stack.callback(server.shutdown)
         threading.Thread(target=server.serve_forever, kwargs={"poll_interval": 0.05}, daemon=True).start()
         super().__init__(stack, "filehost", server.server_address[1])
-
-    def target(self, path):
-        return f"/s/{SITE}{path}"
-
-    def tell(self, target, asked):
-        """The status of a request that changes something, and what its reply says."""
-        status, _, body = self.reader.ask("POST", f"/api/v1/{target}", [], json.dumps(asked).encode())
-        return status, json.loads(body)
-
-    def deploy(self, files, is_patch=False):
-        """Deploys files, sends those that the host lacks, and returns the deploy's number and that of the change that published it."""
-        listed = {path: digest_of(content) for path, content in files.items()}
-        paths = {digest: path for path, digest in listed.items()}
-        status, told = self.tell(f"sites/{SITE}/deploys", {"files": listed, "patch": is_patch})
-        for digest in told.get("required", ()):
-            target = f"/api/v1/deploys/{told['id']}/files{paths[digest]}"
-            status, _, body = self.reader.ask("PUT", target, [], files[paths[digest]])
-            told |= json.loads(body)
-            if status != 200:
-                break
-        if status != 200:
-            raise Refusal(f"filehost refused a deploy: {status}, {told.get('error')}")
-        return int(told["id"]), told["published"]
-
-    def put(self, path, content, modified=None):
-        """Deploys one file, and leaves all others as they are. A deploy has no time of a file."""
-        self.deploy({path: content}, is_patch=True)
 
 
 class Kept(Server):
