@@ -1,5 +1,5 @@
 -- What a desk answers in its turns.
-use Rattle.std.proofs.Common.{◌≡◌, ℕ, List, Option, Some, None, Result, Ok, Err, sym, subst}
+use Rattle.std.proofs.Common.{◌≡◌, ℕ, List, Option, Some, None, Result, Ok, Err, refl, sym, subst}
 use Rattle.std.specs.FinMap as map
 use Rattle.std.specs.Prelude.{IsSome}
 use Rattle.byte_view.specs.Contents.{Contents}
@@ -7,6 +7,7 @@ use Rattle.host_disk.specs.declared.disks.Disk.{Ghosts}
 use Rattle.host_names.specs.Digests.{digest_of}
 use Rattle.host_names.specs.declared.digests.Digest.{Digest}
 use Rattle.host_names.specs.declared.names.SiteName.{SiteName}
+use Rattle.site_change.specs.Changes.{IsWithin}
 use Rattle.site_change.specs.declared.commands.Command.{Command}
 use Rattle.site_change.specs.declared.commands.Command.TheVariants.{Publish}
 use Rattle.site_change.specs.declared.refusals.ChangeRefusal.{ChangeRefusal}
@@ -44,16 +45,23 @@ pub of_undo : {D : Type 0} (disk : Ghosts D) (floor : ℕ) (site : SiteName) (k 
     → IsEntryAnswer (Undo site k) (reason_of_undo site k) result
 of_undo disk floor site k result (old, new, is) = turn disk floor (Undo site k) (reason_of_undo site k) _ old result new is
 
-moment : {D : Type 0} (floor : ℕ) (kept : Kept D) → IsMet floor kept → Moment
+abbrev moment : {D : Type 0} (floor : ℕ) (kept : Kept D) → IsMet floor kept → Moment
 moment floor kept met = record { uploads = kept.known; log = kept.journal.entries; state = state_of kept; legal = met.legal; ran = met.ran }
 
 listed : {D : Type 0} (disk : Ghosts D) (floor : ℕ) (site : SiteName) (n : ℕ) (path : List ℕ) (digest : Digest) → Judges disk floor site n path (Ok digest)
     → Lists site n path (Some (Some digest))
 listed disk floor site n path digest (kept, (met, whole, is)) = (moment floor kept met, is)
 
+known_within : (files known : Contents) (digest : Digest) → IsWithin files known → IsSome (map.get files digest) → IsSome (map.get known digest)
+known_within files known digest within is =
+    elim (map.get files digest) as (λ o. map.get files digest ≡ o → IsSome o → IsSome (map.get known digest)) [
+      None ↦ λ e none. cc none
+    | Some bytes ↦ λ e some. subst (λ (o : Option (List ℕ)). IsSome o) (sym (within digest bytes e)) some
+    ] refl is
+
 unready : {D : Type 0} (disk : Ghosts D) (floor : ℕ) (site : SiteName) (n : ℕ) (bytes : List ℕ) (files : Contents) (old new : Kept D)
     → IsSome (map.get files (digest_of bytes)) → IsPublishing disk floor files site n old (Ok None) new → IsUnready site n bytes
-unready disk floor site n bytes files old new known (met, within, ready, same) = (moment floor old met, (within _ known, ready))
+unready disk floor site n bytes files old new known (met, within, ready, same) = (moment floor old met, known_within files old.known (digest_of bytes) within known, ready)
 
 pub of_upload : {D : Type 0} (disk : Ghosts D) (floor : ℕ) (site : SiteName) (n : ℕ) (path bytes : List ℕ) (result : Result (Option Log) (UploadError Log))
     → DoesUpload disk floor site n path bytes result → IsUploadAnswer site n path bytes result
@@ -70,5 +78,5 @@ of_upload disk floor site n path bytes (Err (upload.NotPublished why)) (judges, 
 of_upload disk floor site n path bytes (Err upload.Broken) is = tt
 of_upload disk floor site n path bytes (Err upload.NoSuchDeploy) (kept, (met, whole, is)) = (moment floor kept met, is)
 of_upload disk floor site n path bytes (Err upload.NotListed) (kept, (met, whole, is)) = (moment floor kept met, is)
-of_upload disk floor site n path bytes (Err upload.WrongDigest) (other, differs, judges) = (other, (differs, listed disk floor site n path other judges))
+of_upload disk floor site n path bytes (Err upload.WrongDigest) (other, differs, judges) = (other, differs, listed disk floor site n path other judges)
 of_upload disk floor site n path bytes (Err (upload.NotStored why)) (judges, large) = (listed disk floor site n path (digest_of bytes) judges, large)
