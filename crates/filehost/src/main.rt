@@ -1,11 +1,11 @@
-//! The program `filehost`: its words, its standard streams and its exit status. All else is `host_server`.
+//! The program `filehost`: its words, its standard streams and its exit status. All else is `host_server` and `host_nodes`.
 #![tactic(auto)]
 
 ghost use Rattle.std.specs.Prelude.{◌≡◌, ◌⊎◌};
 
 use command_line::ServeOptions;
-use host_nodes::run_serve;
-use host_server::run_solo;
+use host_nodes::{has_ports, open_memory, refuse_ports, run_serve};
+use host_server::{open_folder, run_solo};
 use http_wire::{Pair, Reading, Writing};
 use std::io::ErrorKind;
 use std::process::ExitCode;
@@ -22,12 +22,25 @@ fn main(rt: HostRuntime) -> ExitCode {
         Ok(words) => run(&rt, words.as_slice()),
         Err(error) => Ok(fail(&rt, &error)),
     };
-    ExitCode::from(match ran {
-        Ok(status) => status,
-        Err(options) => {
-            let mut lines = Writing(rt.stdout());
-            let mut errors = Writing(rt.stderr());
-            run_serve(&rt, rt.alloc(), &options, &mut lines, &mut errors)
+    let options = match ran {
+        Ok(status) => return ExitCode::from(status),
+        Err(options) => options,
+    };
+    // Only here has the runtime threads.
+    let alloc = rt.alloc();
+    let mut lines = Writing(rt.stdout());
+    let mut errors = Writing(rt.stderr());
+    if !has_ports(&options) {
+        return ExitCode::from(refuse_ports(&mut errors));
+    }
+    ExitCode::from(match &options.store {
+        None => {
+            let opened = open_memory(alloc);
+            run_serve(&rt, alloc, &options, opened, &mut lines, &mut errors)
+        }
+        Some(folder) => {
+            let opened = open_folder(&rt, alloc, folder.as_str());
+            run_serve(&rt, alloc, &options, opened, &mut lines, &mut errors)
         }
     })
 }

@@ -2,45 +2,37 @@
 use crate::groups::{HostGroup, groups_of, peer_addresses};
 use crate::guests::{GuestSteps, Noted};
 use crate::lines::{Failure, say};
-use crate::nodes::{Job, serve_all};
+use crate::nodes::{Job, serve_all_peers, serve_clients};
 use crate::ports::{Bound, Ports};
 use crate::runtimes::Serving;
+use crate::stopping::Stop;
 use blob_store::Shelf;
 use byte_view::BlobInfo;
 use change_undo::Entry;
 use event_loop::{Limits, Node, ReadySet};
 use host_disk::Disk;
 use http_wire::Sink;
-use seen_lists::{ListName, Shown};
+use left_right::Absorb;
+use seen_lists::ListName;
 use shared_desk::Desk;
 use shared_house::{DeskVisitor, GroupFiles, Guest, SeatedDesk, SharedHouse};
-use site_desk::{DeskName, HostSnap, Seat, Seats};
+use site_desk::{DeskName, Notice, Seat, Seats};
 use std::alloc::{AllocError, Global};
-use std::net::TcpListener;
-use std::sync::Mutex;
-
-/// The desk that the nodes share.
-type HostDesk<'r, J, K, D, S, R> = Desk<J, K, D, S, Shown<Entry, J, HostSnap>, &'r R>;
+use std::net::{Net, TcpListener, TcpStream};
+use std::sync::{Mutex, Wait};
+use std::thread;
+use std::time::Clock;
 
 /// The desk from the seat of a node.
-type HostSeat<'a, 'r, J, K, D, S, R> = SeatedDesk<
-    'a,
-    J,
-    K,
-    D,
-    S,
-    Shown<Entry, J, HostSnap>,
-    &'r R,
-    R,
->;
+type HostSeat<'a, J, K, D, S, T, R> = SeatedDesk<'a, J, K, D, S, T, R, R>;
 
 /// The files of a node.
 type HostFiles<'a, 'g, R, S> = GroupFiles<'a, R, HostGroup<'g, R, S>>;
 
 /// A worker of a node.
-type HostJob<'a, 'r, 'g, J, K, D, S, R> = Job<
+type HostJob<'a, 'g, J, K, D, S, T, R> = Job<
     'a,
-    GuestSteps<J, HostSeat<'a, 'r, J, K, D, S, R>, HostFiles<'a, 'g, R, S>>,
+    GuestSteps<J, HostSeat<'a, J, K, D, S, T, R>, HostFiles<'a, 'g, R, S>>,
 >;
 
 /// A seat for each node, behind a lock.
@@ -90,67 +82,110 @@ fn next_visitor<J: DeskName>(
     }
 }
 
-/// A worker of a node, with a visitor of its own.
+/// A worker that is to be: the place of its node, and its visitor.
+#[derive(Drop)]
+struct Hired<J: DeskName> {
+    at: usize,
+    visitor: DeskVisitor<J>,
+}
+
+/// So many workers for each of so many nodes.
+fn hire<J: DeskName>(
+    alloc: Global,
+    nodes: usize,
+    workers: usize,
+    visitor: DeskVisitor<J>,
+) -> Result<Vec<Hired<J>>, AllocError> {
+    let mut all = Vec::new(alloc);
+    let mut spare = Some(visitor);
+    for at in 0..nodes {
+        for worker in 0..workers {
+            let is_last = at + 1 == nodes && worker + 1 == workers;
+            let visitor = next_visitor(&mut spare, is_last).ok_or(AllocError)?;
+            all.push(Hired { at, visitor })?;
+        }
+    }
+    Ok(all)
+}
+
+/// What a worker of a node works with. There is none only for want of memory.
 fn job_of<
     'a,
-    'r,
     'g,
-    J: DeskName + Send + Sync,
-    K: ListName<BlobInfo> + Send + Sync,
-    D: Disk + Send,
-    S: Shelf + Send,
-    R: Serving,
+    J: DeskName,
+    K: ListName<BlobInfo>,
+    D: Disk,
+    S: Shelf,
+    T: Absorb<Notice<J>, State = [Entry; 0]> + Drop,
+    R: Net<Stream = TcpStream> + Clock + Wait + Drop,
 >(
     rt: &'a R,
-    desk: &'a HostDesk<'r, J, K, D, S, R>,
+    desk: &'a Desk<J, K, D, S, T, R>,
     seat: &'a Mutex<Seat<J>>,
     group: &'a HostGroup<'g, R, S>,
     node: &'a Node<Noted<J>>,
     visitor: DeskVisitor<J>,
-) -> Option<HostJob<'a, 'r, 'g, J, K, D, S, R>> {
+) -> Option<HostJob<'a, 'g, J, K, D, S, T, R>> {
     let desk = SeatedDesk::new(rt, desk, seat);
     let files = GroupFiles::new(rt, group);
     let house = SharedHouse::new(visitor, desk, files).ok()?;
+    let guest = Guest::new(house);
     Some(Job {
         node,
-        steps: GuestSteps {
-            guest: Guest::new(house),
-        },
+        steps: GuestSteps { guest },
     })
 }
 
-/// The workers of all nodes.
-fn jobs_of<
+/// Does the work of a worker, until its node has served as many clients as it is to serve.
+fn work_at<
     'a,
-    'r,
-    'g,
+    J: DeskName,
+    K: ListName<BlobInfo>,
+    D: Disk,
+    S: Shelf,
+    T: Absorb<Notice<J>, State = [Entry; 0]> + Drop,
+    R: Net<Stream = TcpStream> + Clock + Wait + Drop,
+>(
+    rt: &'a R,
+    alloc: Global,
+    desk: &'a Desk<J, K, D, S, T, R>,
+    seats: &'a [Mutex<Seat<J>>],
+    groups: &'a [HostGroup<'_, R, S>],
+    nodes: &'a [Node<Noted<J>>],
+    hired: Hired<J>,
+) {
+    let Hired { at, visitor } = hired;
+    if let (Some(seat), Some(group), Some(node)) = (seats.get(at), groups.get(at), nodes.get(at)) {
+        if let Some(job) = job_of(rt, desk, seat, group, node, visitor) {
+            serve_clients(rt, alloc, job);
+        }
+    }
+}
+
+/// Does the work of all workers, each in a thread of its own.
+fn work_all<
+    'a,
     J: DeskName + Send + Sync,
     K: ListName<BlobInfo> + Send + Sync,
     D: Disk + Send,
     S: Shelf + Send,
+    T: Absorb<Notice<J>, State = [Entry; 0]> + Drop + Send + Sync,
     R: Serving,
 >(
     rt: &'a R,
     alloc: Global,
-    desk: &'a HostDesk<'r, J, K, D, S, R>,
+    desk: &'a Desk<J, K, D, S, T, R>,
     seats: &'a [Mutex<Seat<J>>],
-    groups: &'a [HostGroup<'g, R, S>],
+    groups: &'a [HostGroup<'_, R, S>],
     nodes: &'a [Node<Noted<J>>],
-    visitor: DeskVisitor<J>,
-    workers: usize,
-) -> Result<Vec<HostJob<'a, 'r, 'g, J, K, D, S, R>>, AllocError> {
-    let mut jobs = Vec::new(alloc);
-    let mut spare = Some(visitor);
-    let mut left = nodes.len() * workers;
-    for ((node, group), seat) in nodes.iter().zip(groups.iter()).zip(seats.iter()) {
-        for _ in 0..workers {
-            let visitor = next_visitor(&mut spare, left == 1).ok_or(AllocError)?;
-            let job = job_of(rt, desk, seat, group, node, visitor).ok_or(AllocError)?;
-            jobs.push(job)?;
-            left = left.saturating_sub(1);
-        }
-    }
-    Ok(jobs)
+    hired: Vec<Hired<J>>,
+) -> Result<(), AllocError> {
+    thread::map_vec(
+        rt,
+        hired,
+        &|hired: Hired<J>| { work_at(rt, alloc, desk, seats, groups, nodes, hired) },
+    )?;
+    Ok(())
 }
 
 /// Begins to take clients at each node, and says so.
@@ -179,44 +214,60 @@ pub(crate) struct Plan {
     pub(crate) clients: u64,
 }
 
-/// Opens these nodes, and serves from a desk until they end.
+/// Opens these nodes, and serves clients and other nodes, until each node has served as many clients as it is to serve. Each thread is joined.
 fn serve_nodes<
+    'a,
     J: DeskName + Send + Sync,
     K: ListName<BlobInfo> + Send + Sync,
     D: Disk + Send,
     S: Shelf + Send,
+    T: Absorb<Notice<J>, State = [Entry; 0]> + Drop + Send + Sync,
     R: Serving,
     O: Sink,
 >(
-    rt: &R,
+    rt: &'a R,
     alloc: Global,
-    desk: &HostDesk<'_, J, K, D, S, R>,
-    seats: &[Mutex<Seat<J>>],
-    groups: &[HostGroup<'_, R, S>],
-    nodes: &[Node<Noted<J>>],
+    desk: &'a Desk<J, K, D, S, T, R>,
+    seats: &'a [Mutex<Seat<J>>],
+    groups: &'a [HostGroup<'_, R, S>],
+    nodes: &'a [Node<Noted<J>>],
     ports: &[Ports],
     visitor: DeskVisitor<J>,
     plan: &Plan,
     lines: &mut O,
 ) -> Result<(), Failure> {
-    let jobs = jobs_of(rt, alloc, desk, seats, groups, nodes, visitor, plan.workers)?;
+    let hired = hire(alloc, nodes.len(), plan.workers, visitor)?;
     open_all(alloc, nodes, ports, lines)?;
-    serve_all(rt, alloc, ports, groups, jobs, plan.limits)?;
+    let stop = Stop::new();
+    let stop = &stop;
+    let (clients, peers) = thread::join(
+        rt,
+        || {
+            let served = work_all(rt, alloc, desk, seats, groups, nodes, hired);
+            stop.set(rt, ports);
+            served
+        },
+        || serve_all_peers(rt, alloc, ports, groups, plan.limits, stop),
+    );
+    clients?;
+    peers?;
     Ok(())
 }
 
 /// Serves from a desk at these ports.
 pub(crate) fn serve_desk<
+    'a,
     J: DeskName + Send + Sync,
     K: ListName<BlobInfo> + Send + Sync,
     D: Disk + Send,
     S: Shelf + Send,
+    T: Absorb<Notice<J>, State = [Entry; 0]> + Drop + Send + Sync,
     R: Serving,
     O: Sink,
 >(
-    rt: &R,
+    rt: &'a R,
     alloc: Global,
-    desk: &HostDesk<'_, J, K, D, S, R>,
+    desk: &'a Desk<J, K, D, S, T, R>,
     seats: Seats<J>,
     visitor: DeskVisitor<J>,
     bound: Bound,

@@ -14,4 +14,4 @@ mod runtimes;
 mod serving;
 mod stopping;
 
-pub use serving::run_serve;
+pub use serving::{has_ports, open_memory, refuse_ports, run_serve};

@@ -19,28 +19,19 @@ pub(crate) struct Job<'a, S: Steps + Drop> {
 }
 
 /// Serves the clients of a node, until it has served as many as it is to serve.
-fn serve_clients<R: Wait + Clock, S: Steps + Drop>(rt: &R, alloc: Global, job: Job<'_, S>) {
+pub(crate) fn serve_clients<R: Wait + Clock, S: Steps + Drop>(
+    rt: &R,
+    alloc: Global,
+    job: Job<'_, S>,
+) {
     let Job { node, steps } = job;
     let mut turns = NodeTurns::new(rt, node);
     let mut worker = Worker::new(rt, alloc, node, steps);
     work(rt, &mut turns, &mut worker);
 }
 
-/// Serves the clients of all nodes, each worker in a thread of its own, until each node has served as many as it is to serve.
-fn serve_all_clients<R: Serving, S: Steps + Send + Drop>(
-    rt: &R,
-    alloc: Global,
-    jobs: Vec<Job<'_, S>>,
-) -> Result<(), AllocError>
-where
-    S::Connection: Send,
-{
-    thread::map_vec(rt, jobs, &|job| serve_clients(rt, alloc, job))?;
-    Ok(())
-}
-
 /// Answers other nodes, at the ports of all nodes, until the nodes end.
-fn serve_all_peers<R: Serving, F: Shelf + Send>(
+pub(crate) fn serve_all_peers<R: Serving, F: Shelf + Send>(
     rt: &R,
     alloc: Global,
     all: &[Ports],
@@ -56,31 +47,4 @@ fn serve_all_peers<R: Serving, F: Shelf + Send>(
     };
     thread::map_indices(rt, alloc, all.len() * PEER_THREADS, &answer)?;
     Ok(())
-}
-
-/// Serves clients and other nodes, until each node has served as many clients as it is to serve. Each thread is joined.
-pub(crate) fn serve_all<R: Serving, S: Steps + Send + Drop, F: Shelf + Send>(
-    rt: &R,
-    alloc: Global,
-    all: &[Ports],
-    groups: &[HostGroup<'_, R, F>],
-    jobs: Vec<Job<'_, S>>,
-    limits: Limits,
-) -> Result<(), AllocError>
-where
-    S::Connection: Send,
-{
-    let stop = Stop::new();
-    let stop = &stop;
-    let (clients, peers) = thread::join(
-        rt,
-        || {
-            let served = serve_all_clients(rt, alloc, jobs);
-            stop.set(rt, all);
-            served
-        },
-        || serve_all_peers(rt, alloc, all, groups, limits, stop),
-    );
-    clients?;
-    peers
 }
