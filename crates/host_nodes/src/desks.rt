@@ -2,10 +2,10 @@
 use crate::groups::{HostGroup, groups_of, peer_addresses};
 use crate::guests::{GuestSteps, Noted};
 use crate::lines::{Failure, say};
-use crate::nodes::{Job, serve_all_peers, serve_clients};
+use crate::nodes::{Job, Shared, answer_peers, serve_clients, share_out};
 use crate::ports::{Bound, Ports};
 use crate::runtimes::Serving;
-use crate::stopping::Stop;
+use crate::stopping::{PEER_THREADS, Stop};
 use blob_store::Shelf;
 use byte_view::BlobInfo;
 use change_undo::Entry;
@@ -20,19 +20,28 @@ use site_desk::{DeskName, Notice, Seat, Seats};
 use std::alloc::{AllocError, Global};
 use std::net::{Net, TcpListener, TcpStream};
 use std::sync::{Mutex, Wait};
-use std::thread;
 use std::time::Clock;
 
 /// The desk from the seat of a node.
 type HostSeat<'a, J, K, D, S, T, R> = SeatedDesk<'a, J, K, D, S, T, R, R>;
 
 /// The files of a node.
-type HostFiles<'a, 'g, R, S> = GroupFiles<'a, R, HostGroup<'g, R, S>>;
+type HostFiles<'a, 'g, 'h, R, S> = GroupFiles<'a, R, HostGroup<'g, 'h, R, S>>;
 
 /// A worker of a node.
-type HostJob<'a, 'g, J, K, D, S, T, R> = Job<
+type HostJob<'a, 'g, 'h, J, K, D, S, T, R> = Job<
     'a,
-    GuestSteps<J, HostSeat<'a, J, K, D, S, T, R>, HostFiles<'a, 'g, R, S>>,
+    GuestSteps<J, HostSeat<'a, J, K, D, S, T, R>, HostFiles<'a, 'g, 'h, R, S>>,
+>;
+
+/// What the threads of the nodes share.
+type HostShared<'a, 'g, 'h, J, K, D, S, T, R> = Shared<
+    'a,
+    R,
+    Desk<J, K, D, S, T, R>,
+    Mutex<Seat<J>>,
+    HostGroup<'g, 'h, R, S>,
+    Node<Noted<J>>,
 >;
 
 /// A seat for each node, behind a lock.
@@ -82,36 +91,42 @@ fn next_visitor<J: DeskName>(
     }
 }
 
-/// A worker that is to be: the place of its node, and its visitor.
+/// What a thread is to do.
 #[derive(Drop)]
-struct Hired<J: DeskName> {
-    at: usize,
-    visitor: DeskVisitor<J>,
+enum Task<J: DeskName> {
+    /// It serves the clients of the node at this place, with this visitor.
+    Serve(usize, DeskVisitor<J>),
+    /// It answers other nodes at the port of the node at this place.
+    Answer(usize),
 }
 
-/// So many workers for each of so many nodes.
-fn hire<J: DeskName>(
+/// The tasks of so many workers for each of so many nodes, and of the threads that answer other nodes.
+fn tasks_of<J: DeskName>(
     alloc: Global,
     nodes: usize,
     workers: usize,
     visitor: DeskVisitor<J>,
-) -> Result<Vec<Hired<J>>, AllocError> {
-    let mut all = Vec::new(alloc);
+) -> Result<Vec<Task<J>>, AllocError> {
+    let mut tasks = Vec::new(alloc);
     let mut spare = Some(visitor);
     for at in 0..nodes {
         for worker in 0..workers {
             let is_last = at + 1 == nodes && worker + 1 == workers;
             let visitor = next_visitor(&mut spare, is_last).ok_or(AllocError)?;
-            all.push(Hired { at, visitor })?;
+            tasks.push(Task::Serve(at, visitor))?;
+        }
+        for _ in 0..PEER_THREADS {
+            tasks.push(Task::Answer(at))?;
         }
     }
-    Ok(all)
+    Ok(tasks)
 }
 
 /// What a worker of a node works with. There is none only for want of memory.
 fn job_of<
     'a,
     'g,
+    'h,
     J: DeskName,
     K: ListName<BlobInfo>,
     D: Disk,
@@ -122,10 +137,10 @@ fn job_of<
     rt: &'a R,
     desk: &'a Desk<J, K, D, S, T, R>,
     seat: &'a Mutex<Seat<J>>,
-    group: &'a HostGroup<'g, R, S>,
+    group: &'a HostGroup<'g, 'h, R, S>,
     node: &'a Node<Noted<J>>,
     visitor: DeskVisitor<J>,
-) -> Option<HostJob<'a, 'g, J, K, D, S, T, R>> {
+) -> Option<HostJob<'a, 'g, 'h, J, K, D, S, T, R>> {
     let desk = SeatedDesk::new(rt, desk, seat);
     let files = GroupFiles::new(rt, group);
     let house = SharedHouse::new(visitor, desk, files).ok()?;
@@ -138,7 +153,6 @@ fn job_of<
 
 /// Does the work of a worker, until its node has served as many clients as it is to serve.
 fn work_at<
-    'a,
     J: DeskName,
     K: ListName<BlobInfo>,
     D: Disk,
@@ -146,46 +160,18 @@ fn work_at<
     T: Absorb<Notice<J>, State = [Entry; 0]> + Drop,
     R: Net<Stream = TcpStream> + Clock + Wait + Drop,
 >(
-    rt: &'a R,
     alloc: Global,
-    desk: &'a Desk<J, K, D, S, T, R>,
-    seats: &'a [Mutex<Seat<J>>],
-    groups: &'a [HostGroup<'_, R, S>],
-    nodes: &'a [Node<Noted<J>>],
-    hired: Hired<J>,
+    shared: &HostShared<'_, '_, '_, J, K, D, S, T, R>,
+    at: usize,
+    visitor: DeskVisitor<J>,
 ) {
-    let Hired { at, visitor } = hired;
+    let (rt, desk) = (shared.rt, shared.desk);
+    let (seats, groups, nodes) = (shared.seats, shared.groups, shared.nodes);
     if let (Some(seat), Some(group), Some(node)) = (seats.get(at), groups.get(at), nodes.get(at)) {
         if let Some(job) = job_of(rt, desk, seat, group, node, visitor) {
             serve_clients(rt, alloc, job);
         }
     }
-}
-
-/// Does the work of all workers, each in a thread of its own.
-fn work_all<
-    'a,
-    J: DeskName + Send + Sync,
-    K: ListName<BlobInfo> + Send + Sync,
-    D: Disk + Send,
-    S: Shelf + Send,
-    T: Absorb<Notice<J>, State = [Entry; 0]> + Drop + Send + Sync,
-    R: Serving,
->(
-    rt: &'a R,
-    alloc: Global,
-    desk: &'a Desk<J, K, D, S, T, R>,
-    seats: &'a [Mutex<Seat<J>>],
-    groups: &'a [HostGroup<'_, R, S>],
-    nodes: &'a [Node<Noted<J>>],
-    hired: Vec<Hired<J>>,
-) -> Result<(), AllocError> {
-    thread::map_vec(
-        rt,
-        hired,
-        &|hired: Hired<J>| { work_at(rt, alloc, desk, seats, groups, nodes, hired) },
-    )?;
-    Ok(())
 }
 
 /// Begins to take clients at each node, and says so.
@@ -217,6 +203,8 @@ pub(crate) struct Plan {
 /// Opens these nodes, and serves clients and other nodes, until each node has served as many clients as it is to serve. Each thread is joined.
 fn serve_nodes<
     'a,
+    'g,
+    'h,
     J: DeskName + Send + Sync,
     K: ListName<BlobInfo> + Send + Sync,
     D: Disk + Send,
@@ -229,28 +217,36 @@ fn serve_nodes<
     alloc: Global,
     desk: &'a Desk<J, K, D, S, T, R>,
     seats: &'a [Mutex<Seat<J>>],
-    groups: &'a [HostGroup<'_, R, S>],
+    groups: &'a [HostGroup<'g, 'h, R, S>],
     nodes: &'a [Node<Noted<J>>],
     ports: &[Ports],
     visitor: DeskVisitor<J>,
     plan: &Plan,
     lines: &mut O,
 ) -> Result<(), Failure> {
-    let hired = hire(alloc, nodes.len(), plan.workers, visitor)?;
+    let tasks = tasks_of(alloc, nodes.len(), plan.workers, visitor)?;
     open_all(alloc, nodes, ports, lines)?;
-    let stop = Stop::new();
-    let stop = &stop;
-    let (clients, peers) = thread::join(
+    let stop = Stop::new((nodes.len() as u64).saturating_mul(plan.workers as u64));
+    let (limits, stop) = (plan.limits, &stop);
+    let shared = Shared {
         rt,
-        || {
-            let served = work_all(rt, alloc, desk, seats, groups, nodes, hired);
-            stop.set(rt, ports);
-            served
+        desk,
+        seats,
+        groups,
+        nodes,
+    };
+    share_out(
+        rt,
+        &shared,
+        tasks,
+        &|shared, task| match task {
+            Task::Serve(at, visitor) => {
+                work_at(alloc, shared, at, visitor);
+                stop.leave(shared.rt, ports);
+            }
+            Task::Answer(at) => answer_peers(alloc, shared, ports, limits, stop, at),
         },
-        || serve_all_peers(rt, alloc, ports, groups, plan.limits, stop),
-    );
-    clients?;
-    peers?;
+    )?;
     Ok(())
 }
 

@@ -15,10 +15,10 @@ use std::time::Clock;
 const CACHE_LIMIT: usize = 67_108_864;
 
 /// A node of the group, which reads the shelf that all nodes share.
-pub(crate) type HostGroup<'a, R, S> = Group<
+pub(crate) type HostGroup<'a, 'b, R, S> = Group<
     DigestHash,
     SharedSource<'a, R, S>,
-    TcpLink<'a, R>,
+    TcpLink<'b, R>,
     Counter,
 >;
 
@@ -65,7 +65,7 @@ fn group_at<'a, R: Net<Stream = TcpStream> + Clock + Wait, S: Shelf>(
     files: &'a Mutex<Files<S>>,
     peers: &'a [SocketAddr],
     me: usize,
-) -> Result<HostGroup<'a, R, S>, AllocError>
+) -> Result<HostGroup<'a, 'a, R, S>, AllocError>
     requires { me < length peers.now }
 {
     let Ok(ring) = ring_of(alloc, peers) else {
@@ -82,7 +82,7 @@ pub(crate) fn groups_of<'a, R: Net<Stream = TcpStream> + Clock + Wait, S: Shelf>
     alloc: Global,
     files: &'a Mutex<Files<S>>,
     peers: &'a [SocketAddr],
-) -> Result<Vec<HostGroup<'a, R, S>>, AllocError> {
+) -> Result<Vec<HostGroup<'a, 'a, R, S>>, AllocError> {
     let mut groups = Vec::new(alloc);
     for me in 0..peers.len() {
         groups.push(group_at(rt, alloc, files, peers, me)?)?;

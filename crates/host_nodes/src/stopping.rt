@@ -1,32 +1,35 @@
 //! How the nodes come to their end.
 use crate::ports::Ports;
 use std::net::{Net, TcpStream};
-use std::sync::atomic::{AtomicBool, Ordering};
+use std::sync::atomic::{AtomicU64, Ordering};
 
 /// How many threads of a node answer other nodes.
 pub(crate) const PEER_THREADS: usize = 2;
 
-/// Whether the nodes have ended.
+/// How many workers of the nodes are still to end.
 #[derive(Drop)]
 pub(crate) struct Stop {
-    is_set: AtomicBool,
+    left: AtomicU64,
 }
 
 impl Stop {
-    /// They haven't.
-    pub(crate) fn new() -> Stop {
+    /// None of so many workers has ended.
+    pub(crate) fn new(workers: u64) -> Stop {
         Stop {
-            is_set: AtomicBool::new(false),
+            left: AtomicU64::new(workers),
         }
     }
 
+    /// Whether all have.
     pub(crate) fn is_set(&self) -> bool {
-        self.is_set.load(Ordering::SeqCst)
+        self.left.load(Ordering::SeqCst) == 0
     }
 
-    /// Ends the nodes: each thread that answers other nodes is connected to once, and finds that it is to stop.
-    pub(crate) fn set<R: Net<Stream = TcpStream>>(&self, rt: &R, all: &[Ports]) {
-        self.is_set.store(true, Ordering::SeqCst);
+    /// A worker has ended. Where it is the last, each thread that answers other nodes is connected to once, and finds that it is to stop.
+    pub(crate) fn leave<R: Net<Stream = TcpStream>>(&self, rt: &R, all: &[Ports]) {
+        if self.left.fetch_sub(1, Ordering::SeqCst) != 1 {
+            return;
+        }
         for ports in all {
             for _ in 0..PEER_THREADS {
                 let _ = TcpStream::connect(rt, ports.peer_address);
