@@ -202,9 +202,6 @@ pub(crate) struct Plan {
 
 /// Opens these nodes, and serves clients and other nodes, until each node has served as many clients as it is to serve. Each thread is joined.
 fn serve_nodes<
-    'a,
-    'g,
-    'h,
     J: DeskName + Send + Sync,
     K: ListName<BlobInfo> + Send + Sync,
     D: Disk + Send,
@@ -213,31 +210,20 @@ fn serve_nodes<
     R: Serving,
     O: Sink,
 >(
-    rt: &'a R,
     alloc: Global,
-    desk: &'a Desk<J, K, D, S, T, R>,
-    seats: &'a [Mutex<Seat<J>>],
-    groups: &'a [HostGroup<'g, 'h, R, S>],
-    nodes: &'a [Node<Noted<J>>],
+    shared: &HostShared<'_, '_, '_, J, K, D, S, T, R>,
     ports: &[Ports],
     visitor: DeskVisitor<J>,
     plan: &Plan,
     lines: &mut O,
 ) -> Result<(), Failure> {
-    let tasks = tasks_of(alloc, nodes.len(), plan.workers, visitor)?;
-    open_all(alloc, nodes, ports, lines)?;
-    let stop = Stop::new((nodes.len() as u64).saturating_mul(plan.workers as u64));
+    let tasks = tasks_of(alloc, shared.nodes.len(), plan.workers, visitor)?;
+    open_all(alloc, shared.nodes, ports, lines)?;
+    let stop = Stop::new((shared.nodes.len() as u64).saturating_mul(plan.workers as u64));
     let (limits, stop) = (plan.limits, &stop);
-    let shared = Shared {
-        rt,
-        desk,
-        seats,
-        groups,
-        nodes,
-    };
     share_out(
-        rt,
-        &shared,
+        shared.rt,
+        shared,
         tasks,
         &|shared, task| match task {
             Task::Serve(at, visitor) => {
@@ -275,8 +261,12 @@ pub(crate) fn serve_desk<
     let groups = groups_of(rt, alloc, desk.files(), peers.as_slice())?;
     let seats = seats_of(alloc, seats, ports.len())?;
     let nodes = nodes_of::<J>(alloc, clients, plan.limits, plan.clients)?;
-    let (seats, groups, nodes) = (seats.as_slice(), groups.as_slice(), nodes.as_slice());
-    serve_nodes(
-        rt, alloc, desk, seats, groups, nodes, ports, visitor, plan, lines,
-    )
+    let shared = Shared {
+        rt,
+        desk,
+        seats: seats.as_slice(),
+        groups: groups.as_slice(),
+        nodes: nodes.as_slice(),
+    };
+    serve_nodes(alloc, &shared, ports, visitor, plan, lines)
 }
