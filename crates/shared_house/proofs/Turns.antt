@@ -55,8 +55,8 @@ listed disk floor site n path digest (kept, (met, whole, is)) = (moment floor ke
 known_within : (files known : Contents) (digest : Digest) → IsWithin files known → IsSome (map.get files digest) → IsSome (map.get known digest)
 known_within files known digest within is =
     elim (map.get files digest) as (λ o. map.get files digest ≡ o → IsSome o → IsSome (map.get known digest)) [
-      None ↦ λ e none. cc none
-    | Some bytes ↦ λ e some. subst (λ (o : Option (List ℕ)). IsSome o) (sym (within digest bytes e)) some
+      | None ↦ λ e none. cc none
+      | Some bytes ↦ λ e some. subst (λ (o : Option (List ℕ)). IsSome o) (sym (within digest bytes e)) some
     ] refl is
 
 unready : {D : Type 0} (disk : Ghosts D) (floor : ℕ) (site : SiteName) (n : ℕ) (bytes : List ℕ) (files : Contents) (old new : Kept D)
