@@ -16,17 +16,21 @@ class CommandLine(Program):
 
     def test_says_what_it_takes_and_what_is_wrong(self):
         usage = "For more information, try '--help'."
-        help_parts = ["An immutable file host", "Usage: filehost <COMMAND>", "solo  Serve",
+        help_parts = ["An immutable file host", "Usage: filehost <COMMAND>", "solo   Serve", "serve  Serve",
                       "filehost solo < examples/first-run.http", "README.md", "docs/HTTP.md"]
         solo_parts = ["Usage: filehost solo", "standard input", "standard output", "Exit status: 0"]
+        serve_parts = ["Usage: filehost serve", "--listen <IP:PORT>", "PORT + 8 + I", "Exit status: 0"]
         for words, parts in [
             ([], help_parts),
             (["--help"], help_parts),
             (["help"], help_parts),
             (["solo", "--help"], solo_parts),
             (["help", "solo"], solo_parts),
+            (["serve", "--help"], serve_parts),
+            (["help", "serve"], serve_parts),
             (["unknown"], ["error:", "'unknown'", usage]),
             (["solo", "extra"], ["error:", "'extra'", "filehost solo", usage]),
+            (["serve", "extra"], ["error:", "'extra'", "filehost serve", usage]),
             (["--port"], ["error:", "'--port'", usage]),
         ]:
             with self.subTest(words):
