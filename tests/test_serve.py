@@ -152,11 +152,16 @@ class NotServing(Served):
             self.assert_says((3, b"", b"filehost: journal: BadHeader\n"), "--listen", address, "--store", str(store))
 
 
+def end_by_interrupt():
+    """A process that was started in the background ignores SIGINT, and so would the program."""
+    signal.signal(signal.SIGINT, signal.SIG_DFL)
+
+
 class Stopped(Served):
     def test_a_stop_loses_nothing_that_was_acknowledged(self):
         store = self.folder()
         for count, how in enumerate((signal.SIGKILL, signal.SIGTERM, signal.SIGINT), 1):
-            started = self.serve("--store", str(store), nodes=2)
+            started = self.serve("--store", str(store), nodes=2, preexec_fn=end_by_interrupt)
             for before in range(1, count):
                 self.assertEqual(ask(self.client(1), "GET", f"/s/site{before}/a.txt"), (200, b"%d" % before))
             publish(self.client(count % 2), {"/a.txt": b"%d" % count}, f"site{count}")

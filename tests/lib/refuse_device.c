@@ -1,6 +1,7 @@
 /* Is before the C library's calls on files in a program, and lets one of those fail that are on the files of the folder REFUSED_FOLDER, or on the
  * folder: that at the place REFUSED_PLACE, counted from 1. It fails before anything is done, or where REFUSED_LATE is 1 after all is done; a
- * write, before its second half. At the end it writes how many there were to the file CALLS_FILE, if that is named. */
+ * write, before its second half. At the end it writes how many there were to the file CALLS_FILE, if that is named. A program with threads ends by
+ * _exit, which calls no destructor. */
 #define _GNU_SOURCE
 #include <dlfcn.h>
 #include <errno.h>
@@ -108,4 +109,10 @@ __attribute__((destructor)) static void tell(void) {
     if (!file) return;
     fprintf(file, "%lu\n", count);
     fclose(file);
+}
+
+void _exit(int status) {
+    tell();
+    NEXT(_exit)(status);
+    __builtin_unreachable();
 }
