@@ -105,6 +105,9 @@ class Reader:
 class Server:
     """A server that answers, and has a column in the tables."""
 
+    # What it has in its environment, beside the folders.
+    variables = {}
+
     def __init__(self, stack, title, port):
         self.stack, self.title, self.port = stack, title, port
         self.reader = Reader(stack, port)
@@ -116,7 +119,7 @@ class Server:
         """Starts the server's command, with a log in its folder, and waits until it answers. That must be the process that was started, which is then
         alive."""
         log = self.folder / "log"
-        environment = os.environ | {"HOME": str(self.folder), "XDG_DATA_HOME": str(self.folder), "XDG_CONFIG_HOME": str(self.folder)}
+        environment = os.environ | {"HOME": str(self.folder), "XDG_DATA_HOME": str(self.folder), "XDG_CONFIG_HOME": str(self.folder)} | self.variables
         with log.open("wb") as file:
             # A process group for the server alone: it has all that the server starts, and no key of the terminal reaches it.
             self.process = subprocess.Popen(self.command(), stdin=subprocess.DEVNULL, stdout=file, stderr=file, env=environment, start_new_session=True)

@@ -3,7 +3,7 @@
 from servers import HOST, FolderServer, Host, Nginx, find
 
 from loads import RANGED
-from lib.client import REQUESTS
+from lib.client import HEAP, REQUESTS
 from lib.served import free_ports
 
 WORKERS = 2
@@ -15,6 +15,8 @@ ROOM = 1_100
 
 class ServedHost(Host):
     """The program, which serves in memory. A tracer may start it, which is then the head of its command."""
+
+    variables = HEAP
 
     def __init__(self, stack, title, folder, program, tracer=()):
         super().__init__(stack, title, free_ports())

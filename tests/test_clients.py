@@ -7,15 +7,16 @@ import email
 import http.client
 import pathlib
 import socket
-import subprocess
 import tempfile
 import unittest
 
 from lib.client import (
-    HELLO, LARGEST_FILE, PATIENCE, PUBLISHED, SECONDS, closing, digest_of, opened, opening, refused, request, sent, to_head, upload,
+    HELLO, LARGEST_FILE, PATIENCE, PUBLISHED, closing, digest_of, opened, opening, refused, request, sent, to_head, upload,
     uploaded,
 )
-from lib.over_tcp import Connection, OverTcp, Server, needs_curl, needs_wget
+from lib.over_tcp import (
+    CURL, WAITING, WGET, Connection, OverTcp, Server, assert_exchanges, assert_reads, downloaded, needs_curl, needs_wget,
+)
 from lib.range_replies import TWO_PARTS
 from lib.sample_connection import TALK
 from lib.sample_site import WORLD
@@ -30,8 +31,6 @@ EXPECT = {"Expect": "100-continue"}
 
 @needs_curl
 class Curl(OverTcp):
-    """It sends the body after the interim reply alone, for which it waits longer than a test may take."""
-
     publishing = [
         (DEPLOYS, "--data-binary", LISTING.decode()), (UPLOAD, "--request", "PUT", "--data-binary", "hello"),
     ]
@@ -46,8 +45,7 @@ class Curl(OverTcp):
     def assert_sees(self, wanted, sent_bytes, target, *options, after=()):
         """The last of these requests is answered so, byte for byte, and curl sends `sent_bytes` bytes of its body."""
         status = wanted.removeprefix(INTERIM)[9:12].decode()
-        waiting = ("--include", "--expect100-timeout", str(SECONDS), "--max-time", str(PATIENCE))
-        said = self.converse(*after, (target, *waiting, "--write-out", "|%{http_code} %{size_upload}", *options))
+        said = self.converse(*after, (target, *WAITING, "--write-out", "|%{http_code} %{size_upload}", *options))
         shown = "".join(said.splitlines(keepends=True)[len(after):])
         self.assertEqual(shown, f"{wanted.decode()}|{status} {sent_bytes}", options)
 
@@ -104,8 +102,6 @@ class Downloads(OverTcp):
     content = bytes(range(251)) * 1_000
     exchanges = [(opening({"/a.txt": digest_of(content)}), opened(1, digest_of(content))),
                  (upload(1, "a.txt", content), uploaded(content, 2))]
-    curl = ("curl", "--disable", "--silent", "--noproxy", "*", "--output", "file", "--max-time", str(SECONDS))
-    wget = ("wget", "--no-config", "--no-proxy", "--quiet", "--timeout", str(PATIENCE), "--waitretry", "0", "--output-document", "file")
 
     def setUp(self):
         super().setUp()
@@ -118,8 +114,7 @@ class Downloads(OverTcp):
 
     def assert_gets(self, status, count, *words):
         """This client ends with the status, and the file then has the first `count` bytes of the content."""
-        ran = subprocess.run([*words, f"http://127.0.0.1:{self.server.port}{FILE}"], cwd=self.folder, timeout=SECONDS)
-        self.assertEqual((ran.returncode, (self.folder / "file").read_bytes()), (status, self.content[:count]))
+        self.assertEqual(downloaded(self.folder, f"http://127.0.0.1:{self.server.port}{FILE}", words), (status, self.content[:count]))
 
     def assert_asked(self, *ranges):
         """The requests had these ranges, and no others."""
@@ -130,17 +125,17 @@ class Downloads(OverTcp):
     @needs_curl
     def test_is_resumed_by_curl(self):
         self.begin(100_000, 65_536, None, None)
-        self.assert_gets(18, 100_000, *self.curl)
-        self.assert_gets(18, 165_536, *self.curl, "--continue-at", "-")
-        self.assert_gets(0, 251_000, *self.curl, "--continue-at", "-")
-        self.assert_gets(0, 251_000, *self.curl, "--continue-at", "-")
+        self.assert_gets(18, 100_000, *CURL)
+        self.assert_gets(18, 165_536, *CURL, "--continue-at", "-")
+        self.assert_gets(0, 251_000, *CURL, "--continue-at", "-")
+        self.assert_gets(0, 251_000, *CURL, "--continue-at", "-")
         self.assert_asked(None, "bytes=100000-", "bytes=165536-", "bytes=251000-")
 
     @needs_curl
     def test_is_resumed_under_the_tag_of_the_file_alone(self):
         self.begin(1, None, None)
-        self.assert_gets(18, 1, *self.curl)
-        resuming = (*self.curl, "--continue-at", "-", "--header")
+        self.assert_gets(18, 1, *CURL)
+        resuming = (*CURL, "--continue-at", "-", "--header")
         self.assert_gets(33, 1, *resuming, f'If-Range: "{HELLO}"')
         self.assert_gets(0, 251_000, *resuming, f'If-Range: "{digest_of(self.content)}"')
         self.assert_asked(None, "bytes=1-", "bytes=1-")
@@ -148,16 +143,16 @@ class Downloads(OverTcp):
     @needs_wget
     def test_is_resumed_by_wget(self):
         self.begin(100_000, 65_536, None, None)
-        self.assert_gets(4, 100_000, *self.wget, "--tries", "1")
-        self.assert_gets(4, 165_536, *self.wget, "--tries", "1", "--continue")
-        self.assert_gets(0, 251_000, *self.wget, "--tries", "1", "--continue")
-        self.assert_gets(0, 251_000, *self.wget, "--tries", "1", "--continue")
+        self.assert_gets(4, 100_000, *WGET, "--tries", "1")
+        self.assert_gets(4, 165_536, *WGET, "--tries", "1", "--continue")
+        self.assert_gets(0, 251_000, *WGET, "--tries", "1", "--continue")
+        self.assert_gets(0, 251_000, *WGET, "--tries", "1", "--continue")
         self.assert_asked(None, "bytes=100000-", "bytes=165536-", "bytes=251000-")
 
     @needs_wget
     def test_is_resumed_by_wget_on_its_own(self):
         self.begin(100_000, 65_536, None)
-        self.assert_gets(0, 251_000, *self.wget, "--tries", "3")
+        self.assert_gets(0, 251_000, *WGET, "--tries", "3")
         self.assert_asked(None, "bytes=100000-", "bytes=165536-")
 
 
@@ -173,38 +168,26 @@ class StandardLibrary(OverTcp):
         self.addCleanup(connection.close)
         return connection
 
-    def assert_reads(self, connection, wanted):
-        """It reads this reply: its status line, its fields in their order, and its body."""
-        head, _, body = wanted.partition(END)
-        got = connection.getresponse()
-        fields = [f"{name}: {value}" for name, value in got.getheaders()]
-        self.assertEqual([f"HTTP/1.1 {got.status} {got.reason}", *fields], head.decode().split("\r\n"))
-        self.assertEqual((got.read(), got.will_close), (body, b"Connection: close" in head))
-
-    def assert_exchanges(self, connection, wanted, *asked):
-        connection.request(*asked)
-        self.assert_reads(connection, wanted)
-
     def publish(self, connection, **fields):
-        self.assert_exchanges(connection, opened(1, HELLO), "POST", DEPLOYS, LISTING, fields)
-        self.assert_exchanges(connection, uploaded(b"hello", 2), "PUT", UPLOAD, b"hello", fields)
+        assert_exchanges(self, connection, opened(1, HELLO), "POST", DEPLOYS, LISTING, fields)
+        assert_exchanges(self, connection, uploaded(b"hello", 2), "PUT", UPLOAD, b"hello", fields)
 
     def test_makes_several_requests_in_one_connection(self):
         connection = self.connect()
         self.publish(connection)
         part = sent(b"ell", "Content-Range: bytes 1-3/5", whole=b"hello")
-        self.assert_exchanges(connection, part, "GET", FILE, None, {"Range": "bytes=1-3"})
-        self.assert_exchanges(connection, to_head(sent(b"hello")), "HEAD", FILE)
-        self.assert_exchanges(connection, BAD_METHOD, "POST", FILE, b"hello")
-        self.assert_exchanges(connection, closing(sent(b"hello")), "GET", FILE, None, {"Connection": "close"})
+        assert_exchanges(self, connection, part, "GET", FILE, None, {"Range": "bytes=1-3"})
+        assert_exchanges(self, connection, to_head(sent(b"hello")), "HEAD", FILE)
+        assert_exchanges(self, connection, BAD_METHOD, "POST", FILE, b"hello")
+        assert_exchanges(self, connection, closing(sent(b"hello")), "GET", FILE, None, {"Connection": "close"})
         self.assert_ended_well()
 
     def test_finds_each_part_of_several_ranges(self):
         content = b"\r\n--fh0-\r\n\r\nhello\r\n--" + bytes(range(256)) * 300
         connection = self.connect()
-        self.assert_exchanges(connection, opened(1, digest_of(content)), "POST", DEPLOYS,
-                              opening({"/a.txt": digest_of(content)}).partition(END)[2])
-        self.assert_exchanges(connection, uploaded(content, 2), "PUT", UPLOAD, content)
+        assert_exchanges(self, connection, opened(1, digest_of(content)), "POST", DEPLOYS,
+                         opening({"/a.txt": digest_of(content)}).partition(END)[2])
+        assert_exchanges(self, connection, uploaded(content, 2), "PUT", UPLOAD, content)
         connection.request("GET", FILE, None, {"Range": "bytes=0-23,-820,1-1,0-1,65530-65540"})
         got = connection.getresponse()
         text = f"Content-Type: {got.getheader('Content-Type')}\r\n\r\n".encode() + got.read()
@@ -216,7 +199,7 @@ class StandardLibrary(OverTcp):
             [([("Content-Type", "text/plain; charset=utf-8"), ("Content-Range", f"bytes {first}-{last}/{size}")], content[first:last + 1])
              for first, last in ((0, 23), (size - 820, size - 1), (1, 1), (0, 1), (65_530, 65_540))],
         )
-        self.assert_exchanges(connection, closing(to_head(sent(content))), "HEAD", FILE, None, {"Connection": "close"})
+        assert_exchanges(self, connection, closing(to_head(sent(content))), "HEAD", FILE, None, {"Connection": "close"})
         self.assert_ended_well()
 
     def test_is_served_in_the_old_version(self):
@@ -224,33 +207,33 @@ class StandardLibrary(OverTcp):
             (NO_FILE, "GET", FILE), (to_head(NO_FILE), "HEAD", FILE), (opened(1, HELLO), "POST", DEPLOYS, LISTING),
             (BAD_METHOD, "PUT", FILE, b"hello", EXPECT), (NO_FILE, "GET", FILE, None, {"Connection": "keep-alive"}),
         ]:
-            self.assert_exchanges(self.connect(OldConnection), closing(wanted), *asked)
+            assert_exchanges(self, self.connect(OldConnection), closing(wanted), *asked)
             self.assert_ended_well()
 
     def test_takes_no_notice_of_the_interim_reply(self):
         connection = self.connect()
         self.publish(connection, **EXPECT)
-        self.assert_exchanges(connection, sent(b"hello"), "GET", FILE, None, EXPECT)
+        assert_exchanges(self, connection, sent(b"hello"), "GET", FILE, None, EXPECT)
         connection.close()
         self.assert_ended_well()
 
     def test_may_wait_for_the_interim_reply(self):
         connection = self.connect()
-        self.assert_exchanges(connection, opened(1, HELLO), "POST", DEPLOYS, LISTING)
+        assert_exchanges(self, connection, opened(1, HELLO), "POST", DEPLOYS, LISTING)
         connection.request("PUT", UPLOAD, None, {"Content-Length": "5", **EXPECT})
         self.assertEqual(connection.sock.recv(len(INTERIM), socket.MSG_WAITALL), INTERIM)
         connection.send(b"hello")
-        self.assert_reads(connection, uploaded(b"hello", 2))
-        self.assert_exchanges(connection, sent(b"hello"), "GET", FILE)
+        assert_reads(self, connection, uploaded(b"hello", 2))
+        assert_exchanges(self, connection, sent(b"hello"), "GET", FILE)
 
     def test_reads_why_a_body_is_refused(self):
         connection = self.connect()
         self.publish(connection)
         length = {"Content-Length": str(LARGEST_FILE + 1)}
-        self.assert_exchanges(connection, BODY_TOO_LARGE, "PUT", UPLOAD, None, length)
+        assert_exchanges(self, connection, BODY_TOO_LARGE, "PUT", UPLOAD, None, length)
         self.assert_ended_well()
         connection = self.connect()
-        self.assert_exchanges(connection, CODING_REFUSED, "PUT", UPLOAD, iter([b"hel", b"lo"]))
+        assert_exchanges(self, connection, CODING_REFUSED, "PUT", UPLOAD, iter([b"hel", b"lo"]))
         connection.close()
         self.assert_ended_well()
 

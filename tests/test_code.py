@@ -26,6 +26,9 @@ class Rattle(unittest.TestCase):
         longer = {str(file.relative_to(TOP)) for file in self.files if file.read_text().count("\n") > 300}
         self.assertEqual(longer, set())
 
+    def test_has_a_file_of_its_name_next_to_each_folder_of_modules(self):
+        self.assertEqual({folder for folder in {file.parent for file in self.files} if folder.name != "src" and not folder.with_suffix(".rt").is_file()}, set())
+
     def test_has_no_function_over_40_lines(self):
         """The lines of its clauses don't count."""
         longer = set()

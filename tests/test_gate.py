@@ -21,7 +21,7 @@ FAKE_APT_GET = """#!/usr/bin/env bash
 printf 'apt-get %s\\n' "$1" >>"$CALLS"
 [[ $1 == install ]] || exit 0
 for package in "${@:4}"; do
-  [[ ! -e $STORE/$package ]] || cp "$STORE/$package" "${0%/*}/$package"
+  [[ ! -e $STORE/$package ]] || cp "$STORE/$package" "${0%/*}/${package/%aria2/aria2c}"
 done
 """
 
@@ -125,13 +125,13 @@ class Gate(unittest.TestCase):
     def test_installs_what_the_tests_need_where_it_is_missing(self):
         tools = self.sandbox.tools
         self.sandbox.write("store/python3", f'#!/usr/bin/env bash\nexec {sys.executable} "$@"\n', 0o755)
-        for name in ("curl", "wget", "gcc"):
+        for name in ("curl", "wget", "aria2", "gcc"):
             self.sandbox.write(f"store/{name}", "#!/usr/bin/env bash\n", 0o755)
         (tools / "cp").symlink_to(shutil.which("cp"))
         for name, text in (("apt-get", FAKE_APT_GET), ("sudo", '#!/usr/bin/env bash\nexec "$@"\n')):
             (tools / name).write_text(text)
             (tools / name).chmod(0o755)
-        for missing in (["python3"], ["curl"], ["wget"], ["gcc"], ["python3", "curl", "wget", "gcc"]):
+        for missing in (["python3"], ["curl"], ["wget"], ["aria2c"], ["gcc"], ["python3", "curl", "wget", "aria2c", "gcc"]):
             with self.subTest(missing):
                 for command in missing:
                     (tools / command).unlink()
@@ -142,7 +142,7 @@ class Gate(unittest.TestCase):
 
     def test_says_in_one_line_what_cannot_be_installed(self):
         tools = self.sandbox.tools
-        for command in ("curl", "wget", "gcc", "python3"):
+        for command in ("curl", "wget", "aria2c", "gcc", "python3"):
             (tools / command).unlink()
         for there, why in ((), "apt-get"), (("apt-get",), "sudo"):
             if os.geteuid() == 0 and why == "sudo":
@@ -153,13 +153,13 @@ class Gate(unittest.TestCase):
                 environment = {"CI_SAYS": "1 passed, 0 failed\n", "CI_STATUS": "0"}
                 status, out, err = self.sandbox.run(str(self.sandbox.top / "test"), **environment)
                 self.assertEqual((status, out, len(err.splitlines())), (1, "0 passed, 1 failed\n", 1), err)
-                for word in ("python3 curl wget gcc", why):
+                for word in ("python3 curl wget aria2c gcc", why):
                     self.assertIn(word, err)
 
     def test_fails_where_what_the_tests_need_cannot_be_installed(self):
         for name in ("apt-get", "sudo"):
             (self.sandbox.tools / name).symlink_to(shutil.which("true"))
-        for command in ("curl", "wget", "gcc", "python3"):
+        for command in ("curl", "wget", "aria2c", "gcc", "python3"):
             with self.subTest(command):
                 (self.sandbox.tools / command).unlink()
                 self.assert_ends(self.gate(), 1, "0 passed, 1 failed")

@@ -8,7 +8,7 @@ import tempfile
 import unittest
 
 TOP = pathlib.Path(__file__).resolve().parent.parent
-LIBRARIES = ("host_names", "byte_view", "chunk_reads", "range_spec", "http_wire", "range_reply")
+LIBRARIES = ("host_names", "byte_view", "chunk_reads", "range_spec", "byte_slices", "http_wire", "range_reply")
 
 # The lines that drop the owner of what is still used are marked, and the one that lends a vector which ends with its function.
 PROGRAM = """\

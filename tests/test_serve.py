@@ -3,23 +3,20 @@
 What is expected follows from README.md, docs/HTTP.md and `serve --help`.
 """
 
-import itertools
 import json
 import os
 import random
 import signal
 import socket
 import subprocess
-import threading
 import time
 import unittest
 
-from lib.client import ABC, HELLO, PATIENCE, SECONDS, digest_of, request, run
+from lib.client import ABC, HELLO, PATIENCE, SECONDS, request, run
+from lib.many_clients import ManyClients, Shown
 from lib.over_tcp import needs_curl
-from lib.plain_history import Deploy, History, Refused
 from lib.served import FILE, HOST, Served, ask, free_ports, publish
 
-DEPLOYS = "/api/v1/sites/one/deploys"
 # How many seconds deployers and readers go on beside one another.
 MANY_SECONDS = float(os.environ.get("FILEHOST_MANY_SECONDS", "4"))
 
@@ -184,115 +181,18 @@ class Stopped(Served):
         self.assertEqual(came.partition(b"\r\n\r\n")[2], bytes(4_000_000))
 
 
-class Deployers:
-    """Deployers and readers over two nodes, and what each was told."""
-
-    def __init__(self, test, seconds):
-        self.test, self.until = test, time.monotonic() + seconds
-        self.contents, self.made, self.reads, self.faults = [], {}, [], []
-        self.connections = itertools.count()
-        # The number of the last entry that anyone was told of.
-        self.told = 0
-
-    def look(self, client, connection):
-        """Reads the file, and keeps the reply with the number of the last entry that anyone was told of before."""
-        told = self.told
-        self.reads.append((connection, told, ask(client, "GET", FILE)))
-
-    def publish(self, client, content):
-        """Deploys two paths with this content, and returns the number of the entry that published them."""
-        self.contents.append(content)
-        files = dict.fromkeys(("/a.txt", "/b.txt"), digest_of(content))
-        status, told = ask(client, "POST", DEPLOYS, json.dumps({"files": files, "patch": True}))
-        assert status == 200, told
-        deploy = int(json.loads(told)["id"])
-        self.made[deploy] = ("open", Deploy(files, True, True))
-        status, told = ask(client, "PUT", f"/api/v1/deploys/{deploy}/files/b.txt", content)
-        assert status == 200, told
-        published = json.loads(told)["published"]
-        self.made[published] = ("publish", deploy)
-        return published
-
-    def take_back(self, client, change):
-        """Undoes a change, unless another one touched what it changed."""
-        status, told = ask(client, "POST", "/api/v1/sites/one/undo", json.dumps({"change": change}))
-        told = json.loads(told)
-        if status != 200:
-            assert (status, told["error"]) == (409, "Clash") and told["change"] > change, told
-            return change
-        self.made[told["entry"]] = ("undo", change)
-        return told["entry"]
-
-    def deploy(self, node, seed):
-        """Deploys and takes back, over one connection after another, and keeps which entry each made."""
-        draw = random.Random(seed)
-        while time.monotonic() < self.until:
-            client, connection = self.test.client(node), next(self.connections)
-            for turn in range(20):
-                last = self.publish(client, b"turn %d of connection %d" % (turn, connection))
-                if draw.random() < 0.4:
-                    last = self.take_back(client, last)
-                self.told = max(self.told, last)
-                self.look(client, connection)
-                time.sleep(0.02)
-            client.close()
-
-    def read(self, node):
-        while time.monotonic() < self.until:
-            client, connection = self.test.client(node), next(self.connections)
-            for _ in range(60):
-                self.look(client, connection)
-                time.sleep(0.002)
-            client.close()
-
-    def run(self, work, *words):
-        try:
-            work(*words)
-        except Exception as fault:
-            self.faults.append(fault)
-
-    def go(self):
-        works = [(self.deploy, 0, 5), (self.deploy, 1, 6), *[(self.read, node) for node in (0, 1, 0, 1)]]
-        threads = [threading.Thread(target=self.run, args=work) for work in works]
-        for thread in threads:
-            thread.start()
-        for thread in threads:
-            thread.join()
-        self.test.assertEqual(self.faults, [])
-
-
 class Many(Served):
-    def states(self, made, uploads):
-        """What /a.txt is after each number of entries, by the plain model."""
-        model = History()
-        model.uploads = uploads
-        shown = [(404, None)]
-        for number in range(1, max(made) + 1):
-            kind, part = made[number]
-            try:
-                done = model.undo("one", part) if kind == "undo" else model.commit(kind, "one", part)
-            except Refused as refused:
-                raise AssertionError(f"entry {number} is refused by the plain model: {refused}") from None
-            self.assertEqual(done, number)
-            content = model.state().get(("one", 0, "/a.txt"))
-            shown.append((404, None) if content is None else (200, content))
-        return shown
-
     def test_each_reply_is_of_one_state_no_older_than_anyone_was_told(self):
         self.serve(nodes=2)
-        many = Deployers(self, MANY_SECONDS)
+        many, shown = ManyClients(self.client), Shown()
         many.told = many.publish(self.client(), b"first")
-        many.go()
-        shown = self.states(many.made, {digest_of(content): content for content in many.contents})
-        reached = {}
-        for connection, told, (status, body) in many.reads:
-            wanted = (status, body if status == 200 else None)
-            least = max(reached.get(connection, 0), told)
-            at = next((number for number in range(least, len(shown)) if shown[number] == wanted), None)
-            self.assertIsNotNone(at, f"{wanted} is no state after {least} entries")
-            reached[connection] = at
-        self.assertGreater(len(many.reads), 100)
-        self.assertGreater(len(shown), 10)
+        # Where the machine is slow they go on until they have done something, however long that takes.
+        while not (len(many.looks) > 100 and len(many.entries) > 10):
+            self.assertEqual(many.go(MANY_SECONDS), [])
+            self.assertEqual(many.faults, [])
+        shown.add([many.entries[number] for number in range(1, max(many.entries) + 1)], many.contents)
+        shown.model.compare()
+        self.assertIsNone(shown.fault_of(many.looks))
 
 
 if __name__ == "__main__":

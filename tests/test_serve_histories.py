@@ -1,39 +1,36 @@
-"""Generated histories over the nodes of `filehost serve`: each request goes over another connection, and each reply is that of the plain model, byte for byte.
+"""Histories over the nodes of `filehost serve`: each request goes over another connection, and each reply is the wanted one, byte for byte.
 
-So whichever worker or node answers a request, its reply is over all that was changed before.
+So whichever worker or node answers a request, its reply is over all that was changed before. Generated histories are compared with the plain model, and
+worked runs with `solo` too, as those of test_changes.py, test_undos.py and test_versions.py are.
 """
 
 import collections
-import random
+import socket
 import unittest
 
-from lib.client import EXAMPLES, REQUESTS, request
+from lib.client import ABC, EXAMPLES, HELLO, REQUESTS, digest_of, done, opened, opening, refused, request, sent, to_head, upload, uploaded
 from lib.generated_histories import Generator, Run, views
-from lib.served import Served
+from lib.hopping import Hopping
+from lib.range_replies import TWO_PARTS, none_of, part
+from lib.sample_site import TEXTS, WORLD
+from lib.stores import as_bytes
+from lib.wire import FAULTS, INTERIM, NEXT, NO_FILE, expecting
+from lib.worked_runs import (
+    CHANGED, CHANGED_AGAIN, LISTING, NO_CHANGE, NO_DEPLOY, REFUSED, Worked, clash, deployed, entry, first_deployed, patching, reading, removing, renaming,
+    restoring, serves, showing, stands, undoing,
+)
 
 HISTORIES = 40
-# Two to each of two nodes.
-CONNECTIONS = 4
+TEXT = "text/plain; charset=utf-8"
 
 
-class Hopping(Served):
-    """Each history is asked of new nodes, whose host is empty at first."""
-
+class Generated(Hopping):
     def assert_history(self, seed):
         made = Run()
         generator = Generator(seed, made.model)
         made.ask(generator.requests(generator.one_of((40, 55, 70))))
         made.ask(views(made.model)[:REQUESTS - 1 - len(made.requests)])
-        started = self.serve(nodes=2)
-        plugs = [self.plug(node=connection % 2) for connection in range(CONNECTIONS)]
-        draw = random.Random(seed)
-        for place, (asked, wanted) in enumerate(zip(made.requests, made.wanted)):
-            plug = draw.choice(plugs)
-            plug.sendall(request(asked.method, asked.target, *asked.fields, body=asked.body))
-            self.assertEqual(self.received(plug, len(wanted)), wanted, made.told(place))
-        for plug in plugs:
-            plug.close()
-        self.end(started)
+        self.assert_hops(list(zip(map(as_bytes, made.requests), made.wanted)), seed, made.told)
         return made.tally()
 
     def test_each_request_is_answered_as_by_the_plain_model(self):
@@ -41,15 +38,134 @@ class Hopping(Served):
         for word in ("open", "publish", "undo", "Clash", "rename", "remove", "alias", "GET-200", "GET-206", "NoSuchFile", "NotListed", "AlreadyUndone"):
             self.assertGreater(tally[word], 4, f"met in all: {sorted(tally.items())}")
 
-    def test_the_examples_are_answered_as_by_one_connection(self):
+
+class Examples(Hopping):
+    def test_are_answered_as_by_one_connection(self):
         for example in ("first-run", "take-back", "two-versions"):
             with self.subTest(example):
                 started = self.serve()
-                wanted = (EXAMPLES / f"{example}.replies").read_bytes()
                 plug = self.plug((EXAMPLES / f"{example}.http").read_bytes())
-                self.assertEqual(self.received(plug, len(wanted)), wanted)
+                self.assert_receives(plug, (EXAMPLES / f"{example}.replies").read_bytes())
                 plug.close()
                 self.end(started)
+
+
+class Histories(Worked):
+    """Changes, undos and refusals, each told to another connection than the one before."""
+
+    def test_a_site_is_changed_taken_back_and_changed_again(self):
+        self.assert_run(*CHANGED, *REFUSED, *CHANGED_AGAIN)
+
+    def test_a_removed_file_is_there_again_after_its_undo(self):
+        self.assert_run(
+            *first_deployed("/a.txt"),
+            (removing("/a.txt"), entry(3)),
+            (reading("/s/one/a.txt"), NO_FILE),
+            (undoing(3), entry(4)),
+            (reading("/s/one/a.txt"), sent(b"hello")),
+        )
+
+    def test_a_patch_clashes_with_what_it_replaces(self):
+        self.assert_run(
+            *first_deployed("/a.txt"),
+            (patching({"/a.txt": None, "/b.txt": HELLO}), opened(3, published=4)),
+            *serves("/b.txt"),
+            (showing(3), NO_DEPLOY),
+            (undoing(2), clash(4, "live /a.txt")),
+            (undoing(4), entry(5)),
+            (showing(3), stands(3, "open")),
+            *serves("/a.txt"),
+        )
+
+    def test_refusals_come_in_their_order(self):
+        self.assert_run(
+            *first_deployed("/a.txt", "/b.txt"),
+            *deployed(3, "/a.txt", site="two"),
+            (renaming("/a.txt", "/a.txt"), refused("SamePath")),
+            (renaming("/a.txt", "/b.txt"), refused("PathTaken")),
+            (renaming("/x.txt", "/y.txt"), NO_FILE),
+            (undoing(4), NO_CHANGE),
+            (undoing(2, site="two"), NO_CHANGE),
+            (opening({"/c.txt": ABC}, draft=True), opened(5, ABC)),
+            (upload(5, "d.txt", b"abc"), refused("NotListed")),
+            (restoring(5), refused("NotComplete", digest=ABC)),
+            (undoing(5), entry(6)),
+            (upload(5, "c.txt", b"abc"), NO_DEPLOY),
+            (restoring(5), NO_DEPLOY),
+        )
+
+    def test_a_chain_of_undos_is_told_to_each_connection(self):
+        """Of eight changes of one file the last is undone first; an undo in another order clashes."""
+        changes = [(renaming(f"/{number}", f"/{number + 1}"), entry(number + 3)) for number in range(8)]
+        clashes = [(undoing(number), clash(number + 1, f"live /{number - 2}")) for number in range(3, 10)]
+        undos = [(undoing(number), entry(21 - number)) for number in range(10, 2, -1)]
+        seen = serves("/0", among=[f"/{number}" for number in range(9)])
+        again = [(undoing(number), refused("AlreadyUndone")) for number in range(3, 11)]
+        self.assert_run(*first_deployed("/0"), *changes, *clashes, *undos, *seen, *again)
+
+
+class Reads(Worked):
+    """Files and parts of them, by each node."""
+
+    rows = [
+        (part(b"hello world", 6, 10, TEXT), "bytes=6-18446744073709551616000"), (part(b"hello world", 0, 10, TEXT), "bytes=0-"),
+        (TWO_PARTS, "bytes=0-4,-5"), (none_of(b"hello world"), "bytes=11-"), (none_of(b"hello world"), "bytes=-0"),
+        (part(b"hello world", 0, 0, TEXT), "bytes=20-,,0-0"),
+        *[(sent(b"hello world"), value) for value in ("bytes=0-9,0-9", "bytes=4-2", "bytes=", "bytes=0 -4", "lines=0-1")],
+    ]
+
+    def test_ranges_are_the_same_by_each_node(self):
+        """Each is asked for five times in a row, so at both nodes."""
+        asked = [(request("GET", "/s/one/w.txt", f"Range: {value}"), wanted) for wanted, value in self.rows for _ in range(5)]
+        conditions = [
+            (request("GET", "/s/one/w.txt", "Range: bytes=0-0", f"If-Range: {tag}"), wanted) for tag, wanted in [
+                (f'"{WORLD}"', part(b"hello world", 0, 0, TEXT)), (f'W/"{WORLD}"', sent(b"hello world")),
+                ("Wed, 21 Oct 2015 07:28:00 GMT", sent(b"hello world")),
+            ]
+        ]
+        head = [(request("HEAD", "/s/one/w.txt", "Range: bytes=0-4"), to_head(sent(b"hello world")))]
+        empty = [(request("GET", "/s/one/e.txt", f"Range: {value}"), sent(b"")) for value in ("bytes=-5", "bytes=0-")]
+        self.assert_run(*TEXTS, *asked, *conditions, *head, *empty)
+
+    def test_a_range_across_the_edge_of_a_chunk_is_the_same_by_each_node(self):
+        content = bytes(65_537)
+        across = request("GET", "/s/one/zeros.txt", "Range: bytes=65535-65536")
+        self.assert_run(
+            (opening({"/zeros.txt": digest_of(content)}), opened(1, digest_of(content))),
+            (upload(1, "zeros.txt", content), uploaded(content, 2)),
+            *[(across, part(content, 65_535, 65_536, TEXT)) for _ in range(3)],
+            *[(reading("/s/one/zeros.txt"), sent(content)) for _ in range(3)],
+        )
+
+
+class Wire(Hopping):
+    def test_a_faulty_head_ends_its_connection_alone(self):
+        self.serve(nodes=2)
+        other = self.plug(NEXT)
+        self.assert_receives(other, NO_FILE)
+        for node in (0, 1):
+            for asked, wanted in FAULTS:
+                with self.subTest(node=node, asked=asked[:200]):
+                    plug = self.plug(asked, node)
+                    self.assert_receives(plug, wanted)
+                    self.assertEqual(self.received(plug, 1), b"")
+        other.sendall(NEXT)
+        self.assert_receives(other, NO_FILE)
+
+    def test_a_client_that_waits_is_told_to_send_its_body(self):
+        self.assert_hops([
+            (opening({"/a.txt": HELLO}), opened(1, HELLO)),
+            (expecting(upload(1, "a.txt", b"hello")), INTERIM + uploaded(b"hello", 2)),
+            (request("POST", "/s/one/a.txt"), refused("BadMethod", "Allow: GET, HEAD")),
+        ])
+
+    def test_a_request_that_is_cut_short_makes_no_entry(self):
+        self.serve()
+        for asked in (opening({})[:-1], opening({})[:30], b"G"):
+            plug = self.plug(asked)
+            plug.shutdown(socket.SHUT_WR)
+            self.assertEqual(self.received(plug, 1), b"")
+        self.assert_receives(self.plug(LISTING), done(changes=[]))
 
 
 if __name__ == "__main__":

@@ -13,10 +13,7 @@ from lib.client import (
 from lib.generated_histories import Generator
 from lib.plain_model import Model
 from lib.stores import PIECE, Conversation, Stored, as_bytes, entry_of, files_in, files_of, is_stored, looks, refused_undos
-from lib.worked_runs import (
-    LISTING, aliasing, clash, deleting, deployed, done, entry, first_deployed, reading, removing, renaming, restoring, serves, showing,
-    stands, undoing,
-)
+from lib.worked_runs import CHANGED, CHANGED_AGAIN, REFUSED, done, entry, first_deployed, reading, serves, showing, stands, undoing
 import journal
 
 HISTORIES = 24
@@ -26,58 +23,16 @@ OPENINGS = 4
 class Closed(Stored):
     """Runs that are divided among several programs, one after another over the same folder."""
 
-    first = [
-        (opening({"/a.txt": HELLO, "b.txt": ABC}), opened(1, ABC, HELLO)),
-        (upload(1, "a.txt", b"hello"), uploaded(b"hello")),
-        (upload(1, "b.txt", b"abc"), uploaded(b"abc", published=2)),
-        (upload(1, "b.txt", b"abc"), uploaded(b"abc")),
-        (upload(1, "b.txt", b"hello"), refused("WrongDigest")),
-        (renaming("/a.txt", "/c.txt"), entry(3)),
-        (removing("/b.txt"), entry(4)),
-        (undoing(3), entry(5)),
-        *serves("/a.txt"),
-    ]
-    then = [
-        (undoing(2), clash(4, "live /b.txt")),
-        (undoing(3), refused("AlreadyUndone")),
-        (undoing(5), refused("NotAChange")),
-        (undoing(99), refused("NoSuchChange")),
-        (undoing(0), refused("NoSuchChange")),
-        (LISTING, done(changes=[
-            {"entry": 1, "kind": "open", "live": True},
-            {"entry": 2, "kind": "publish", "live": True},
-            {"entry": 3, "kind": "rename", "live": False},
-            {"entry": 4, "kind": "remove", "live": True},
-            {"entry": 5, "kind": "undo", "of": 3},
-        ])),
-        (undoing(4), entry(6)),
-        (undoing(2), entry(7)),
-        *serves(among=("/a.txt", "/b.txt")),
-        (showing(1), stands(1, "open")),
-        (restoring(1), entry(8)),
-        (reading("/s/one/a.txt"), sent(b"hello")),
-        (reading("/s/one/b.txt"), sent(b"abc")),
-        (showing(1), stands(1, "kept")),
-        (aliasing("next", 1), entry(9)),
-        (reading("/a/one/next/a.txt"), sent(b"hello")),
-        (undoing(8), clash(9, "kept 1")),
-        (deleting(1), refused("DeployInUse", alias="next")),
-        (renaming("/a.txt", "/z.txt"), entry(10)),
-        *deployed(11, "/z.txt"),
-        (undoing(10), clash(12, "live /a.txt")),
-        (reading("/s/one/b.txt"), refused("NoSuchFile")),
-    ]
-
     def test_a_run_goes_on_where_it_was_closed(self):
-        self.assert_converses(self.first)
-        self.assert_converses(self.then)
+        self.assert_converses(CHANGED)
+        self.assert_converses(REFUSED + CHANGED_AGAIN)
 
     def test_a_run_goes_on_wherever_it_is_closed(self):
-        for exchange in self.first + self.then:
+        for exchange in CHANGED + REFUSED + CHANGED_AGAIN:
             self.assert_converses([exchange])
 
     def test_its_files_are_those_of_the_format(self):
-        self.assert_converses(self.first)
+        self.assert_converses(CHANGED)
         wanted = journal.write([
             ("open", "one", ("auto",), (("/a.txt", HELLO), ("/b.txt", ABC))), ("publish", "one", 1),
             ("rename", "one", "/a.txt", "/c.txt"), ("remove", "one", "/b.txt"), ("undo", "one", 3),
@@ -91,9 +46,9 @@ class Closed(Stored):
             self.assertEqual(self.all_files(), {"journal": journal.EMPTY})
 
     def test_nothing_is_written_by_what_is_refused_or_read(self):
-        self.assert_converses(self.first)
+        self.assert_converses(CHANGED)
         before = self.all_files()
-        self.assert_converses([*self.then[:6], *serves("/a.txt")])
+        self.assert_converses([*REFUSED, *serves("/a.txt")])
         self.assertEqual(self.all_files(), before)
 
     def test_what_a_deploy_lacked_is_lacking_still(self):
@@ -121,7 +76,7 @@ class Closed(Stored):
 
     def test_without_a_store_nothing_is_kept(self):
         self.words = ("solo",)
-        self.assert_converses(self.first)
+        self.assert_converses(CHANGED)
         self.assert_converses(serves(among=("/a.txt", "/b.txt")))
         self.assertEqual(self.all_files(), {})
 

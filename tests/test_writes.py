@@ -75,16 +75,16 @@ class Writes(Program):
         self.assert_writes(self.talk_with(content), (request("GET", "/s/one/d"), [to_head(reply), *pieces_of(content)]),
                            (request("HEAD", "/s/one/d"), [to_head(reply)]))
 
-    def test_of_several_large_parts_are_what_lies_between_their_pieces_and_these(self):
+    def test_of_several_large_parts_have_their_pieces_as_they_lie(self):
+        """What lies between them is gathered up to a piece, or written beside it: in how many writes depends on the stream."""
         content = bytes(place % 251 for place in range(2 * PIECE))
         reply = parts(content, (0, 9_999), (PIECE - 9_000, PIECE + 8_999), kind=BINARY)
         stretches = [content[:10_000], content[PIECE - 9_000:PIECE], content[PIECE:PIECE + 9_000]]
-        writes, rest = [], reply
-        for stretch in stretches:
-            before, _, rest = rest.partition(stretch)
-            writes += [before, stretch] if before else [stretch]
+        talk = self.talk_with(content)
         asked = request("GET", "/s/one/d", f"Range: bytes=0-9999,{PIECE - 9_000}-{PIECE + 8_999}")
-        self.assert_writes(self.talk_with(content), (asked, [*writes, rest]))
+        writes = self.writes_of(b"".join(request for request, _ in talk) + asked)[len(talk):]
+        self.assertEqual(b"".join(writes), reply)
+        self.assertEqual([write for write in writes if len(write) > ROOM], stretches)
 
 
 if __name__ == "__main__":

@@ -16,14 +16,17 @@ HERE = pathlib.Path(__file__).resolve().parent
 TOP = HERE.parent.parent
 CRATE = TOP / "crates/filehost"
 PROGRAM = CRATE / "out/filehost"
+# What the launcher adds to the environment of the program.
+HEAP = {"MALLOC_MMAP_THRESHOLD_": "65536"}
 EXAMPLES = TOP / "examples"
 
 REQUESTS = 100
 LARGEST_FILE = 16_777_216
 HELLO = hashlib.sha1(b"hello").hexdigest()
 ABC = hashlib.sha1(b"abc").hexdigest()
-SECONDS = 120
-PATIENCE = 20
+# How many seconds a run may take, and a single answer. What comes sooner costs no time, so these limits are for the slowest machine.
+SECONDS = 600
+PATIENCE = 60
 
 # The phrases of the status codes that replies have (RFC 9110, section 15).
 PHRASES = {

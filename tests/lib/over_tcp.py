@@ -1,4 +1,4 @@
-"""Clients that reach a program of their own over TCP."""
+"""Clients that aren't this project's own, over TCP: what they are called with, and programs of their own that they reach."""
 
 import fcntl
 import shutil
@@ -16,6 +16,35 @@ from lib.wire import END
 
 needs_curl = unittest.skipUnless(shutil.which("curl"), "curl is missing: ./test installs it")
 needs_wget = unittest.skipUnless(shutil.which("wget"), "wget is missing: ./test installs it")
+needs_aria = unittest.skipUnless(shutil.which("aria2c"), "aria2c is missing: ./test installs it")
+
+# Each downloads the URL that follows these words to the file `file` of the folder in which it runs.
+CURL = ("curl", "--disable", "--silent", "--noproxy", "*", "--output", "file", "--max-time", str(SECONDS))
+WGET = ("wget", "--no-config", "--no-proxy", "--quiet", "--timeout", str(PATIENCE), "--waitretry", "0", "--output-document", "file")
+ARIA = ("aria2c", "--no-conf", "--quiet", "--no-proxy", "*", "--file-allocation", "none", "--out", "file")
+# curl sends the body of an upload after the interim reply alone: it waits for that longer than a test may take.
+WAITING = ("--include", "--expect100-timeout", str(SECONDS), "--max-time", str(PATIENCE))
+
+
+def downloaded(folder, url, words):
+    """The status with which this client ends, and what it has downloaded to its file."""
+    ran = subprocess.run([*words, url], cwd=folder, timeout=SECONDS)
+    return ran.returncode, (folder / "file").read_bytes()
+
+
+def assert_reads(test, connection, wanted):
+    """http.client reads this reply: its status line, its fields in their order, and its body."""
+    head, _, body = wanted.partition(END)
+    got = connection.getresponse()
+    fields = [f"{name}: {value}" for name, value in got.getheaders()]
+    test.assertEqual([f"HTTP/1.1 {got.status} {got.reason}", *fields], head.decode().split("\r\n"))
+    test.assertEqual((got.read(), got.will_close), (body, b"Connection: close" in head))
+
+
+def assert_exchanges(test, connection, wanted, *asked):
+    """http.client makes this request, and reads this reply."""
+    connection.request(*asked)
+    assert_reads(test, connection, wanted)
 
 
 class OverTcp(Program):

@@ -5,6 +5,7 @@ import http.client
 import json
 import os
 import pathlib
+import select
 import signal
 import socket
 import subprocess
@@ -12,7 +13,7 @@ import tempfile
 import time
 import unittest
 
-from lib.client import PATIENCE, PROGRAM, SECONDS, digest_of
+from lib.client import HEAP, PATIENCE, PROGRAM, SECONDS, digest_of
 
 HOST = "127.0.0.1"
 FILE = "/s/one/a.txt"
@@ -21,8 +22,8 @@ PORTS = 16
 
 
 def free_ports(count=PORTS):
-    """The first of so many ports in a row on which nobody listens."""
-    for first in range(20_000 + os.getpid() * 37 % 30_000, 65_000, count):
+    """The first of so many ports in a row on which nobody listens, below those that the system gives to connections."""
+    for first in range(10_000 + os.getpid() * 37 % 20_000, 32_000, count):
         with contextlib.ExitStack() as held:
             try:
                 for port in range(first, first + count):
@@ -41,10 +42,10 @@ class Served(unittest.TestCase):
         self.addCleanup(folder.cleanup)
         return pathlib.Path(folder.name)
 
-    def serve(self, *words, nodes=1, port=None, second=None, **how):
+    def serve(self, *words, nodes=1, port=None, second=None, environment=None, **how):
         """Starts a program, and waits until its nodes listen. The port of the first is `self.port`."""
         self.port = port or free_ports()
-        environment = dict(os.environ)
+        environment = os.environ | HEAP | (environment or {})
         if second is not None:
             environment["FILEHOST_DEADLINE_SECOND"] = str(second)
         words = ["serve", "--listen", f"{HOST}:{self.port}", "--nodes", str(nodes), *words]
@@ -82,6 +83,14 @@ class Served(unittest.TestCase):
         while len(came) < count and (more := plug.recv(count - len(came))):
             came += more
         return came
+
+    def assert_receives(self, plug, wanted):
+        """These bytes come next over a bare connection."""
+        self.assertEqual(self.received(plug, len(wanted)), wanted)
+
+    def assert_silent(self, plug, seconds=0.2):
+        """Nothing comes over a bare connection for so long, not even its end."""
+        self.assertEqual(select.select([plug], [], [], seconds)[0], [])
 
 
 def ask(client, method, target, body=None, **fields):

@@ -6,6 +6,7 @@ The replies follow from docs/CHANGES.md and docs/HTTP.md.
 import urllib.parse
 
 from lib.client import ABC, HELLO, Program, asking, digest_of, done, opened, opening, refused, request, sent, upload, uploaded
+from lib.hopping import Hopping
 
 SITE = "/api/v1/sites/one"
 JSON = "application/json"
@@ -116,8 +117,55 @@ def first_deployed(*paths):
         (upload(1, paths[0][1:], b"hello"), uploaded(b"hello", published=2)),
     ]
 
+# A run in three parts: a site is changed, then requests are refused and changes taken back, and it is changed again.
 
-class Worked(Program):
+CHANGED = [
+    (opening({"/a.txt": HELLO, "b.txt": ABC}), opened(1, ABC, HELLO)),
+    (upload(1, "a.txt", b"hello"), uploaded(b"hello")),
+    (upload(1, "b.txt", b"abc"), uploaded(b"abc", published=2)),
+    (upload(1, "b.txt", b"abc"), uploaded(b"abc")),
+    (upload(1, "b.txt", b"hello"), refused("WrongDigest")),
+    (renaming("/a.txt", "/c.txt"), entry(3)),
+    (removing("/b.txt"), entry(4)),
+    (undoing(3), entry(5)),
+    *serves("/a.txt"),
+]
+REFUSED = [
+    (undoing(2), clash(4, "live /b.txt")),
+    (undoing(3), refused("AlreadyUndone")),
+    (undoing(5), refused("NotAChange")),
+    (undoing(99), NO_CHANGE),
+    (undoing(0), NO_CHANGE),
+    (LISTING, done(changes=[
+        {"entry": 1, "kind": "open", "live": True},
+        {"entry": 2, "kind": "publish", "live": True},
+        {"entry": 3, "kind": "rename", "live": False},
+        {"entry": 4, "kind": "remove", "live": True},
+        {"entry": 5, "kind": "undo", "of": 3},
+    ])),
+]
+CHANGED_AGAIN = [
+    (undoing(4), entry(6)),
+    (undoing(2), entry(7)),
+    *serves(),
+    (showing(1), stands(1, "open")),
+    (restoring(1), entry(8)),
+    (reading("/s/one/a.txt"), sent(b"hello")),
+    (reading("/s/one/b.txt"), sent(b"abc")),
+    (showing(1), stands(1, "kept")),
+    (aliasing("next", 1), entry(9)),
+    (reading("/a/one/next/a.txt"), sent(b"hello")),
+    (undoing(8), clash(9, "kept 1")),
+    (deleting(1), refused("DeployInUse", alias="next")),
+    (renaming("/a.txt", "/z.txt"), entry(10)),
+    *deployed(11, "/z.txt"),
+    (undoing(10), clash(12, "live /a.txt")),
+    (reading("/s/one/b.txt"), NO_FILE),
+]
+
+
+class Worked(Program, Hopping):
     def assert_run(self, *exchanges):
-        """One connection, whose host is empty at first, takes these exchanges."""
+        """One connection takes these exchanges, and so do four connections to two nodes in turn. Both hosts are empty at first."""
         self.assert_converses(exchanges)
+        self.assert_hops(exchanges)

@@ -51,6 +51,33 @@ fn read_file<R: Files>(
     Ok(Some(bytes))
 }
 
+/// The path of the file under a name in a folder: `c-` or `t-`, and the 40 digits of its digest.
+fn path_in(alloc: Global, folder: &str, name: ShelfName) -> Result<PathBuf, ShelfFault> {
+    let text = match name {
+        ShelfName::Part(digest) => format!(in alloc; "c-{}", digest.to_hex().as_str()),
+        ShelfName::Table(digest) => format!(in alloc; "t-{}", digest.to_hex().as_str()),
+    };
+    let text = text.map_err(|_| ShelfFault::OutOfMemory)?;
+    Path::new(folder)
+        .join(alloc, text.as_str())
+        .map_err(|_| ShelfFault::OutOfMemory)
+}
+
+/// The bytes of the file under a name in a folder; none if there is no such file.
+pub(crate) fn read_in<R: Files>(
+    rt: &R,
+    alloc: Global,
+    folder: &str,
+    name: ShelfName,
+) -> Result<Option<Vec<u8>>, ShelfFault> {
+    let path = path_in(alloc, folder, name)?;
+    let most = match name {
+        ShelfName::Part(_) => PIECE_SIZE,
+        ShelfName::Table(_) => MAX_TABLE,
+    };
+    read_file(rt, alloc, path.as_str(), most)
+}
+
 /// Syncs a folder, so that the names in it last.
 fn sync_folder<R: Files>(rt: &R, folder: &str) -> io::Result<()> {
     File::open(rt, folder)?.sync_all()
@@ -80,21 +107,9 @@ impl<'a, R: Files> DirShelf<'a, R> {
         })
     }
 
-    /// The path of the file under a name: `c-` or `t-`, and the 40 digits of its digest.
-    fn path_of(&self, name: ShelfName) -> Result<PathBuf, ShelfFault> {
-        let text = match name {
-            ShelfName::Part(digest) => format!(in self.alloc; "c-{}", digest.to_hex().as_str()),
-            ShelfName::Table(digest) => format!(in self.alloc; "t-{}", digest.to_hex().as_str()),
-        };
-        let text = text.map_err(|_| ShelfFault::OutOfMemory)?;
-        self.folder
-            .join(self.alloc, text.as_str())
-            .map_err(|_| ShelfFault::OutOfMemory)
-    }
-
     /// Writes the file of a name. Once a table is written, its name lasts, and so do those of all files written before.
     fn write(&self, name: ShelfName, bytes: &[u8]) -> Result<(), ShelfFault> {
-        let path = self.path_of(name)?;
+        let path = path_in(self.alloc, self.folder.as_str(), name)?;
         let written = match name {
             ShelfName::Part(_) => self.write_under(&path, bytes),
             ShelfName::Table(_) => self.write_table(&path, bytes),
@@ -109,16 +124,6 @@ impl<'a, R: Files> DirShelf<'a, R> {
     fn write_table(&self, path: &PathBuf, bytes: &[u8]) -> io::Result<()> {
         self.write_under(path, bytes)?;
         sync_folder(self.rt, self.folder.as_str())
-    }
-
-    /// Reads the file of a name.
-    fn read(&self, name: ShelfName) -> Result<Option<Vec<u8>>, ShelfFault> {
-        let path = self.path_of(name)?;
-        let most = match name {
-            ShelfName::Part(_) => PIECE_SIZE,
-            ShelfName::Table(_) => MAX_TABLE,
-        };
-        read_file(self.rt, self.alloc, path.as_str(), most)
     }
 }
 
@@ -136,7 +141,7 @@ impl<R: Files> Shelf for DirShelf<'_, R> {
     }
 
     fn get(&mut self, name: ShelfName) -> Result<Option<Vec<u8>>, ShelfFault> {
-        let outcome = self.read(name);
+        let outcome = read_in(self.rt, self.alloc, self.folder.as_str(), name);
         logged_get(&mut self.log, name, outcome)
     }
 }

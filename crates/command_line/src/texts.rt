@@ -64,8 +64,8 @@ Without --store the host starts empty, and all it holds is gone when the program
 has 64 MiB of memory; once that is full, each change is refused until the program is started again.
 
 A head has 10 seconds from its first byte, an idle connection 15 seconds, and each 60 KiB of a body
-or a reply 60 seconds. A node has 1024 connections; where one more comes, the one that has waited
-longest ends.
+or a reply 60 seconds. A node has 1024 connections. Where one more comes, one ends: first one that
+closes, then one that was never answered, then the one on which nothing has moved for longest.
 
 Exit status: 0 if each node has had the clients that --conns gives it, 1 for arguments that are not
 taken, 2 if a port can't be listened on or memory failed, 3 if the journal in DIR can't be opened,

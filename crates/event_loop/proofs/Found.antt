@@ -2,9 +2,9 @@
 use Rattle.std.proofs.Common.{◌≡◌, ◌≤◌, ◌⊎◌, ℕ, suc, Bool, true, false, List, [], ◌∷◌, Option, Some, arith, inl, inr, refl, subst, sym, nat_lt, if◌then◌else◌}
 use Rattle.std.proofs.lemmas.Bool.Decides.{nat_tests}
 use Rattle.std.specs.List.{AllByRecursion, Contains}
-use Rattle.event_loop.specs.Waiting.{IsLongest, found_after, longest_of}
+use Rattle.event_loop.specs.Least.{IsLeast, found_after, least_of}
 
--- a connection is found that waits no shorter than the first and than each of the rest, and is one of them
+-- a connection is found whose number is no greater than that of the first and than those of the rest, and it is one of them
 abbrev Finds : ℕ × ℕ → List (ℕ × ℕ) → Option (ℕ × ℕ) → Type 0
 Finds first rest found =
     (p : ℕ × ℕ) × (found ≡ Some p) × (p.1 ≤ first.1) × AllByRecursion (λ (other : ℕ × ℕ). p.1 ≤ other.1) rest × ((p ≡ first) ⊎ Contains rest p)
@@ -28,15 +28,15 @@ finds first (w ∷ ws) = go (nat_lt w.1 first.1) refl (finds w ws) (finds first 
     go : (b : Bool) → nat_lt w.1 first.1 ≡ b → Finds w ws (found_after (Some w) ws) → Finds first ws (found_after (Some first) ws)
         → Finds first (w ∷ ws) (found_after (if b then Some w else Some first) ws)
     go true is (p, found, near, far, among) g =
-        let shorter : w.1 ≤ first.1 = grind (arith, nat_tests) in
-        (p, found, omega (arith, near, shorter), (near, far), inr (either_of w p ws among))
+        let lesser : w.1 ≤ first.1 = grind (arith, nat_tests) in
+        (p, found, omega (arith, near, lesser), (near, far), inr (either_of w p ws among))
     go false is f (p, found, near, far, among) =
-        let longer : first.1 ≤ w.1 = grind (arith, nat_tests) in
-        (p, found, near, (omega (arith, near, longer), far), rest_of first w p ws among)
+        let greater : first.1 ≤ w.1 = grind (arith, nat_tests) in
+        (p, found, near, (omega (arith, near, greater), far), rest_of first w p ws among)
 
-is_longest_of : (w : ℕ × ℕ) (ws : List (ℕ × ℕ)) (found : Option (ℕ × ℕ)) → Finds w ws found → IsLongest (w ∷ ws) found
-is_longest_of w ws found (p, is, first, rest, among) = subst (IsLongest (w ∷ ws)) (sym is) (either_of w p ws among, (first, rest))
+is_least_of : (w : ℕ × ℕ) (ws : List (ℕ × ℕ)) (found : Option (ℕ × ℕ)) → Finds w ws found → IsLeast (w ∷ ws) found
+is_least_of w ws found (p, is, first, rest, among) = subst (IsLeast (w ∷ ws)) (sym is) (either_of w p ws among, (first, rest))
 
-pub is_longest : (all : List (ℕ × ℕ)) → IsLongest all (longest_of all)
-is_longest [] = refl
-is_longest (w ∷ ws) = is_longest_of w ws (found_after (Some w) ws) (finds w ws)
+pub is_least : (all : List (ℕ × ℕ)) → IsLeast all (least_of all)
+is_least [] = refl
+is_least (w ∷ ws) = is_least_of w ws (found_after (Some w) ws) (finds w ws)

@@ -1,13 +1,20 @@
 -- When a connection is late. Times are milliseconds.
-use Rattle.std.specs.Prelude.{◌≡◌, ◌+◌, ◌-◌, ◌*◌, ◌==◌, ◌||◌, ◌&&◌, ◌^◌, ℕ, Bool, true, false, not, if◌then◌else◌, min, nat_le, nat_lt}
+use Rattle.std.specs.Prelude.{◌+◌, ◌-◌, ◌*◌, ◌==◌, ◌||◌, ◌&&◌, ◌^◌, ℕ, Bool, true, false, not, if◌then◌else◌, min, nat_le, nat_lt}
 use Rattle.event_loop.specs.declared.limits.Limits.{Limits}
 use Rattle.event_loop.specs.declared.paces.Pace.{Pace}
 use Rattle.event_loop.specs.declared.paces.Stage.{Stage}
-use Rattle.event_loop.specs.declared.paces.Stage.TheVariants.{Idle, Head, Body, Reply}
+use Rattle.event_loop.specs.declared.paces.Stage.TheVariants.{Idle, Head, Body, Reply, Closing}
 
 -- the limits, where a second has so many milliseconds
 abbrev pub limits_of : ℕ → Limits
-limits_of second = record { head = 10 * second; idle = 15 * second; transfer = 60 * second; sweep = second }
+limits_of second = record {
+  head = 10 * second;
+  idle = 15 * second;
+  transfer = 60 * second;
+  closing = 5 * second;
+  sweep = second;
+  wait = 10 * second;
+}
 
 -- a connection that begins now
 abbrev pub begun : ℕ → Pace
@@ -18,6 +25,7 @@ is_same Idle Idle = true
 is_same Head Head = true
 is_same Body Body = true
 is_same Reply Reply = true
+is_same Closing Closing = true
 is_same old new = false
 
 -- what a stage doesn't do: a reply is written, and all else is read
@@ -31,6 +39,7 @@ is_transfer Idle = false
 is_transfer Head = false
 is_transfer Body = true
 is_transfer Reply = true
+is_transfer Closing = false
 
 -- a step that read and wrote so much began the stage anew
 abbrev pub begins : Pace → Stage → (read written : ℕ) → Bool
@@ -56,6 +65,7 @@ limit_of limits Idle = limits.idle
 limit_of limits Head = limits.head
 limit_of limits Body = limits.transfer
 limit_of limits Reply = limits.transfer
+limit_of limits Closing = limits.closing
 
 -- what is left of the time of a stage
 abbrev pub left_of : Limits → Pace → ℕ → ℕ

@@ -11,6 +11,12 @@ const IDLE_SECONDS: u64 = 15;
 /// How many seconds each 60 KiB of a body or of a reply have.
 const TRANSFER_SECONDS: u64 = 60;
 
+/// How many seconds a connection may take to close.
+const CLOSING_SECONDS: u64 = 5;
+
+/// How many seconds a body may wait for room before another one goes, and how long what has moved of late is.
+const WAIT_SECONDS: u64 = 10;
+
 /// The longest second that a test may set, in milliseconds.
 const LONGEST_SECOND: u64 = 1_000;
 
@@ -23,8 +29,12 @@ pub struct Limits {
     pub idle: u64,
     /// Each 60 KiB of a body or of a reply.
     pub transfer: u64,
+    /// The close of a connection that is over, while its client still sends.
+    pub closing: u64,
     /// How often the connections are looked through.
     pub sweep: u64,
+    /// How long a body may wait for room before another one goes.
+    pub wait: u64,
 }
 
 impl Limits {
@@ -37,7 +47,9 @@ impl Limits {
             head: HEAD_SECONDS * second,
             idle: IDLE_SECONDS * second,
             transfer: TRANSFER_SECONDS * second,
+            closing: CLOSING_SECONDS * second,
             sweep: second,
+            wait: WAIT_SECONDS * second,
         }
     }
 }

@@ -1,8 +1,10 @@
 //! What the workers of a node share.
+use crate::bodies::Bodies;
 use crate::clients::Client;
+use crate::least::Least;
 use crate::limits::Limits;
-use crate::longest::Longest;
 use crate::ready_sets::{Interest, ReadySet};
+use crate::replies::Replies;
 use std::alloc::{AllocError, Global};
 use std::net::TcpListener;
 use std::sync::atomic::{AtomicU64, Ordering};
@@ -12,8 +14,8 @@ use std::time::Clock;
 /// How many connections a node has at most.
 const PLACES: usize = 1024;
 
-/// How often it is looked for the connection that has waited longest, where that goes on meanwhile.
-const MOST_LOOKS: u32 = 8;
+/// How often it is looked for the connection that is to go, where that goes on meanwhile.
+pub(crate) const MOST_LOOKS: u32 = 8;
 
 /// The number of the listener in the set; the connections have those of their places.
 pub(crate) const LISTENER: u64 = u64::MAX;
@@ -32,6 +34,11 @@ pub struct Node<C: Drop> {
     pub(crate) places: Vec<Mutex<Place<C>>>,
     free: Mutex<Vec<usize>>,
     pub(crate) limits: Limits,
+    // What the bodies and the replies of the connections hold, how many bodies wait for room, and when one went to give it.
+    pub(crate) bodies: Mutex<Bodies>,
+    pub(crate) replies: Mutex<Replies>,
+    pub(crate) waiting: AtomicU64,
+    pub(crate) given_room: AtomicU64,
     // How many clients are still accepted, how many connections are still to end, and when the connections were looked through last.
     to_accept: AtomicU64,
     to_end: AtomicU64,
@@ -67,6 +74,10 @@ impl<C: Drop> Node<C> {
             places,
             free: Mutex::new(free),
             limits,
+            bodies: Mutex::new(Bodies::new()),
+            replies: Mutex::new(Replies::new(alloc)),
+            waiting: AtomicU64::new(0),
+            given_room: AtomicU64::new(0),
             to_accept: AtomicU64::new(clients),
             to_end: AtomicU64::new(clients),
             swept: AtomicU64::new(0),
@@ -124,22 +135,22 @@ impl<C: Drop> Node<C> {
         self.count_gone();
     }
 
-    /// A free place: where there is none, that of the connection that has waited longest, which ends. One worker at a time looks for it: else a second one
-    /// could end the connection that the first put into the place.
+    /// A free place: if there is none, that of the connection that is to go first, which ends. One worker at a time looks for it: else a second one could end
+    /// the connection that the first put into the place.
     pub(crate) fn claim<R: Wait>(&self, rt: &R) -> Option<usize> {
         let mut free = self.free.lock(rt);
         if let Some(at) = free.pop() {
             return Some(at);
         }
-        let at = self.end_longest()?;
+        let at = self.end_first(rt)?;
         self.count_gone();
         Some(at)
     }
 
-    /// Gives up the connection that has waited longest, for its descriptor. Answers whether there was one.
-    pub(crate) fn give_up_longest<R: Wait>(&self, rt: &R) -> bool {
+    /// Gives up the connection that is to go first, for its descriptor. Answers whether there was one.
+    pub(crate) fn give_up_first<R: Wait>(&self, rt: &R) -> bool {
         let mut free = self.free.lock(rt);
-        let Some(at) = self.end_longest() else {
+        let Some(at) = self.end_first(rt) else {
             return false;
         };
         let _ = free.push(at);
@@ -147,28 +158,28 @@ impl<C: Drop> Node<C> {
         true
     }
 
-    /// Ends the connection that has waited longest, of those that no worker has, and answers its place.
-    fn end_longest(&self) -> Option<usize> {
+    /// Ends the connection that is to go first, of those that no worker has, and answers its place.
+    fn end_first<R: Wait>(&self, rt: &R) -> Option<usize> {
         for _ in 0..MOST_LOOKS {
-            let (at, since) = self.longest()?;
-            if self.ends_idle(at, since) {
+            let (at, turn) = self.first()?;
+            if self.ends_idle(rt, at, turn) {
                 return Some(at);
             }
         }
         None
     }
 
-    /// The place of the connection that has waited longest, of those that no worker has, and since when it has.
-    fn longest(&self) -> Option<(usize, u64)> {
-        let mut longest = Longest::new();
+    /// The place of the connection that is to go first, of those that no worker has, and its number among them.
+    fn first(&self) -> Option<(usize, u64)> {
+        let mut least = Least::new();
         for at in 0..self.places.len() {
             if let Some(place) = self.places[at].try_lock() {
                 if let Some(client) = &place.client {
-                    longest.look(at, client.active);
+                    least.look(at, client.turn());
                 }
             }
         }
-        longest.found()
+        least.found()
     }
 
     /// Ends the connections that are late, if the connections weren't looked through for a while.
@@ -186,14 +197,15 @@ impl<C: Drop> Node<C> {
             return;
         }
         for at in 0..self.places.len() {
-            if self.ends_late(at, now) {
+            if self.ends_late(rt, at, now) {
                 self.release(rt, at);
             }
         }
+        self.make_room(rt, now);
     }
 
-    /// Ends the connection in a place if no worker has it and no bytes moved since this time. Answers whether it did.
-    fn ends_idle(&self, at: usize, since: u64) -> bool {
+    /// Ends the connection in a place if no worker has it and it still has this number. Answers whether it did.
+    fn ends_idle<R: Wait>(&self, rt: &R, at: usize, turn: u64) -> bool {
         let Some(place) = self.places.get(at) else {
             return false;
         };
@@ -201,8 +213,8 @@ impl<C: Drop> Node<C> {
             return false;
         };
         match &place.client {
-            Some(client) if client.active == since => {
-                place.client = None;
+            Some(client) if client.turn() == turn => {
+                self.end(rt, at, &mut place);
                 true
             }
             _ => false,
@@ -210,7 +222,7 @@ impl<C: Drop> Node<C> {
     }
 
     /// Ends the connection in a place if no worker has it and it is late. Answers whether it did.
-    fn ends_late(&self, at: usize, now: u64) -> bool {
+    fn ends_late<R: Wait>(&self, rt: &R, at: usize, now: u64) -> bool {
         let Some(place) = self.places.get(at) else {
             return false;
         };
@@ -218,8 +230,8 @@ impl<C: Drop> Node<C> {
             return false;
         };
         match &place.client {
-            Some(client) if client.pace.is_late(&self.limits, now) => {
-                place.client = None;
+            Some(client) if client.is_late(&self.limits, now) => {
+                self.end(rt, at, &mut place);
                 true
             }
             _ => false,

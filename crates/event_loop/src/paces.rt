@@ -15,6 +15,8 @@ pub enum Stage {
     Head,
     Body,
     Reply,
+    /// It is over, and what its client still sends is dropped.
+    Closing,
 }
 
 /// What a connection does, since when, and how many bytes have moved since then. Times are milliseconds of one clock.
@@ -63,6 +65,14 @@ impl Pace {
         }
     }
 
+    /// Begins the time of its stage anew.
+    pub fn begin_again(&mut self, now: u64)
+        ensures { self.new ≡ record { stage = self.old.stage; since = now; moved = 0 } }
+    {
+        self.since = now;
+        self.moved = 0;
+    }
+
     /// How long the stage may last.
     fn limit(&self, limits: &Limits) -> u64
         ensures { result ≡ spec.limit_of limits.now self.now.stage }
@@ -71,6 +81,7 @@ impl Pace {
             Stage::Idle => limits.idle,
             Stage::Head => limits.head,
             Stage::Body | Stage::Reply => limits.transfer,
+            Stage::Closing => limits.closing,
         }
     }
 

@@ -1,8 +1,11 @@
 //! What a worker of a node does in its turns.
 ghost use Rattle.std.specs.Prelude.{◌≡◌};
 
-use crate::clients::{Client, Steps};
+use crate::clients::Client;
+use crate::closing::close_on;
+use crate::holdings::Holding;
 use crate::nodes::{Node, milliseconds};
+use crate::steps::{Next, Step, Steps};
 use crate::turns::Turn;
 use crate::workers::Takes;
 use std::alloc::Global;
@@ -61,12 +64,12 @@ impl<'a, R: Wait + Clock, S: Steps + Drop> Worker<'a, R, S> {
         }
     }
 
-    /// Where no descriptor is left, the connection that has waited longest gives its own.
+    /// If no descriptor is left, the connection that is to go first gives its own.
     fn make_room(&self, error: &io::Error) {
         match error.kind() {
             ErrorKind::WouldBlock | ErrorKind::Interrupted | ErrorKind::ConnectionAborted => {}
             _ => {
-                if !self.node.give_up_longest(self.rt) {
+                if !self.node.give_up_first(self.rt) {
                     thread::sleep(self.rt, Duration::from_millis(PAUSE));
                 }
             }
@@ -85,7 +88,8 @@ impl<'a, R: Wait + Clock, S: Steps + Drop> Worker<'a, R, S> {
             self.node.release(self.rt, at);
             return;
         };
-        let client = Client::new(stream, connection, milliseconds(self.rt));
+        let now = milliseconds(self.rt);
+        let client = Client::new(stream, connection, now, self.node.span(now));
         if !self.node.put(self.rt, at, client) {
             self.node.release(self.rt, at);
         }
@@ -102,17 +106,39 @@ impl<'a, R: Wait + Clock, S: Steps + Drop> Worker<'a, R, S> {
         let Some(client) = &mut place.client else {
             return;
         };
-        let step = self
-            .steps
-            .go_on(self.alloc, &mut client.connection, &client.stream);
-        client.note(&step, milliseconds(self.rt));
-        match step.waits {
-            Some(interest) => self.node.wait_again(client, at, interest),
-            None => {
-                place.client = None;
-                drop(place);
-                self.node.release(self.rt, at);
-            }
+        if !self.node.admits(self.rt, at, client) {
+            return;
+        }
+        let before = client.holds;
+        let step = self.step(at, client);
+        if let Some(interest) = client.follow(step.next) {
+            self.node.wait_again(client, at, interest);
+            drop(place);
+        } else {
+            self.node.end(self.rt, at, &mut place);
+            drop(place);
+            self.node.release(self.rt, at);
+        }
+        self.node.balance(self.rt, before, step.holds);
+    }
+
+    /// Takes a step with the connection in a place, and counts what it holds then. Where there is no memory for that, it ends.
+    fn step(&mut self, at: usize, client: &mut Client<S::Connection>) -> Step
+        ensures { self.new.done ≡ self.old.done }
+    {
+        let step = match &mut client.connection {
+            Some(connection) => self.steps.go_on(self.alloc, connection, &client.stream),
+            None => close_on(&client.stream),
+        };
+        let now = milliseconds(self.rt);
+        client.note(&step, now, self.node.span(now));
+        if self.node.count(self.rt, at, client, step.holds) {
+            return step;
+        }
+        Step {
+            next: Next::Ends,
+            holds: Holding::Nothing,
+            ..step
         }
     }
 }

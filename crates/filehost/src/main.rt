@@ -3,6 +3,7 @@
 
 ghost use Rattle.std.specs.Prelude.{◌≡◌, ◌⊎◌};
 
+use blob_store::{FolderReader, LockedReader};
 use command_line::ServeOptions;
 use host_nodes::{has_ports, open_memory, refuse_ports, run_serve};
 use host_server::{open_folder, run_solo};
@@ -28,7 +29,7 @@ fn main(rt: HostRuntime) -> ExitCode {
     };
     // Only here has the runtime threads.
     let alloc = rt.alloc();
-    let mut lines = Writing(rt.stdout());
+    let mut out = Writing(rt.stdout());
     let mut errors = Writing(rt.stderr());
     if !has_ports(&options) {
         return ExitCode::from(refuse_ports(&mut errors));
@@ -36,11 +37,13 @@ fn main(rt: HostRuntime) -> ExitCode {
     ExitCode::from(match &options.store {
         None => {
             let opened = open_memory(alloc);
-            run_serve(&rt, alloc, &options, opened, &mut lines, &mut errors)
+            let reader = LockedReader;
+            run_serve(&rt, alloc, &options, opened, &reader, &mut out, &mut errors)
         }
         Some(folder) => {
             let opened = open_folder(&rt, alloc, folder.as_str());
-            run_serve(&rt, alloc, &options, opened, &mut lines, &mut errors)
+            let reader = FolderReader::new(&rt, alloc, folder.as_str());
+            run_serve(&rt, alloc, &options, opened, &reader, &mut out, &mut errors)
         }
     })
 }

@@ -1,5 +1,7 @@
 -- How far a connection has come.
-use Rattle.std.specs.Prelude.{ℕ, zero, suc, List, length, vec_len}
+use Rattle.std.specs.Prelude.{ℕ, zero, suc, List, Option, None, length, vec_len}
+use Rattle.host_replies.specs.HeldFiles.{held_file}
+use Rattle.host_replies.specs.declared.replies.held_files.HeldFile.{HeldFile}
 use Rattle.http_wire.specs.Gathering.{Gathered}
 use Rattle.host_connection.specs.declared.phases.Phase.{Phase}
 use Rattle.host_connection.specs.declared.phases.Phase.TheVariants as phase
@@ -22,3 +24,8 @@ stage_in buffer out (phase.Ended result) = stage.Ended
 
 abbrev pub stage_of : Connection → Stage
 stage_of c = stage_in c.wire c.out c.phase
+
+-- what is held of a file by what it is in the middle of: by a reply that is on its way
+abbrev pub held_by : Phase → Option HeldFile
+held_by (phase.Reply s) = held_file s.reply
+held_by phase = None

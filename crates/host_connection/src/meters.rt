@@ -2,6 +2,7 @@
 ghost use Rattle.std.specs.Prelude.{◌≡◌, ◌⊎◌, ◌↔◌, IsTrue};
 ghost use Rattle.host_connection.specs.Metering.{Meters};
 
+use byte_slices::Slices;
 use http_wire::{Duplex, Halt, ReadFailed, WriteFailed};
 
 /// How many bytes a step reads and writes at most, together.
@@ -76,6 +77,15 @@ impl<D: Duplex> Duplex for Metered<D> {
         }
         let most = bytes.len().min(self.left);
         let count = self.stream.write_some(&bytes[..most])?;
+        self.left -= count;
+        Ok(count)
+    }
+
+    fn write_slices(&mut self, slices: &Slices<'_>) -> Result<usize, Halt<WriteFailed>> {
+        if self.left == 0 {
+            return Err(Halt::WouldWait);
+        }
+        let count = self.stream.write_slices(&slices.up_to(self.left))?;
         self.left -= count;
         Ok(count)
     }

@@ -1,1 +1,4 @@
--- no definitions yet
+-- how a run ends
+pub mod Ends
+-- which ports the nodes may have
+pub mod Ports

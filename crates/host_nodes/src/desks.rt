@@ -6,7 +6,7 @@ use crate::nodes::{Job, Shared, answer_peers, serve_clients, share_out};
 use crate::ports::{Bound, Ports};
 use crate::runtimes::Serving;
 use crate::stopping::{PEER_THREADS, Stop};
-use blob_store::Shelf;
+use blob_store::{PieceReader, Shelf};
 use byte_view::BlobInfo;
 use change_undo::Entry;
 use event_loop::{Limits, Node, ReadySet};
@@ -26,21 +26,21 @@ use std::time::Clock;
 type HostSeat<'a, J, K, D, S, T, R> = SeatedDesk<'a, J, K, D, S, T, R, R>;
 
 /// The files of a node.
-type HostFiles<'a, 'g, 'h, R, S> = GroupFiles<'a, R, HostGroup<'g, 'h, R, S>>;
+type HostFiles<'a, 'g, 'h, R, S, Q> = GroupFiles<'a, R, HostGroup<'g, 'h, R, S, Q>>;
 
 /// A worker of a node.
-type HostJob<'a, 'g, 'h, J, K, D, S, T, R> = Job<
+type HostJob<'a, 'g, 'h, J, K, D, S, T, R, Q> = Job<
     'a,
-    GuestSteps<J, HostSeat<'a, J, K, D, S, T, R>, HostFiles<'a, 'g, 'h, R, S>>,
+    GuestSteps<J, HostSeat<'a, J, K, D, S, T, R>, HostFiles<'a, 'g, 'h, R, S, Q>>,
 >;
 
 /// What the threads of the nodes share.
-type HostShared<'a, 'g, 'h, J, K, D, S, T, R> = Shared<
+type HostShared<'a, 'g, 'h, J, K, D, S, T, R, Q> = Shared<
     'a,
     R,
     Desk<J, K, D, S, T, R>,
     Mutex<Seat<J>>,
-    HostGroup<'g, 'h, R, S>,
+    HostGroup<'g, 'h, R, S, Q>,
     Node<Noted<J>>,
 >;
 
@@ -72,7 +72,7 @@ fn nodes_of<J: DeskName>(
     for listener in listeners {
         let ready = ReadySet::new().map_err(|_| Failure::CannotListen)?;
         let node = Node::new(alloc, listener, ready, limits, clients)?;
-        nodes.push(node).map_err(|_| Failure::OutOfMemory)?;
+        nodes.push(node).map_err(|_| AllocError)?;
     }
     Ok(nodes)
 }
@@ -133,14 +133,15 @@ fn job_of<
     S: Shelf,
     T: Absorb<Notice<J>, State = [Entry; 0]> + Drop,
     R: Net<Stream = TcpStream> + Clock + Wait + Drop,
+    Q: PieceReader<S>,
 >(
     rt: &'a R,
     desk: &'a Desk<J, K, D, S, T, R>,
     seat: &'a Mutex<Seat<J>>,
-    group: &'a HostGroup<'g, 'h, R, S>,
+    group: &'a HostGroup<'g, 'h, R, S, Q>,
     node: &'a Node<Noted<J>>,
     visitor: DeskVisitor<J>,
-) -> Option<HostJob<'a, 'g, 'h, J, K, D, S, T, R>> {
+) -> Option<HostJob<'a, 'g, 'h, J, K, D, S, T, R, Q>> {
     let desk = SeatedDesk::new(rt, desk, seat);
     let files = GroupFiles::new(rt, group);
     let house = SharedHouse::new(visitor, desk, files).ok()?;
@@ -159,9 +160,10 @@ fn work_at<
     S: Shelf,
     T: Absorb<Notice<J>, State = [Entry; 0]> + Drop,
     R: Net<Stream = TcpStream> + Clock + Wait + Drop,
+    Q: PieceReader<S>,
 >(
     alloc: Global,
-    shared: &HostShared<'_, '_, '_, J, K, D, S, T, R>,
+    shared: &HostShared<'_, '_, '_, J, K, D, S, T, R, Q>,
     at: usize,
     visitor: DeskVisitor<J>,
 ) {
@@ -208,10 +210,11 @@ fn serve_nodes<
     S: Shelf + Send,
     T: Absorb<Notice<J>, State = [Entry; 0]> + Drop + Send + Sync,
     R: Serving,
+    Q: PieceReader<S> + Send + Sync,
     O: Sink,
 >(
     alloc: Global,
-    shared: &HostShared<'_, '_, '_, J, K, D, S, T, R>,
+    shared: &HostShared<'_, '_, '_, J, K, D, S, T, R, Q>,
     ports: &[Ports],
     visitor: DeskVisitor<J>,
     plan: &Plan,
@@ -245,6 +248,7 @@ pub(crate) fn serve_desk<
     S: Shelf + Send,
     T: Absorb<Notice<J>, State = [Entry; 0]> + Drop + Send + Sync,
     R: Serving,
+    Q: PieceReader<S> + Send + Sync,
     O: Sink,
 >(
     rt: &'a R,
@@ -252,13 +256,14 @@ pub(crate) fn serve_desk<
     desk: &'a Desk<J, K, D, S, T, R>,
     seats: Seats<J>,
     visitor: DeskVisitor<J>,
+    reader: &'a Q,
     bound: Bound,
     plan: &Plan,
     lines: &mut O,
 ) -> Result<(), Failure> {
     let Bound { clients, ports } = bound;
     let (ports, peers) = (ports.as_slice(), peer_addresses(alloc, ports.as_slice())?);
-    let groups = groups_of(rt, alloc, desk.files(), peers.as_slice())?;
+    let groups = groups_of(rt, alloc, desk.files(), reader, peers.as_slice())?;
     let seats = seats_of(alloc, seats, ports.len())?;
     let nodes = nodes_of::<J>(alloc, clients, plan.limits, plan.clients)?;
     let shared = Shared {

@@ -2,7 +2,7 @@
 ghost use Rattle.std.specs.Prelude.{◌≡◌, ◌<◌, IfOk, length, vec_len};
 
 use crate::ports::Ports;
-use blob_store::{Files, Shelf};
+use blob_store::{Files, PieceReader};
 use chunk_group::{Counter, Group, SharedSource};
 use peer_link::TcpLink;
 use peer_ring::{DigestHash, Ring, RingFault};
@@ -15,9 +15,9 @@ use std::time::Clock;
 const CACHE_LIMIT: usize = 67_108_864;
 
 /// A node of the group, which reads the shelf that all nodes share.
-pub(crate) type HostGroup<'a, 'b, R, S> = Group<
+pub(crate) type HostGroup<'a, 'b, R, S, Q> = Group<
     DigestHash,
-    SharedSource<'a, R, S>,
+    SharedSource<'a, R, S, Q>,
     TcpLink<'b, R>,
     Counter,
 >;
@@ -59,33 +59,35 @@ fn ring_of(alloc: Global, peers: &[SocketAddr]) -> Result<Ring<DigestHash>, Ring
 }
 
 /// The node at a place in the ring, with empty caches. There is none only for want of memory.
-fn group_at<'a, R: Net<Stream = TcpStream> + Clock + Wait, S: Shelf>(
+fn group_at<'a, R: Net<Stream = TcpStream> + Clock + Wait, S, Q: PieceReader<S>>(
     rt: &'a R,
     alloc: Global,
     files: &'a Mutex<Files<S>>,
+    reader: &'a Q,
     peers: &'a [SocketAddr],
     me: usize,
-) -> Result<HostGroup<'a, 'a, R, S>, AllocError>
+) -> Result<HostGroup<'a, 'a, R, S, Q>, AllocError>
     requires { me < length peers.now }
 {
     let Ok(ring) = ring_of(alloc, peers) else {
         return Err(AllocError);
     };
-    let source = SharedSource::new(rt, files);
+    let source = SharedSource::new(rt, files, reader);
     let link = TcpLink::new(alloc, rt, peers);
     Group::new(alloc, CACHE_LIMIT, ring, me, source, link, Counter::new())
 }
 
 /// The nodes at these addresses.
-pub(crate) fn groups_of<'a, R: Net<Stream = TcpStream> + Clock + Wait, S: Shelf>(
+pub(crate) fn groups_of<'a, R: Net<Stream = TcpStream> + Clock + Wait, S, Q: PieceReader<S>>(
     rt: &'a R,
     alloc: Global,
     files: &'a Mutex<Files<S>>,
+    reader: &'a Q,
     peers: &'a [SocketAddr],
-) -> Result<Vec<HostGroup<'a, 'a, R, S>>, AllocError> {
+) -> Result<Vec<HostGroup<'a, 'a, R, S, Q>>, AllocError> {
     let mut groups = Vec::new(alloc);
     for me in 0..peers.len() {
-        groups.push(group_at(rt, alloc, files, peers, me)?)?;
+        groups.push(group_at(rt, alloc, files, reader, peers, me)?)?;
     }
     Ok(groups)
 }

@@ -5,6 +5,7 @@ mod addresses;
 mod desks;
 mod groups;
 mod guests;
+mod inputs;
 mod lines;
 mod nodes;
 mod peer_ports;

@@ -3,7 +3,7 @@ use crate::groups::HostGroup;
 use crate::peer_ports::serve_peers;
 use crate::ports::Ports;
 use crate::stopping::Stop;
-use blob_store::Shelf;
+use blob_store::PieceReader;
 use event_loop::{Limits, Node, NodeTurns, Steps, Worker, work};
 use std::alloc::{AllocError, Global};
 use std::net::{Net, TcpStream};
@@ -59,9 +59,16 @@ pub(crate) fn share_out<
 }
 
 /// Answers other nodes at the port of the node at this place, until the nodes end.
-pub(crate) fn answer_peers<A, B, E, R: Net<Stream = TcpStream> + Clock + Wait, F: Shelf>(
+pub(crate) fn answer_peers<
+    A,
+    B,
+    E,
+    R: Net<Stream = TcpStream> + Clock + Wait,
+    S,
+    Q: PieceReader<S>,
+>(
     alloc: Global,
-    shared: &Shared<'_, R, A, B, HostGroup<'_, '_, R, F>, E>,
+    shared: &Shared<'_, R, A, B, HostGroup<'_, '_, R, S, Q>, E>,
     all: &[Ports],
     limits: Limits,
     stop: &Stop,

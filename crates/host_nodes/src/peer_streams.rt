@@ -1,13 +1,16 @@
 //! The connection of another node, until it is late.
 ghost use Rattle.std.specs.Prelude.{◌<◌, ◌≤◌, IfSome, None, length, ⊤};
+ghost use Rattle.byte_slices.specs.Slices.{joined};
 ghost use Rattle.http_wire.specs.Timing.{Moves};
 
+use byte_slices::Slices;
 use event_loop::{Limits, Pace, Stage};
 use http_wire::{Duplex, Halt, ReadFailed, Steady, WriteFailed};
-use std::io::{ErrorKind, Read, Write};
+use std::io::{ErrorKind, Read};
 use std::marker::Model;
 use std::net::TcpStream;
 use std::time::{Clock, Duration};
+use tcp_socket::write_to;
 
 /// How often a call is made again that a signal cut short.
 const MOST_TRIES: u32 = 16;
@@ -79,15 +82,16 @@ impl<'a, R: Clock> PeerStream<'a, R> {
         None
     }
 
-    /// Writes some bytes, if they go in time.
-    fn write_in_time(&mut self, bytes: &[u8]) -> Option<usize>
-        ensures { IfSome result (λ count. (count ≤ length bytes.now) × (0 < length bytes.now → 0 < count)) }
+    /// Writes some bytes of slices, if they go in time.
+    fn write_in_time(&mut self, slices: &Slices<'_>) -> Option<usize>
+        ensures { IfSome result
+            (λ count. (count ≤ length (joined slices.now)) × (0 < length (joined slices.now) → 0 < count)) }
     {
-        let mut stream = self.stream;
+        let stream = self.stream;
         for _ in 0..MOST_TRIES {
             stream.set_write_timeout(Some(self.left()?)).ok()?;
-            match stream.write(bytes) {
-                Ok(0) if !bytes.is_empty() => return None,
+            match write_to(stream, slices) {
+                Ok(0) if !slices.is_empty() => return None,
                 Ok(count) => return Some(count),
                 Err(error) if error.kind() == ErrorKind::Interrupted => {}
                 Err(_) => return None,
@@ -124,10 +128,19 @@ impl<R: Clock> Duplex for PeerStream<'_, R> {
     }
 
     fn write_some(&mut self, bytes: &[u8]) -> Result<usize, Halt<WriteFailed>> {
+        self.write_slices(&Slices {
+            first: bytes,
+            second: &[],
+            third: &[],
+            fourth: &[],
+        })
+    }
+
+    fn write_slices(&mut self, slices: &Slices<'_>) -> Result<usize, Halt<WriteFailed>> {
         if self.pace.stage != Stage::Reply {
             self.note(Stage::Reply, 0, 0);
         }
-        match self.write_in_time(bytes) {
+        match self.write_in_time(slices) {
             Some(count) => {
                 self.note(Stage::Reply, 0, count as u64);
                 Ok(count)

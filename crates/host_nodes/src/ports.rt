@@ -4,9 +4,16 @@ ghost use Rattle.std.specs.Net.Socket.{socket_port};
 
 use crate::addresses::{client_address, peer_address};
 use crate::lines::Failure;
-use std::alloc::Global;
+use libc::net as c;
+use std::alloc::{AllocError, Global};
 use std::io;
+use std::io::ErrorKind;
 use std::net::{Net, SocketAddr, TcpListener, TcpStream};
+use std::os::fd::AsRawFd;
+
+/// How many connections of a port may wait to be accepted. With the 128 that a listener has at first, a client that is left out in a burst tries again only
+/// after a second.
+const BACKLOG: i32 = 4_096;
 
 /// The port of a node for other nodes, and the addresses of both its ports.
 #[derive(Drop)]
@@ -23,6 +30,18 @@ pub(crate) struct Bound {
     pub(crate) ports: Vec<Ports>,
 }
 
+/// A listener at an address, at which a burst of connections may wait.
+fn listen<R: Net<Listener = TcpListener, Stream = TcpStream>>(
+    rt: &R,
+    address: SocketAddr,
+) -> io::Result<TcpListener> {
+    let listener = TcpListener::bind(rt, address)?;
+    if c::listen(listener.as_raw_fd(), BACKLOG) < 0 {
+        return Err(io::Error::from(ErrorKind::Other));
+    }
+    Ok(listener)
+}
+
 /// The ports of a node, where those of the first begin at this address.
 fn bind<R: Net<Listener = TcpListener, Stream = TcpStream>>(
     rt: &R,
@@ -33,9 +52,9 @@ fn bind<R: Net<Listener = TcpListener, Stream = TcpStream>>(
 {
     let client_address = client_address(first, node);
     let peer_address = peer_address(first, node);
-    let clients = TcpListener::bind(rt, client_address)?;
+    let clients = listen(rt, client_address)?;
     clients.set_nonblocking(true)?;
-    let peers = TcpListener::bind(rt, peer_address)?;
+    let peers = listen(rt, peer_address)?;
     let ports = Ports {
         peers,
         client_address,
@@ -59,11 +78,8 @@ pub(crate) fn bind_all<R: Net<Listener = TcpListener, Stream = TcpStream>>(
     };
     for node in 0..nodes {
         let (clients, ports) = bind(rt, first, node).map_err(|_| Failure::CannotListen)?;
-        bound
-            .clients
-            .push(clients)
-            .map_err(|_| Failure::OutOfMemory)?;
-        bound.ports.push(ports).map_err(|_| Failure::OutOfMemory)?;
+        bound.clients.push(clients).map_err(|_| AllocError)?;
+        bound.ports.push(ports).map_err(|_| AllocError)?;
     }
     Ok(bound)
 }

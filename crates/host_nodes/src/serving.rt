@@ -1,20 +1,29 @@
 //! `filehost serve`: a host is opened, and its nodes serve.
-ghost use Rattle.std.specs.Net.Socket.{socket_port};
-ghost use Rattle.std.specs.Prelude.{◌≡◌, ◌<◌, ◌≤◌, true};
+ghost use Rattle.std.specs.Prelude.{◌≡◌, ◌↔◌, IfErr, IfOk, codes, true};
 ghost use Rattle.shared_desk.specs.FoundFiles.{files_of};
 ghost use Rattle.shared_desk.specs.NewDesks.{AreNames};
+ghost use Rattle.blob_store.specs.Shelves.{found_in};
+ghost use Rattle.found_host.specs.declared.faults.OpenFault.TheVariants.{OutOfMemory};
+ghost use Rattle.blob_store.specs.declared.mem_shelf.MemShelf.{MemShelf};
+ghost use Rattle.blob_store.specs.declared.shelves.ShelfName.{ShelfName};
+ghost use Rattle.host_disk.specs.declared.mem_disk.MemDisk.{MemDisk};
+ghost use Rattle.host_disk.specs.Contents.{empty_file};
+ghost use Rattle.host_server.specs.Solo.{IsSaid, SaysFault};
+ghost use Rattle.host_nodes.specs.Ends.{IsEnd};
+ghost use Rattle.host_nodes.specs.Ports.{HasPorts, LeavesRoom};
 
 use crate::desks::{Plan, serve_desk};
-use crate::lines::{Failure, fail};
+use crate::lines::{Failure, refuse};
 use crate::ports::bind_all;
 use crate::runtimes::Serving;
-use blob_store::{MemShelf, Shelf};
+use blob_store::{MemShelf, PieceReader, Shelf};
 use byte_view::BlobInfo;
 use change_undo::GREATEST_LIMIT;
 use command_line::ServeOptions;
 use event_loop::Limits;
 use found_host::{Found, OpenFault};
 use host_disk::{Disk, MemDisk};
+use host_server::fail;
 use http_wire::Sink;
 use seen_lists::ListName;
 use shared_desk::{NewDesk, open};
@@ -26,6 +35,12 @@ use std::net::{Net, TcpListener, TcpStream};
 use std::sync::Wait;
 use std::thread::Threads;
 use std::time::Clock;
+
+/// The exit status if each node has served as many clients as it was to.
+const DONE: u8 = 0;
+
+/// The exit status if the port leaves no room for those of all nodes.
+const BAD_ADDRESS: u8 = 1;
 
 /// How many bytes a journal in memory has: 64 MiB.
 const JOURNAL_ROOM: usize = 67_108_864;
@@ -65,6 +80,7 @@ fn serve_found<
     D: Disk + Drop + Send,
     S: Shelf + Drop + Send,
     R: Serving,
+    Q: PieceReader<S> + Send + Sync,
     O: Sink,
 >(
     rt: &R,
@@ -73,13 +89,14 @@ fn serve_found<
     limits: Limits,
     new: NewDesk,
     found: Found<D, S>,
-    lines: &mut O,
+    reader: &Q,
+    out: &mut O,
 ) -> Result<(), Failure>
     requires names { AreNames J.name J.parts J.book K.book new }
     requires entries { J.found ≡ found.journal.entries }
     requires uploads { K.found ≡ files_of found.store.known }
     requires limit { found.limit ≡ 1000000 }
-    requires ports { socket_port options.now.listen ≤ 65520 }
+    requires ports { LeavesRoom options.now.listen }
 {
     // The words give as many; the proof sees it here.
     let (nodes, workers) = (options.nodes.clamp(1, MOST), options.workers.clamp(1, MOST));
@@ -90,7 +107,7 @@ fn serve_found<
         found,
         (nodes * workers) as usize,
     ) else {
-        return Err(Failure::OutOfMemory);
+        return Err(Failure::NotOpened(OpenFault::OutOfMemory));
     };
     let desk = boxed(alloc, desk)?;
     let bound = bind_all(rt, alloc, &options.listen, nodes as u16)?;
@@ -99,48 +116,62 @@ fn serve_found<
         limits,
         clients: options.conns.unwrap_or(u64::MAX),
     };
-    serve_desk(rt, alloc, &desk, seats, visitor, bound, &plan, lines)
+    serve_desk(rt, alloc, &desk, seats, visitor, reader, bound, &plan, out)
 }
 
 /// Serves from what a disk and a shelf have.
-fn serve_store<D: Disk + Drop + Send, S: Shelf + Drop + Send, R: Serving, O: Sink>(
+fn serve_store<
+    D: Disk + Drop + Send,
+    S: Shelf + Drop + Send,
+    R: Serving,
+    Q: PieceReader<S> + Send + Sync,
+    O: Sink,
+>(
     rt: &R,
     alloc: Global,
     options: &ServeOptions,
     limits: Limits,
     disk: D,
     shelf: S,
-    lines: &mut O,
+    reader: &Q,
+    out: &mut O,
 ) -> Result<(), Failure>
-    requires ports { socket_port options.now.listen ≤ 65520 }
+    requires ports { LeavesRoom options.now.listen }
 {
     let found = match Found::open(alloc, disk, shelf, GREATEST_LIMIT) {
         Ok(found) => found,
         Err(stop) => return Err(Failure::NotOpened(stop.fault)),
     };
     let new = NewDesk::new(rt, options.nodes.clamp(1, MOST));
-    serve_found::<Brand, Brand, D, S, R, O>(rt, alloc, options, limits, new, found, lines)
+    serve_found::<Brand, Brand, D, S, R, Q, O>(rt, alloc, options, limits, new, found, reader, out)
 }
 
 /// The disk and the shelf of a host in memory, which is empty.
-pub fn open_memory(alloc: Global) -> Result<(MemDisk, MemShelf), OpenFault> {
+pub fn open_memory(alloc: Global) -> Result<(MemDisk, MemShelf), OpenFault>
+    ensures disk { IfOk result (λ opened. opened.0.content ≡ empty_file 67108864) }
+    ensures shelf { IfOk result (λ opened. (name : ShelfName) → found_in opened.1 name ≡ None) }
+    ensures fault { IfErr result (λ fault. fault ≡ OutOfMemory) }
+{
     Ok((MemDisk::new(alloc, JOURNAL_ROOM)?, MemShelf::new(alloc)))
 }
 
 /// Whether the first node has a port, and all eight nodes, after it, have both of theirs.
 pub fn has_ports(options: &ServeOptions) -> bool
-    ensures { result ≡ true → socket_port options.now.listen ≤ 65520 }
+    ensures { (result ≡ true) ↔ HasPorts options.now.listen }
 {
     (1..=LAST_PORT).contains(&options.listen.port())
 }
 
-/// Says that it hasn't, and answers the exit status.
-pub fn refuse_ports<E: Sink>(errors: &mut E) -> u8 {
-    fail(errors, &Failure::BadAddress)
+/// Says that it hasn't, as far as that can be written, and answers the exit status.
+pub fn refuse_ports<E: Sink>(errors: &mut E) -> u8
+    ensures status { result ≡ 1 }
+    ensures said { IsSaid E.may_fail (codes "filehost: bad address\n") (E.held errors.old) (E.held errors.new) }
+{
+    fail(errors, BAD_ADDRESS, "filehost: bad address\n")
 }
 
 /// Serves clients and other nodes from the disk and the shelf that were opened, as the words ask for it, and answers the exit status. It tells on
-/// `lines` where each node listens; if the status isn't 0, `errors` is told why.
+/// `lines` where each node listens; if the status isn't 0, `errors` is told why. The nodes read pieces of files by `reader`.
 ///
 /// Who calls it knows the runtime, and opens them: threads take a shelf in a folder only where it stands on no bound of a runtime that isn't known.
 pub fn run_serve<
@@ -155,6 +186,7 @@ pub fn run_serve<
         + Sync
         + Drop
         + Env,
+    Q: PieceReader<S> + Send + Sync,
     O: Sink,
     E: Sink,
 >(
@@ -162,18 +194,22 @@ pub fn run_serve<
     alloc: Global,
     options: &ServeOptions,
     opened: Result<(D, S), OpenFault>,
+    reader: &Q,
     lines: &mut O,
     errors: &mut E,
 ) -> u8
-    requires ports { socket_port options.now.listen ≤ 65520 }
+    requires ports { LeavesRoom options.now.listen }
+    ensures ends { IsEnd E.may_fail result (E.held errors.old) (E.held errors.new) }
+    ensures unopened { IfErr opened
+        (λ why. SaysFault E.may_fail why result (E.held errors.old) (E.held errors.new) × (lines.new ≡ lines.old)) }
 {
-    let limits = Limits::with_second(second(rt));
-    let served = match opened {
-        Ok((disk, shelf)) => serve_store(rt, alloc, options, limits, disk, shelf, lines),
-        Err(fault) => Err(Failure::NotOpened(fault)),
+    let (disk, shelf) = match opened {
+        Ok(found) => found,
+        Err(fault) => return refuse(errors, &Failure::NotOpened(fault)),
     };
-    match served {
-        Ok(()) => 0,
-        Err(failure) => fail(errors, &failure),
+    let limits = Limits::with_second(second(rt));
+    match serve_store(rt, alloc, options, limits, disk, shelf, reader, lines) {
+        Ok(()) => DONE,
+        Err(failure) => refuse(errors, &failure),
     }
 }

@@ -7,3 +7,5 @@ pub mod Versions
 pub mod FileAsks
 -- what the values of the code mean
 pub mod Bodies
+-- what a reply holds of a file
+pub mod HeldFiles

@@ -8,5 +8,5 @@ mod replies;
 mod versions;
 
 pub use media_types::file_type;
-pub use replies::{Reply, is_head_only};
+pub use replies::{HeldFile, Reply, is_head_only};
 pub use versions::file_of;

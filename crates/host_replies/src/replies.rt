@@ -16,12 +16,14 @@ ghost use Rattle.host_replies.specs.SentFiles.{SendsParts, sent_answer};
 ghost use Rattle.host_replies.specs.PartsTypes.{IsOfEight, parts_type};
 ghost use Rattle.host_replies.specs.Replies.{told_answer, refused_answer, part_answer, fields_for, is_head, sent_text, unread_answer};
 
+mod held_files;
 mod sends;
 
 use crate::bodies::{Body, BodyText};
 use crate::media_types::{MediaType, file_type};
 use crate::parts_types::PartsType;
 use byte_view::BlobInfo;
+pub use held_files::HeldFile;
 use host_api::{HeadRefusal, Refusal, Told, short_text, text};
 use host_names::{Digest, FilePath};
 use http::StatusCode;

@@ -17,6 +17,7 @@ mod storing;
 pub use answers::answer;
 pub use host::SoloHouse;
 pub use opening_lines::{line_of, status_of};
+pub use runs::fail;
 pub use servers::Server;
 pub use solo::run_solo;
 pub use stores::{open_folder, run_store};

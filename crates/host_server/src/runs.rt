@@ -18,8 +18,8 @@ pub(crate) const FAILED: u8 = 2;
 
 pub(crate) const OUT_OF_MEMORY: &str = "filehost: out of memory\n";
 
-/// Writes why a run fails, as far as that can be written, and answers the exit status.
-pub(crate) fn fail<E: Sink>(errors: &mut E, status: u8, why: &str) -> u8
+/// Writes why a run fails, as far as that can be written, and answers the given exit status.
+pub fn fail<E: Sink>(errors: &mut E, status: u8, why: &str) -> u8
     ensures status { result ≡ status }
     ensures said { IsSaid E.may_fail why.now (E.held errors.old) (E.held errors.new) }
 {

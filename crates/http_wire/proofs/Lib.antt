@@ -19,6 +19,8 @@ pub mod StreamReads
 pub mod Resumed
 pub mod WritesFrom
 pub mod Writes
+pub mod SlicesSent
+pub mod PiecesTaken
 pub mod Amid
 pub mod PartsPut
 pub mod OneHead

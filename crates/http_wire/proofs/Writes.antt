@@ -1,10 +1,9 @@
 -- What writes lead to, one after another.
-use Rattle.std.proofs.Common.{◌≡◌, ℕ, ◌+◌, ◌-◌, ◌^◌, ◌<◌, ◌≤◌, min, inl, inr, Bool, true, false, List, [], ◌++◌, length, length-append, take, drop, Option, Some, Result, Ok, Err, OnOk, OnErr, IfErr, MatchBool, slice_range, refl, sym, ap, subst, ◌∙◌, append_assoc, append-nil, arith}
+use Rattle.std.proofs.Common.{◌≡◌, ℕ, ◌+◌, ◌-◌, ◌^◌, ◌<◌, ◌≤◌, min, Bool, true, false, List, [], ◌++◌, length, length-append, take, drop, Option, Some, Result, Ok, Err, OnOk, OnErr, IfErr, MatchBool, refl, sym, ap, subst, ◌∙◌, append_assoc, append-nil, arith}
 use Rattle.std.specs.Io.KnownBytes.{Appends}
 use Rattle.std.proofs.KnownBytes.{Appends-trans}
-use Rattle.std.proofs.lemmas.Bool.{cases_lt}
-use Rattle.std.proofs.lemmas.List.{append_cancel_left, drop-append-le, drop-drop, drop_all, length-take-le, length-drop, take_at, take-append-drop}
-use Rattle.std.proofs.lemmas.Slice.{between_to_end}
+use Rattle.std.proofs.lemmas.List.{append_cancel_left, drop-append-le, drop_all, length-take-le, length-drop, take-append-drop}
+use Rattle.byte_slices.proofs.Joined.{drop_over}
 use Rattle.http_wire.specs.declared.faults.WriteFault.{WriteFault}
 use Rattle.http_wire.specs.declared.halts.Halt.{Halt}
 use Rattle.http_wire.specs.declared.halts.Halt.TheVariants.{Failed, WouldWait}
@@ -27,7 +26,7 @@ between_places text put at new_at is =
 how_many : (text put : List ℕ) (at new_at : ℕ) → at ≤ length text → new_at ≤ length text → take at text ++ put ≡ take new_at text → at + length put ≡ new_at
 how_many text put at new_at h k is = omega (arith, ap length is, length-append (take at text) put, length-take-le at text h, length-take-le new_at text k)
 
-sent_further : (start held new : Option (List ℕ)) (text : List ℕ) (count after : ℕ) (rest put new_rest : List ℕ) → Sent start held text count rest → rest ≡ put ++ new_rest
+pub sent_further : (start held new : Option (List ℕ)) (text : List ℕ) (count after : ℕ) (rest put new_rest : List ℕ) → Sent start held text count rest → rest ≡ put ++ new_rest
     → Appends held new put → after ≡ min (count + length put) (2 ^ 64 - 1) → Sent start new text after new_rest
 sent_further start held new text count after rest put new_rest h is more after_is = record {
   gone = h.gone ++ put;
@@ -173,7 +172,7 @@ pub none_more : {S : Type 0} (saw : S → Event → S → Type 0) (old : S) (cou
 none_more saw old count rest = gathered saw old [] count count rest rest refl (sym (append-nil rest))
 
 -- writes of one text after those of another
-and_then : {S : Type 0} (saw : S → Event → S → Type 0) (old mid new : S) (result : Result (Unit {0}) (Halt WriteFailed)) (first second : List ℕ) (count between after : ℕ) (rest mid_rest new_rest : List ℕ)
+pub and_then : {S : Type 0} (saw : S → Event → S → Type 0) (old mid new : S) (result : Result (Unit {0}) (Halt WriteFailed)) (first second : List ℕ) (count between after : ℕ) (rest mid_rest new_rest : List ℕ)
     → Ran saw NoRead old mid (WritesOn (Ok tt) first count between rest mid_rest) → Ran saw NoRead mid new (WritesOn result second between after mid_rest new_rest)
     → Ran saw NoRead old new (WritesOn result (first ++ second) count after rest new_rest)
 and_then saw old mid new result first second count between after rest mid_rest new_rest one other = record {
@@ -195,48 +194,9 @@ and_then saw old mid new result first second count between after rest mid_rest n
 
 -- ---- where what was taken before is passed over
 
-drop_front : (xs ys : List ℕ) → drop (length xs) (xs ++ ys) ≡ ys
-drop_front xs ys =
-    append_cancel_left xs (drop (length xs) (xs ++ ys)) ys
-    (ap (λ u. u ++ drop (length xs) (xs ++ ys)) (sym (take_at xs ys (length xs) refl)) ∙ take-append-drop (length xs) (xs ++ ys))
-
-drop_past : (n : ℕ) (xs ys : List ℕ) → length xs ≤ n → drop n (xs ++ ys) ≡ drop n xs ++ drop (n - length xs) ys
-drop_past n xs ys past =
-    let k : ℕ = n - length xs in
-    let sum : n ≡ length xs + k = omega (arith, past) in
-    ap (λ m. drop m (xs ++ ys)) sum ∙ sym (drop-drop k (length xs) (xs ++ ys)) ∙ ap (drop k) (drop_front xs ys) ∙ ap (λ u. u ++ drop k ys) (sym (drop_all n xs past))
-
-drop_over : (n : ℕ) (xs ys : List ℕ) → drop n (xs ++ ys) ≡ drop n xs ++ drop (n - length xs) ys
-drop_over n xs ys = elim (cases_lt n (length xs)) [
-  | inl lt ↦ (let none : 0 ≡ n - length xs = omega (arith, lt) in drop-append-le n xs ys (omega (arith, lt)) ∙ ap (λ m. drop n xs ++ drop m ys) none)
-  | inr ge ↦ drop_past n xs ys ge
-]
-
-on_ok : (result : Result (Unit {0}) (Halt WriteFailed)) (P : Type 0) → P → OnOk result P
+pub on_ok : (result : Result (Unit {0}) (Halt WriteFailed)) (P : Type 0) → P → OnOk result P
 on_ok (Ok done) P p = p
 on_ok (Err why) P p = tt
-
--- what is put of a piece
-pub put_passed : {S : Type 0} (saw : S → Event → S → Type 0) (old new : S) (result : Result (Unit {0}) (Halt WriteFailed)) (piece : List ℕ) (count : ℕ) (o m n : Gathered) → count ≡ min o.passed (length piece)
-    → m.passed ≡ o.passed - length piece → m.sent ≡ o.sent → m.rest ≡ o.rest → n.passed ≡ m.passed
-    → Ran saw NoRead old new (WritesOn result (slice_range piece count (length piece)) m.sent n.sent m.rest n.rest) → Ran saw NoRead old new (Puts result piece o n)
-put_passed saw old new result piece count o m n count_is passed sent rest same ran =
-    let shown : slice_range piece count (length piece) ≡ drop o.passed piece =
-    between_to_end piece count (length piece) (omega arith) ∙ elim (cases_lt o.passed (length piece)) [
-      | inl lt ↦ ap (λ k. drop k piece) (omega (arith, count_is, lt))
-      | inr ge ↦ drop_all count piece (omega (arith, count_is, ge)) ∙ sym (drop_all o.passed piece (omega (arith, ge)))
-    ] in
-    let P : List ℕ → ℕ → List ℕ → Type 0 = λ t k r. WritesOn result t k n.sent r n.rest ran.events in
-    record {
-      events = ran.events;
-      steps = ran.steps;
-      timely = ran.timely;
-      claimed = record {
-        writes = subst (λ t. P t o.sent o.rest) shown (subst (λ k. P (slice_range piece count (length piece)) k o.rest) sent
-            (subst (λ r. P (slice_range piece count (length piece)) m.sent r) rest ran.claimed));
-        passed = on_ok result (n.passed ≡ o.passed - length piece) (same ∙ passed);
-      };
-    }
 
 pub puts_none : {S : Type 0} (saw : S → Event → S → Type 0) (old : S) (o : Gathered) → Ran saw NoRead old old (Puts (Ok tt) [] o o)
 puts_none saw old o =

@@ -1,5 +1,5 @@
 -- Texts that are gathered and written, piece by piece.
-use Rattle.std.specs.Prelude.{◌≡◌, ℕ, ◌+◌, ◌-◌, ◌^◌, ◌<◌, ◌≤◌, min, List, [], ◌++◌, drop, length, Some, Result, Ok, Err, OnOk}
+use Rattle.std.specs.Prelude.{◌≡◌, ℕ, ◌+◌, ◌-◌, ◌^◌, ◌<◌, ◌≤◌, min, List, [], ◌++◌, drop, length, Option, Some, None, Result, Ok, Err, OnOk}
 use Rattle.http_wire.specs.declared.halts.Halt.{Halt}
 use Rattle.http_wire.specs.declared.halts.Halt.TheVariants.{Failed, WouldWait}
 use Rattle.http_wire.specs.declared.sinks.WriteFailed.{WriteFailed}
@@ -38,6 +38,11 @@ abbrev pub GoesOnFrom : Result (Unit {0}) (Halt WriteFailed) → (text : List �
 GoesOnFrom result text at out events = (new_at : ℕ) × WritesFrom result text at new_at events × IsAmid text new_at out
 
 -- ---- what private functions say
+
+-- the bytes of a part, if there is one
+abbrev pub text_if : {A : Type 0} → (text : A → List ℕ) → Option A → List ℕ
+text_if text None = []
+text_if text (Some part) = text part
 
 -- so many bytes of the text are written, and the rest is not
 abbrev pub Written : (written text : List ℕ) → (count : ℕ) → (rest : List ℕ) → Type 0

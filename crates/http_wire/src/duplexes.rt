@@ -1,11 +1,13 @@
 //! A connection's stream of bytes, in both directions.
 ghost use Rattle.std.specs.Prelude.{ℕ, List, Option, ◌<◌, ◌≤◌, length, take, IfOk, MatchResult};
 ghost use Rattle.http_wire.specs.Halting.{Halts};
+ghost use Rattle.byte_slices.specs.Slices.{joined};
 ghost use Rattle.http_wire.specs.Timing.{Event, ReadFails, Put, WriteFails, read_of, Moves};
 
 use crate::halts::Halt;
 use crate::sinks::{Sink, WriteFailed};
 use crate::sources::{ReadFailed, Source};
+use byte_slices::Slices;
 
 /// A stream of bytes in both directions that is read and written in pieces. Each read and each write is an event that
 /// `saw` tells of, so a call that is generic over it can say in which order it read and wrote. One that would have to wait is no event: no
@@ -41,6 +43,16 @@ pub trait Duplex {
         ensures some { IfOk result (λ count. 0 < length bytes.now → 0 < count) }
         ensures seen { MatchResult result (λ count. saw self.old (Put (take count bytes.now)) self.new)
             (Halts saw waits WriteFails self.old self.new) };
+
+    /// The same of slices, one after another. A stream writes as many of them as it can in one call.
+    fn write_slices(&mut self, slices: &Slices<'_>) -> Result<usize, Halt<WriteFailed>>
+        ensures bound { IfOk result (λ count. count ≤ length (joined slices.now)) }
+        ensures some { IfOk result (λ count. 0 < length (joined slices.now) → 0 < count) }
+        ensures seen { MatchResult result (λ count. saw self.old (Put (take count (joined slices.now))) self.new)
+            (Halts saw waits WriteFails self.old self.new) }
+    {
+        self.write_some(slices.front())
+    }
 
     // What each event does to the bytes; a fault comes only where there can be one.
     ghost told: { (old new : Self) (event : Event) → saw old event new

@@ -14,7 +14,7 @@ use crate::faults::WriteFault;
 use crate::field_texts::FieldText;
 use crate::halts::Halt;
 use crate::reply_heads::put_head;
-use crate::sends::{Outgoing, put_parts, send_on, send_rest};
+use crate::sends::{Outgoing, put_parts};
 use crate::sinks::WriteFailed;
 use arrayvec::ArrayString;
 use byte_view::BodyParts;
@@ -203,5 +203,10 @@ pub fn try_write_interim<D: Duplex>(duplex: &mut D, at: &mut usize) -> Result<()
     ensures ran { Ran D.saw NoRead duplex.old duplex.new (WritesFrom result continue_text at.old at.new) }
     ensures waits { IsErrOf result Halt.WouldWait → D.waits duplex.new }
 {
-    send_on(duplex, b"HTTP/1.1 100 Continue\r\n\r\n", at)
+    let text = b"HTTP/1.1 100 Continue\r\n\r\n";
+    'writes: while *at < text.len() {
+        let count = duplex.write_some(&text[*at..])?;
+        *at += count;
+    }
+    Ok(())
 }

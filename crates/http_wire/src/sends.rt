@@ -1,13 +1,14 @@
 //! Texts on their way out.
-ghost use Rattle.std.specs.Prelude.{◌≡◌, ◌≤◌, ◌↔◌, IsTrue, ◌-◌, [], ◌++◌, drop, length, min, IfOk, IsErrOf, MatchBool, OnOk};
+ghost use Rattle.std.specs.Prelude.{◌≡◌, ◌≤◌, ◌↔◌, ℕ, IsTrue, ◌-◌, [], ◌++◌, drop, length, IfOk, IsErrOf, MatchBool, OnOk};
 ghost use Rattle.std.specs.List.{concat, flat_map};
-ghost use Rattle.http_wire.specs.Gathering.{from_front, IsCounted, nothing, Puts, WritesOn};
-ghost use Rattle.http_wire.specs.Halting.{WritesFrom};
+ghost use Rattle.http_wire.specs.Gathering.{from_front, IsCounted, nothing, Puts, text_if, WritesOn};
+ghost use Rattle.byte_slices.specs.Slices.{joined};
 ghost use Rattle.http_wire.specs.Timing.{NoRead, Ran};
 
 use crate::duplexes::Duplex;
 use crate::halts::Halt;
 use crate::sinks::WriteFailed;
+use byte_slices::Slices;
 use byte_view::BodyParts;
 use std::alloc::{AllocError, Global};
 use std::marker::Model;
@@ -39,53 +40,24 @@ impl Model for Outgoing {
     ghost invariant = { λ o. o.at ≤ vec_len o.pending };
 }
 
-/// Writes a text from a place in it on, and moves the place behind what was written.
-pub fn send_on<D: Duplex>(
-    duplex: &mut D,
-    text: &[u8],
-    at: &mut usize,
-) -> Result<(), Halt<WriteFailed>>
-    requires { at.old ≤ length text.now }
-    ensures ran { Ran D.saw NoRead duplex.old duplex.new (WritesFrom result text.now at.old at.new) }
-    ensures waits { IsErrOf result Halt.WouldWait → D.waits duplex.new }
-{
-    'writes: while *at < text.len() {
-        let count = duplex.write_some(&text[*at..])?;
-        *at += count;
-    }
-    Ok(())
-}
-
-/// The same, and counts the bytes to those that were written before.
-pub fn send_rest<D: Duplex>(
+// Writes slices, drops what was written of them, and counts its bytes to those that were written before.
+fn send_slices<D: Duplex>(
     duplex: &mut D,
     sent: &mut u64,
-    text: &[u8],
-    at: &mut usize,
+    slices: &mut Slices<'_>,
 ) -> Result<(), Halt<WriteFailed>>
-    requires { at.old ≤ length text.now }
     ensures ran { Ran D.saw NoRead duplex.old duplex.new
-        (WritesOn result [] sent.old sent.new (drop at.old text.now) (drop at.new text.now)) }
-    ensures within { at.new ≤ length text.now }
-    ensures all { OnOk result (drop at.new text.now ≡ []) }
+        (WritesOn result [] sent.old sent.new (joined slices.old) (joined slices.new)) }
+    ensures first { (count : ℕ) × (slices.new.first.now ≡ drop count slices.old.first.now) }
+    ensures all { OnOk result (joined slices.new ≡ []) }
     ensures waits { IsErrOf result Halt.WouldWait → D.waits duplex.new }
 {
-    let before = *at;
-    let done = send_on(duplex, text, at);
-    *sent = sent.saturating_add((*at - before) as u64);
-    done
-}
-
-// Puts a piece behind the others, where there is room for it.
-fn extend(pending: &mut Vec<u8>, piece: &[u8]) -> bool
-    ensures { MatchBool result (pending.new.items ≡ pending.old.items ++ piece.now)
-        (pending.new.items ≡ pending.old.items) }
-{
-    let room = pending.capacity() - pending.len();
-    if room < piece.len() {
-        return false;
+    'writes: while !slices.is_empty() {
+        let count = duplex.write_slices(slices)?;
+        slices.skip(count);
+        *sent = sent.saturating_add(count as u64);
     }
-    pending.extend_from_slice(piece).is_ok()
+    Ok(())
 }
 
 impl Outgoing {
@@ -143,15 +115,7 @@ impl Outgoing {
         ensures passed { self.new.passed ≡ self.old.passed }
         ensures waits { IsErrOf result Halt.WouldWait → D.waits duplex.new }
     {
-        send_rest(
-            duplex,
-            &mut self.sent,
-            self.pending.as_slice(),
-            &mut self.at,
-        )?;
-        self.pending.clear();
-        self.at = 0;
-        Ok(())
+        self.write(duplex, &[], &[], &[])
     }
 
     // Gathers one more piece where there is room for it.
@@ -161,52 +125,83 @@ impl Outgoing {
         ensures sent { self.new.sent ≡ self.old.sent }
         ensures passed { self.new.passed ≡ self.old.passed }
     {
-        extend(&mut self.pending, piece)
+        let room = self.pending.capacity() - self.pending.len();
+        if room < piece.len() {
+            return false;
+        }
+        self.pending.extend_from_slice(piece).is_ok()
     }
 
-    // Passes over the front of a piece that was taken before, and answers how long that is.
-    fn pass(&mut self, len: usize) -> usize
-        ensures count { result ≡ min self.old.passed len }
-        ensures passed { self.new.passed ≡ self.old.passed - len }
+    // What is left of a piece behind the front of it that was taken before.
+    fn behind<'a>(&mut self, piece: &'a [u8]) -> &'a [u8]
+        ensures left { result.now ≡ drop self.old.passed piece.now }
+        ensures passed { self.new.passed ≡ self.old.passed - length piece.now }
         ensures sent { self.new.sent ≡ self.old.sent }
         ensures rest { self.new.rest ≡ self.old.rest }
     {
-        let count = self.passed.min(len as u64);
+        let count = self.passed.min(piece.len() as u64);
         self.passed -= count;
-        count as usize
+        &piece[count as usize..]
     }
 
-    // Takes one more piece, and writes as much as it takes to make room for it.
-    fn take<D: Duplex>(&mut self, duplex: &mut D, piece: &[u8]) -> Result<(), Halt<WriteFailed>>
+    // Writes what is gathered, and then these pieces.
+    fn write<D: Duplex>(
+        &mut self,
+        duplex: &mut D,
+        first: &[u8],
+        second: &[u8],
+        third: &[u8],
+    ) -> Result<(), Halt<WriteFailed>>
         ensures ran { Ran D.saw NoRead duplex.old duplex.new
-            (WritesOn result piece.now self.old.sent self.new.sent self.old.rest self.new.rest) }
+            (WritesOn result (first.now ++ (second.now ++ third.now))
+            self.old.sent self.new.sent self.old.rest self.new.rest) }
+        ensures empty { OnOk result (self.new.rest ≡ []) }
         ensures passed { self.new.passed ≡ self.old.passed }
         ensures waits { IsErrOf result Halt.WouldWait → D.waits duplex.new }
     {
-        if self.gather(piece) {
-            return Ok(());
-        }
-        self.flush(duplex)?;
-        if self.gather(piece) {
-            return Ok(());
-        }
-        self.write(duplex, piece)
+        let mut slices = Slices {
+            first: &self.pending.as_slice()[self.at..],
+            second: first,
+            third: second,
+            fourth: third,
+        };
+        let done = send_slices(duplex, &mut self.sent, &mut slices);
+        self.at = self.pending.len() - slices.first.len();
+        done?;
+        self.pending.clear();
+        self.at = 0;
+        Ok(())
     }
 
-    // Writes a piece, where none is gathered before it.
-    fn write<D: Duplex>(&mut self, duplex: &mut D, piece: &[u8]) -> Result<(), Halt<WriteFailed>>
-        requires { self.old.rest ≡ [] }
+    // Puts three more pieces, of which what was taken before is passed over. They are gathered as far as there is room, and else written
+    // behind what is gathered.
+    fn put_three<D: Duplex>(
+        &mut self,
+        duplex: &mut D,
+        first: &[u8],
+        second: &[u8],
+        third: &[u8],
+    ) -> Result<(), Halt<WriteFailed>>
         ensures ran { Ran D.saw NoRead duplex.old duplex.new
-            (WritesOn result [] self.old.sent self.new.sent piece.now []) }
-        ensures rest { self.new.rest ≡ [] }
-        ensures passed { self.new.passed ≡ self.old.passed }
+            (Puts result (first.now ++ (second.now ++ third.now)) self.old self.new) }
         ensures waits { IsErrOf result Halt.WouldWait → D.waits duplex.new }
     {
-        let mut at = 0;
-        send_rest(duplex, &mut self.sent, piece, &mut at)
+        let first = self.behind(first);
+        let second = self.behind(second);
+        let third = self.behind(third);
+        if !self.gather(first) {
+            return self.write(duplex, first, second, third);
+        }
+        if !self.gather(second) {
+            return self.write(duplex, second, third, &[]);
+        }
+        if !self.gather(third) {
+            return self.write(duplex, third, &[], &[]);
+        }
+        Ok(())
     }
 
-    // Puts one more piece, of which what was taken before is passed over.
+    // Puts one more piece.
     pub(crate) fn put<D: Duplex>(
         &mut self,
         duplex: &mut D,
@@ -215,8 +210,7 @@ impl Outgoing {
         ensures ran { Ran D.saw NoRead duplex.old duplex.new (Puts result piece.now self.old self.new) }
         ensures waits { IsErrOf result Halt.WouldWait → D.waits duplex.new }
     {
-        let passed = self.pass(piece.len());
-        self.take(duplex, &piece[passed..])
+        self.put_three(duplex, piece, &[], &[])
     }
 }
 
@@ -236,7 +230,17 @@ pub fn put_pieces<D: Duplex>(
     Ok(())
 }
 
-/// Puts the parts of a body, one after another, each as it lies.
+// The bytes of a part, if there is one.
+fn bytes_of<P: BodyParts>(part: &Option<P::Item>) -> &[u8]
+    ensures { result.now ≡ text_if P.text part.now }
+{
+    match part {
+        Some(part) => P::bytes(part),
+        None => &[],
+    }
+}
+
+/// Puts the parts of a body, one after another, each as it lies: three at once, so that they go out together with what is gathered.
 pub fn put_parts<D: Duplex, P: BodyParts<Item: Drop> + Drop>(
     duplex: &mut D,
     out: &mut Outgoing,
@@ -245,8 +249,16 @@ pub fn put_parts<D: Duplex, P: BodyParts<Item: Drop> + Drop>(
     ensures ran { Ran D.saw NoRead duplex.old duplex.new (Puts result (concat (P.texts parts)) out.old out.new) }
     ensures waits { IsErrOf result Halt.WouldWait → D.waits duplex.new }
 {
-    for part in parts {
-        out.put(duplex, P::bytes(&part))?;
+    let mut parts = parts;
+    'parts: while let Some(first) = parts.next() {
+        let second = parts.next();
+        let third = parts.next();
+        out.put_three(
+            duplex,
+            P::bytes(&first),
+            bytes_of::<P>(&second),
+            bytes_of::<P>(&third),
+        )?;
     }
     Ok(())
 }

@@ -8,6 +8,7 @@ ghost use Rattle.shared_house.specs.GuestLaws as laws;
 ghost use Rattle.shared_house.specs.Guests.{IsGuestAnswer};
 ghost use Rattle.shared_house.specs.HouseLaws as houses;
 
+use crate::answered::Answered;
 use crate::answering::serve;
 use crate::desk_access::DeskAccess;
 use crate::file_access::FileAccess;
@@ -30,6 +31,8 @@ pub type Note<J> = Front<Entry, J>;
 pub struct Guest<J: DeskName, D, G> {
     house: SharedHouse<J, D, G>,
     note: Note<J>,
+    // The request that the last step answered, if it answered one.
+    answered: Option<Answered>,
 }
 
 impl<J: DeskName, D, G> Model for Guest<J, D, G> {
@@ -63,6 +66,7 @@ impl<J: DeskName, D: DeskAccess<J>, G: FileAccess> Service for Guest<J, D, G> {
     ghost grows = { λ old new. BeginsWith new old };
 
     fn answer(&mut self, alloc: Global, request: Request) -> Reply {
+        self.answered = Some(Answered::of(&request.head));
         answer_guest(
             alloc,
             &mut self.house,
@@ -85,12 +89,21 @@ impl<J: DeskName, D: DeskAccess<J>, G: FileAccess> Guest<J, D, G> {
         ensures { result ≡ house.known }
     {
         let note = house.visitor.front();
-        Guest { house, note }
+        Guest {
+            house,
+            note,
+            answered: None,
+        }
     }
 
     /// A note for a new connection: what the worker knows.
     pub fn note(&self) -> Note<J> {
         self.house.visitor.front()
+    }
+
+    /// The request that the last step answered. A step answers one at most.
+    pub fn answered(&self) -> Option<Answered> {
+        self.answered
     }
 
     /// Takes the note of the connection that it goes to.
@@ -129,6 +142,7 @@ impl<J: DeskName, D: DeskAccess<J>, G: FileAccess> Guest<J, D, G> {
             connection.new.number connection.new.phase }
         ensures memory { RemembersMemory connection.old.phase connection.new.phase }
     {
+        self.answered = None;
         self.take_note(note);
         let progress = connection.go_on(alloc, duplex, self);
         self.give_note(note);

@@ -1,6 +1,7 @@
 //! The house of a node: what its workers answer requests over. They share a desk and the node's files.
 #![tactic(auto)]
 
+mod answered;
 mod answering;
 mod desk_access;
 mod file_access;
@@ -9,6 +10,7 @@ mod houses;
 pub mod laws;
 mod seated_desks;
 
+pub use answered::Answered;
 pub use answering::answer_shared;
 pub use desk_access::DeskAccess;
 pub use file_access::{FileAccess, GroupFiles};

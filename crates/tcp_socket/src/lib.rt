@@ -3,4 +3,4 @@
 
 mod sockets;
 
-pub use sockets::Socket;
+pub use sockets::{Socket, write_to};

@@ -3,7 +3,7 @@
 use super::fixtures::{bytes_of, is_chunk_of, names};
 use super::gates::assert_count;
 use super::node_fixtures::first_node;
-use blob_store::{BlobIndex, Files, MemShelf};
+use blob_store::{BlobIndex, Files, LockedReader, MemShelf};
 use chunk_group::{Counter, Group, SharedSource};
 use chunk_reads::ReadFault;
 use host_names::Digest;
@@ -20,7 +20,9 @@ use std::thread::Threads;
 /// How many chunks the shelf has. Reads are of one more.
 const CHUNKS: usize = 8;
 
-type ShelfNode<'a, R> = Group<DigestHash, SharedSource<'a, R, MemShelf>, NoLink, Counter>;
+type ShelfSource<'a, R> = SharedSource<'a, R, MemShelf, LockedReader>;
+
+type ShelfNode<'a, R> = Group<DigestHash, ShelfSource<'a, R>, NoLink, Counter>;
 
 /// A shelf with these chunks, each of which is a file.
 fn files(alloc: Global) -> Result<Files<MemShelf>, Fail> {
@@ -33,12 +35,7 @@ fn files(alloc: Global) -> Result<Files<MemShelf>, Fail> {
     Ok(files)
 }
 
-fn node<'a, R: Wait>(
-    rt: &'a R,
-    alloc: Global,
-    files: &'a Mutex<Files<MemShelf>>,
-) -> Result<ShelfNode<'a, R>, Fail> {
-    let source = SharedSource::new(rt, files);
+fn node<'a, R: Wait>(alloc: Global, source: ShelfSource<'a, R>) -> Result<ShelfNode<'a, R>, Fail> {
     first_node(alloc, 10_000, &["node0"], source, NoLink)
 }
 
@@ -83,12 +80,12 @@ fn visit_both<R: Threads + Wait + Sync>(
 fn visit_beside<R: Threads + Wait + Sync>(
     rt: &R,
     alloc: Global,
-    files: &Mutex<Files<MemShelf>>,
+    source: ShelfSource<'_, R>,
     first: &ShelfNode<'_, R>,
     names: &[Digest],
     right: &AtomicU64,
 ) -> Result<(), Fail> {
-    let second = node(rt, alloc, files)?;
+    let second = node(alloc, source)?;
     visit_both(rt, alloc, (first, &second), names, right);
     Ok(())
 }
@@ -97,12 +94,12 @@ fn visit_beside<R: Threads + Wait + Sync>(
 fn visit_shelf<R: Threads + Wait + Sync>(
     rt: &R,
     alloc: Global,
-    files: &Mutex<Files<MemShelf>>,
+    source: ShelfSource<'_, R>,
     names: &[Digest],
     right: &AtomicU64,
 ) -> Result<(), Fail> {
-    let first = node(rt, alloc, files)?;
-    visit_beside(rt, alloc, files, &first, names, right)
+    let first = node(alloc, source)?;
+    visit_beside(rt, alloc, source, &first, names, right)
 }
 
 fn assert_shared<R: Threads + Wait + Abort + Sync>(
@@ -112,7 +109,9 @@ fn assert_shared<R: Threads + Wait + Abort + Sync>(
 ) -> Result<(), Fail> {
     let names = names(alloc, CHUNKS + 1)?;
     let right = AtomicU64::new(0);
-    visit_shelf(rt, alloc, files, names.as_slice(), &right)?;
+    let reader = LockedReader;
+    let source = SharedSource::new(rt, files, &reader);
+    visit_shelf(rt, alloc, source, names.as_slice(), &right)?;
     assert_count(rt, &right, 36, "right answers");
     Ok(())
 }

@@ -1,9 +1,10 @@
 //! How far a connection has come.
 ghost use Rattle.std.specs.Prelude.{◌≡◌};
-ghost use Rattle.host_connection.specs.Stages.{head_stage, stage_of};
+ghost use Rattle.host_connection.specs.Stages.{head_stage, held_by, stage_of};
 
 use super::Connection;
 use crate::phases::Phase;
+use host_replies::HeldFile;
 
 /// How far a connection has come, in bytes.
 #[derive(Clone, Copy, Debug, PartialEq, Eq)]
@@ -49,6 +50,16 @@ impl Connection {
             },
             Phase::Reply(_) => Stage::Reply(self.out.sent()),
             Phase::Ended(_) => Stage::Ended,
+        }
+    }
+
+    /// What the reply that is on its way holds of a file. It takes no memory.
+    pub fn held_file(&self) -> Option<HeldFile>
+        ensures { result ≡ held_by self.now.phase }
+    {
+        match &self.phase {
+            Phase::Reply(sending) => sending.reply.held_file(),
+            _ => None,
         }
     }
 }

@@ -1,0 +1,68 @@
+"""What a GET of 64 bytes takes over a connection of many: how often the program allocates for it, and how many instructions it takes."""
+
+import os
+import re
+import subprocess
+
+from servers import TOP
+from streams import MEBIBYTE, write_content, write_stream
+
+# A GET is counted by a connection of many GETs, less one of few.
+FEW, MANY = 10, 90
+
+
+def build_counter(folder):
+    """Builds the library that counts allocations."""
+    command = ["gcc", "-O1", "-shared", "-fPIC", "-o", folder / "counting.so", TOP / "tests/lib/refuse_allocation.c", "-ldl"]
+    subprocess.run(command, check=True)
+
+
+def write_gets(folder, requests):
+    """Writes the requests of a connection that puts one file of 64 bytes and then reads it so often."""
+    content = folder / "small"
+    with content.open("wb") as file:
+        digest = write_content(file, 64)
+    return write_stream(folder, content, digest, requests)
+
+
+def count_allocations(program, folder, requests):
+    """How often the program allocates over such a connection."""
+    told = folder / "allocations"
+    env = dict(os.environ, LD_PRELOAD=str(folder / "counting.so"), ALLOCATIONS_FILE=str(told))
+    with write_gets(folder, requests).open("rb") as stream:
+        subprocess.run([program, "solo"], stdin=stream, stdout=subprocess.DEVNULL, env=env, check=True)
+    return int(told.read_text())
+
+
+def instructions_of(command, folder, given):
+    """How many instructions a command takes with this file as its input, by valgrind."""
+    command = ["valgrind", "--tool=callgrind", f"--callgrind-out-file={folder / 'calls'}", *command]
+    with given.open("rb") as stream:
+        ran = subprocess.run(command, stdin=stream, stdout=subprocess.DEVNULL, stderr=subprocess.PIPE, text=True, check=True)
+    return int(re.search(r"Collected : (\d+)", ran.stderr)[1])
+
+
+def count_instructions(program, folder, requests):
+    """How many instructions the program takes over such a connection."""
+    return instructions_of([program, "solo"], folder, write_gets(folder, requests))
+
+
+def count_at_once(program, folder, requests):
+    """The same of the program that serves in steps or at once, at once."""
+    line = folder / "line"
+    line.write_text(f"{write_gets(folder, requests).read_bytes().hex()}\n")
+    return instructions_of([program], folder, line)
+
+
+def count_in_steps(program, folder, requests):
+    """The same in steps: before each request and each write the connection has to wait."""
+    stream, line = write_gets(folder, requests).read_bytes(), folder / "line"
+    cuts = ",".join(str(end.end()) for end in re.finditer(b"\r\n\r\n", stream))
+    line.write_text(f"{cuts} {MEBIBYTE} {stream.hex()}\n")
+    return instructions_of([program], folder, line)
+
+
+def per_get(count, program, folder):
+    """What a GET adds to this count over a connection."""
+    few, many = (count(program, folder, requests) for requests in (FEW, MANY))
+    return (many - few) / (MANY - FEW)

@@ -1,0 +1,297 @@
+//! A desk over a disk and a shelf, and what is played at it.
+ghost use Rattle.std.specs.Prelude.{◌≡◌, IfOk, IfSome};
+ghost use Rattle.shared_desk.specs.FoundFiles.{files_of};
+ghost use Rattle.shared_desk.specs.NewDesks.{AreNames};
+
+use crate::deployers::{Deployer, Reader};
+use crate::gates::{GatedDisk, GatedShelf, Gates};
+use crate::scripts::{DEPLOYERS, Step, deal, read};
+use crate::stages::Stage;
+use crate::threads::{shared_of, unshared_of, work_at_once, works_of};
+use anyhow::{Result, anyhow};
+use blob_store::Shelf;
+use byte_view::BlobInfo;
+use change_undo::{Entry, GREATEST_LIMIT};
+use found_host::Found;
+use host_disk::Disk;
+use seen_lists::{ListName, Shown};
+use shared_desk::{Desk, NewDesk, open};
+use site_desk::{DeskName, HostSnap, Seat, Seats};
+use std::alloc::{AllocError, Global};
+use std::io::Print;
+use std::marker::Brand;
+use std::sync::Wait;
+use std::thread::Threads;
+
+/// How many visitors a desk has room for: each deployer, each reader, and the first one of all.
+const VISITORS: usize = 17;
+
+/// A desk of which a snapshot is shown.
+type OpenDesk<J, K, D, S, R> = Desk<J, K, D, S, Shown<Entry, J, HostSnap>, R>;
+
+/// What is played.
+#[derive(Drop)]
+pub(crate) struct Play<'a> {
+    pub(crate) stage: Stage,
+    pub(crate) gates: &'a Gates,
+    pub(crate) lines: &'a [String],
+}
+
+/// A value in a place of its own.
+fn boxed<T: Drop>(alloc: Global, value: T) -> Result<Box<T>, AllocError> {
+    Ok(Box::new(alloc, value)?)
+}
+
+/// The deployers, one from each seat.
+fn deployers_of<J: DeskName>(
+    alloc: Global,
+    seats: &mut Seats<J>,
+    reader: &Reader<J>,
+) -> Result<Vec<Deployer<J>>> {
+    let mut deployers = Vec::new(alloc);
+    for number in 0..DEPLOYERS {
+        let seat = seats.take().ok_or(anyhow!("no seat is left"))?;
+        deployers.push(Deployer {
+            number,
+            seat,
+            reader: reader.again()?,
+            last: 0,
+        })?;
+    }
+    Ok(deployers)
+}
+
+/// Plays these steps, one after the other.
+fn play_steps<
+    J: DeskName,
+    K: ListName<BlobInfo>,
+    D: Disk + Drop,
+    S: Shelf + Drop,
+    R: Wait + Drop,
+    W: Wait + Print,
+>(
+    rt: &W,
+    alloc: Global,
+    desk: &OpenDesk<J, K, D, S, R>,
+    deployers: &mut Vec<Deployer<J>>,
+    steps: Vec<Step>,
+) -> Result<()> {
+    for step in steps {
+        let Step { deployer, task } = step;
+        let Some(deployer) = deployers.get_mut(deployer) else {
+            return Err(anyhow!("there is no such deployer"));
+        };
+        deployer.ask(rt, desk, task)?;
+        deployer.look(rt, alloc)?;
+    }
+    Ok(())
+}
+
+/// The seats that deployers give back. How many entries were made from each is printed.
+fn give_back<J: DeskName>(
+    rt: &impl Print,
+    alloc: Global,
+    deployers: Vec<Deployer<J>>,
+) -> Result<Vec<Seat<J>>> {
+    let mut seats = Vec::new(alloc);
+    for deployer in deployers {
+        let Deployer { seat, .. } = deployer;
+        println!(rt; "share {}", seat.share())?;
+        seats.push(seat)?;
+    }
+    Ok(seats)
+}
+
+/// Closes a desk with one seat missing, and then with all.
+fn close<
+    J: DeskName,
+    K: ListName<BlobInfo>,
+    D: Disk + Drop,
+    S: Shelf + Drop,
+    R: Wait + Drop,
+    W: Print,
+>(rt: &W, desk: &mut OpenDesk<J, K, D, S, R>, seats: &mut Vec<Seat<J>>) -> Result<()> {
+    let last = seats.pop().ok_or(anyhow!("there are no seats"))?;
+    println!(rt; "closed {:?} of {}", desk.close(seats), seats.len())?;
+    seats.push(last)?;
+    println!(rt; "closed {:?}", desk.close(seats))?;
+    Ok(())
+}
+
+/// Plays these steps, each deployer in a thread of its own. Hands the deployers back.
+fn play_at_once<
+    J: DeskName + Send + Sync,
+    K: ListName<BlobInfo> + Send + Sync,
+    D: Disk + Drop + Send,
+    S: Shelf + Drop + Send,
+    R: Wait + Drop + Send + Sync,
+    W: Threads + Wait + Print + Sync,
+>(
+    rt: &W,
+    alloc: Global,
+    what: &Play<'_>,
+    desk: &OpenDesk<J, K, D, S, R>,
+    deployers: Vec<Deployer<J>>,
+    reader: &Reader<J>,
+    steps: Vec<Step>,
+) -> Result<Vec<Deployer<J>>> {
+    let scripts = deal(alloc, steps)?;
+    let shared = shared_of(alloc, deployers)?;
+    let works = works_of(alloc, scripts, what.stage, reader, what.gates)?;
+    work_at_once(rt, desk, what.gates, shared.as_slice(), works)?;
+    Ok(unshared_of(alloc, shared)?)
+}
+
+/// Plays what is asked for at a desk. Hands the deployers back.
+fn play_all<
+    J: DeskName + Send + Sync,
+    K: ListName<BlobInfo> + Send + Sync,
+    D: Disk + Drop + Send,
+    S: Shelf + Drop + Send,
+    R: Wait + Drop + Send + Sync,
+    W: Threads + Wait + Print + Sync,
+>(
+    rt: &W,
+    alloc: Global,
+    what: &Play<'_>,
+    desk: &OpenDesk<J, K, D, S, R>,
+    deployers: Vec<Deployer<J>>,
+    reader: &Reader<J>,
+) -> Result<Vec<Deployer<J>>> {
+    let steps = read(alloc, what.lines)?;
+    if what.stage != Stage::Steps {
+        return play_at_once(rt, alloc, what, desk, deployers, reader, steps);
+    }
+    let mut deployers = deployers;
+    play_steps(rt, alloc, desk, &mut deployers, steps)?;
+    Ok(deployers)
+}
+
+/// Plays the lines at an open desk, and gives the seats back.
+fn play_seated<
+    J: DeskName + Send + Sync,
+    K: ListName<BlobInfo> + Send + Sync,
+    D: Disk + Drop + Send,
+    S: Shelf + Drop + Send,
+    R: Wait + Drop + Send + Sync,
+    W: Threads + Wait + Print + Sync,
+>(
+    rt: &W,
+    alloc: Global,
+    what: &Play<'_>,
+    desk: &OpenDesk<J, K, D, S, R>,
+    seats: Seats<J>,
+    reader: &Reader<J>,
+) -> Result<Vec<Seat<J>>> {
+    let mut seats = seats;
+    let deployers = deployers_of(alloc, &mut seats, reader)?;
+    let deployers = play_all(rt, alloc, what, desk, deployers, reader)?;
+    give_back(rt, alloc, deployers)
+}
+
+/// Plays the lines at an open desk, and closes it.
+fn play_over<
+    J: DeskName + Send + Sync,
+    K: ListName<BlobInfo> + Send + Sync,
+    D: Disk + Drop + Send,
+    S: Shelf + Drop + Send,
+    R: Wait + Drop + Send + Sync,
+    W: Threads + Wait + Print + Sync,
+>(
+    rt: &W,
+    alloc: Global,
+    what: &Play<'_>,
+    desk: Box<OpenDesk<J, K, D, S, R>>,
+    seats: Seats<J>,
+    reader: Reader<J>,
+) -> Result<()> {
+    let mut desk = desk;
+    let mut seats = play_seated(rt, alloc, what, &desk, seats, &reader)?;
+    close(rt, &mut desk, &mut seats)
+}
+
+/// Plays at the desk of what is found, and closes it. If there is no memory for the desk, hands back what is found.
+fn play_at<
+    J: DeskName + Send + Sync,
+    K: ListName<BlobInfo> + Send + Sync,
+    D: Disk + Drop + Send,
+    S: Shelf + Drop + Send,
+    R: Wait + Drop + Send + Sync,
+    W: Threads + Wait + Print + Sync,
+>(
+    rt: &W,
+    alloc: Global,
+    shows: R,
+    what: &Play<'_>,
+    new: NewDesk,
+    found: Found<D, S>,
+) -> Result<Option<Found<D, S>>>
+    requires names { AreNames J.name J.parts J.book K.book new }
+    requires entries { J.found ≡ found.journal.entries }
+    requires uploads { K.found ≡ files_of found.store.known }
+    requires limit { found.limit ≡ 1000000 }
+    ensures { IfOk result (λ left. IfSome left (λ back. back ≡ found)) }
+{
+    let (desk, seats, reader) = match open::<J, K, D, S, R>(alloc, shows, new, found, VISITORS) {
+        Ok(opened) => opened,
+        Err(back) => return Ok(Some(back)),
+    };
+    let desk = boxed(alloc, desk)?;
+    play_over(rt, alloc, what, desk, seats, reader)?;
+    Ok(None)
+}
+
+/// The same under names of its own.
+fn play_anywhere<
+    D: Disk + Drop + Send,
+    S: Shelf + Drop + Send,
+    R: Threads + Wait + Print + Send + Sync,
+>(rt: &R, alloc: Global, what: &Play<'_>, found: Found<D, S>) -> Result<Option<Found<D, S>>>
+    requires limit { found.limit ≡ 1000000 }
+    ensures { IfOk result (λ left. IfSome left (λ back. back ≡ found)) }
+{
+    let new = NewDesk::new(rt, DEPLOYERS as u64);
+    play_at::<Brand, Brand, D, S, &R, R>(rt, alloc, rt, what, new, found)
+}
+
+/// What is found on a disk and a shelf.
+fn find<D: Disk + Drop, S: Shelf + Drop>(alloc: Global, disk: D, shelf: S) -> Result<Found<D, S>>
+    ensures { IfOk result (λ found. found.limit ≡ 1000000) }
+{
+    match Found::open(alloc, disk, shelf, GREATEST_LIMIT) {
+        Ok(found) => Ok(found),
+        Err(stop) => Err(anyhow!("no host is found: {:?}", stop.fault)),
+    }
+}
+
+/// Plays at the desk of what is found. If there is no memory for the desk, it is opened once more.
+fn play_found<
+    D: Disk + Drop + Send,
+    S: Shelf + Drop + Send,
+    R: Threads + Wait + Print + Send + Sync,
+>(rt: &R, alloc: Global, what: &Play<'_>, found: Found<D, S>) -> Result<()>
+    requires limit { found.limit ≡ 1000000 }
+{
+    let Some(back) = play_anywhere(rt, alloc, what, found)? else {
+        return Ok(());
+    };
+    println!(rt; "found {} again", back.history().len())?;
+    match play_anywhere(rt, alloc, what, back)? {
+        Some(_) => Err(anyhow!("a desk has no memory twice")),
+        None => Ok(()),
+    }
+}
+
+/// Plays at the desk of what is found on a disk and a shelf, whose calls pass gates.
+pub(crate) fn play_in<
+    D: Disk + Drop + Send,
+    S: Shelf + Drop + Send,
+    R: Threads + Wait + Print + Send + Sync,
+>(rt: &R, alloc: Global, what: &Play<'_>, disk: D, shelf: S) -> Result<()> {
+    let disk = GatedDisk::new(disk, &what.gates.syncs);
+    let shelf = GatedShelf::new(shelf, &what.gates.puts);
+    let found = find(alloc, disk, shelf)?;
+    println!(rt; "found {}", found.history().len())?;
+    play_found(rt, alloc, what, found)?;
+    what.gates.tell(rt)
+}

@@ -1,0 +1,37 @@
+"""Loads of one file of a shelf, each held by a library in C (hold_reads.c) until a gate is opened."""
+
+import subprocess
+import time
+
+from lib.client import HERE, PATIENCE, SECONDS
+
+SOURCE = HERE / "hold_reads.c"
+# After so many seconds a load that is still held goes on, so that a program which waits for it comes to an end. No test holds one for so long.
+LONGEST_HOLD = 60
+
+
+class HeldLoads:
+    """The loads of this file. The library, the gate and what was told are in a folder of their own."""
+
+    def __init__(self, room, file):
+        self.library, self.gate, self.told_in = (room / name for name in ("hold_reads.so", "gate", "told"))
+        subprocess.run(["gcc", "-O1", "-shared", "-fPIC", "-o", self.library, SOURCE, "-ldl"], check=True, timeout=SECONDS)
+        self.environment = {
+            "LD_PRELOAD": str(self.library), "HELD_FILE": str(file), "GATE_FILE": str(self.gate), "TOLD_FILE": str(self.told_in),
+            "HELD_SECONDS": str(LONGEST_HOLD),
+        }
+
+    def told(self):
+        """What was told of the file, in order: `opened`, and for each read `held`, and then `went on` or `gave up`."""
+        return self.told_in.read_text().splitlines() if self.told_in.exists() else []
+
+    def wait(self, *lines):
+        """Waits until exactly these lines were told."""
+        until = time.monotonic() + PATIENCE
+        while self.told() != list(lines):
+            assert time.monotonic() < until, f"{self.told()} was told, and not {lines}"
+            time.sleep(0.002)
+
+    def open(self):
+        """Opens the gate. It stays open."""
+        self.gate.touch()

@@ -1,0 +1,69 @@
+/* Is before the C library's calls on files in a program, and holds each read of the file HELD_FILE until there is a file GATE_FILE, at most
+ * for HELD_SECONDS. It tells in lines of the file TOLD_FILE when the held file is opened, when a read of it is held, and when that read goes
+ * on: since the gate is open, or since it gives up. */
+#define _GNU_SOURCE
+#include <dlfcn.h>
+#include <fcntl.h>
+#include <stdarg.h>
+#include <stdio.h>
+#include <stdlib.h>
+#include <string.h>
+#include <time.h>
+#include <unistd.h>
+
+#define NEXT(name) ((typeof(&name))dlsym(RTLD_NEXT, #name))
+
+static int is_held(const char *path) {
+    const char *held = getenv("HELD_FILE");
+    return held && strcmp(path, held) == 0;
+}
+
+static int is_held_descriptor(int fd) {
+    char link[64], path[4096];
+    snprintf(link, sizeof link, "/proc/self/fd/%d", fd);
+    ssize_t size = readlink(link, path, sizeof path - 1);
+    if (size < 0) return 0;
+    path[size] = 0;
+    return is_held(path);
+}
+
+/* One write to the end of the file: lines of two threads don't mix. */
+static void tell(const char *line) {
+    int file = NEXT(open)(getenv("TOLD_FILE"), O_WRONLY | O_APPEND | O_CREAT | O_CLOEXEC, 0666);
+    if (file < 0 || write(file, line, strlen(line)) < 0) abort();
+    close(file);
+}
+
+static void hold(void) {
+    const struct timespec pause = {0, 1000000};
+    const char *gate = getenv("GATE_FILE");
+    time_t until = time(NULL) + atoi(getenv("HELD_SECONDS"));
+    tell("held\n");
+    while (access(gate, F_OK) != 0) {
+        if (time(NULL) > until) {
+            tell("gave up\n");
+            return;
+        }
+        nanosleep(&pause, NULL);
+    }
+    tell("went on\n");
+}
+
+int open(const char *path, int flags, ...) {
+    va_list rest;
+    va_start(rest, flags);
+    mode_t mode = va_arg(rest, mode_t);
+    va_end(rest);
+    if (is_held(path)) tell("opened\n");
+    return NEXT(open)(path, flags, mode);
+}
+
+ssize_t read(int fd, void *bytes, size_t size) {
+    if (is_held_descriptor(fd)) hold();
+    return NEXT(read)(fd, bytes, size);
+}
+
+ssize_t pread(int fd, void *bytes, size_t size, off_t at) {
+    if (is_held_descriptor(fd)) hold();
+    return NEXT(pread)(fd, bytes, size, at);
+}

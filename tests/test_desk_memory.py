@@ -1,0 +1,92 @@
+"""Something is asked of a desk again and again, over `shared_desk_tests`, each time with another allocation refused: where there is no memory the seat's
+count, what is shown and the bytes of the journal stay, and the same call makes the entry then. So it is with the opening of the desk.
+"""
+
+import os
+import shutil
+import subprocess
+import unittest
+
+from lib.client import SECONDS
+from lib.desks import AtDesk, Look, entering, uploading
+from lib.refused_allocations import SOURCE
+from lib.stores import opening_of
+
+OPEN = opening_of({"/a.txt": b"hello"})
+PUBLISH, REMOVE, UNDO_2 = ("publish", "one", 1), ("remove", "one", "/a.txt"), ("undo", "one", 2)
+UPLOAD = uploading(0, 1, "/a.txt", "hello")
+LACKING = ("OutOfMemory", "NotStored(OutOfMemory)")
+
+
+class Memory(AtDesk):
+    def setUp(self):
+        super().setUp()
+        self.library = self.new_folder() / "refuse_allocation.so"
+        subprocess.run(["gcc", "-O1", "-shared", "-fPIC", "-o", self.library, SOURCE, "-ldl"], check=True, timeout=SECONDS)
+        self.copy = self.new_folder() / "store"
+
+    def run_refusing(self, place, *lines):
+        """The same in a copy of the folder. Answers how it ends, what is printed, the journal's bytes then, and how many allocations there were."""
+        counted = self.library.with_name("allocations")
+        shutil.copytree(self.folder, self.copy)
+        names = {"LD_PRELOAD": str(self.library), "REFUSED_PLACE": str(place), "ALLOCATIONS_FILE": str(counted)}
+        status, printed, _ = self.run_lines("steps", lines, folder=self.copy, env=os.environ | names)
+        found = (self.copy / "journal").read_bytes()
+        shutil.rmtree(self.copy)
+        return status, printed, found, int(counted.read_text())
+
+    def assert_ends(self, status, printed, found, whole):
+        """How a run may end, in which one thing is asked for twice: as the whole one, or as that one ends where memory ran out. Answers which."""
+        before, after = self.read_journal(), self.after
+        if status != 0:
+            self.assertEqual(found, after if self.made in printed.answers else before)
+            return "ended"
+        self.assertEqual((found, printed.closed), (after, whole.closed))
+        opened = [line for line in printed.lines if not line.endswith(" again")]
+        if opened == whole.lines:
+            return "opened again" if opened != printed.lines else "passed"
+        self.assertIn(printed.answers[0], LACKING)
+        self.assertEqual(printed.answers[1], self.made)
+        self.assertEqual(printed.looks, [self.earlier, whole.looks[0]])
+        return "asked again"
+
+    def assert_made_once_there_is_memory(self, line, earlier, look):
+        """`earlier` is what was seen before this line, `look` what is seen after it."""
+        self.earlier, self.made = earlier, f"Made({len(look.words)})"
+        status, whole, self.after, count = self.run_refusing(0, line, line)
+        self.assertEqual((status, whole.answers[0], whole.looks[0]), (0, self.made, look))
+        ends = []
+        for place in range(1, count + 1):
+            with self.subTest(place=place):
+                status, printed, found, _ = self.run_refusing(place, line, line)
+                ends.append(self.assert_ends(status, printed, found, whole))
+        self.assertGreater(ends.count("asked again"), 10)
+        self.assertGreater(ends.count("opened again"), 10)
+        self.assert_journal_stays(line)
+
+    def assert_journal_stays(self, line):
+        """Where it is asked for once, and there is no memory, the journal has the bytes that it had."""
+        before, lacking = self.read_journal(), 0
+        _, _, _, count = self.run_refusing(0, line)
+        for place in range(1, count + 1):
+            status, printed, found, _ = self.run_refusing(place, line)
+            if status == 0 and printed.answers[0] in LACKING:
+                lacking += 1
+                self.assertEqual((found, printed.looks, printed.closed[1]), (before, [self.earlier], f"Some({len(self.earlier.words)})"))
+        self.assertGreater(lacking, 10)
+
+    def test_an_upload_publishes(self):
+        self.play("steps", entering(0, OPEN))
+        self.assert_made_once_there_is_memory(UPLOAD, Look.of(0, False, [OPEN]), Look.of(1, True, [OPEN, PUBLISH]))
+
+    def test_a_change_is_made(self):
+        self.play("steps", entering(0, OPEN), UPLOAD)
+        self.assert_made_once_there_is_memory(entering(0, REMOVE), Look.of(0, True, [OPEN, PUBLISH]), Look.of(1, False, [OPEN, PUBLISH, REMOVE]))
+
+    def test_an_undo_is_made(self):
+        self.play("steps", entering(0, OPEN), UPLOAD)
+        self.assert_made_once_there_is_memory(entering(0, UNDO_2), Look.of(0, True, [OPEN, PUBLISH]), Look.of(1, False, [OPEN, PUBLISH, UNDO_2]))
+
+
+if __name__ == "__main__":
+    unittest.main()
