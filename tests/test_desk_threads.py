@@ -3,6 +3,7 @@ each refusal is one over the log that it tells, and no reader sees less than bef
 """
 
 import collections
+import itertools
 import random
 import re
 import unittest
@@ -105,7 +106,7 @@ class Threads(AtDesk):
         with self.start("threads") as program:
             program.stdin.write("".join(f"{line}\n" for line in lines_of(each)))
             program.stdin.close()
-            lines = [line for line, _ in zip(program.stdout, range(LINES_BEFORE_THE_KILL))]
+            lines = list(itertools.islice(program.stdout, LINES_BEFORE_THE_KILL))
             program.kill()
             return Answers("".join(lines) + program.stdout.read())
 

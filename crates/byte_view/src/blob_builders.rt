@@ -12,20 +12,20 @@ use std::alloc::Global;
 use std::marker::Model;
 use thiserror::Error;
 
-/// How many bytes a file on a shelf has at most.
+/// The most bytes that a file has.
 pub const MAX_SIZE: usize = 16_777_216;
 
 /// Why a chunk can't be added.
 #[derive(Clone, Copy, Debug, PartialEq, Eq, Error)]
 pub enum JoinFault {
-    /// It is not the next piece of a file of at most `MAX_SIZE` bytes that has the pieces before it.
+    /// The chunk is not the next piece of a file that has the pieces before it and at most `MAX_SIZE` bytes.
     #[error("a chunk is not the next piece of a file")]
     Misfit,
     #[error("out of memory")]
     OutOfMemory,
 }
 
-/// Reads the bytes so far and those of the next chunk off both, for clauses alone.
+/// Tells clauses the bytes so far and those of the next chunk, joined. No code runs for it.
 struct AndBytes;
 
 impl<'a> Names<(&'a Tag, &'a [u8])> for AndBytes {
@@ -34,7 +34,7 @@ impl<'a> Names<(&'a Tag, &'a [u8])> for AndBytes {
     ghost numbers = { λ both. both.0.now.numbers ++ both.1.now };
 }
 
-/// The pieces of a file that have been read, of which only the names are kept. Contracts see the bytes so far.
+/// The front of a file that has been read, piece by piece. It keeps the pieces' names alone. Contracts see the bytes so far.
 #[derive(Drop)]
 pub struct BlobBuilder {
     hasher: Sha1,
@@ -55,7 +55,7 @@ impl Model for BlobBuilder {
     ghost invariant = { λ j. Holds j.hasher j.contents.numbers × (j.size ≡ length j.contents.numbers) × (j.size ≤ 16777216) × (j.names.items ≡ names_of j.contents.numbers) };
 }
 
-/// Whether a chunk of this length is the next piece of a file that has so many bytes before it.
+/// Whether a chunk of `length` bytes can follow the first `size` bytes of a file.
 fn follows(size: usize, length: usize) -> bool
     requires { size ≤ 16777216 }
     ensures { IsTrue result ↔ ((size % 65536 ≡ 0) × (0 < length) × (length ≤ 65536) × (size + length ≤ 16777216)) }
@@ -64,7 +64,7 @@ fn follows(size: usize, length: usize) -> bool
 }
 
 impl BlobBuilder {
-    /// No pieces yet.
+    /// A builder that has no pieces yet.
     pub fn new(alloc: Global) -> BlobBuilder
         ensures { result ≡ [] }
     {
@@ -76,7 +76,7 @@ impl BlobBuilder {
         }
     }
 
-    /// Adds a chunk, if it is the next piece of a file. After a fault there are those that there were.
+    /// Adds a chunk, if it can be the file's next piece. After a fault the builder has the pieces that it had.
     pub fn add(&mut self, chunk: &Chunk) -> Result<(), JoinFault>
         ensures joined { OnOk result (self.new ≡ self.old ++ chunk.now) }
         ensures fits { OnOk result (Follows self.old chunk.now) }
@@ -97,7 +97,7 @@ impl BlobBuilder {
         Ok(())
     }
 
-    /// What is kept of the file of all these pieces.
+    /// Describes the file of these pieces.
     pub fn finish(self) -> BlobInfo
         ensures { result ≡ self }
     {

@@ -1,4 +1,4 @@
-//! What is kept of a file without its bytes.
+//! Descriptions of files: their digests, sizes and pieces.
 ghost use Rattle.std.specs.Prelude.{◌≡◌, ◌≢◌, ◌+◌, ◌<◌, ◌≤◌, [], IfOk, OnErr, length, map, slice_range};
 ghost use Rattle.host_names.specs.Digests.{digest_of};
 ghost use Rattle.byte_view.specs.Cuts.{names_of, pieces_met, place_of};
@@ -9,18 +9,18 @@ use std::alloc::{AllocError, Global};
 use std::marker::Model;
 use std::ops::Range;
 
-/// How many bytes a piece of a file has, but for the last one, which has the rest.
+/// The bytes of each piece of a file but the last, which has the rest.
 pub const PIECE_SIZE: usize = 65_536;
 
-/// Reads all bytes of a slice off it, for clauses alone.
+/// Tells clauses the bytes of a slice. No code runs for it.
 struct AllBytes;
 
 impl<'a> Names<&'a [u8]> for AllBytes {
     ghost numbers = { λ bytes. bytes.now };
 }
 
-/// A file's digest, its size, and the names of its pieces. Contracts see the file's bytes, but no bytes are kept:
-/// `contents` is there for clauses alone, and takes no room.
+/// A file's digest, its size, and the names of its pieces. It doesn't hold the file's bytes, though contracts see them: `contents` is
+/// there for clauses alone and takes no room.
 #[derive(Drop)]
 pub struct BlobInfo {
     pub(crate) digest: Digest,
@@ -54,8 +54,8 @@ fn names_in(alloc: Global, bytes: &[u8]) -> Result<Vec<Digest>, AllocError>
 }
 
 impl BlobInfo {
-    /// What is kept of the file of these bytes. It is made to take memory for the names alone; of the empty file it
-    /// never lacks any.
+    /// Describes the file of these bytes. The empty file needs no memory; by design, any other needs it for the names of its pieces
+    /// alone.
     pub fn of(alloc: Global, bytes: &[u8]) -> Result<BlobInfo, AllocError>
         ensures info { IfOk result (λ info. info ≡ bytes.now) }
         ensures memory { OnErr result (bytes.now ≢ []) }
@@ -63,7 +63,7 @@ impl BlobInfo {
         BlobInfo::digested(alloc, Digest::of_bytes(bytes), bytes)
     }
 
-    /// The same, where their digest is known already.
+    /// Describes the file of these bytes, whose digest the caller knows.
     pub fn digested(alloc: Global, digest: Digest, bytes: &[u8]) -> Result<BlobInfo, AllocError>
         requires { digest ≡ digest_of bytes.now }
         ensures info { IfOk result (λ info. info ≡ bytes.now) }
@@ -85,21 +85,21 @@ impl BlobInfo {
         self.digest
     }
 
-    /// How many bytes the file has.
+    /// The file's size in bytes.
     pub fn len(&self) -> usize
         ensures { result ≡ length self.now }
     {
         self.size
     }
 
-    /// The names of its pieces, in order.
+    /// The names of the file's pieces, in order.
     pub fn names(&self) -> &[Digest]
         ensures { result.now ≡ names_of self.now }
     {
         self.names.as_slice()
     }
 
-    /// The places of the pieces that have a byte of a stretch, from its first to its last byte.
+    /// The places of the pieces that a stretch meets: of each piece with a byte from `first` to `last`.
     pub fn piece_range(&self, first: usize, last: usize) -> Range<usize>
         requires ordered { first ≤ last }
         requires within { last < length self.now }

@@ -1,4 +1,4 @@
-//! The parts of a body, each as it lies.
+//! The parts of a body, which is never joined in memory.
 ghost use Rattle.std.specs.Prelude.{◌≡◌, ℕ, List, Option, length};
 ghost use Rattle.std.specs.List.{concat};
 ghost use Rattle.std.specs.Iterator.{UpTo, YieldsFirstBy};
@@ -7,7 +7,7 @@ ghost use Rattle.byte_view.specs.BodyParts.{text_of};
 use arrayvec::ArrayString;
 use std::iter::Iterator;
 
-/// A part of a body: a short text that was made for it, or bytes that are lent and stay where they are.
+/// A part of a body: a short text of its own, or bytes that it borrows.
 #[derive(Clone, Copy, Debug)]
 pub enum Part<'a> {
     Text(ArrayString<256>),
@@ -15,7 +15,7 @@ pub enum Part<'a> {
 }
 
 impl<'a> Part<'a> {
-    /// Its bytes. It takes no memory.
+    /// The part's bytes. The call allocates nothing.
     pub fn bytes(&self) -> &[u8]
         ensures { result.now ≡ text_of self.now }
     {
@@ -26,23 +26,23 @@ impl<'a> Part<'a> {
     }
 }
 
-/// The parts of a body, one after another. How many bytes they have together is known before the first is given.
+/// The parts of a body, in order. Their total length is known before the first is given.
 pub trait BodyParts: Iterator {
     // The bytes of a part.
     ghost text: { Self.Item → List ℕ };
 
-    // Those of each part that is left.
+    // The bytes of each part that is left.
     ghost texts: { Self → List (List ℕ) };
 
-    /// The bytes of a part. It takes no memory.
+    /// The bytes of a part. The call allocates nothing.
     fn bytes(part: &Self::Item) -> &[u8]
         ensures { result.now ≡ text part.now };
 
-    /// How many bytes the parts have that are left.
+    /// The total length of the parts that are left, in bytes.
     fn length(&self) -> u64
         ensures { result ≡ length (concat (texts self.now)) };
 
-    // Each call of `next` gives the first of them.
+    // Each call of `next` gives the first part that is left.
     ghost gives: { (old : Self) (part : Option Self.Item) (new : Self) → Self.next_gives old part new
         → YieldsFirstBy text texts old part new };
 

@@ -1,4 +1,4 @@
-//! Chunks: bytes under their own names.
+//! Chunks: bytes with their digest as their name.
 ghost use Rattle.std.specs.Prelude.{◌≡◌, ◌↔◌, IfErr, IfOk, IsOk};
 ghost use Rattle.host_names.specs.Digests.{digest_of};
 ghost use Rattle.byte_view.specs.Views.{bytes_of};
@@ -8,14 +8,14 @@ use host_names::Digest;
 use std::marker::Model;
 use thiserror::Error;
 
-/// Some bytes don't have the name that they were given for.
+/// The digest of the bytes is not the name that was asked for.
 #[derive(Debug, Drop, Error)]
 #[error("the bytes have another name")]
 pub struct WrongName {
     pub bytes: Vec<u8>,
 }
 
-/// Bytes, such as a piece of a file, and their name, which is their SHA-1 digest (FIPS 180-4). Contracts see the bytes.
+/// Bytes, such as a piece of a file, and their name: their SHA-1 digest (FIPS 180-4). Contracts see the bytes.
 #[derive(Debug, Drop)]
 pub struct Chunk {
     name: Digest,
@@ -34,7 +34,7 @@ impl Model for Chunk {
 }
 
 impl Chunk {
-    /// The chunk of these bytes, if that is their name.
+    /// Makes a chunk of these bytes, if `name` is their digest. Otherwise it hands the bytes back.
     pub fn check(name: Digest, bytes: Vec<u8>) -> Result<Chunk, WrongName>
         ensures named { IsOk result ↔ (digest_of bytes.items ≡ name) }
         ensures kept { IfOk result (λ chunk. chunk ≡ bytes.items) }
@@ -46,14 +46,14 @@ impl Chunk {
         Ok(Chunk { name, bytes })
     }
 
-    /// Its name.
+    /// The chunk's name.
     pub fn name(&self) -> Digest
         ensures { result ≡ digest_of self.now }
     {
         self.name
     }
 
-    /// Its bytes.
+    /// The chunk's bytes.
     pub fn view(&self) -> View<'_>
         ensures { bytes_of result ≡ self.now }
     {

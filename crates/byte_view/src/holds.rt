@@ -1,4 +1,4 @@
-//! Chunks of a file that are held together.
+//! Holds: the chunks of one stretch of a file.
 ghost use Rattle.std.specs.Prelude.{◌≡◌, ◌↔◌, ◌<◌, ◌≤◌, ◌-◌, All, IfErr, IfOk, IsOk, IsTrue, length, map};
 ghost use Rattle.std.specs.List.{concat};
 ghost use Rattle.host_names.specs.Digests.{digest_of};
@@ -12,14 +12,14 @@ use std::marker::Model;
 use std::sync::Arc;
 use thiserror::Error;
 
-/// A chunk has the name of a piece, and another length.
+/// A chunk has the name of a piece, but not its length.
 #[derive(Debug, Drop, Error)]
 #[error("a chunk is not as long as its piece")]
 pub struct WrongLength {
     pub chunks: Vec<Arc<Chunk>>,
 }
 
-/// The chunks that a stretch of a file meets, from its first to its last byte.
+/// A stretch of a file, from its first to its last byte, and the chunks that have its bytes.
 #[derive(Drop)]
 pub struct Hold {
     info: Arc<BlobInfo>,
@@ -39,7 +39,7 @@ impl Model for Hold {
     ghost invariant = { λ h. IsHeld (record { file = h.info.value; first = h.first; last = h.last; chunks = map (λ chunk. chunk.value) h.chunks.items }) };
 }
 
-/// Whether each chunk has the length of its piece, where so many bytes of the file are left from the first piece on.
+/// Whether each chunk has the length of its piece. The file has `left` bytes from the start of the first of these pieces on.
 fn have_sizes(chunks: &[Arc<Chunk>], mut left: usize) -> bool
     ensures { IsTrue result ↔ HaveSizes (map (λ chunk. chunk.value) chunks.now) left }
 {
@@ -55,7 +55,7 @@ fn have_sizes(chunks: &[Arc<Chunk>], mut left: usize) -> bool
 impl Hold {
     ghost use Rattle.byte_view.specs.Holds.{Held, IsHeld, LiesIn, chunks_met, held_part, lent};
 
-    /// These chunks for that stretch of the file, if each is as long as the piece whose name it has.
+    /// Holds these chunks for the stretch from `first` to `last`, if each is as long as its piece. Otherwise it hands them back.
     pub fn new(
         info: Arc<BlobInfo>,
         first: usize,
@@ -81,7 +81,7 @@ impl Hold {
         })
     }
 
-    /// The first and the last byte of the stretch that is held.
+    /// The first and the last byte of the stretch.
     pub fn stretch(&self) -> (usize, usize)
         ensures value { result ≡ (self.now.first, self.now.last) }
         ensures held { IsHeld self.now }
@@ -89,7 +89,7 @@ impl Hold {
         (self.first, self.last)
     }
 
-    /// What a stretch of the hold has of each chunk that it meets.
+    /// The bytes from `first` to `last`, a slice of each chunk that has some of them. The hold lends them.
     pub fn pieces(&self, first: usize, last: usize) -> Pieces<'_>
         requires { LiesIn self.now first last }
         ensures each { result ≡ lent self.now first last }

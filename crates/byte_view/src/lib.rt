@@ -1,4 +1,4 @@
-//! Files in pieces of 64 KiB: chunks, which are checked by their names, and slices that are lent of them without a copy.
+//! Files in pieces of 64 KiB: chunks, which are checked by their names, and slices of them, which are borrowed and never copied.
 #![tactic(auto)]
 
 mod blob_builders;

@@ -1,4 +1,4 @@
-//! What a stretch of a file has of one chunk after another.
+//! Slices of chunks that together are a stretch of a file.
 ghost use Rattle.std.specs.Prelude.{◌≡◌, ◌<◌, ◌≤◌, All, length, map};
 ghost use Rattle.std.specs.Iterator.{YieldsFirstRef, at_most};
 ghost use Rattle.byte_view.specs.Parts.{parts};
@@ -9,13 +9,13 @@ use std::iter::Iterator;
 use std::marker::Model;
 use std::sync::Arc;
 
-/// Slices of chunks, one after another. Contracts see the list of those that are left.
+/// Slices of chunks, in order. Contracts see the list of those that are left.
 #[derive(Drop)]
 pub struct Pieces<'a> {
     chunks: &'a [Arc<Chunk>],
-    /// Where the first of them begins in its chunk.
+    /// Where the first slice begins in its chunk.
     from: usize,
-    /// Where the last of them ends, counted from the start of the first chunk.
+    /// Where the last slice ends, counted from the start of the first chunk.
     to: usize,
 }
 
@@ -31,7 +31,7 @@ impl<'a> Model for Pieces<'a> {
 }
 
 impl<'a> Pieces<'a> {
-    /// What is in these chunks from a place in the first of them on, up to a place that is counted from there too.
+    /// The bytes from `from` up to `to`, both counted from the start of the first chunk.
     pub(crate) fn new(chunks: &'a [Arc<Chunk>], from: usize, to: usize) -> Pieces<'a>
         requires start { from < 65536 }
         requires filled { All (λ piece. 0 < length piece) (parts (map (λ chunk. chunk.value) chunks.now) from to) }

@@ -1,7 +1,7 @@
-//! Bytes that are looked through where they are.
+//! Borrowed bytes.
 ghost use Rattle.std.specs.Prelude.{◌≡◌, ◌↔◌, ◌<◌, ◌≤◌, IsTrue, length, slice_index, slice_range};
 
-/// Bytes that are lent, and stay where they are.
+/// Borrowed bytes, which stay where they are.
 #[derive(Clone, Copy)]
 pub struct View<'a> {
     bytes: &'a [u8],
@@ -10,21 +10,21 @@ pub struct View<'a> {
 impl<'a> View<'a> {
     ghost use Rattle.byte_view.specs.Views.{bytes_of};
 
-    /// These bytes.
+    /// A view of these bytes.
     pub(crate) fn new(bytes: &'a [u8]) -> View<'a>
         ensures { bytes_of result ≡ bytes.now }
     {
         View { bytes }
     }
 
-    /// How many bytes there are.
+    /// The number of bytes.
     pub fn len(&self) -> usize
         ensures { result ≡ length (bytes_of self.now) }
     {
         self.bytes.len()
     }
 
-    /// The byte at a place.
+    /// The byte at `place`.
     pub fn at(&self, place: usize) -> u8
         requires { place < length (bytes_of self.now) }
         ensures { result ≡ slice_index (bytes_of self.now) place }
@@ -32,7 +32,7 @@ impl<'a> View<'a> {
         self.bytes[place]
     }
 
-    /// Those from a place on, up to another place.
+    /// The bytes from `from` up to `to`, without the one at `to`.
     pub fn slice(&self, from: usize, to: usize) -> View<'a>
         requires ordered { from ≤ to }
         requires within { to ≤ length (bytes_of self.now) }
@@ -43,14 +43,14 @@ impl<'a> View<'a> {
         }
     }
 
-    /// Whether they are these.
+    /// Whether the bytes are those of `other`.
     pub fn equal(&self, other: &[u8]) -> bool
         ensures { IsTrue result ↔ (bytes_of self.now ≡ other.now) }
     {
         self.bytes == other
     }
 
-    /// The bytes, for as long as they are lent.
+    /// The bytes, for as long as they are borrowed.
     pub fn bytes(&self) -> &'a [u8]
         ensures { result.now ≡ bytes_of self.now }
     {

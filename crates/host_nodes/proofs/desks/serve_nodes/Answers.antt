@@ -1,4 +1,4 @@
-use Rattle.host_nodes.proofs.Crossing.{desk_sync}
+use Rattle.shared_desk.proofs.Crossing.{desk_sync}
 use Rattle.host_nodes.proofs.desks.serve_nodes.Goals as goal
 
 pub share_out-requires-sync-A : goal.share_out-requires-sync-A

@@ -1,4 +1,4 @@
-use Rattle.shared_desk_tests.proofs.Crossing.{desk_sync}
+use Rattle.shared_desk.proofs.Crossing.{desk_sync}
 use Rattle.shared_desk_tests.proofs.threads.do_all.Goals as goal
 
 pub share_out-requires-sync-A : goal.share_out-requires-sync-A
