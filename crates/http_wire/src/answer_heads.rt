@@ -1,4 +1,4 @@
-//! Heads of answers.
+//! Judges the heads of answers.
 ghost use Rattle.std.specs.Prelude.{◌≡◌, ℕ, All, IfErr, IfNone, IfOk, IfSome, length, map, take};
 ghost use Rattle.httparse.specs.Spans.{header_bytes, IsHeaderWithin, IsResponseWithin};
 ghost use Rattle.http_wire.specs.Answers.{AnswerParts, HasOneLength, HeadAnswers, Tells};
@@ -11,7 +11,7 @@ use crate::lengths::read_length;
 use httparse::Status;
 use httparse::spans::{EMPTY_HEADER_SPAN, HeaderSpan, ResponseSpans, parse_response};
 
-// Where the parts of the head lie, if the whole text is one whose fields fit.
+// Finds the spans of the head's parts, if the whole text is a head whose fields fit in `room`.
 fn find_parts(text: &[u8], room: &mut [HeaderSpan]) -> Result<ResponseSpans, AnswerFault>
     requires { length room.old ≡ FIELD_LIMIT }
     ensures found { IfOk result (λ spans. Tells text.now
@@ -26,7 +26,7 @@ fn find_parts(text: &[u8], room: &mut [HeaderSpan]) -> Result<ResponseSpans, Ans
     }
 }
 
-// The one length that fields have, unless a transfer coding is next to it.
+// Returns the only length in the fields, unless they also have a transfer coding.
 fn one_length(text: &[u8], fields: &[HeaderSpan]) -> Option<u64>
     requires { All (IsHeaderWithin (length text.now)) fields.now }
     ensures some { IfSome result (HasOneLength (map (header_bytes text.now) fields.now)) }
@@ -45,7 +45,7 @@ fn one_length(text: &[u8], fields: &[HeaderSpan]) -> Option<u64>
     }
 }
 
-/// How many bytes the body of an answer has that is read after this head, or the first reason why none is. It takes no memory.
+/// Returns the size in bytes of the body to read after this head, or the first reason why no body is read. Allocates no memory.
 pub fn judge(text: &[u8], limit: u64) -> Result<u64, AnswerFault>
     ensures { HeadAnswers result limit text.now }
 {

@@ -18,20 +18,20 @@ use thiserror::Error;
 /// Why an answer gives no body.
 #[derive(Clone, Copy, Debug, PartialEq, Eq, Error)]
 pub enum AnswerFault {
-    /// Its status is not 200.
+    /// The status is not 200.
     #[error("the status of the answer is not 200")]
     NotOk,
-    /// A read failed, or the input ended before the answer was whole.
+    /// A read failed, or the input ended before the answer was complete.
     #[error("the answer could not be read")]
     ReadFault,
-    /// Its head is not one of the grammar, doesn't end within 16,384 bytes, has more than 64 fields, or doesn't have exactly one valid
+    /// The head doesn't match the grammar, doesn't end within 16,384 bytes, has more than 64 fields, or doesn't have exactly one valid
     /// length.
     #[error("this is not the head of an answer that is read")]
     BadHead,
-    /// Its length is over the limit.
+    /// The length exceeds the limit.
     #[error("the body of the answer is too long")]
     TooLong,
-    /// No memory for it.
+    /// Memory for the answer could not be allocated.
     #[error("no memory for the answer")]
     OutOfMemory,
 }
@@ -46,7 +46,7 @@ impl From<AllocError> for AnswerFault {
     }
 }
 
-// What a head that was not found comes to.
+// Converts the fault of a head that was not found.
 fn without_head(fault: HeadFault) -> AnswerFault
     ensures { result ≡ fault_of_head fault }
 {
@@ -57,7 +57,7 @@ fn without_head(fault: HeadFault) -> AnswerFault
     }
 }
 
-// What a body that was not read comes to.
+// Converts the fault of a body that was not read.
 fn without_body(fault: BodyFault) -> AnswerFault
     ensures { result ≡ fault_of_body fault }
 {
@@ -67,7 +67,7 @@ fn without_body(fault: BodyFault) -> AnswerFault
     }
 }
 
-// Reads an answer from the stream, where nothing was read before.
+// Reads an answer from a stream from which nothing was read before.
 fn take_answer<D: Steady>(
     buffer: &mut Buffer,
     duplex: &mut D,
@@ -93,11 +93,13 @@ fn take_answer<D: Steady>(
     }
 }
 
-/// Reads the answer to a request for a path, and gives its body, of at most `limit` bytes. Writes nothing.
+/// Reads the answer to a request for a path and returns its body, of at most `limit` bytes. Writes nothing.
 ///
-/// Its head is judged before more of its body is read: a status other than 200 is NotOk, whatever else the head says; not exactly one valid
-/// length is BadHead, and one over the limit TooLong. Memory is taken for the longest head, and for the body as its bytes come, by design
-/// for twice as many at most and no more than the length that is said. It may read beyond the answer: the stream brings no other.
+/// The function judges the head before it reads more of the body. A status other than 200 is `NotOk`, whatever else the head says. A head
+/// without exactly one valid length is `BadHead`. A length over the limit is `TooLong`.
+///
+/// The function allocates memory for the longest head. It allocates memory for the body as the bytes arrive: by design, at most twice the
+/// bytes that arrived and no more than the announced length. It may read beyond the answer, as the stream brings no other answer.
 pub fn read_answer<D: Steady>(
     alloc: Global,
     duplex: &mut D,

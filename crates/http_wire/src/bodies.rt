@@ -10,8 +10,8 @@ use crate::faults::BodyFault;
 use crate::halts::Halt;
 use std::alloc::AllocError;
 
-// Makes room for `more` bytes, and for as many again as the body then has, up to `size`: so a body has room for no
-// more than twice the bytes that came, and takes few allocations.
+// Makes room for `more` bytes. A new allocation has room for twice the resulting length, up to `size`, so a body has room for at most
+// twice the bytes that arrived and needs few allocations.
 fn make_room(body: &mut Vec<u8>, more: usize, size: usize) -> Result<(), AllocError>
     requires { vec_len body.old + more ≤ size }
     ensures same { body.new.items ≡ body.old.items }
@@ -26,7 +26,7 @@ fn make_room(body: &mut Vec<u8>, more: usize, size: usize) -> Result<(), AllocEr
     body.reserve_exact(more + len.min(size - len))
 }
 
-// Moves the front of the buffer to the end of the body, as much as there is and as the body lacks of its size.
+// Moves bytes from the front of the buffer to the end of the body, until the buffer is empty or the body has `size` bytes.
 fn move_front(buffer: &mut Buffer, body: &mut Vec<u8>, size: usize) -> Result<(), AllocError>
     requires { vec_len body.old ≤ size }
     ensures moved { body.new.items ++ buffer.new ≡ body.old.items ++ buffer.old }
@@ -42,8 +42,8 @@ fn move_front(buffer: &mut Buffer, body: &mut Vec<u8>, size: usize) -> Result<()
     Ok(())
 }
 
-/// Goes on reading a body of so many bytes, of which a part is there: from the buffer and then from the stream after it. Memory is taken
-/// as the bytes come.
+/// Continues to read a body of `size` bytes, part of which is already in `body`. Takes bytes first from the buffer and then from the stream.
+/// Allocates memory as the bytes arrive.
 pub fn fill_body<D: Duplex>(
     buffer: &mut Buffer,
     duplex: &mut D,
@@ -72,7 +72,7 @@ pub fn fill_body<D: Duplex>(
     Ok(())
 }
 
-/// Reads a body of so many bytes, from the buffer and then from the stream after it, which never has to wait.
+/// Reads a body of `count` bytes, first from the buffer and then from the stream, which never has to wait.
 pub fn read_body<D: Steady>(
     buffer: &mut Buffer,
     duplex: &mut D,

@@ -1,4 +1,4 @@
-//! Bytes that were read and not yet taken.
+//! A buffer of bytes that were read and not yet consumed.
 ghost use Rattle.std.specs.Prelude.{◌≡◌, ℕ, ◌≤◌, ◌<◌, ◌+◌, ◌-◌, List, [], ◌++◌, length, take, drop, IfOk, IfErr, slice_range, vec_len};
 ghost use Rattle.http_wire.specs.Halting.{Halts};
 ghost use Rattle.http_wire.specs.Timing.{ReadFails, read_of};
@@ -9,10 +9,10 @@ use crate::sources::ReadFailed;
 use std::alloc::{AllocError, Global};
 use std::marker::Model;
 
-/// How many bytes a head has at most, the empty lines before it included, and a buffer holds.
+/// The maximum size of a head in bytes, including the empty lines before it. It is also the capacity of a buffer.
 pub(crate) const HEAD_LIMIT: usize = 16384;
 
-/// Bytes that were read from a stream and not yet taken, at most `HEAD_LIMIT` of them. A contract sees their list.
+/// Bytes that were read from a stream and not yet consumed, at most `HEAD_LIMIT` of them. Contracts see the list of these bytes.
 #[derive(Drop)]
 pub struct Buffer {
     bytes: Vec<u8>,
@@ -29,7 +29,7 @@ impl Model for Buffer {
 }
 
 impl Buffer {
-    /// An empty buffer, with all its room.
+    /// Returns an empty buffer and allocates its whole capacity.
     pub fn new(alloc: Global) -> Result<Buffer, AllocError>
         ensures { IfOk result (λ buffer. buffer ≡ []) }
     {
@@ -40,12 +40,12 @@ impl Buffer {
         })
     }
 
-    /// Where its memory comes from.
+    /// Returns the allocator of the buffer.
     pub fn allocator(&self) -> Global {
         *self.bytes.allocator()
     }
 
-    /// The bytes.
+    /// Returns the bytes in the buffer.
     pub fn as_slice(&self) -> &[u8]
         ensures value { result.now ≡ self.now }
         ensures fits { length self.now ≤ HEAD_LIMIT }
@@ -53,7 +53,7 @@ impl Buffer {
         &self.bytes[self.start..self.end]
     }
 
-    /// Takes the first `count` bytes away.
+    /// Removes the first `count` bytes.
     pub fn consume(&mut self, count: usize)
         requires { count ≤ length self.old }
         ensures { self.new ≡ drop count self.old }
@@ -61,8 +61,8 @@ impl Buffer {
         self.start += count;
     }
 
-    /// Reads more bytes after the others, by one read; none come only at the end. Where it fails or would have to wait, nothing
-    /// changes.
+    /// Appends more bytes with a single read and returns how many. Returns 0 only at the end of the stream. If the read fails or would
+    /// have to wait, the bytes in the buffer do not change.
     pub fn fill<D: Duplex>(&mut self, duplex: &mut D) -> Result<usize, Halt<ReadFailed>>
         requires room { length self.old < HEAD_LIMIT }
         ensures grown { IfOk result (λ count. (piece : List ℕ) × (self.new ≡ self.old ++ piece) × (length piece ≡ count)
@@ -78,7 +78,7 @@ impl Buffer {
     }
 }
 
-// Moves the bytes from `start` to `end` to the front, and answers how many they are.
+// Moves the bytes from `start` to `end` to the front and returns how many there are.
 fn pack(bytes: &mut Vec<u8>, start: usize, end: usize) -> usize
     requires ordered { start ≤ end }
     requires in_range { end ≤ vec_len bytes.old }
@@ -92,7 +92,7 @@ fn pack(bytes: &mut Vec<u8>, start: usize, end: usize) -> usize
     end - start
 }
 
-/// Reads some bytes into the room from `end` on, by one read.
+/// Reads some bytes into `bytes`, from index `end` on, with a single read.
 pub fn read_behind<D: Duplex>(
     duplex: &mut D,
     bytes: &mut [u8],

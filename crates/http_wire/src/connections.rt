@@ -1,17 +1,17 @@
-//! Whether a request asks for its connection to end.
+//! Checks whether a request asks to close its connection.
 ghost use Rattle.std.specs.Prelude.{◌≡◌, reverse};
 ghost use Rattle.http_wire.specs.Connections as connections;
 
 use crate::heads::Head;
 
-// A space or a tab.
+// Whether a byte is a space or a tab.
 fn is_blank(byte: u8) -> bool
     ensures { result ≡ connections.is_blank byte }
 {
     matches!(byte, b' ' | b'\t')
 }
 
-// A text without the blanks before it.
+// Returns a text without its leading blanks.
 fn trim_front(text: &[u8]) -> &[u8]
     ensures { result.now ≡ connections.trim_front text.now }
 {
@@ -25,7 +25,7 @@ fn trim_front(text: &[u8]) -> &[u8]
     rest
 }
 
-// A text without the blanks after it.
+// Returns a text without its trailing blanks.
 fn trim_back(text: &[u8]) -> &[u8]
     ensures { result.now ≡ reverse (connections.trim_front (reverse text.now)) }
 {
@@ -39,14 +39,14 @@ fn trim_back(text: &[u8]) -> &[u8]
     rest
 }
 
-// Whether an element is `close`, with blanks around it or without.
+// Whether an element is `close`, with or without blanks around it.
 fn is_close(element: &[u8]) -> bool
     ensures { result ≡ connections.is_close element.now }
 {
     trim_back(trim_front(element)).eq_ignore_ascii_case(b"close")
 }
 
-// Whether one of the elements, which commas part, is `close`.
+// Whether one of the comma-separated elements is `close`.
 fn lists_close(value: &[u8]) -> bool
     ensures { result ≡ connections.lists_close value.now }
 {
@@ -58,7 +58,7 @@ fn lists_close(value: &[u8]) -> bool
 impl Head {
     ghost use Rattle.http_wire.specs.Connections.{asks_close};
 
-    /// Whether a `Connection` field lists `close`, ASCII case ignored (RFC 9112, section 9.6).
+    /// Whether a `Connection` field lists `close`, ignoring ASCII case (RFC 9112, section 9.6).
     pub fn asks_close(&self) -> bool
         ensures { result ≡ asks_close self.now.fields }
     {

@@ -9,42 +9,43 @@ use crate::sinks::{Sink, WriteFailed};
 use crate::sources::{ReadFailed, Source};
 use byte_slices::Slices;
 
-/// A stream of bytes in both directions that is read and written in pieces. Each read and each write is an event that
-/// `saw` tells of, so a call that is generic over it can say in which order it read and wrote. One that would have to wait is no event: no
-/// byte was got or put, and the stream is as it was.
+/// A stream of bytes in both directions that is read and written in pieces. Each read and each write is an event that `saw` describes, so
+/// a function that is generic over the stream can state the order of its reads and writes. A call that would have to wait is not an event:
+/// it reads and writes no byte, and the stream does not change.
 pub trait Duplex {
-    // The bytes that reads will give from here on, where they are known.
+    // The bytes that later reads will return, if they are known.
     ghost left: { Self → Option (List ℕ) };
 
-    // The bytes that were written, where they are known.
+    // The bytes that were written, if they are known.
     ghost held: { Self → Option (List ℕ) };
 
-    // Whether reads of such a stream can fail at all, and writes to it.
+    // Whether reads from such a stream can fail at all, and whether writes to it can.
     ghost read_fails: { Type 0 };
 
     ghost write_fails: { Type 0 };
 
-    // Whether a read or a write of the stream as it is may have to wait.
+    // Whether a read or a write may have to wait in the current state of the stream.
     ghost waits: { Self → Type 0 };
 
-    // What a read or a write leads from and to.
+    // Relates the states of the stream before and after a read or a write.
     ghost saw: { Self → Event → Self → Type 0 };
 
-    /// Reads some bytes to the front of `buf`: none only at the end.
+    /// Reads some bytes to the front of `buf` and returns how many. Returns 0 only at the end of the stream.
     fn read_some(&mut self, buf: &mut [u8]) -> Result<usize, Halt<ReadFailed>>
         requires { 0 < length buf.old }
         ensures bound { IfOk result (λ count. count ≤ length buf.new) }
         ensures seen { MatchResult result (λ count. saw self.old (read_of (take count buf.new)) self.new)
             (Halts saw waits ReadFails self.old self.new) };
 
-    /// Writes some of the bytes, from their front: at least one, where there is one.
+    /// Writes some of the bytes, from their front, and returns how many: at least one, unless `bytes` is empty.
     fn write_some(&mut self, bytes: &[u8]) -> Result<usize, Halt<WriteFailed>>
         ensures bound { IfOk result (λ count. count ≤ length bytes.now) }
         ensures some { IfOk result (λ count. 0 < length bytes.now → 0 < count) }
         ensures seen { MatchResult result (λ count. saw self.old (Put (take count bytes.now)) self.new)
             (Halts saw waits WriteFails self.old self.new) };
 
-    /// The same of slices, one after another. A stream writes as many of them as it can in one call.
+    /// Does the same as `write_some` for slices, one after another. A stream may write several of them in one call; this one writes from the
+    /// first that has bytes.
     fn write_slices(&mut self, slices: &Slices<'_>) -> Result<usize, Halt<WriteFailed>>
         ensures bound { IfOk result (λ count. count ≤ length (joined slices.now)) }
         ensures some { IfOk result (λ count. 0 < length (joined slices.now) → 0 < count) }
@@ -54,17 +55,17 @@ pub trait Duplex {
         self.write_some(slices.front())
     }
 
-    // What each event does to the bytes; a fault comes only where there can be one.
+    // States what each event does to the bytes. A fault occurs only if such a fault is possible.
     ghost told: { (old new : Self) (event : Event) → saw old event new
         → Moves read_fails write_fails event (left old) (held old) (left new) (held new) };
 }
 
-/// A stream whose reads and writes never have to wait: each of them gives bytes, finds the end or fails.
+/// A stream whose reads and writes never have to wait: each of them transfers bytes, finds the end or fails.
 pub trait Steady: Duplex {
     ghost never_waits: { (stream : Self) → Self.Duplex.waits stream → ⊥ };
 }
 
-/// A source and a sink as one stream in both directions, which never has to wait.
+/// A source and a sink combined into one stream in both directions, which never has to wait.
 #[derive(Debug, Drop)]
 pub struct Pair<R, W> {
     pub source: R,

@@ -11,7 +11,7 @@ pub struct EntityTag<'a> {
 }
 
 impl<'a> EntityTag<'a> {
-    /// The tag with that text between its quotes.
+    /// Returns the tag with `text` between its quotes.
     pub fn new(text: &'a str) -> EntityTag<'a>
         requires { IsTrue (is_entity_tag text.now) }
         ensures { result.text.now ≡ text.now }
@@ -19,7 +19,7 @@ impl<'a> EntityTag<'a> {
         EntityTag { text }
     }
 
-    /// Its text, without the quotes.
+    /// Returns the text of the tag, without the quotes.
     pub fn as_str(self) -> &'a str
         ensures { result.now ≡ self.entry.text.now }
     {

@@ -1,4 +1,4 @@
-//! Whether a request waits for an interim reply.
+//! Checks whether a request waits for an interim reply.
 ghost use Rattle.std.specs.Prelude.{◌≡◌, ◌↔◌, IsTrue};
 ghost use Rattle.http_wire.specs.Expectations as spec;
 ghost use Rattle.http_wire.specs.Expectations.{SaysLength};
@@ -8,7 +8,7 @@ use crate::heads::Head;
 use crate::lengths::read_length;
 use http::Version;
 
-// Whether there is one value, and it is `100-continue`.
+// Whether there is exactly one value and it is `100-continue`.
 fn asks_continue(values: Values<'_>) -> bool
     ensures { result ≡ spec.asks_continue values.entry }
 {
@@ -19,7 +19,7 @@ fn asks_continue(values: Values<'_>) -> bool
     }
 }
 
-// Whether there is one value, and it writes a length.
+// Whether there is exactly one value and it is a valid length.
 fn says_length(values: Values<'_>) -> bool
     ensures { IsTrue result ↔ SaysLength values.entry }
 {
@@ -34,9 +34,9 @@ impl Head {
     ghost use Rattle.std.specs.Prelude.{◌↔◌, IsTrue};
     ghost use Rattle.http_wire.specs.Expectations.{ExpectsContinue};
 
-    /// Whether the client may wait for an interim reply before it sends the body (RFC 9110, section 10.1.1): the head is
-    /// one of HTTP/1.1, its only `Expect` is `100-continue`, ASCII case ignored, and it says how long the body is, be that
-    /// 0. Takes no memory.
+    /// Whether the client may wait for an interim reply before it sends the body (RFC 9110, section 10.1.1). It may if the version is
+    /// HTTP/1.1, the only `Expect` field is `100-continue`, ignoring ASCII case, and the head has exactly one `Content-Length` with a valid
+    /// length (0 is allowed). Allocates no memory.
     pub fn expects_continue(&self) -> bool
         ensures { IsTrue result ↔ ExpectsContinue self.now }
     {

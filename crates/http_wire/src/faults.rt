@@ -1,4 +1,4 @@
-//! What can go wrong on a connection.
+//! Faults that can occur on a connection.
 ghost use Rattle.std.specs.Prelude.{◌≡◌};
 
 use std::alloc::AllocError;
@@ -7,7 +7,7 @@ use thiserror::Error;
 /// Why no head was read.
 #[derive(Clone, Copy, Debug, PartialEq, Eq, Error)]
 pub enum HeadFault {
-    /// The input ended before the head was whole and before it was too long, perhaps before its first byte.
+    /// The input ended before the head was complete or too long, possibly before its first byte.
     #[error("the input ended before the head of a request was whole")]
     Ended,
     /// A read failed.
@@ -16,10 +16,10 @@ pub enum HeadFault {
     /// The head does not end within 16,384 bytes, or has more than 64 fields.
     #[error("the head of a request is too large")]
     HeadTooLarge,
-    /// The head is not one of the grammar, or it has no more than 64 fields and its target begins with no slash.
+    /// The head does not match the grammar, or it has at most 64 fields and its target does not begin with a slash.
     #[error("this is not the head of a request that is answered")]
     BadHead,
-    /// No memory for the head.
+    /// Memory for the head could not be allocated.
     #[error("no memory for the head of a request")]
     OutOfMemory,
 }
@@ -34,16 +34,16 @@ impl From<AllocError> for HeadFault {
     }
 }
 
-/// Why a head announces no body that is read.
+/// Why the body that a head announces is not read.
 #[derive(Clone, Copy, Debug, PartialEq, Eq, Error)]
 pub enum LengthFault {
-    /// There is a `Transfer-Encoding` field, whatever its value.
+    /// The head has a `Transfer-Encoding` field, whatever its value.
     #[error("the body of a request has a transfer coding")]
     CodingRefused,
-    /// There is more than one length, or one that is no number of 64 bits.
+    /// The head has more than one length, or a length that is not a 64-bit number.
     #[error("the head of a request does not say how long its body is")]
     LengthBad,
-    /// The length is over the limit.
+    /// The length exceeds the limit.
     #[error("the body of a request is too large")]
     BodyTooLarge,
 }
@@ -51,13 +51,13 @@ pub enum LengthFault {
 /// Why no body was read.
 #[derive(Clone, Copy, Debug, PartialEq, Eq, Error)]
 pub enum BodyFault {
-    /// The input ended before the body was whole.
+    /// The input ended before the body was complete.
     #[error("the input ended before the body of a request was whole")]
     Ended,
     /// A read failed.
     #[error("the body of a request could not be read")]
     ReadFault,
-    /// No memory for the body.
+    /// Memory for the body could not be allocated.
     #[error("no memory for the body of a request")]
     OutOfMemory,
 }
@@ -72,7 +72,7 @@ impl From<AllocError> for BodyFault {
     }
 }
 
-/// A write failed: exactly the first so many bytes of the text went out, and not all of it.
+/// A write failed. Exactly the given number of bytes was written from the front of the text, and not the whole text.
 #[derive(Clone, Copy, Debug, PartialEq, Eq, Error)]
 #[error("a write failed after {0} bytes of the reply")]
 pub struct WriteFault(pub u64);

@@ -1,4 +1,4 @@
-//! The fields of a head.
+//! Iterators over the fields of a head.
 ghost use Rattle.std.specs.Prelude.{◌≡◌, All, map, length};
 ghost use Rattle.std.specs.Iterator.{YieldsFirstBy, YieldsFirstRef, item_count};
 ghost use Rattle.httparse.specs.Spans.{header_bytes, IsHeaderWithin};
@@ -7,7 +7,7 @@ ghost use Rattle.http_wire.specs.Fields.{values_of};
 use httparse::spans::HeaderSpan;
 use std::marker::Model;
 
-/// The values of the fields of one name, in order. A contract sees the list of those that are left.
+/// Iterates over the values of the fields with one name, in order. Contracts see the list of the values that are left.
 #[derive(Drop)]
 pub struct Values<'h> {
     text: &'h [u8],
@@ -58,8 +58,8 @@ impl<'h> Iterator for Values<'h> {
     }
 }
 
-/// All fields, in order: of each its name, and its value without the white space around it. A contract sees the list of
-/// those that are left.
+/// Iterates over all fields, in order. Yields the name of each field and its value without the white space around it. Contracts see the
+/// list of the fields that are left.
 #[derive(Drop)]
 pub struct Fields<'h> {
     text: &'h [u8],

@@ -13,7 +13,7 @@ use crate::halts::Halt;
 use crate::sends::{Outgoing, put_pieces};
 use crate::sinks::WriteFailed;
 
-// Puts the pieces, and writes all of them.
+// Puts the pieces and writes all of them.
 fn put_all<D: Duplex>(
     duplex: &mut D,
     out: &mut Outgoing,
@@ -45,10 +45,10 @@ fn write_pieces<D: Steady>(
     }
 }
 
-/// Writes the request for a path, as it is, of a peer: a GET whose one field is `Host`, which every request has (RFC 9112, section
-/// 3.2). Reads nothing.
+/// Writes a request to a peer for `path`, which is written as it is. The request is a GET whose only field is `Host`, which every request
+/// has (RFC 9112, section 3.2). Reads nothing.
 ///
-/// It takes no memory, and fails as `write_reply` does.
+/// Allocates no memory, and fails as `write_reply` does.
 pub fn write_get<D: Steady>(
     duplex: &mut D,
     out: &mut Outgoing,

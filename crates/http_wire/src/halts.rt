@@ -1,13 +1,13 @@
-//! Why a call gave nothing.
+//! Reasons why a call returns no value.
 use crate::faults::{BodyFault, HeadFault};
 use std::alloc::AllocError;
 
-/// Why a call on a stream gave nothing.
+/// Why a call on a stream returns no value.
 #[derive(Clone, Copy, Debug, PartialEq, Eq)]
 pub enum Halt<E> {
-    /// It failed.
+    /// The call failed.
     Failed(E),
-    /// The stream would have to wait first. The call may be made again, and goes on where it left off.
+    /// The stream has to wait first. The call may be repeated and continues where it left off.
     WouldWait,
 }
 

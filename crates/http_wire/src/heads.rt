@@ -16,10 +16,10 @@ use std::alloc::{AllocError, Global};
 use std::marker::Model;
 use std::str;
 
-/// How many fields a head has at most.
+/// The maximum number of fields in a head.
 pub(crate) const FIELD_LIMIT: usize = 64;
 
-/// The head of a request. A contract sees its parts: method, target, minor version and fields.
+/// The head of a request. Contracts see its parts: method, target, minor version and fields.
 #[derive(Drop)]
 pub struct Head {
     text: Vec<u8>,
@@ -54,7 +54,7 @@ fn is_path(target: &[u8]) -> bool
     target.first().copied() == Some(b'/')
 }
 
-// Where the parts of the head lie, if it is one that is served.
+// Finds the spans of the head's parts, if the head is served.
 fn find_parts(text: &[u8], room: &mut [HeaderSpan]) -> Result<RequestSpans, HeadFault>
     requires whole { IsHeadText text.now }
     requires size { length room.old ≡ FIELD_LIMIT }
@@ -82,8 +82,8 @@ fn find_parts(text: &[u8], room: &mut [HeaderSpan]) -> Result<RequestSpans, Head
 }
 
 impl Head {
-    /// Reads the text of a head by the grammar of requests. It gives the head or why it is refused, unless there is no
-    /// memory for it.
+    /// Parses the text of a head by the grammar of requests. Returns the head or the reason why it is refused, or `AllocError` if memory
+    /// for the head cannot be allocated.
     pub(crate) fn parse(alloc: Global, text: &[u8]) -> Result<Result<Head, HeadFault>, AllocError>
         requires { IsHeadText text.now }
         ensures ok { IfOk result (λ parsed. IsParsedAs parsed text.now) }
@@ -113,14 +113,14 @@ impl Head {
         }))
     }
 
-    /// The method.
+    /// Returns the method.
     pub fn method(&self) -> &Method
         ensures { result.now ≡ self.now.method }
     {
         &self.method
     }
 
-    /// The version of HTTP.
+    /// Returns the HTTP version.
     pub fn version(&self) -> Version
         ensures { result ≡ version_of self.now.minor }
     {
@@ -131,7 +131,7 @@ impl Head {
         }
     }
 
-    /// The target, as it is in the head.
+    /// Returns the target, as it is in the head.
     pub fn target(&self) -> &str
         ensures { result.now ≡ self.now.target }
     {
@@ -141,14 +141,14 @@ impl Head {
         }
     }
 
-    /// All fields, in order: the name and the value of each.
+    /// Returns all fields, in order: the name and the value of each.
     pub fn fields(&self) -> Fields<'_>
         ensures { result ≡ self.now.fields }
     {
         Fields::new(self.text.as_slice(), self.fields.as_slice())
     }
 
-    /// The values of the fields of that name, ASCII case ignored, in order.
+    /// Returns the values of the fields named `name`, ignoring ASCII case, in order.
     pub fn values<'h>(&'h self, name: &'h str) -> Values<'h>
         ensures { result ≡ values_of name.now self.now.fields }
     {

@@ -1,4 +1,4 @@
-//! Laws of the definitions, each the contract of a function that does nothing.
+//! Laws of the definitions. Each law is the contract of a function that does nothing.
 ghost use Rattle.std.specs.Prelude.{◌≡◌, ◌≤◌, ◌-◌, ℕ, List, [], ◌∷◌, Option, Some, Result, Ok, Err, length, codes};
 ghost use Rattle.http_wire.specs.declared.answers.AnswerFault.{AnswerFault};
 ghost use Rattle.std.specs.declared.vec.Vec.{Vec};
@@ -22,9 +22,8 @@ ghost use Rattle.http_wire.specs.Wires.{AwaitsBody, AwaitsHead, HasWholeHead, Re
 use crate::duplexes::Duplex;
 use crate::replies::ReplyHead;
 
-/// A stream begins with one head at most. A head's text says one set of parts at most, and where it says one it is
-/// neither bad nor has it too many fields. Fields announce at most one length, or have at most one first reason why not, and
-/// never both.
+/// A stream begins with at most one head. The text of a head says at most one set of parts; if it says one, the head is not bad
+/// and does not have too many fields. Fields announce at most one length or have at most one first reason why not, never both.
 pub fn one_head()
     ensures begins { (stream text rest other others : List ℕ) → HasHead stream text rest → HasHead stream other others
         → (text ≡ other) × (rest ≡ others) }
@@ -35,8 +34,8 @@ pub fn one_head()
         → IsBodyLength one fields limit → IsBodyLength another fields limit → one ≡ another }
 {}
 
-/// The head of an answer tells one set of parts at most, and a body of one length at most. A stream that begins with an answer begins with no other,
-/// and with none that is refused; nothing begins with one.
+/// The head of an answer tells at most one set of parts and brings a body of at most one length. A stream that begins with an answer
+/// does not begin with another answer or with a refused one. The empty stream does not begin with an answer.
 pub fn one_answer()
     ensures tells { (text : List ℕ) (parts others : AnswerParts) → Tells text parts → Tells text others
         → parts ≡ others }
@@ -50,8 +49,8 @@ pub fn one_answer()
     ensures asked { (limit : ℕ) (got : List ℕ) → ¬ (AwaitsAnswer limit got (0 ∷ [])) }
 {}
 
-/// Where a call would have had to wait and the next one goes on, both together are one call: so a head and a body are read alike in whatever
-/// steps they come.
+/// If a call has to wait and the next call goes on, the two together are one call. So a head or a body is read in the same way, in
+/// whatever steps it comes.
 pub fn calls_go_on<D: Duplex>()
     ensures head { (old mid new : D) (buffer waiting rest : List ℕ) (result : Result RequestParts (Halt HeadFault))
         → Ran D.saw (AwaitsHead buffer) old mid (KeepsOn buffer waiting)
@@ -64,7 +63,7 @@ pub fn calls_go_on<D: Duplex>()
         → Ran D.saw (AwaitsBody before size) old new (TriesBody result size before body rest) }
 {}
 
-/// A head and a body are read in no more reads than bytes are missing: those of the body, or of the longest head.
+/// Reading a head or a body takes at most as many reads as bytes are missing: from the longest head, or from the body.
 pub fn few_reads()
     ensures head { (buffer : List ℕ) (events : List Event) → Timely (AwaitsHead buffer) events
         → count_reads events ≤ head_limit - length buffer }
@@ -72,21 +71,21 @@ pub fn few_reads()
         → count_reads events ≤ size - length buffer }
 {}
 
-/// The head of a reply is the line of its status, one line for each field that is there, and the empty line that ends it:
-/// no text of a field begins another line.
+/// The head of a reply is its status line, one line for each field that is present, and the empty line that ends the head.
+/// The text of a field never begins another line.
 pub fn a_head_has_its_lines(head: &ReplyHead<'_>, size: u64)
     ensures { HasLines (head_text (fields_of head.now size)) (head_lines (fields_of head.now size)) }
 {}
 
-/// The phrases of 413 and 422 are the older ones (RFC 7231, section 6.5.11; RFC 4918, section 11.2), and not those of RFC 9110, sections
-/// 15.5.14 and 15.5.21: a phrase means nothing to a client (RFC 9112, section 4).
+/// The reason phrases of 413 and 422 are the older ones (RFC 7231, section 6.5.11; RFC 4918, section 11.2), not those of RFC 9110,
+/// sections 15.5.14 and 15.5.21. A reason phrase means nothing to a client (RFC 9112, section 4).
 pub fn two_phrases_are_older()
     ensures too_large { status_line 413 ≡ codes "HTTP/1.1 413 Payload Too Large" }
     ensures unprocessable { status_line 422 ≡ codes "HTTP/1.1 422 Unprocessable Entity" }
 {}
 
-/// Of these relations each is refuted of one wrong answer, so none of them holds of everything. Nothing is told of a head where
-/// nothing came.
+/// Each of these relations is refuted for a wrong answer, so none of them holds of everything. An empty stream has no head that is
+/// served or refused.
 pub fn wrong_answers_are_refused<D: Duplex>()
     ensures cut_short { (stream : List ℕ) → head_limit ≤ length stream → ¬ (CutShort stream) }
     ensures cut_head { (stream text rest : List ℕ) → HasHead stream text rest → ¬ (CutShort stream) }

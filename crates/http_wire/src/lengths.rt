@@ -1,11 +1,11 @@
-//! How long the body of a request is.
+//! The length of a request body.
 ghost use Rattle.std.specs.Prelude.{ℕ, IfSome, IfNone};
 ghost use Rattle.http_wire.specs.Fields.{WritesLength, IsBodyLength};
 
 use crate::faults::LengthFault;
 use crate::heads::Head;
 
-/// The number that digits alone write, where it fits.
+/// Returns the number if `text` consists of decimal digits alone and the number fits in a `u64`.
 pub fn read_length(text: &[u8]) -> Option<u64>
     ensures some { IfSome result (WritesLength text.now) }
     ensures none { IfNone result ((n : ℕ) → ¬ (WritesLength text.now n)) }
@@ -23,8 +23,8 @@ pub fn read_length(text: &[u8]) -> Option<u64>
     Some(value)
 }
 
-/// The length of the body that a head announces, 0 where it names no length; or the first reason why none is read.
-/// Takes no memory.
+/// Returns the length of the body that a head announces, or 0 if the head names no length. An error is the first reason why no body
+/// is read. Allocates nothing.
 pub fn check_body(head: &Head, limit: u64) -> Result<u64, LengthFault>
     ensures { IsBodyLength result head.now.fields limit }
 {

@@ -1,4 +1,4 @@
-//! HTTP/1.1 on a stream of bytes: request heads and bodies in and replies out, and for a client a request out and its answer in.
+//! HTTP/1.1 on a byte stream. A server reads request heads and bodies and writes replies; a client writes a request and reads its answer.
 #![tactic(auto)]
 
 mod answer_heads;

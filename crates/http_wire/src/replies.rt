@@ -1,4 +1,4 @@
-//! Replies.
+//! Writes replies.
 ghost use Rattle.std.specs.Prelude.{◌≡◌, ◌≤◌, ℕ, List, [], length, decimal, IfErr, IsErrOf, OnOk, OnErr};
 ghost use Rattle.http_wire.specs.Expectations.{continue_text};
 ghost use Rattle.http_wire.specs.Halting.{WritesFrom};
@@ -20,37 +20,37 @@ use arrayvec::ArrayString;
 use byte_view::BodyParts;
 use http::StatusCode;
 
-/// Which bytes of a file a reply holds (RFC 9110, section 14.4).
+/// The bytes of a file that a reply holds (RFC 9110, section 14.4).
 #[derive(Clone, Copy, Debug, PartialEq, Eq)]
 pub enum ContentRange {
-    /// From the first position to the last, of so many bytes.
+    /// The bytes from position `first` to position `last`, in a file of `length` bytes.
     Of { first: u64, last: u64, length: u64 },
-    /// None of so many bytes.
+    /// No bytes of a file of `length` bytes.
     Unsatisfied { length: u64 },
 }
 
-/// The head of a reply. Its fields are written in this order, those that are there.
+/// The head of a reply. The fields that are present are written in this order.
 #[derive(Clone, Copy, Debug)]
 pub struct ReplyHead<'a> {
-    /// The status code, which brings its phrase.
+    /// The status code, which determines the reason phrase.
     pub status: StatusCode,
     pub content_type: Option<FieldText<'a>>,
     pub etag: Option<EntityTag<'a>>,
-    /// Whether ranges of bytes are served.
+    /// Whether byte ranges are served.
     pub accept_ranges: bool,
     pub content_range: Option<ContentRange>,
-    /// The methods that the target has, separated by commas.
+    /// The methods that the target supports, separated by commas.
     pub allow: Option<FieldText<'a>>,
-    /// Whether the connection ends after the reply.
+    /// Whether the connection closes after the reply.
     pub close: bool,
 }
 
-/// The body of a reply, whose length the head says.
+/// The body of a reply. The head gives its length.
 #[derive(Debug, Drop)]
 pub enum ReplyBody<P> {
-    /// These parts, one after another: the head says how many bytes they have.
+    /// The parts of the body, in order. The head gives their total length in bytes.
     Sent(P),
-    /// No byte, as in the reply to HEAD: the head says how many a GET would be sent (RFC 9110, sections 8.6 and 9.3.2).
+    /// No bytes, as in the reply to HEAD. The head gives the number of bytes that a GET would be sent (RFC 9110, sections 8.6 and 9.3.2).
     Withheld(u64),
 }
 
@@ -58,7 +58,7 @@ impl<P: BodyParts> ReplyBody<P> {
     ghost use Rattle.std.specs.Prelude.{◌≡◌};
     ghost use Rattle.http_wire.specs.Replies.{size_of};
 
-    // How many bytes the head says that it has.
+    // Returns the length in bytes that the head gives.
     fn size(&self) -> u64
         ensures { result ≡ size_of P.texts self.now }
     {
@@ -69,7 +69,7 @@ impl<P: BodyParts> ReplyBody<P> {
     }
 }
 
-/// The decimal digits of a number, without leading zeros. It takes no memory.
+/// Returns the decimal digits of a number, without leading zeros. Allocates nothing.
 pub fn decimal_text(number: u64) -> ArrayString<20>
     ensures digits { result.bytes ≡ decimal number }
     ensures short { length result.bytes ≤ 20 }
@@ -78,8 +78,8 @@ pub fn decimal_text(number: u64) -> ArrayString<20>
     ArrayString::from(digits.format(number)).unwrap()
 }
 
-/// The value of a `Content-Range` field: `bytes 6-10/11`, or `bytes */11` where it has no bytes (RFC 9110, section 14.4). It takes no
-/// memory.
+/// Returns the value of a `Content-Range` field: `bytes 6-10/11`, or `bytes */11` if the range has no bytes (RFC 9110, section 14.4).
+/// Allocates nothing.
 pub fn range_value(range: ContentRange) -> ArrayString<72>
     ensures { result.bytes ≡ range_text range }
 {
@@ -105,7 +105,7 @@ pub fn range_value(range: ContentRange) -> ArrayString<72>
     text
 }
 
-// Puts a body, where it is sent.
+// Puts a body if it is sent.
 fn put_body<D: Duplex, P: BodyParts<Item: Drop> + Drop>(
     duplex: &mut D,
     out: &mut Outgoing,
@@ -120,7 +120,7 @@ fn put_body<D: Duplex, P: BodyParts<Item: Drop> + Drop>(
     }
 }
 
-// Puts a head, and then the body, and writes all of them.
+// Puts the head and then the body, and writes both in full.
 fn put_both<D: Duplex, P: BodyParts<Item: Drop> + Drop>(
     duplex: &mut D,
     out: &mut Outgoing,
@@ -137,7 +137,7 @@ fn put_both<D: Duplex, P: BodyParts<Item: Drop> + Drop>(
     out.flush(duplex)
 }
 
-// Writes a head, and then the body.
+// Writes the head and then the body.
 fn write_both<D: Steady, P: BodyParts<Item: Drop> + Drop>(
     duplex: &mut D,
     out: &mut Outgoing,
@@ -154,8 +154,8 @@ fn write_both<D: Steady, P: BodyParts<Item: Drop> + Drop>(
     }
 }
 
-/// Goes on with a reply as `write_reply` writes it, on a stream that may have to wait: behind the bytes of it that were written, and with
-/// those that are gathered in `out`. It begins where `out` begins a text.
+/// Goes on writing a reply as `write_reply` does, on a stream that may have to wait. The call continues after the bytes of the reply
+/// that are already written, with those that are gathered in `out`. If `out` begins a text, the call begins the reply.
 pub fn try_write_reply<D: Duplex, P: BodyParts<Item: Drop> + Drop>(
     duplex: &mut D,
     out: &mut Outgoing,
@@ -173,11 +173,11 @@ pub fn try_write_reply<D: Duplex, P: BodyParts<Item: Drop> + Drop>(
     put_both(duplex, out, head, body)
 }
 
-/// Writes a reply: its head and then its body, where that is sent. Reads nothing. The head always has a Content-Length, so
-/// that it fits no reply of status 1xx or 204 (RFC 9110, section 8.6).
+/// Writes a reply: its head, and then its body if it is sent. Reads nothing. The head always has a Content-Length, so it does not suit
+/// a reply of status 1xx or 204 (RFC 9110, section 8.6).
 ///
-/// Each part of the body goes out as it lies, but for small ones, which are gathered: head and body are one write where they have
-/// 8,192 bytes at most. It takes no memory. A write that takes no byte is a fault, and so is one that fails. Nothing is written
+/// Large parts of the body are written from where they lie in memory; small parts are gathered first. A head and body of at most
+/// 8,192 bytes together are one write. Allocates nothing. A write that fails or accepts no byte is a fault, and nothing is written
 /// after it.
 pub fn write_reply<D: Steady, P: BodyParts<Item: Drop> + Drop>(
     duplex: &mut D,
@@ -187,7 +187,7 @@ pub fn write_reply<D: Steady, P: BodyParts<Item: Drop> + Drop>(
 ) -> Result<(), WriteFault>
     ensures ok { OnOk result (Appends (D.held duplex.old) (D.held duplex.new) (sent_reply P.texts head.now body)) }
 
-    // Of a reply that is cut short the first so many bytes were written, and not all.
+    // On a fault, the first `fault.0` bytes of the reply were written, but not the whole reply.
     ensures fault { IfErr result
         (λ fault. SentFront (D.held duplex.old) (D.held duplex.new) (sent_reply P.texts head.now body) fault.0) }
     ensures cause { OnErr result D.write_fails }
@@ -196,8 +196,9 @@ pub fn write_reply<D: Steady, P: BodyParts<Item: Drop> + Drop>(
     write_both(duplex, out, head, body)
 }
 
-/// Goes on with the interim reply, after which the client sends the body (RFC 9110, section 15.2.1), from a place in it on, on a stream that
-/// may have to wait; and moves the place behind what was written. It takes no memory, and fails as `write_reply` does.
+/// Goes on writing the interim reply, after which the client sends the body (RFC 9110, section 15.2.1), on a stream that may have to
+/// wait. The call starts at byte `at` of the reply and moves `at` past the bytes that it writes. Allocates nothing, and fails as
+/// `write_reply` does.
 pub fn try_write_interim<D: Duplex>(duplex: &mut D, at: &mut usize) -> Result<(), Halt<WriteFailed>>
     requires { at.old ≤ length continue_text }
     ensures ran { Ran D.saw NoRead duplex.old duplex.new (WritesFrom result continue_text at.old at.new) }

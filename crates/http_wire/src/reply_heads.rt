@@ -1,4 +1,4 @@
-//! Heads of replies, on their way out.
+//! Puts the heads of replies.
 ghost use Rattle.std.specs.Prelude.{◌≡◌, ℕ, ◌++◌, decimal, IsErrOf};
 ghost use Rattle.std.specs.Option.{option_map};
 ghost use Rattle.std.specs.List.{flat_map};
@@ -13,7 +13,7 @@ use crate::sends::{Outgoing, put_pieces};
 use crate::sinks::WriteFailed;
 use http::StatusCode;
 
-// A line of a head, where its value is there. What is behind the value ends the line.
+// A line of a head, which is absent if it has no value. The text after the value ends the line.
 #[derive(Clone, Copy)]
 struct Line<'a> {
     before: &'a str,
@@ -33,7 +33,7 @@ impl<'a> Line<'a> {
     }
 }
 
-// The lines of the fields that are there.
+// Returns the lines of the fields; the line of an absent field has no value.
 fn field_lines<'a>(
     head: &'a ReplyHead<'a>,
     digits: &'a str,
@@ -60,7 +60,7 @@ fn field_lines<'a>(
     ]
 }
 
-// Puts a line, where its value is there.
+// Puts a line if it has a value.
 fn put_line<D: Duplex>(
     duplex: &mut D,
     out: &mut Outgoing,
@@ -80,7 +80,7 @@ fn put_line<D: Duplex>(
     put_pieces(duplex, out, &pieces)
 }
 
-// Puts the lines, one after another.
+// Puts the lines in order.
 fn put_lines<D: Duplex>(
     duplex: &mut D,
     out: &mut Outgoing,
@@ -96,7 +96,7 @@ fn put_lines<D: Duplex>(
     Ok(())
 }
 
-// Puts the status line, which of most replies is one text.
+// Puts the status line, which is one piece in most replies.
 fn put_status<D: Duplex>(
     duplex: &mut D,
     out: &mut Outgoing,
@@ -123,7 +123,7 @@ fn put_status<D: Duplex>(
     put_pieces(duplex, out, &pieces)
 }
 
-// Puts a head whose numbers are written out.
+// Puts a head whose numbers are already text.
 fn put_texts<'a, D: Duplex>(
     duplex: &mut D,
     out: &mut Outgoing,
@@ -142,7 +142,7 @@ fn put_texts<'a, D: Duplex>(
     out.put(duplex, b"\r\n")
 }
 
-/// Puts the head before a body of this many bytes.
+/// Puts the head for a body of `size` bytes.
 pub fn put_head<D: Duplex>(
     duplex: &mut D,
     out: &mut Outgoing,

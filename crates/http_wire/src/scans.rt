@@ -1,21 +1,21 @@
-//! Where a head ends.
+//! Finds the end of a head.
 ghost use Rattle.std.specs.Prelude.{◌≡◌, ℕ, ◌≤◌, ◌⊎◌, List, ◌++◌, length, drop, true};
 ghost use Rattle.http_wire.specs.Scanning.{HasSearched, ScansTo, step_of, is_done, rest_from};
 
 use memchr::memchr;
 
-/// What the bytes of a head read so far end in.
+/// What the bytes of a head that were read so far end in.
 #[derive(Clone, Copy, Debug, PartialEq, Eq)]
 pub enum State {
-    /// Nothing yet, or empty lines alone.
+    /// No bytes yet, or only empty lines.
     Before,
-    /// Empty lines, if any, and a CR.
+    /// Any number of empty lines, and a CR.
     BeforeReturn,
-    /// A part of a line of text.
+    /// Part of a line of text.
     Text,
-    /// A line of text.
+    /// A whole line of text.
     Between,
-    /// A line of text and a CR.
+    /// A whole line of text, and a CR.
     BetweenReturn,
     /// The whole head.
     Done,
@@ -44,7 +44,7 @@ impl State {
     }
 }
 
-/// How far the search for the end of a head has come: the state after so many bytes of the buffer.
+/// The progress of a search for the end of a head: the state after the first `scanned` bytes of the buffer.
 #[derive(Clone, Copy, Debug, PartialEq, Eq)]
 pub struct Search {
     pub state: State,
@@ -52,7 +52,7 @@ pub struct Search {
 }
 
 impl Search {
-    /// A search that has seen nothing.
+    /// Returns a search that has scanned no bytes.
     pub fn new() -> Search
         ensures { (bytes : List ℕ) → HasSearched bytes result.state result.scanned }
     {
@@ -62,7 +62,7 @@ impl Search {
         }
     }
 
-    /// Goes on through the bytes of the buffer, up to the head's end.
+    /// Scans the rest of the buffer's bytes, up to the end of the head.
     pub fn go_on(&mut self, bytes: &[u8])
         requires { HasSearched bytes.now self.old.state self.old.scanned }
         ensures searched { HasSearched bytes.now self.new.state self.new.scanned }
@@ -74,7 +74,7 @@ impl Search {
     }
 }
 
-// The bytes without those at their front that leave the state as it is: within a line of text, those before its end.
+// Skips the leading bytes that leave the state unchanged: within a line of text, those before its end.
 fn after_text(state: State, bytes: &[u8]) -> &[u8]
     ensures { ScansTo state bytes.now state result.now }
 {
@@ -87,8 +87,8 @@ fn after_text(state: State, bytes: &[u8]) -> &[u8]
     }
 }
 
-/// Goes on through `bytes` up to the head's end, and answers the state there and how many bytes that took. Within a line it looks for the
-/// line's end alone, many bytes at once.
+/// Scans `bytes` up to the end of the head, and returns the state there and the number of bytes scanned. Within a line the scan looks
+/// only for the end of the line, many bytes at once.
 pub fn scan(state: State, bytes: &[u8]) -> (State, usize)
     ensures within { result.1 ≤ length bytes.now }
     ensures through { (is_done result.0 ≡ true) ⊎ (result.1 ≡ length bytes.now) }

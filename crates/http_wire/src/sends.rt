@@ -1,4 +1,4 @@
-//! Texts on their way out.
+//! Gathers texts and writes them.
 ghost use Rattle.std.specs.Prelude.{◌≡◌, ◌≤◌, ◌↔◌, ℕ, IsTrue, ◌-◌, [], ◌++◌, drop, length, IfOk, IsErrOf, MatchBool, OnOk};
 ghost use Rattle.std.specs.List.{concat, flat_map};
 ghost use Rattle.http_wire.specs.Gathering.{from_front, IsCounted, nothing, Puts, text_if, WritesOn};
@@ -13,19 +13,19 @@ use byte_view::BodyParts;
 use std::alloc::{AllocError, Global};
 use std::marker::Model;
 
-// How many bytes are gathered before they are written: a small reply is one write.
+// How many bytes are gathered before they are written, so that a small reply is one write.
 const ROOM: usize = 8192;
 
-/// Room in which a text is gathered before it is written, and how far the text has come. A connection takes it once, and lends it to each
-/// call that writes. Where a write would have to wait, what is gathered stays, and the next call for the same text goes on behind it.
+/// A buffer that gathers a text before it is written, and the progress of that text. A connection allocates the buffer once and lends
+/// it to each call that writes. If a write has to wait, the gathered bytes stay, and the next call for the same text goes on after them.
 #[derive(Drop)]
 pub struct Outgoing {
-    // What was gathered, and how many bytes of it were written.
+    // The gathered bytes, and how many of them were written.
     pending: Vec<u8>,
     at: usize,
     // How many bytes of the text were written.
     sent: u64,
-    // How many bytes of what is put next were taken before.
+    // How many bytes of what is put next were already taken.
     passed: u64,
 }
 
@@ -40,7 +40,7 @@ impl Model for Outgoing {
     ghost invariant = { λ o. o.at ≤ vec_len o.pending };
 }
 
-// Writes slices, drops what was written of them, and counts its bytes to those that were written before.
+// Writes the slices, drops the bytes that were written, and adds their number to `sent`.
 fn send_slices<D: Duplex>(
     duplex: &mut D,
     sent: &mut u64,
@@ -61,7 +61,7 @@ fn send_slices<D: Duplex>(
 }
 
 impl Outgoing {
-    /// Takes the memory for 8,192 bytes.
+    /// Returns an empty buffer. Allocates memory for 8,192 bytes.
     pub fn new(alloc: Global) -> Result<Outgoing, AllocError>
         ensures { IfOk result (λ out. out ≡ nothing) }
     {
@@ -83,7 +83,7 @@ impl Outgoing {
         self.passed = 0;
     }
 
-    // Begins to put the same text again, of which what was taken is passed over.
+    // Begins to put the same text again, and passes over the bytes that were already taken.
     pub(crate) fn go_on(&mut self)
         ensures { self.new ≡ from_front self.old }
     {
@@ -91,8 +91,8 @@ impl Outgoing {
         self.passed = self.sent.saturating_add(gathered as u64);
     }
 
-    /// Whether the bytes that were written and those that are gathered are few enough to be counted. They always are: a text would have to
-    /// have 2^64 bytes.
+    /// Whether the written and the gathered bytes are few enough to be counted. They always are: otherwise a text would have about
+    /// 2^64 bytes.
     pub fn is_counted(&self) -> bool
         ensures { IsTrue result ↔ IsCounted self.now }
     {
@@ -100,14 +100,14 @@ impl Outgoing {
         self.sent.saturating_add(gathered as u64) < u64::MAX
     }
 
-    /// How many bytes of the text were written.
+    /// Returns the number of bytes of the text that were written.
     pub fn sent(&self) -> u64
         ensures { result ≡ self.now.sent }
     {
         self.sent
     }
 
-    // Writes all that is gathered.
+    // Writes all gathered bytes.
     pub(crate) fn flush<D: Duplex>(&mut self, duplex: &mut D) -> Result<(), Halt<WriteFailed>>
         ensures ran { Ran D.saw NoRead duplex.old duplex.new
             (WritesOn result [] self.old.sent self.new.sent self.old.rest self.new.rest) }
@@ -118,7 +118,7 @@ impl Outgoing {
         self.write(duplex, &[], &[], &[])
     }
 
-    // Gathers one more piece where there is room for it.
+    // Gathers one more piece if there is room for it, and returns whether it did.
     fn gather(&mut self, piece: &[u8]) -> bool
         ensures gathered { MatchBool result (self.new.rest ≡ self.old.rest ++ piece.now)
             (self.new.rest ≡ self.old.rest) }
@@ -132,7 +132,7 @@ impl Outgoing {
         self.pending.extend_from_slice(piece).is_ok()
     }
 
-    // What is left of a piece behind the front of it that was taken before.
+    // Returns the rest of a piece, after the bytes that were already taken.
     fn behind<'a>(&mut self, piece: &'a [u8]) -> &'a [u8]
         ensures left { result.now ≡ drop self.old.passed piece.now }
         ensures passed { self.new.passed ≡ self.old.passed - length piece.now }
@@ -144,7 +144,7 @@ impl Outgoing {
         &piece[count as usize..]
     }
 
-    // Writes what is gathered, and then these pieces.
+    // Writes the gathered bytes and then these pieces.
     fn write<D: Duplex>(
         &mut self,
         duplex: &mut D,
@@ -173,8 +173,8 @@ impl Outgoing {
         Ok(())
     }
 
-    // Puts three more pieces, of which what was taken before is passed over. They are gathered as far as there is room, and else written
-    // behind what is gathered.
+    // Puts three more pieces, without the bytes that were already taken: gathers pieces while there is room, and writes the others after
+    // the gathered bytes.
     fn put_three<D: Duplex>(
         &mut self,
         duplex: &mut D,
@@ -214,7 +214,7 @@ impl Outgoing {
     }
 }
 
-/// Puts the pieces, one after another.
+/// Puts the pieces in order.
 pub fn put_pieces<D: Duplex>(
     duplex: &mut D,
     out: &mut Outgoing,
@@ -230,7 +230,7 @@ pub fn put_pieces<D: Duplex>(
     Ok(())
 }
 
-// The bytes of a part, if there is one.
+// Returns the bytes of a part, or no bytes if there is no part.
 fn bytes_of<P: BodyParts>(part: &Option<P::Item>) -> &[u8]
     ensures { result.now ≡ text_if P.text part.now }
 {
@@ -240,7 +240,7 @@ fn bytes_of<P: BodyParts>(part: &Option<P::Item>) -> &[u8]
     }
 }
 
-/// Puts the parts of a body, one after another, each as it lies: three at once, so that they go out together with what is gathered.
+/// Puts the parts of a body in order, each from where it lies in memory. Puts three at once, so that they go out with the gathered bytes.
 pub fn put_parts<D: Duplex, P: BodyParts<Item: Drop> + Drop>(
     duplex: &mut D,
     out: &mut Outgoing,

@@ -1,4 +1,4 @@
-//! Where the bytes of a connection go.
+//! The sinks that a connection writes to.
 ghost use Rattle.std.specs.Prelude.{ℕ, List, Option, ⊤, ◌<◌, ◌≤◌, length, IfOk, OnOk, OnErr};
 ghost use Rattle.std.specs.Io.KnownBytes.{Appends, WriteAppends};
 ghost use Rattle.http_wire.specs.Sending.{AppendsFront};
@@ -6,20 +6,20 @@ ghost use Rattle.http_wire.specs.Sending.{AppendsFront};
 use std::io::Write;
 use thiserror::Error;
 
-/// A write failed, or took no byte.
+/// A write failed or accepted no byte.
 #[derive(Clone, Copy, Debug, PartialEq, Eq, Error)]
 #[error("the write failed")]
 pub struct WriteFailed;
 
-/// A stream that takes bytes in pieces, as `Write`, with the cause of a failure in its contract.
+/// A stream that accepts bytes in pieces, like `Write`. Its contract gives the cause of a failure.
 pub trait Sink {
-    // The bytes that the sink holds, where they are known.
+    // The bytes that the sink holds, if they are known.
     ghost held: { Self → Option (List ℕ) };
 
     // Whether writes to such a sink can fail at all.
     ghost may_fail: { Type 0 };
 
-    /// Writes some of the bytes, from their front: at least one, where there is one.
+    /// Writes a prefix of `bytes` and returns its length, which is at least 1 unless `bytes` is empty.
     fn write_some(&mut self, bytes: &[u8]) -> Result<usize, WriteFailed>
         ensures bound { IfOk result (λ count. count ≤ length bytes.now) }
         ensures some { IfOk result (λ count. 0 < length bytes.now → 0 < count) }
@@ -27,7 +27,7 @@ pub trait Sink {
         ensures cause { OnErr result may_fail };
 }
 
-/// Writes all the bytes; or a write fails, after a front of them and fewer than all.
+/// Writes all the bytes. On an error, a prefix of them was written, but not all.
 pub fn write_all<W: Sink>(sink: &mut W, bytes: &[u8]) -> Result<(), WriteFailed>
     ensures ok { OnOk result (Appends (W.held sink.old) (W.held sink.new) bytes.now) }
     ensures cut { OnErr result (AppendsFront bytes.now (W.held sink.old) (W.held sink.new)) }
@@ -43,7 +43,7 @@ pub fn write_all<W: Sink>(sink: &mut W, bytes: &[u8]) -> Result<(), WriteFailed>
     Ok(())
 }
 
-/// A writer as a sink, whose writes may fail.
+/// A sink that writes to a writer. Its writes may fail.
 #[derive(Debug, Drop)]
 pub struct Writing<W>(pub W);
 

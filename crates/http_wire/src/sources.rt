@@ -1,4 +1,4 @@
-//! Where the bytes of a connection come from.
+//! The sources that a connection reads from.
 ghost use Rattle.std.specs.Prelude.{ℕ, List, Option, Some, ⊤, ◌≤◌, length, IfOk, OnErr};
 ghost use Rattle.std.specs.Io.KnownBytes.{ReadConsumes};
 
@@ -10,22 +10,22 @@ use thiserror::Error;
 #[error("the read failed")]
 pub struct ReadFailed;
 
-/// A stream of bytes that is read in pieces, as `Read`, with the cause of a failure in its contract.
+/// A byte stream that is read in pieces, like `Read`. Its contract gives the cause of a failure.
 pub trait Source {
-    // The bytes that reads will give from here on, where they are known.
+    // The bytes that later reads give, if they are known.
     ghost left: { Self → Option (List ℕ) };
 
     // Whether reads of such a source can fail at all.
     ghost may_fail: { Type 0 };
 
-    /// Reads some bytes to the front of `buf`: none only at the end, or where `buf` is empty.
+    /// Reads some bytes into the front of `buf` and returns their number, which is 0 only at the end or if `buf` is empty.
     fn read_some(&mut self, buf: &mut [u8]) -> Result<usize, ReadFailed>
         ensures bound { IfOk result (λ n. n ≤ length buf.new) }
         ensures bytes { ReadConsumes (left self.old) (left self.new) result buf.new }
         ensures cause { OnErr result may_fail };
 }
 
-/// A reader as a source, whose reads may fail.
+/// A source that reads from a reader. Its reads may fail.
 #[derive(Debug, Drop)]
 pub struct Reading<R>(pub R);
 

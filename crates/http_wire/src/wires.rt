@@ -1,4 +1,4 @@
-//! Requests on a stream: heads and bodies, one after another.
+//! Reads requests from a stream: heads and bodies, one after another.
 ghost use Rattle.std.specs.Prelude.{◌≡◌, ◌≢◌, ◌<◌, List, [], ◌++◌, ℕ, ◌≤◌, length, vec_len, IfOk, IfErr, IfSome, IsErrOf};
 ghost use Rattle.std.specs.Io.KnownBytes.{Consumes, Keeps, IsAtEnd, prepend_known};
 ghost use Rattle.http_wire.specs.Halting.{TriesBody, TriesHead, TriesToFind};
@@ -17,9 +17,9 @@ use crate::scans::{Search, scan};
 use std::alloc::{AllocError, Global};
 use std::marker::Model;
 
-/// Requests on a stream, one after another, whatever pieces it comes in. The stream is lent to each call. A contract
-/// sees the bytes that were read and not yet taken; what is left of the requests is these, and then what is left of
-/// the stream. The search for the end of a head goes on where it left off, so that a byte is looked at once, however slowly they come.
+/// Reads requests from a stream, one after another, in whatever pieces the stream comes. The stream is lent to each call. A contract
+/// sees the bytes that were read and not yet taken. The rest of the requests is these bytes, and then the rest of the stream. The search
+/// for the end of a head goes on where it left off, so it looks at each byte once, however slowly the bytes come.
 #[derive(Drop)]
 pub struct Wire {
     buffer: Buffer,
@@ -38,7 +38,7 @@ impl Model for Wire {
 }
 
 impl Wire {
-    /// A wire that has read nothing. It takes all the room for heads at once, and keeps the allocator for what it reads.
+    /// Returns a wire that has read nothing. Allocates all the memory for heads at once, and keeps the allocator for what it reads.
     pub fn new(alloc: Global) -> Result<Wire, AllocError>
         ensures { IfOk result (λ wire. wire ≡ []) }
     {
@@ -47,15 +47,15 @@ impl Wire {
         Ok(Wire { buffer, search })
     }
 
-    /// How many bytes were read and not yet taken.
+    /// Returns the number of bytes that were read and not yet taken.
     pub fn buffered(&self) -> usize
         ensures { result ≡ length self.now }
     {
         self.buffer.as_slice().len()
     }
 
-    /// Reads the next head as `read_head` does, from a stream that may have to wait. If it has to while no whole head has come, what came is
-    /// kept, and the next call goes on there.
+    /// Reads the next head as `read_head` does, from a stream that may have to wait. If the stream has to wait before a whole head has
+    /// come, the wire keeps the bytes that came, and the next call goes on after them.
     pub fn try_read_head<D: Duplex>(&mut self, duplex: &mut D) -> Result<Head, Halt<HeadFault>>
         ensures ran { Ran D.saw (AwaitsHead self.old) duplex.old duplex.new (TriesHead result self.old self.new) }
         ensures waits { IsErrOf result Halt.WouldWait → D.waits duplex.new }
@@ -64,8 +64,9 @@ impl Wire {
         try_take_head(&mut self.buffer, duplex, &mut self.search)
     }
 
-    /// Goes on reading a body of `size` bytes as `read_body` does, of which `body` is the part that is there, from a stream that may have to
-    /// wait. If it has to while not all of it has come, what came is kept in `body` and in the wire, and the next call goes on there.
+    /// Goes on reading a body of `size` bytes as `read_body` does, from a stream that may have to wait. `body` holds the part that was read
+    /// before. If the stream has to wait before the whole body has come, `body` and the wire keep the bytes that came, and the next call
+    /// goes on after them.
     pub fn try_read_body<D: Duplex>(
         &mut self,
         duplex: &mut D,
@@ -83,10 +84,10 @@ impl Wire {
         fill_body(&mut self.buffer, duplex, body, size)
     }
 
-    /// Reads the next head. Reads only where what came before is no whole head, and writes nothing.
+    /// Reads the next head. Reads from the stream only if the bytes that came before hold no whole head, and writes nothing.
     ///
-    /// A head, also one that is not answered, is taken from the stream with its last byte, and nothing after it is. One
-    /// that is too long is left there, and any other error leaves what is left as it was.
+    /// Takes the head from the stream up to and including its last byte, and nothing after it, even if the head is not answered.
+    /// Leaves a head that is too long in the stream. Any other error leaves the rest of the stream as it was.
     pub fn read_head<D: Steady>(&mut self, duplex: &mut D) -> Result<Head, HeadFault>
         ensures ok { let old = prepend_known self.old (D.left duplex.old) in
             let new = prepend_known self.new (D.left duplex.new) in
@@ -110,14 +111,14 @@ impl Wire {
         take_head(&mut self.buffer, duplex, &mut self.search)
     }
 
-    /// Reads a body of `count` bytes. Reads only where what came before is fewer bytes, and writes nothing. Memory is
-    /// taken as the bytes come, by design for twice as many at most and no more than `count`; a body of none takes none.
+    /// Reads a body of `count` bytes. Reads from the stream only if fewer bytes came before, and writes nothing. Allocates memory as the
+    /// bytes come, by design for at most twice the bytes that came and at most `count`. An empty body allocates nothing.
     pub fn read_body<D: Steady>(&mut self, duplex: &mut D, count: u64) -> Result<Vec<u8>, BodyFault>
         ensures ok { let old = prepend_known self.old (D.left duplex.old) in
             let new = prepend_known self.new (D.left duplex.new) in
             IfOk result (λ body. (vec_len body ≡ count) × Consumes old new body.items) }
 
-        // An error takes a part of the body, and never the whole; where no more bytes come, all that came (`ran`).
+        // On an error, part of the body is taken, never the whole; if no more bytes come, all that came is taken (`ran`).
         ensures part { let old = prepend_known self.old (D.left duplex.old) in
             let new = prepend_known self.new (D.left duplex.new) in
             IfErr result (λ e. (bytes : List ℕ) × Consumes old new bytes × (length bytes < count)) }
@@ -133,7 +134,7 @@ impl Wire {
     }
 }
 
-// Takes the next head from the buffer and the stream after it, which never has to wait.
+// Takes the next head from the buffer and then from a stream that never has to wait.
 fn take_head<D: Steady>(
     buffer: &mut Buffer,
     duplex: &mut D,
@@ -150,7 +151,7 @@ fn take_head<D: Steady>(
     }
 }
 
-// Takes the next head from the buffer and the stream after it.
+// Takes the next head from the buffer and then from the stream.
 fn try_take_head<D: Duplex>(
     buffer: &mut Buffer,
     duplex: &mut D,
@@ -172,7 +173,7 @@ fn try_take_head<D: Duplex>(
     }
 }
 
-// Reads on until the head at the front of the buffer is whole, and answers its length. The search goes on where it left off.
+// Reads until the head at the front of the buffer is whole, and returns its length; the search goes on where it left off.
 pub(crate) fn find_head<D: Duplex>(
     buffer: &mut Buffer,
     duplex: &mut D,

@@ -1,4 +1,4 @@
-//! The text that separates the parts of a body.
+//! The boundary: the text that separates the parts of a body.
 ghost use Rattle.std.specs.Prelude.{◌≡◌, ◌≤◌, length};
 ghost use Rattle.range_reply.specs.Multipart.{candidate, text_of};
 
@@ -6,14 +6,14 @@ use arrayvec::ArrayString;
 use host_names::Digest;
 use http_wire::decimal_text;
 
-/// A text that may separate the parts of a `multipart/byteranges` body (RFC 2046, section 5.1.1), whether it occurs in them or not.
+/// A text that may be the boundary of a `multipart/byteranges` body (RFC 2046, section 5.1.1). It may occur in the parts.
 #[derive(Clone, Copy, Debug)]
 pub struct Boundary {
     text: ArrayString<64>,
 }
 
 impl Boundary {
-    /// The candidate with this number, for ranges of the file with this digest. Those from 0 to 7 are tried.
+    /// Returns the candidate with this number for ranges of the file with this digest. Candidates 0 to 7 are tried.
     pub fn candidate(digest: Digest, number: u8) -> Boundary
         ensures { text_of result ≡ candidate digest number }
     {
@@ -25,7 +25,7 @@ impl Boundary {
         Boundary { text }
     }
 
-    /// Its text.
+    /// Returns the text of the boundary.
     pub fn as_str(&self) -> &str
         ensures text { result.now ≡ text_of self.now }
         ensures short { length result.now ≤ 64 }

@@ -1,4 +1,4 @@
-//! The boundary for a body of several ranges.
+//! Chooses the boundary for a body of several ranges.
 ghost use Rattle.std.specs.Prelude.{IfNone, IfSome, MatchOption};
 ghost use Rattle.range_reply.specs.Boundaries.{HasNoBoundary, IsBoundaryFor};
 ghost use Rattle.range_reply.specs.Multipart.{text_of};
@@ -9,8 +9,9 @@ use crate::searches::occurs_in_one;
 use byte_view::Hold;
 use host_names::Digest;
 
-/// The boundary for a body of what these holds show, made of this digest, which should be that of their file: the first of the
-/// eight candidates that occurs in nothing that they show, or `None` where each occurs somewhere. It takes no memory.
+/// Returns the boundary for a body of what these holds show: the first of the eight candidates that does not occur in it, or
+/// `None` if each candidate occurs in it. The candidates are made from `digest`, which should be the digest of the holds' file.
+/// Allocates nothing.
 #[inline(never)]
 pub fn boundary(holds: &[Hold], digest: Digest) -> Option<Boundary>
     ensures first { IfSome result (λ found. IsBoundaryFor (all_shown holds.now) digest (text_of found)) }

@@ -7,18 +7,18 @@ ghost use Rattle.range_reply.specs.Plans.{lets_ranges};
 use arrayvec::ArrayString;
 use host_names::Digest;
 
-/// What the If-Range fields of a request say of a file (RFC 9110, section 13.1.5).
+/// What the If-Range fields of a request say about a file (RFC 9110, section 13.1.5).
 #[derive(Clone, Copy, Debug, PartialEq, Eq)]
 pub enum IfRange {
-    /// There is none.
+    /// The request has no If-Range field.
     Absent,
-    /// The file is the one that the client has a part of.
+    /// The client has a part of this file.
     True,
-    /// It isn't, or it isn't told by one field that is exactly the strong entity tag.
+    /// The client has a part of another file, or the request does not have one field that is exactly the strong entity tag.
     False,
 }
 
-/// The strong entity tag of the file with this digest, with its quotes (RFC 9110, section 8.8.3).
+/// Returns the strong entity tag of the file with this digest, with its quotes (RFC 9110, section 8.8.3).
 fn strong_tag(digest: Digest) -> ArrayString<42>
     ensures { result.bytes ≡ spec.strong_tag digest }
 {
@@ -30,8 +30,9 @@ fn strong_tag(digest: Digest) -> ArrayString<42>
 }
 
 impl IfRange {
-    /// What the values of all If-Range fields say of the file with this digest: `Absent` where there is no value, `True` where
-    /// there is one and it is exactly the strong entity tag, and else `False`. A weak tag never counts as the strong one.
+    /// Returns what the values of all If-Range fields say about the file with this digest: `Absent` if there is no value, `True`
+    /// if there is one value and it is exactly the strong entity tag, and `False` otherwise. A weak tag never counts as the
+    /// strong one.
     pub fn of(values: &[&[u8]], digest: Digest) -> IfRange
         ensures { result ≡ condition_of digest (map (λ value. value.now) values.now) }
     {
@@ -42,7 +43,7 @@ impl IfRange {
         }
     }
 
-    /// Whether a range is served under it: where there is none, or where it holds.
+    /// Whether a range is served under this condition: it is, if the condition is absent or true.
     pub(crate) fn lets_ranges(self) -> bool
         ensures { result ≡ lets_ranges self }
     {

@@ -1,4 +1,4 @@
-//! What is sent of a file: what is held of it, lent in parts.
+//! The body that sends bytes of a file. It lends what is held of the file in parts.
 ghost use Rattle.std.specs.Prelude.{◌≡◌, ◌<◌, ◌≤◌, ℕ, List, All, IfErr, IfNone, IfOk, IsTrue, MatchResult, None, length};
 ghost use Rattle.std.specs.List.{concat};
 ghost use Rattle.byte_view.specs.Holds.{Held, IsHeld};
@@ -27,20 +27,20 @@ use std::alloc::Global;
 use std::marker::Model;
 use std::sync::Arc;
 
-/// What is sent of a file. Several ranges always have a text that separates their parts.
+/// What is sent of a file. Several ranges always have a boundary that separates their parts.
 #[derive(Clone, Copy, Debug)]
 pub enum FileForm {
-    /// All of it.
+    /// The whole file.
     Whole,
     /// The bytes from the first position to the last.
     One(u64, u64),
     /// Several ranges, in parts.
     Several(Boundary),
-    /// None of the bytes that were asked for is there.
+    /// No bytes: the file has none of those asked for.
     Nothing,
 }
 
-/// What a plan sends, without the intervals of several: the holds of these have them. So a body is small, and cheap to move.
+/// What a plan sends, without the intervals of several ranges. Their holds have the intervals, so a body is small and cheap to move.
 #[derive(Clone, Copy, Debug)]
 enum Sends {
     Whole,
@@ -49,7 +49,7 @@ enum Sends {
     Nothing,
 }
 
-/// What a plan sends.
+/// Returns what a plan sends.
 fn sends_of(plan: &ReplyPlan) -> Sends
     ensures { (holds : List Held) (file : List ℕ) → AreFor holds file plan.now
         → plan_sent result holds ≡ plan.now }
@@ -62,14 +62,14 @@ fn sends_of(plan: &ReplyPlan) -> Sends
     }
 }
 
-/// The body that sends some bytes of a file: it owns what is held of it, and lends that in parts.
+/// The body that sends some bytes of a file. It owns what is held of the file and lends it in parts.
 #[derive(Drop)]
 pub struct FileBody {
     sends: Sends,
     boundary: Option<Boundary>,
     content_type: FieldText<'static>,
     holds: Holds,
-    /// How many bytes the file has, and the body.
+    /// How many bytes the file has, and how many the body has.
     size: u64,
     length: u64,
 }
@@ -91,7 +91,7 @@ impl Model for FileBody {
         b.size b.length };
 }
 
-/// How many bytes a hold shows of its stretch, or none of no hold.
+/// Returns how many bytes a hold shows of its stretch, or 0 if there is no hold.
 fn single_length(holds: &[Hold]) -> u64
     requires { length holds.now ≤ 1 }
     ensures held { All IsHeld holds.now }
@@ -104,7 +104,7 @@ fn single_length(holds: &[Hold]) -> u64
     (last - first + 1) as u64
 }
 
-/// How many bytes the body has, if a `u64` holds that.
+/// Returns how many bytes the body has, if the number fits in a `u64`.
 fn body_length(
     holds: &[Hold],
     plan: &ReplyPlan,
@@ -131,7 +131,7 @@ fn body_length(
 }
 
 impl FileBody {
-    /// The body of these holds. One of 2^64 bytes or more counts as one for which there is no memory.
+    /// Makes the body of these holds. Returns `ReadFault::OutOfMemory` if the body has 2^64 bytes or more.
     fn new(
         holds: Holds,
         plan: ReplyPlan,
@@ -163,7 +163,7 @@ impl FileBody {
         })
     }
 
-    /// What is sent.
+    /// Returns what is sent.
     pub fn form(&self) -> FileForm
         ensures { IsForm result self.now.plan self.now.boundary }
     {
@@ -178,7 +178,7 @@ impl FileBody {
         }
     }
 
-    /// Its parts, in order, each as it lies. It takes no memory.
+    /// Returns the parts of the body, in order. The bytes of the file are lent as they lie. Allocates nothing.
     pub fn parts(&self) -> Parts<'_>
         ensures { concat result ≡ self.now.bytes }
     {
@@ -192,11 +192,11 @@ impl FileBody {
     }
 }
 
-/// Several parts have no boundary: each candidate occurs in one of them.
+/// Several parts have no boundary, because each candidate occurs in one of them.
 #[derive(Drop)]
 struct NoBoundary;
 
-/// What separates the parts of a plan that has several.
+/// Returns the boundary if a plan has several parts.
 fn boundary_for(
     holds: &[Hold],
     plan: &ReplyPlan,
@@ -216,8 +216,9 @@ fn boundary_for(
     }
 }
 
-/// Reads what a plan asks for of a file: its stretches are held, and where several parts have no boundary the whole file is
-/// sent, which is held then. The body lends what is held; none of it is copied. It takes no memory where nothing is sent.
+/// Reads what a plan asks for of a file and returns the body that sends it. The stretches of the plan are held. If several parts
+/// have no boundary, the whole file is then held and sent. The body lends what is held and copies none of it. Allocates nothing
+/// if nothing is sent.
 pub fn read_body<H: Holder>(
     alloc: Global,
     holder: &mut H,

@@ -6,17 +6,18 @@ use byte_view::Hold;
 use std::slice;
 use std::vec::Vec;
 
-/// The stretches of a file that are held for a reply, in order. One alone takes no memory: most replies send just one.
+/// The stretches of a file that are held for a reply, in order. A single stretch takes no memory for a list, because
+/// most replies send just one.
 #[derive(Drop)]
 pub(crate) enum Holds {
     /// One stretch.
     Alone(Hold),
-    /// Several, or none.
+    /// Several stretches, or no stretch.
     Listed(Vec<Hold>),
 }
 
 impl Holds {
-    /// They one after another.
+    /// Returns the holds, in order.
     pub(crate) fn as_slice(&self) -> &[Hold]
         ensures { result.now ≡ held_in self.now }
     {

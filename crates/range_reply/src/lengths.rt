@@ -1,4 +1,4 @@
-//! How long a body of several ranges is.
+//! The length of a body of several ranges.
 ghost use Rattle.std.specs.Prelude.{◌+◌, All, length};
 ghost use Rattle.std.specs.List.{flat_map};
 ghost use Rattle.range_spec.specs.Chosen.{LiesWithin};
@@ -10,7 +10,7 @@ use byte_view::BlobInfo;
 use http_wire::FieldText;
 use range_spec::Intervals;
 
-/// The total with the lengths of these texts added, if that is a `u64`.
+/// Adds the lengths of these texts to the total, if the sum fits in a `u64`.
 fn with_texts(mut total: u64, texts: &[&str]) -> Option<u64>
     ensures { IsCount result (total + length (flat_map (λ text. text.now) texts.now)) }
 {
@@ -20,7 +20,7 @@ fn with_texts(mut total: u64, texts: &[&str]) -> Option<u64>
     Some(total)
 }
 
-/// The total with the length of a part added, if that is a `u64`.
+/// Adds the length of a part to the total, if the sum fits in a `u64`.
 fn with_part(
     total: u64,
     info: &BlobInfo,
@@ -42,7 +42,7 @@ fn with_part(
     with_texts(total.checked_add(last - first + 1)?, &["\r\n"])
 }
 
-/// The total with the lengths of the parts for these intervals added, if that is a `u64`.
+/// Adds the lengths of the parts for these intervals to the total, if the sum fits in a `u64`.
 fn with_parts(
     mut total: u64,
     info: &BlobInfo,
@@ -60,8 +60,8 @@ fn with_parts(
     Some(total)
 }
 
-/// How many bytes the body has that sends these intervals of a file in parts with this boundary, or `None` where a `u64` doesn't
-/// hold that. It takes no memory.
+/// Returns the number of bytes in the body that sends these intervals of a file in parts with this boundary, or `None` if the
+/// number does not fit in a `u64`. Allocates nothing.
 #[inline(never)]
 pub(crate) fn multipart_length(
     info: &BlobInfo,

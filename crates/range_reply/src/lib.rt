@@ -1,4 +1,4 @@
-//! What a read of a file is answered where it asks for ranges of bytes (RFC 9110, section 14). `read_body` alone allocates.
+//! The reply to a read of a file that asks for ranges of bytes (RFC 9110, section 14). Only `read_body` allocates.
 #![tactic(auto)]
 
 mod boundaries;

@@ -1,4 +1,4 @@
-//! One part of a body: its head, its bytes, and what comes behind them.
+//! One part of a body: its head, its bytes and what comes after them.
 ghost use Rattle.std.specs.Prelude.{◌≡◌, ℕ, List, [], ◌∷◌, ◌++◌, MatchOption, codes, length, option_map};
 ghost use Rattle.std.specs.Iterator.{YieldsFirstBy};
 ghost use Rattle.byte_view.specs.BodyParts.{text_of as part_text};
@@ -9,30 +9,30 @@ use crate::boundaries::Boundary;
 use crate::texts::{line_before_type, line_behind_type, text_in};
 use byte_view::{Hold, Part, Pieces};
 
-/// What the heads of all parts say: the boundary before each, and the type of the file.
+/// What the heads of all parts say: the boundary before each part, and the type of the file.
 #[derive(Drop)]
 pub struct Heads<'a> {
     pub boundary: Option<Boundary>,
     pub content_type: &'a str,
 }
 
-/// What is still to be given of the head of a part.
+/// What is left to give of the head of a part.
 #[derive(Clone, Copy, Debug)]
 pub enum Heading {
     /// All of it, from the boundary's line on.
     Whole,
-    /// The type of the file, and what comes behind it.
+    /// The type of the file, and what comes after it.
     FromType,
-    /// What comes behind the type.
+    /// What comes after the type.
     FromRange,
     /// Nothing.
     Done,
 }
 
-/// What is still to be given of one of several parts, or of a stretch or a text alone.
+/// What is left to give of one of several parts, of a single stretch or of a single text.
 #[derive(Drop)]
 pub struct Opened<'a> {
-    /// What comes before the bytes. Its texts are made when they are taken, so a value is small and cheap to move.
+    /// What comes before the bytes. Its texts are made when they are taken, so an `Opened` is small and cheap to move.
     heading: Heading,
     /// The first and the last byte of the stretch, and how many bytes its file has.
     first: usize,
@@ -40,7 +40,7 @@ pub struct Opened<'a> {
     size: u64,
     /// The bytes of the stretch.
     pieces: Option<Pieces<'a>>,
-    /// What comes behind them.
+    /// What comes after the bytes.
     end: Option<&'a [u8]>,
 }
 
@@ -48,7 +48,7 @@ impl<'a> Opened<'a> {
     ghost use Rattle.range_reply.specs.PartTexts.{heading_of, opened_texts, range_of, rest_texts};
     ghost use Rattle.range_reply.specs.declared.opened.Heading.TheVariants.{Done, Whole};
 
-    /// Nothing.
+    /// Returns an `Opened` with nothing to give.
     pub fn none() -> Opened<'a>
         ensures bare { result.heading ≡ Done }
         ensures rest { rest_texts result ≡ [] }
@@ -63,7 +63,7 @@ impl<'a> Opened<'a> {
         }
     }
 
-    /// This text alone.
+    /// Returns an `Opened` that gives this text alone.
     pub fn text(bytes: &'a [u8]) -> Opened<'a>
         ensures bare { result.heading ≡ Done }
         ensures rest { rest_texts result ≡ bytes.now ∷ [] }
@@ -78,7 +78,7 @@ impl<'a> Opened<'a> {
         }
     }
 
-    /// What a hold shows of its stretch.
+    /// Returns an `Opened` that gives what a hold shows of its stretch.
     fn stretch(hold: &'a Hold) -> Opened<'a>
         ensures bare { result.heading ≡ Done }
         ensures rest { rest_texts result ≡ lent hold.now hold.now.first hold.now.last }
@@ -94,7 +94,7 @@ impl<'a> Opened<'a> {
         }
     }
 
-    /// What a hold shows of its stretch, if there is one.
+    /// Returns an `Opened` that gives what a hold shows of its stretch, or nothing if there is no hold.
     pub fn of_stretch(hold: Option<&'a Hold>) -> Opened<'a>
         ensures bare { result.heading ≡ Done }
         ensures rest { rest_texts result ≡ stretch_texts (option_map (λ h. h.now) hold.entry) }
@@ -105,7 +105,7 @@ impl<'a> Opened<'a> {
         }
     }
 
-    /// The part for the stretch of a hold, where its file has so many bytes.
+    /// Returns the part for the stretch of a hold whose file has `size` bytes.
     pub fn part(hold: &'a Hold, size: u64) -> Opened<'a>
         requires { length hold.now.file ≡ size }
         ensures whole { result.heading ≡ Whole }
@@ -123,7 +123,7 @@ impl<'a> Opened<'a> {
         }
     }
 
-    /// The next text of the head.
+    /// Takes the next text of the head.
     fn next_of_head(&mut self, heads: &Heads<'a>) -> Option<Part<'a>>
         ensures head { YieldsFirstBy part_text (heading_of heads.now) self.old result self.new }
         ensures others { self.new ≡ record self.old { heading = self.new.heading } }
@@ -146,7 +146,7 @@ impl<'a> Opened<'a> {
         }
     }
 
-    /// The next piece of the stretch.
+    /// Takes the next piece of the stretch.
     fn next_piece(&mut self) -> Option<&'a [u8]>
         ensures piece { MatchOption result
             ((pieces_in self.old.pieces ≡ []) × (pieces_in self.new.pieces ≡ []))
@@ -159,7 +159,7 @@ impl<'a> Opened<'a> {
         }
     }
 
-    /// The first part that is left.
+    /// Takes the first part that is left.
     pub fn take(&mut self, heads: &Heads<'a>) -> Option<Part<'a>>
         ensures { YieldsFirstBy part_text (opened_texts heads.now) self.old result self.new }
     {

@@ -1,4 +1,4 @@
-//! The parts of a body, in order, each as it lies.
+//! The parts of a body, in order. The bytes of the file are lent as they lie.
 ghost use Rattle.std.specs.Prelude.{◌≡◌, ℕ, List, [], ◌∷◌, All, MatchOption, Some, None, true, false, length, option_map};
 ghost use Rattle.std.specs.Iterator.{YieldsFirstBy, at_most};
 ghost use Rattle.byte_view.specs.BodyParts.{text_of as part_text};
@@ -15,16 +15,16 @@ use http_wire::FieldText;
 use std::iter::Iterator;
 use std::marker::Model;
 
-/// What is left to be given of a body.
+/// What is left to give of a body.
 #[derive(Drop)]
 struct Queue<'a> {
     /// What comes first.
     opened: Opened<'a>,
-    /// The holds whose parts come then, and what their heads say. Their file has so many bytes.
+    /// The holds whose parts come next, what the heads of these parts say, and how many bytes the file has.
     holds: &'a [Hold],
     heads: Heads<'a>,
     size: u64,
-    /// Whether the last boundary's line comes last.
+    /// Whether the last boundary's line comes at the end.
     ends: bool,
 }
 
@@ -32,7 +32,7 @@ impl<'a> Queue<'a> {
     ghost use Rattle.range_reply.specs.PartTexts.{IsOfSize, queue_texts, rest_texts};
     ghost use Rattle.range_reply.specs.declared.opened.Heading.TheVariants.{Done};
 
-    /// This, which has no head, and nothing more.
+    /// Makes the queue that gives only `opened`, which has no head.
     fn only(opened: Opened<'a>) -> Queue<'a>
         requires { opened.heading ≡ Done }
         ensures texts { queue_texts result ≡ rest_texts opened.entry }
@@ -50,7 +50,7 @@ impl<'a> Queue<'a> {
         }
     }
 
-    /// The last boundary's line, if it is left.
+    /// Takes the last boundary's line, if it is left.
     fn take_end(&mut self) -> Option<Part<'a>>
         ensures end { MatchOption result (self.old.ends ≡ false)
             (λ part. (self.old.ends ≡ true) × (part_text part ≡ last_line (spec.text_in self.old.heads.boundary))) }
@@ -63,7 +63,7 @@ impl<'a> Queue<'a> {
         Some(Part::Text(last_line(text_in(&self.heads.boundary))))
     }
 
-    /// The first part that is left.
+    /// Takes the first part that is left.
     fn take(&mut self) -> Option<Part<'a>>
         requires { IsOfSize self.old }
         ensures first { YieldsFirstBy part_text queue_texts self.old result self.new }
@@ -81,11 +81,11 @@ impl<'a> Queue<'a> {
     }
 }
 
-/// The parts of a body, in order. Contracts see the texts of those that are left. Making them takes no memory.
+/// The parts of a body, in order. Contracts see the texts of the parts that are left. Making a `Parts` allocates nothing.
 #[derive(Drop)]
 pub struct Parts<'a> {
     queue: Queue<'a>,
-    /// How many bytes they have.
+    /// How many bytes the parts that are left have.
     length: u64,
 }
 
@@ -101,7 +101,7 @@ impl<'a> Model for Parts<'a> {
 }
 
 impl<'a> Parts<'a> {
-    /// These bytes alone, as one part.
+    /// Returns these bytes alone, as one part.
     pub fn of(bytes: &'a [u8]) -> Parts<'a>
         ensures { result ≡ bytes.now ∷ [] }
     {
@@ -111,7 +111,7 @@ impl<'a> Parts<'a> {
         }
     }
 
-    /// What a hold shows of its stretch, or nothing: so many bytes.
+    /// Returns the parts that show the stretch of a hold, or no parts if there is no hold. They have `total` bytes.
     pub(crate) fn of_stretch(hold: Option<&'a Hold>, total: u64) -> Parts<'a>
         requires { total ≡ length_of (stretch_texts (option_map (λ h. h.now) hold)) }
         ensures { result ≡ stretch_texts (option_map (λ h. h.now) hold.entry) }
@@ -122,7 +122,7 @@ impl<'a> Parts<'a> {
         }
     }
 
-    /// The parts for the stretches of holds, whose file has so many bytes, with this boundary between them.
+    /// Returns the parts for the stretches of holds, with this boundary between them. The file of the holds has `size` bytes.
     #[inline(never)]
     pub(crate) fn of_several(
         holds: &'a [Hold],

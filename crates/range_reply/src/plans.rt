@@ -8,10 +8,10 @@ use crate::conditions::IfRange;
 use byte_view::BlobInfo;
 use range_spec::{Asked, Choice, select};
 
-/// What is sent of a file: the whole of it (status 200), one range or several (206), or none of what is asked for (416).
+/// What is sent of a file: the whole file (status 200), one range or several (206), or none of what is asked for (416).
 pub type ReplyPlan = Choice;
 
-/// What a Range field chooses of a file of so many bytes.
+/// Returns what a Range field chooses of a file of `size` bytes.
 fn choice_in(asked: &Asked, size: u64) -> Choice
     ensures choice { result ≡ spec.choice_in asked.now size }
     ensures within { All (LiesWithin size) (intervals_in result) }
@@ -23,8 +23,8 @@ fn choice_in(asked: &Asked, size: u64) -> Choice
     }
 }
 
-/// What is sent of a file, where so much is asked for under this condition (RFC 9110, sections 13.1.5 and 14.2). Without a
-/// range the condition is ignored; where it doesn't hold the range is. The intervals are in the order asked.
+/// Returns what is sent of a file if `asked` is asked for under this condition (RFC 9110, sections 13.1.5 and 14.2). If there is
+/// no range, the condition is ignored. If the condition is false, the range is ignored. The intervals are in the order asked.
 pub fn plan(info: &BlobInfo, asked: &Asked, condition: IfRange) -> ReplyPlan
     ensures plan { result ≡ planned asked.now condition (length info.now) }
     ensures within { All (LiesWithin (length info.now)) (intervals_in result) }

@@ -1,4 +1,4 @@
-//! Whether bytes occur in what is held of a file, in the chunks and across their edges. No call allocates.
+//! Searches what is held of a file for bytes, in the chunks and across their edges. No call allocates.
 ghost use Rattle.std.specs.Prelude.{◌≡◌, ◌↔◌, ◌<◌, ◌≤◌, ◌++◌, List, ℕ, IsTrue, length, take};
 ghost use Rattle.std.specs.List.{concat};
 ghost use Rattle.range_reply.specs.Searches.{ending};
@@ -8,7 +8,7 @@ use arrayvec::ArrayVec;
 use byte_view::{Hold, Pieces};
 use memchr::memmem;
 
-/// How many bytes on either side of an edge are looked through: as many as the longest text that may be looked for.
+/// How many bytes on each side of an edge are searched: as many as the longest text that may be searched for has.
 const SIDE: usize = 64;
 
 /// Whether bytes occur in a text.
@@ -18,14 +18,14 @@ fn occurs(bytes: &[u8], text: &[u8]) -> bool
     memmem::find(text, bytes).is_some()
 }
 
-/// The last 64 bytes of a text, or all where it has fewer.
+/// Returns the last 64 bytes of a text, or all if it has fewer.
 fn last_bytes(text: &[u8]) -> ArrayVec<u8, 64>
     ensures { result.items ≡ ending text.now }
 {
     ArrayVec::try_from(&text[text.len().saturating_sub(SIDE)..]).unwrap()
 }
 
-/// These bytes before an edge, and the first 64 after it, or all where there are fewer.
+/// Returns the bytes in `before`, then the first 64 bytes after the edge, or all if there are fewer.
 fn around_edge(before: &[u8], after: &[u8]) -> ArrayVec<u8, 128>
     requires { length before.now ≤ 64 }
     ensures { result.items ≡ before.now ++ take 64 after.now }
@@ -38,8 +38,8 @@ fn around_edge(before: &[u8], after: &[u8]) -> ArrayVec<u8, 128>
     bytes
 }
 
-/// The last 64 bytes before the edge after a piece, or all where there are fewer. `edge` is what is looked through at the edge
-/// before the piece.
+/// Returns the last 64 bytes before the edge after a piece, or all if there are fewer. `edge` is the bytes that are searched at the
+/// edge before the piece.
 fn last_bytes_after(edge: &[u8], piece: &[u8]) -> ArrayVec<u8, 64>
     ensures { (seen : List ℕ) → edge.now ≡ ending seen ++ take 64 piece.now → result.items ≡ ending (seen ++ piece.now) }
 {
@@ -73,7 +73,7 @@ fn occurs_in_hold(bytes: &[u8], hold: &Hold) -> bool
     occurs_in_pieces(bytes, hold.pieces(first, last))
 }
 
-/// Whether bytes occur in what one of the holds shows.
+/// Whether bytes occur in what at least one of the holds shows.
 pub(crate) fn occurs_in_one(bytes: &[u8], holds: &[Hold]) -> bool
     requires some { 0 < length bytes.now }
     requires few { length bytes.now ≤ 64 }

@@ -1,4 +1,4 @@
-//! Stretches of a file that are held one after another.
+//! Holds the stretches of a file, one after another.
 ghost use Rattle.std.specs.Prelude.{◌≡◌, ◌<◌, ◌∷◌, [], All, IfErr, IfOk, length};
 ghost use Rattle.byte_view.specs.Holds.{IsHeld};
 ghost use Rattle.range_reply.specs.Bodies.{stretches, whole_of};
@@ -13,7 +13,7 @@ use range_spec::Choice;
 use std::alloc::Global;
 use std::sync::Arc;
 
-/// What holds of every hold. It does nothing.
+/// States what is true of every hold. It does nothing.
 fn lawful(hold: &Hold)
     ensures { IsHeld hold.now }
 {
@@ -36,7 +36,7 @@ fn hold_one<H: Holder>(
     Ok(hold)
 }
 
-/// Holds a stretch of a file and nothing else of it, which takes no list.
+/// Holds a single stretch of a file, without a list.
 fn hold_alone<H: Holder>(
     holder: &mut H,
     info: &Arc<BlobInfo>,
@@ -83,7 +83,7 @@ fn hold_each<H: Holder>(
     Ok(Holds::Listed(holds))
 }
 
-/// Holds all of a file, if it has a byte.
+/// Holds the whole file, if the file is not empty.
 pub(crate) fn hold_whole<H: Holder>(
     alloc: Global,
     holder: &mut H,

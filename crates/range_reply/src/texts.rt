@@ -1,4 +1,4 @@
-//! The texts of which a body of several ranges is made.
+//! The texts in a body of several ranges.
 ghost use Rattle.std.specs.Prelude.{◌≡◌, ◌≤◌, length};
 ghost use Rattle.range_reply.specs.Bodies as spec;
 ghost use Rattle.range_reply.specs.Multipart as multipart;
@@ -8,7 +8,7 @@ use crate::boundaries::Boundary;
 use arrayvec::ArrayString;
 use http_wire::{ContentRange, range_value};
 
-/// The text of a boundary, if there is one.
+/// Returns the text of a boundary, or an empty text if there is no boundary.
 pub(crate) fn text_in(boundary: &Option<Boundary>) -> &str
     ensures text { result.now ≡ spec.text_in boundary.now }
     ensures short { length result.now ≤ 64 }
@@ -19,7 +19,7 @@ pub(crate) fn text_in(boundary: &Option<Boundary>) -> &str
     }
 }
 
-/// What comes before the type in the head of a part: the boundary's line, and the name of the field.
+/// Returns what comes before the type in the head of a part: the boundary's line and the name of the field.
 #[inline(never)]
 pub(crate) fn line_before_type(boundary: &str) -> ArrayString<256>
     requires { length boundary.now ≤ 64 }
@@ -32,7 +32,7 @@ pub(crate) fn line_before_type(boundary: &str) -> ArrayString<256>
     line
 }
 
-/// What comes behind the type in the head of a part: which bytes it has of a file of so many, and an empty line.
+/// Returns what comes after the type in the head of a part: the first and last byte, the length of the file, and an empty line.
 #[inline(never)]
 pub(crate) fn line_behind_type(first: u64, last: u64, length: u64) -> ArrayString<256>
     ensures { result.bytes ≡ range_line (first, last) length }
@@ -49,7 +49,7 @@ pub(crate) fn line_behind_type(first: u64, last: u64, length: u64) -> ArrayStrin
     line
 }
 
-/// The last boundary's line.
+/// Returns the last boundary's line.
 #[inline(never)]
 pub(crate) fn last_line(boundary: &str) -> ArrayString<256>
     requires { length boundary.now ≤ 64 }

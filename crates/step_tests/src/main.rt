@@ -2,6 +2,7 @@
 //! tests/test_steps.py has the lines, and compares them.
 #![tactic(auto)]
 
+mod pieces;
 mod scripts;
 mod serving;
 

@@ -2,15 +2,14 @@
 ghost use Rattle.std.specs.Prelude.{None, ⊤};
 ghost use Rattle.http_wire.specs.Timing.{Moves};
 
+use crate::pieces::Pieces;
 use http_wire::{Duplex, Halt, ReadFailed, WriteFailed};
 use std::marker::Model;
 
-/// Gives its bytes up to the next cut, and takes `most` bytes a write. Of every two calls the first would have to wait. Contracts don't see it.
+/// Gives its input piece by piece, and takes `most` bytes a write. Of every two calls the first would have to wait. Contracts don't see it.
 #[derive(Drop)]
 pub struct Script {
-    input: Vec<u8>,
-    cuts: Vec<usize>,
-    at: usize,
+    input: Pieces,
     most: usize,
     is_ready: bool,
     written: Vec<u8>,
@@ -23,12 +22,10 @@ impl Model for Script {
 }
 
 impl Script {
-    /// A stream of these bytes, cut at these places, the lowest first.
-    pub fn new(input: Vec<u8>, cuts: Vec<usize>, most: usize, written: Vec<u8>) -> Script {
+    /// A stream of this input.
+    pub fn new(input: Pieces, most: usize, written: Vec<u8>) -> Script {
         Script {
             input,
-            cuts,
-            at: 0,
             most: most.max(1),
             is_ready: false,
             written,
@@ -44,22 +41,6 @@ impl Script {
     fn waits(&mut self) -> bool {
         self.is_ready = !self.is_ready;
         self.is_ready
-    }
-
-    /// Where the next cut is, or the end.
-    fn next_cut(&self) -> usize {
-        for cut in &self.cuts {
-            if *cut > self.at {
-                return *cut;
-            }
-        }
-        self.input.len()
-    }
-
-    /// What comes before it.
-    fn next(&self) -> &[u8] {
-        let end = self.next_cut().min(self.input.len());
-        self.input.get(self.at..end).unwrap_or(&[])
     }
 }
 
@@ -80,11 +61,7 @@ impl Duplex for Script {
         if self.waits() {
             return Err(Halt::WouldWait);
         }
-        let next = self.next();
-        let count = next.len().min(buf.len());
-        buf[..count].copy_from_slice(&next[..count]);
-        self.at = self.at.saturating_add(count);
-        Ok(count)
+        Ok(self.input.give(buf))
     }
 
     fn write_some(&mut self, bytes: &[u8]) -> Result<usize, Halt<WriteFailed>> {

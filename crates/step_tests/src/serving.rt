@@ -1,4 +1,5 @@
 //! Connections, each over a server of its own.
+use crate::pieces::Pieces;
 use crate::scripts::Script;
 use anyhow::{Result, anyhow};
 use blob_store::MemShelf;
@@ -16,8 +17,8 @@ fn new_server(alloc: Global) -> Result<Server<MemShelf, MemDisk>, AllocError> {
     Server::new(alloc, MemShelf::new(alloc), GREATEST_LIMIT)
 }
 
-/// What is written to a stream of these bytes, at once.
-fn written_at_once(alloc: Global, input: &[u8]) -> Result<Vec<u8>> {
+/// What is written to a stream of this input, at once.
+fn written_at_once(alloc: Global, input: Pieces) -> Result<Vec<u8>> {
     let mut server = new_server(alloc)?;
     let mut duplex = Pair {
         source: input,
@@ -49,21 +50,27 @@ fn numbers(alloc: Global, word: &str) -> Result<Vec<usize>> {
     Ok(numbers)
 }
 
-/// What is written to the stream of a line: its bytes as hexadecimal digits, or before them the places where it is cut, and how many bytes a
-/// write takes.
+/// The bytes of these digits, cut at these places.
+fn pieces(alloc: Global, digits: &str, cuts: &[usize]) -> Result<Pieces> {
+    Ok(Pieces::new(alloc, hex::decode(alloc, digits)?, cuts)?)
+}
+
+/// What is written to the stream of a line. At its end the line has the stream's bytes as hexadecimal digits. Before them it may have the places
+/// where the stream is cut. If it has these and then how many bytes a write takes, the stream is answered in steps; else it is at once.
 pub fn written(alloc: Global, line: &str) -> Result<Vec<u8>> {
     let words: Vec<&str> = line.split(' ').collect(alloc)?;
     match words.as_slice() {
-        [digits] => {
-            let input = hex::decode(alloc, *digits)?;
-            written_at_once(alloc, input.as_slice())
+        [digits] => written_at_once(alloc, pieces(alloc, *digits, &[])?),
+        [cuts, digits] => {
+            let cuts = numbers(alloc, *cuts)?;
+            written_at_once(alloc, pieces(alloc, *digits, cuts.as_slice())?)
         }
         [cuts, most, digits] => {
-            let input = hex::decode(alloc, *digits)?;
             let cuts = numbers(alloc, *cuts)?;
             let most = most.parse::<usize>()?;
-            written_in_steps(alloc, Script::new(input, cuts, most, Vec::new(alloc)))
+            let input = pieces(alloc, *digits, cuts.as_slice())?;
+            written_in_steps(alloc, Script::new(input, most, Vec::new(alloc)))
         }
-        _ => Err(anyhow!("a stream is wanted, or its cuts, its writes and the stream")),
+        _ => Err(anyhow!("a stream is wanted, or its cuts and the stream, or its cuts, its writes and the stream")),
     }
 }
