@@ -47,19 +47,22 @@ def count_instructions(program, folder, requests):
     return instructions_of([program, "solo"], folder, write_gets(folder, requests))
 
 
-def count_at_once(program, folder, requests):
-    """The same of the program that serves in steps or at once, at once."""
-    line = folder / "line"
-    line.write_text(f"{write_gets(folder, requests).read_bytes().hex()}\n")
+def count_served(program, folder, requests, *how):
+    """The same of the program that serves a connection in steps or at once. Each request is a read of its own."""
+    stream, line = write_gets(folder, requests).read_bytes(), folder / "line"
+    cuts = ",".join(str(end.end()) for end in re.finditer(b"\r\n\r\n", stream))
+    line.write_text(" ".join([cuts, *map(str, how), stream.hex()]) + "\n")
     return instructions_of([program], folder, line)
+
+
+def count_at_once(program, folder, requests):
+    """The same at once, by `serve_connection`."""
+    return count_served(program, folder, requests)
 
 
 def count_in_steps(program, folder, requests):
     """The same in steps: before each request and each write the connection has to wait."""
-    stream, line = write_gets(folder, requests).read_bytes(), folder / "line"
-    cuts = ",".join(str(end.end()) for end in re.finditer(b"\r\n\r\n", stream))
-    line.write_text(f"{cuts} {MEBIBYTE} {stream.hex()}\n")
-    return instructions_of([program], folder, line)
+    return count_served(program, folder, requests, MEBIBYTE)
 
 
 def per_get(count, program, folder):

@@ -62,7 +62,7 @@ class EndureServe(Program):
     def endure(self, *words, **environment):
         """Runs it in a temporary folder, and returns its status, the cells of the last row of its table, and its words on standard error."""
         with tempfile.TemporaryDirectory(prefix="filehost-test-") as room:
-            words = ["--life", "1.5", "--folder", pathlib.Path(room) / "store", *words]
+            words = ["--life", "1.5", "--second", "1000", "--folder", pathlib.Path(room) / "store", *words]
             ran = subprocess.run([TOP / "bench/endure-serve", *words], env=os.environ | environment, capture_output=True, text=True, timeout=SECONDS)
         first, *_, last = [line.strip("| ").split(" | ") for line in ran.stdout.splitlines()]
         return ran.returncode, dict(zip(first, last)), ran.stderr

@@ -9,7 +9,7 @@ import subprocess
 import time
 import unittest
 
-from lib.client import HEAP, HELP
+from lib.client import HEAP, HELP, PATIENCE
 from lib.sandbox import TOP, Sandbox
 
 CRATES = """\
@@ -34,6 +34,28 @@ class Launcher(unittest.TestCase):
 
     def call(self, *words, **how):
         return self.sandbox.run(self.launcher, *words, **how)
+
+    def set_processors(self, count):
+        nproc = self.sandbox.tools / "nproc"
+        nproc.unlink()
+        nproc.write_text(f"#!/usr/bin/env bash\necho {count}\n")
+        nproc.chmod(0o755)
+
+    def hold(self):
+        """A file for which the proof of a crate waits, until it is let go."""
+        self.held = self.sandbox.folder / "held"
+        self.held.touch()
+        return str(self.held)
+
+    def let_go(self):
+        self.held.unlink(missing_ok=True)
+
+    def read_until(self, pipe, words):
+        """What comes of a pipe, up to the end of the line that has these words."""
+        lines = []
+        while (line := pipe.readline()) and words not in line:
+            lines.append(line)
+        return b"".join([*lines, line])
 
     def add_built_program(self):
         self.sandbox.add_crates(CRATES)
@@ -104,7 +126,9 @@ class Launcher(unittest.TestCase):
 
     def test_proves_crates_that_do_not_use_each_other_side_by_side(self):
         self.sandbox.add_crates(SIDE_BY_SIDE)
-        self.assertEqual(self.call(SECONDS_A_CRATE="0.5")[0], OWN_STATUS)
+        self.set_processors(2)
+        # Each goes on once the other was begun.
+        self.assertEqual(self.call(BESIDE_OF_left="right", BESIDE_OF_right="left")[0], OWN_STATUS)
         calls = self.sandbox.calls()
         self.assertEqual((calls[0], sorted(calls[1:3]), calls[3:]), ("low: lib", ["left: lib", "right: lib"], IN_ORDER[2:]))
         beside = set((self.sandbox.folder / "calls.beside").read_text().splitlines())
@@ -122,13 +146,11 @@ class Launcher(unittest.TestCase):
 
     def test_says_at_its_start_how_long_a_build_takes(self):
         """That is 1.15 times what its longest chain of crates lasts, or all its work on this number of processors."""
-        (self.sandbox.tools / "nproc").unlink()
         self.sandbox.add_crates(SIDE_BY_SIDE)
         seconds = {"low": (600, 600), "left": (1200, 1200), "right": (1200, 1200), "upper": (600, 600), "filehost": (600, 600)}
         self.sandbox.write("docs/build-seconds.txt", "".join(f"{name} {work} {time}\n" for name, (work, time) in seconds.items()))
         for processors, minutes in ((1, 81), (2, 58), (4, 58)):
-            (self.sandbox.tools / "nproc").write_text(f"#!/usr/bin/env bash\necho {processors}\n")
-            (self.sandbox.tools / "nproc").chmod(0o755)
+            self.set_processors(processors)
             self.sandbox.write("crates/low/src/lib.rt", str(processors))
             with self.subTest(processors):
                 first = self.call()[2].splitlines()[0]
@@ -137,7 +159,13 @@ class Launcher(unittest.TestCase):
 
     def test_tells_how_much_of_a_processor_each_crate_took(self):
         self.sandbox.add_crates(SIDE_BY_SIDE)
-        _, _, err = self.call(TURNS_OF_left="1000000", SECONDS_OF_right="0.5")
+        self.set_processors(2)
+        # Left ends once it is told of right, so that its time can't be charged to right.
+        building = self.start(TURNS_OF_left="1000000", HOLD_OF_left=self.hold())
+        err = self.read_until(building.stderr, b"right is proved")
+        self.let_go()
+        err = (err + building.stderr.read()).decode()
+        building.communicate(timeout=60)
         took = dict(re.findall(r"(?m)\] (\w+) is proved, in (\d+) s of a processor$", err))
         self.assertGreater(int(took.pop("left")), 0)
         self.assertEqual(took, dict.fromkeys(("low", "right", "upper", "filehost"), "0"))
@@ -151,13 +179,15 @@ class Launcher(unittest.TestCase):
         self.sandbox.add_crates("filehost: low\nlow:\n")
         self.sandbox.write("docs/build-seconds.txt", "low 80 5\nfilehost 20 5\n")
         near, far = pty.openpty()
-        building = self.start(stdout=subprocess.DEVNULL, stderr=far, SECONDS_A_CRATE="1.5", SECONDS_TO_PROGRESS="0.2")
+        building = self.start(stdout=subprocess.DEVNULL, stderr=far, HOLD_OF_low=self.hold(), SECONDS_OF_filehost="1.5", SECONDS_TO_PROGRESS="0.2")
         os.close(far)
-        shown = b""
+        shown, until = b"", time.monotonic() + PATIENCE
         # The terminal ends with an error once nobody has it open.
         with contextlib.suppress(OSError):
             while piece := os.read(near, 4096):
                 shown += piece
+                if b"3 of 8 functions" in shown or time.monotonic() > until:
+                    self.let_go()
         os.close(near)
         self.assertEqual(building.wait(), OWN_STATUS)
         lines = shown.decode().split("\r\x1b[K")
@@ -290,12 +320,19 @@ class Launcher(unittest.TestCase):
 
     def test_builds_once_for_two_calls_at_once(self):
         self.sandbox.add_crates(CRATES)
-        callers = [self.start("solo", SECONDS_A_CRATE="0.2") for _ in range(2)]
-        said = [caller.communicate(timeout=60) for caller in callers]
-        self.assertEqual([caller.returncode for caller in callers], [OWN_STATUS] * 2)
+        first = self.start("solo", HOLD_OF_low=self.hold())
+        while not (self.sandbox.folder / "calls.began.low").exists():
+            self.assertIsNone(first.poll())
+            time.sleep(0.01)
+        second = self.start("solo")
+        waits = self.read_until(second.stderr, b"another call is building")
+        self.assertIn(b"another call is building", waits)
+        self.let_go()
+        said = [caller.communicate(timeout=60) for caller in (first, second)]
+        self.assertEqual([caller.returncode for caller in (first, second)], [OWN_STATUS] * 2)
         self.assertEqual([out.startswith(b"<solo> in ") for out, _ in said], [True] * 2)
         self.assertEqual(self.sandbox.calls(), IN_ORDER)
-        self.assertEqual(sum(b"another call is building" in err for _, err in said), 1)
+        self.assertNotIn(b"another call is building", said[0][1])
 
 
 if __name__ == "__main__":

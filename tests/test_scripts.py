@@ -105,7 +105,7 @@ class Listening(unittest.TestCase):
         return int(self.listener.stdout.readline().split()[-1])
 
     def begin(self, port, line):
-        client = socket.create_connection(("127.0.0.1", port), timeout=20)
+        client = socket.create_connection(("127.0.0.1", port), timeout=60)
         self.addCleanup(client.close)
         client.sendall(line)
         return client
@@ -117,18 +117,18 @@ class Listening(unittest.TestCase):
         second.settimeout(0.5)
         self.assertRaises(TimeoutError, second.recv, 100)
         first.close()
-        second.settimeout(20)
+        second.settimeout(60)
         self.assertEqual(second.recv(100), b"SECOND\n")
         second.shutdown(socket.SHUT_WR)
         self.assertEqual(second.recv(100), b"")
 
     def test_cuts_a_connection_that_lasts_too_long(self):
-        port = self.listen("--seconds", "0.5")
+        port = self.listen("--seconds", "3")
         silent, next_one = self.begin(port, b""), self.begin(port, b"next\n")
         began = time.monotonic()
         self.assertEqual(silent.recv(100), b"")
         self.assertEqual(next_one.recv(100), b"NEXT\n")
-        self.assertLess(time.monotonic() - began, 15)
+        self.assertLess(time.monotonic() - began, 25)
 
     def test_ends_without_a_word_where_it_is_interrupted(self):
         self.listen()

@@ -178,7 +178,7 @@ class Wget(Client):
 
     def test_goes_on_by_itself_once_the_program_is_started_again(self):
         self.begin()
-        client = self.begin_download(*WGET, "--limit-rate", "4M", "--tries", "50", "--retry-connrefused", "--waitretry", "1")
+        client = self.begin_download(*WGET, "--limit-rate", SLOWLY, "--tries", "50", "--retry-connrefused", "--waitretry", "1")
         self.serve_again()
         self.assertEqual(client.wait(SECONDS), 0)
         self.assertEqual(digest_of((self.room / "file").read_bytes()), digest_of(CONTENT))

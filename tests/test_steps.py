@@ -23,8 +23,9 @@ def answered(lines):
     return [bytes.fromhex(line) for line in ran.stdout.splitlines()]
 
 
-def at_once(stream):
-    return stream.hex()
+def at_once(stream, cuts=()):
+    """In pieces, if it is cut."""
+    return " ".join([",".join(map(str, sorted(cuts))), stream.hex()]).strip()
 
 
 def in_steps(stream, cuts, most):
@@ -56,7 +57,8 @@ class Steps(unittest.TestCase):
         self.assertEqual({line for line, got in zip(lines, answered(lines)) if got != self.replies}, set())
 
     def test_a_stream_in_each_two_pieces(self):
-        self.assert_answered([at_once(self.stream), *(in_steps(self.stream, [cut], MANY) for cut in range(len(self.stream) + 1))])
+        cuts = range(len(self.stream) + 1)
+        self.assert_answered([at_once(self.stream), *(in_steps(self.stream, [cut], MANY) for cut in cuts), *(at_once(self.stream, [cut]) for cut in cuts)])
 
     def test_a_stream_in_three_pieces(self):
         draw = random.Random("three pieces")

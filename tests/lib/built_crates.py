@@ -1,5 +1,6 @@
 """Programs of crates that only tests and measurements run."""
 
+import fcntl
 import subprocess
 
 from lib.client import TOP
@@ -21,6 +22,9 @@ class BuiltCrate:
 
     def build(self, *words):
         """Proves and builds the program, and runs it with these words. A program that is built already keeps its time, so the time is set here."""
-        if not self.is_built():
-            subprocess.run(["rt", "run", "--", *words], cwd=self.folder, stdin=subprocess.DEVNULL, capture_output=True, check=True)
-            self.program.touch()
+        # Files of tests that run at once may want the same program.
+        with (self.folder / "src/main.rt").open() as lock:
+            fcntl.flock(lock, fcntl.LOCK_EX)
+            if not self.is_built():
+                subprocess.run(["rt", "run", "--", *words], cwd=self.folder, stdin=subprocess.DEVNULL, capture_output=True, check=True)
+                self.program.touch()

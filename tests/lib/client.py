@@ -187,7 +187,7 @@ class Client:
     def __init__(self, test, **how):
         pipes = dict.fromkeys(("stdin", "stdout", "stderr"), subprocess.PIPE)
         self.program = subprocess.Popen([PROGRAM, *test.words], bufsize=0, **pipes, **how)
-        self.watch = threading.Timer(PATIENCE, self.program.kill)
+        self.watch = threading.Timer(SECONDS, self.program.kill)
         self.watch.start()
         test.addCleanup(self.leave)
 

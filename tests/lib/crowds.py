@@ -93,10 +93,16 @@ class Crowds(Served):
 
     def publish_alone(self, files):
         """Deploys some files over a connection that has gone then."""
-        client = self.client()
-        publish(client, files)
+        mark, client = self.stalls.mark(), self.client()
+        try:
+            publish(client, files)
+        except (ConnectionError, http.client.HTTPException):
+            if not self.is_excused(mark):
+                raise
+            client.close()
+            return self.publish_alone(files)
         client.close()
-        self.assert_alone()
+        return self.assert_alone()
 
     def seconds(self, deadline):
         """How long a deadline is here."""
@@ -129,11 +135,16 @@ class Crowds(Served):
     def assert_in_time(self, is_done, seconds, turn=None):
         """Does a turn now and then until something is done, which is so before these seconds have passed, without those that the machine took."""
         mark, began = self.stalls.mark(), time.monotonic()
+        undone = looked = began
         while not is_done():
-            self.assertLess(time.monotonic() - began, seconds + self.stalls.since(mark))
+            undone = looked
+            # A wait for a processor is counted only once it has ended. So this waits on, and judges the last look at which it wasn't done.
+            self.assertLess(undone - began, seconds + PATIENCE + self.stalls.since(mark))
             if turn:
                 turn()
             time.sleep(LOOK)
+            looked = time.monotonic()
+        self.assertLess(undone - began, seconds + self.stalls.since(mark))
 
     def assert_alone(self):
         """All connections have gone."""

@@ -35,9 +35,9 @@ class Honest:
     def client(self):
         return http.client.HTTPConnection("127.0.0.1", self.port, timeout=PATIENCE)
 
-    def ask(self, client, method, target, body=None):
-        """The body of the reply, which has to be one of success."""
-        mark, began = self.stalls.mark(), time.monotonic()
+    def ask(self, client, method, target, body=None, mark=None):
+        """The body of the reply, which has to be one of success. The mark is one of just before."""
+        mark, began = mark or self.stalls.mark(), time.monotonic()
         try:
             client.request(method, target, body=body)
             reply = client.getresponse()
@@ -60,10 +60,12 @@ class Honest:
         return answer
 
     def ask_kept(self, *words):
-        if time.monotonic() - self.asked > OLD:
+        mark, began = self.stalls.mark(), time.monotonic()
+        if began - self.asked > OLD:
             self.kept.close()
-        answer = self.ask(self.kept, *words)
-        self.asked = time.monotonic()
+        answer = self.ask(self.kept, *words, mark=mark)
+        # The program has waited for the next request since then at the earliest.
+        self.asked = began
         return answer
 
     def read(self):

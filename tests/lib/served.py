@@ -19,11 +19,29 @@ HOST = "127.0.0.1"
 FILE = "/s/one/a.txt"
 # The ports of eight nodes and of their peers.
 PORTS = 16
+# What keeps the ports that this process has, by the first of them.
+KEPT = {}
+
+
+def keep_from_others(first):
+    """Whether these ports are this process's, as long as it goes on. Other tests may run at once, and look for ports too."""
+    mark = socket.socket(socket.AF_UNIX)
+    try:
+        # A name that isn't in the file system, and goes with the process.
+        mark.bind(f"\0filehost-test-ports-{first}")
+    except OSError:
+        mark.close()
+        return False
+    KEPT[first] = mark
+    return True
 
 
 def free_ports(count=PORTS):
     """The first of so many ports in a row on which nobody listens, below those that the system gives to connections."""
-    for first in range(10_000 + os.getpid() * 37 % 20_000, 32_000, count):
+    start = os.getpid() * 37 % 20_000
+    for first in range(10_000 + start - start % count, 32_000, count):
+        if first not in KEPT and not keep_from_others(first):
+            continue
         with contextlib.ExitStack() as held:
             try:
                 for port in range(first, first + count):

@@ -19,14 +19,18 @@ class Sleeper:
     """Sleeps again and again, and counts how much longer that took than it should have."""
 
     def __init__(self):
-        self.overrun = 0
+        self.ended, self.due = 0, time.monotonic() + SLEEP
         threading.Thread(target=self.go, daemon=True).start()
 
     def go(self):
         while True:
-            began = time.monotonic()
+            self.due = time.monotonic() + SLEEP
             time.sleep(SLEEP)
-            self.overrun += time.monotonic() - began - SLEEP
+            self.ended += time.monotonic() - self.due
+
+    def overrun(self):
+        """That of the sleeps that have ended, and of the one that should have."""
+        return self.ended + max(0, time.monotonic() - self.due)
 
 
 def stolen():
@@ -64,7 +68,7 @@ class Stalls:
 
     def mark(self):
         """What `since` is to count from."""
-        return sleeper().overrun, [stolen(), *(waits(process) for process in self.processes)]
+        return sleeper().overrun(), [stolen(), *(waits(process) for process in self.processes)]
 
     def since(self, mark):
         """How many seconds were lost since then: by the processor and by the thread of the program that lost most, by the one here, and by sleeps."""
