@@ -61,7 +61,12 @@ def count_at_once(program, folder, requests):
 
 
 def count_in_steps(program, folder, requests):
-    """The same in steps: before each request and each write the connection has to wait."""
+    """The same in steps: before each request the connection has to wait, as over a socket whose client waits for each reply."""
+    return count_served(program, folder, requests, "all")
+
+
+def count_in_short_steps(program, folder, requests):
+    """The same where the connection has to wait before each write too, as over a socket that is full."""
     return count_served(program, folder, requests, MEBIBYTE)
 
 

@@ -68,7 +68,7 @@ class Steps(unittest.TestCase):
         self.assert_answered([in_steps(self.stream, [cut], most) for most in FEW for cut in range(0, len(self.stream) + 1, 7)])
 
     def test_a_stream_that_comes_byte_by_byte(self):
-        self.assert_answered([in_steps(self.stream, range(1, len(self.stream)), most) for most in (*FEW, MANY)])
+        self.assert_answered([in_steps(self.stream, range(1, len(self.stream)), most) for most in (*FEW, MANY, "all")])
 
     def test_streams_that_are_changed(self):
         with concurrent.futures.ProcessPoolExecutor(PROGRAMS_AT_ONCE) as pool:

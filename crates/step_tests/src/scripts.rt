@@ -1,4 +1,4 @@
-//! A stream that would have to wait before each read and each write.
+//! A stream that would have to wait before each read, and before each write if that is asked for.
 ghost use Rattle.std.specs.Prelude.{None, ⊤};
 ghost use Rattle.http_wire.specs.Timing.{Moves};
 
@@ -6,11 +6,12 @@ use crate::pieces::Pieces;
 use http_wire::{Duplex, Halt, ReadFailed, WriteFailed};
 use std::marker::Model;
 
-/// Gives its input piece by piece, and takes `most` bytes a write. Of every two calls the first would have to wait. Contracts don't see it.
+/// Gives its input piece by piece. A write takes `most` bytes, or all of them at once where there is no `most`. Of every two other calls the first would have
+/// to wait. Contracts don't see it.
 #[derive(Drop)]
 pub struct Script {
     input: Pieces,
-    most: usize,
+    most: Option<usize>,
     is_ready: bool,
     written: Vec<u8>,
 }
@@ -23,10 +24,10 @@ impl Model for Script {
 
 impl Script {
     /// A stream of this input.
-    pub fn new(input: Pieces, most: usize, written: Vec<u8>) -> Script {
+    pub fn new(input: Pieces, most: Option<usize>, written: Vec<u8>) -> Script {
         Script {
             input,
-            most: most.max(1),
+            most,
             is_ready: false,
             written,
         }
@@ -65,10 +66,13 @@ impl Duplex for Script {
     }
 
     fn write_some(&mut self, bytes: &[u8]) -> Result<usize, Halt<WriteFailed>> {
-        if self.waits() {
+        if self.most.is_some() && self.waits() {
             return Err(Halt::WouldWait);
         }
-        let count = bytes.len().min(self.most.max(1));
+        let count = match self.most {
+            Some(most) => bytes.len().min(most.max(1)),
+            None => bytes.len(),
+        };
         match self.written.extend_from_slice(&bytes[..count]) {
             Ok(()) => Ok(count),
             Err(_) => Err(Halt::Failed(WriteFailed)),

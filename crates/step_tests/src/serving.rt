@@ -55,8 +55,16 @@ fn pieces(alloc: Global, digits: &str, cuts: &[usize]) -> Result<Pieces> {
     Ok(Pieces::new(alloc, hex::decode(alloc, digits)?, cuts)?)
 }
 
+/// How many bytes a write takes, if it has to wait before it takes some.
+fn bound(word: &str) -> Result<Option<usize>> {
+    if word == "all" {
+        return Ok(None);
+    }
+    Ok(Some(word.parse::<usize>()?))
+}
+
 /// What is written to the stream of a line. At its end the line has the stream's bytes as hexadecimal digits. Before them it may have the places
-/// where the stream is cut. If it has these and then how many bytes a write takes, the stream is answered in steps; else it is at once.
+/// where the stream is cut. Between these there may be how many bytes a write takes, or `all`: then the stream is answered in steps, and else at once.
 pub fn written(alloc: Global, line: &str) -> Result<Vec<u8>> {
     let words: Vec<&str> = line.split(' ').collect(alloc)?;
     match words.as_slice() {
@@ -67,10 +75,12 @@ pub fn written(alloc: Global, line: &str) -> Result<Vec<u8>> {
         }
         [cuts, most, digits] => {
             let cuts = numbers(alloc, *cuts)?;
-            let most = most.parse::<usize>()?;
+            let most = bound(*most)?;
             let input = pieces(alloc, *digits, cuts.as_slice())?;
             written_in_steps(alloc, Script::new(input, most, Vec::new(alloc)))
         }
-        _ => Err(anyhow!("a stream is wanted, or its cuts and the stream, or its cuts, its writes and the stream")),
+        _ => Err(anyhow!(
+            "a stream is wanted, or its cuts and the stream, or its cuts, its writes and the stream"
+        )),
     }
 }
