@@ -34,9 +34,10 @@ def count_allocations(program, folder, requests):
     return int(told.read_text())
 
 
-def instructions_of(command, folder, given):
-    """How many instructions a command takes with this file as its input, by valgrind."""
-    command = ["valgrind", "--tool=callgrind", f"--callgrind-out-file={folder / 'calls'}", *command]
+def instructions_of(command, folder, given, within=None):
+    """How many instructions a command takes with this file as its input, by valgrind; or how many of them it takes within a function."""
+    flags = [f"--toggle-collect={within}"] if within else []
+    command = ["valgrind", "--tool=callgrind", f"--callgrind-out-file={folder / 'calls'}", *flags, *command]
     with given.open("rb") as stream:
         ran = subprocess.run(command, stdin=stream, stdout=subprocess.DEVNULL, stderr=subprocess.PIPE, text=True, check=True)
     return int(re.search(r"Collected : (\d+)", ran.stderr)[1])
@@ -47,17 +48,22 @@ def count_instructions(program, folder, requests):
     return instructions_of([program, "solo"], folder, write_gets(folder, requests))
 
 
-def count_served(program, folder, requests, *how):
+def count_served(program, folder, requests, *how, within=None):
     """The same of the program that serves a connection in steps or at once. Each request is a read of its own."""
     stream, line = write_gets(folder, requests).read_bytes(), folder / "line"
     cuts = ",".join(str(end.end()) for end in re.finditer(b"\r\n\r\n", stream))
     line.write_text(" ".join([cuts, *map(str, how), stream.hex()]) + "\n")
-    return instructions_of([program], folder, line)
+    return instructions_of([program], folder, line, within)
 
 
 def count_at_once(program, folder, requests):
     """The same at once, by `serve_connection`."""
     return count_served(program, folder, requests)
+
+
+def count_within(program, folder, requests):
+    """The same without what the program does before and after: it reads and writes hexadecimal digits."""
+    return count_served(program, folder, requests, within="step_tests::serving::written_at_once")
 
 
 def count_in_steps(program, folder, requests):
