@@ -14,7 +14,7 @@ TOP = pathlib.Path(__file__).resolve().parents[2]
 FAKE_RT = pathlib.Path(__file__).resolve().parent / "fake_rt"
 
 # What the scripts may call besides rt. A PATH of these alone has no toolchain on it, wherever that is installed.
-TOOLS = "bash cat chmod dirname env find flock mkdir mktemp nice nproc readlink rm rmdir sleep sort tail tee touch wc".split()
+TOOLS = "bash cat chmod cp dirname env find flock mkdir mktemp mv nice nproc readlink rm rmdir sleep sort tail tee touch wc".split()
 
 
 class Sandbox:
