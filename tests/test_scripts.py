@@ -128,7 +128,7 @@ class Listening(unittest.TestCase):
         began = time.monotonic()
         self.assertEqual(silent.recv(100), b"")
         self.assertEqual(next_one.recv(100), b"NEXT\n")
-        self.assertLess(time.monotonic() - began, 25)
+        self.assertLess(time.monotonic() - began, 15)
 
     def test_ends_without_a_word_where_it_is_interrupted(self):
         self.listen()

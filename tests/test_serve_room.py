@@ -13,7 +13,7 @@ import unittest
 
 from lib.client import LARGEST_FILE, PATIENCE, SECONDS, digest_of, request
 from lib.crowds import WHOLE, Plug
-from lib.served import FILE, Served, ask, publish
+from lib.served import FILE, Served, ask, publish, sockets_of
 from lib.stalls import Stalls
 from lib.stores import PIECE, files_of, opening_of
 from lib.wire import END
@@ -127,6 +127,13 @@ class Room(Served):
         except ConnectionError:
             return False
 
+    def assert_has_at_most(self, started, sockets):
+        """The program comes to have no more sockets than these."""
+        until = time.monotonic() + PATIENCE
+        while sockets_of(started) > sockets:
+            self.assertLess(time.monotonic(), until)
+            time.sleep(0.01)
+
     def assert_takes(self, started, least):
         """The program comes to take so many MiB at least."""
         until = time.monotonic() + PATIENCE
@@ -223,16 +230,18 @@ class Room(Served):
         folder, digests = self.write_store()
         self.assertEqual(len(set(digests)), READERS)
         started = self.serve("--store", str(folder), "--workers", str(WORKERS), second=WHOLE)
-        before = self.resident(started)[0]
-        plugs = [self.reader(f"/s/site{number}/large") for number in range(READERS)]
+        before, alone = self.resident(started)[0], sockets_of(started)
+        plugs = [self.reader(f"/s/site{number}/large") for number in range(READERS - 1)]
+        # Workers that look at the same moment may each end one. So all others have gone that have to, before the last comes.
+        self.assert_has_at_most(started, alone + LEFT)
+        plugs.append(self.reader(f"/s/site{READERS - 1}/large"))
         self.assertEqual(ask(self.client(), "GET", FILE), (200, b"hello"))
         # Without a bound the replies would hold four times as much.
         self.assertLess(self.resident(started)[1], before + (OF_REPLIES + OF_THE_CACHE + WORKERS * OF_A_WORKER) * OF_PIECES + OTHERS)
         bodies = self.read_all(plugs)
         self.assert_takes_at_most(started, before + OF_THE_CACHE * OF_PIECES + OTHERS)
         whole = [(body.hash.hexdigest(), digest) for body, digest in zip(bodies, digests) if body.size == LARGEST_FILE]
-        # Workers that look at the same moment may each end one.
-        self.assertIn(len(whole), range(LEFT - WORKERS, LEFT + 1))
+        self.assertEqual(len(whole), LEFT)
         for came, digest in whole:
             self.assertEqual(came, digest)
 

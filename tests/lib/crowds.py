@@ -6,7 +6,6 @@ before the last have come. Limits of time don't count what the machine took from
 
 import contextlib
 import http.client
-import os
 import resource
 import select
 import socket
@@ -17,7 +16,7 @@ import threading
 import time
 
 from lib.client import HERE, PATIENCE, SECONDS
-from lib.served import HOST, Served, ask, publish
+from lib.served import HOST, Served, ask, publish, sockets_of
 from lib.stalls import Stalls
 
 # How many milliseconds a second of the deadlines has, unless a test says otherwise, and the deadlines in these seconds (docs/WIRE.md, "Deadlines and places").
@@ -126,11 +125,7 @@ class Crowds(Served):
 
     def sockets(self):
         """How many sockets the program has, apart from those of its ports."""
-        folder, count = f"/proc/{self.started.pid}/fd", 0
-        for descriptor in os.listdir(folder):
-            with contextlib.suppress(FileNotFoundError):
-                count += os.readlink(f"{folder}/{descriptor}").startswith("socket:")
-        return count - self.alone
+        return sockets_of(self.started) - self.alone
 
     def assert_in_time(self, is_done, seconds, turn=None):
         """Does a turn now and then until something is done, which is so before these seconds have passed, without those that the machine took."""

@@ -111,6 +111,15 @@ class Served(unittest.TestCase):
         self.assertEqual(select.select([plug], [], [], seconds)[0], [])
 
 
+def sockets_of(started):
+    """How many sockets a program has."""
+    folder, count = f"/proc/{started.pid}/fd", 0
+    for descriptor in os.listdir(folder):
+        with contextlib.suppress(FileNotFoundError):
+            count += os.readlink(f"{folder}/{descriptor}").startswith("socket:")
+    return count
+
+
 def ask(client, method, target, body=None, **fields):
     """The status and the body of a reply."""
     client.request(method, target, body=body, headers={name.replace("_", "-"): value for name, value in fields.items()})
