@@ -6,6 +6,7 @@ What is expected follows from docs/WIRE.md, docs/HTTP.md and docs/DECISIONS.md.
 import os
 import pathlib
 import resource
+import select
 import socket
 import subprocess
 import tempfile
@@ -44,6 +45,16 @@ class Pieces(Program):
     def test_are_answered_as_far_as_requests_are_whole(self):
         for length in range(len(ASKED) + 1):
             self.assert_answers(ASKED[:length], replies_within(length), f"cut after {length} bytes")
+
+    def test_are_answered_before_more_comes(self):
+        """Before the last byte of a request nothing is written of its reply, and after it the whole, though no more comes."""
+        client = Client(self)
+        for asked, wanted in TALK:
+            for place in range(len(asked)):
+                self.assertEqual(select.select([client.program.stdout], [], [], 0)[0], [], f"before byte {place} of {asked[:50]}")
+                client.send(asked[place:place + 1])
+            self.assertEqual(client.receive(len(wanted)), wanted)
+        self.assertEqual(client.end(), (0, b"", b""))
 
     def test_of_a_long_head_and_a_long_body_make_no_difference(self):
         content = bytes(range(256)) * 160

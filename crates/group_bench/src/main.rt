@@ -8,6 +8,7 @@ mod caches;
 mod chunks;
 mod costs;
 mod flights;
+mod looks;
 mod loopback;
 mod peer_reads;
 mod reads;
@@ -16,6 +17,7 @@ mod thread_reads;
 
 use anyhow::{Result, anyhow};
 use host_names::Digest;
+use looks::OfLooks;
 use std::alloc::{AllocError, Global};
 use std::env;
 use std::io::Print;
@@ -23,6 +25,7 @@ use std::net::{Net, TcpListener, TcpStream};
 use std::sync::Wait;
 use std::thread::Threads;
 use std::time::{Clock, Duration};
+use thread_reads::NoLook;
 
 /// How many keys are asked for in turn.
 const KEYS: u32 = 1024;
@@ -34,6 +37,9 @@ run ROUNDS       as many flights, which nobody joins
 hot ROUNDS       so many reads of each of 1024 chunks of 64 KiB that a node has in its cache
 share ROUNDS     as many times a second owner of each of 1024 chunks, which a read makes at least
 threads THREADS  200 reads of each of 64 such chunks by each of so many threads, which copy them
+looks THREADS    the same with a look at what is shown of a list before each read, at which nothing came since the look before
+look COUNT       so many such looks
+own COUNT        so many further owners of what such a look shows
 fill PORT        a read of each of 3000 such chunks by 8 threads, through the first of three nodes, which are at PORT and the next two
 far PORT         5000 reads of each of 64 such chunks that the first of these nodes keeps and another owns
 digest COUNT     so many digests of such a chunk
@@ -70,7 +76,10 @@ fn measure<R: Net<Listener = TcpListener, Stream = TcpStream> + Threads + Wait +
         "run" => flights::time_runs(rt, alloc, keys, count),
         "hot" => reads::time_reads(rt, alloc, count),
         "share" => reads::time_shares(rt, alloc, count),
-        "threads" => thread_reads::time_threads(rt, alloc, count),
+        "threads" => thread_reads::time_threads(rt, alloc, count, &NoLook),
+        "looks" => looks::time(rt, alloc, OfLooks::Reads, count),
+        "look" => looks::time(rt, alloc, OfLooks::Look, count),
+        "own" => looks::time(rt, alloc, OfLooks::Own, count),
         "fill" => peer_reads::time_fill(rt, alloc, count),
         "far" => peer_reads::time_hits(rt, alloc, count),
         "digest" => costs::time_digests(rt, alloc, count),

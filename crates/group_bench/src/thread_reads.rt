@@ -6,7 +6,7 @@ use chunk_group::{Counter, Group};
 use host_names::Digest;
 use peer_link::NoLink;
 use peer_ring::{DigestHash, Ring};
-use std::alloc::Global;
+use std::alloc::{AllocError, Global};
 use std::sync::Wait;
 use std::sync::atomic::{AtomicU64, Ordering};
 use std::thread;
@@ -20,6 +20,29 @@ const CHUNKS: usize = 64;
 const ROUNDS: u64 = 200;
 
 type Node<'a> = Group<DigestHash, ChunkMaker<'a>, NoLink, Counter>;
+
+/// What a thread does before each read.
+pub(crate) trait Looker: Send + Drop {
+    /// The same for another thread.
+    fn again(&self) -> Result<Self>;
+
+    /// Looks, and answers how many items are shown.
+    fn look(&mut self) -> Result<usize>;
+}
+
+/// Nothing is done before a read.
+#[derive(Clone, Copy, Drop)]
+pub(crate) struct NoLook;
+
+impl Looker for NoLook {
+    fn again(&self) -> Result<NoLook> {
+        Ok(NoLook)
+    }
+
+    fn look(&mut self) -> Result<usize> {
+        Ok(0)
+    }
+}
 
 /// How many bytes the threads have copied, and how many threads failed.
 #[derive(Drop)]
@@ -35,60 +58,72 @@ fn lone_node<'a>(alloc: Global, source: ChunkMaker<'a>) -> Result<Node<'a>> {
     Ok(Group::new(alloc, limit, ring, 0, source, NoLink, Counter::new())?)
 }
 
-/// Reads the chunks of these names, copies each into the buffer, and counts the bytes.
-fn copy_all<R: Wait>(
+/// Reads the chunks of these names, with a look before each, copies each into the buffer, and counts the bytes.
+fn copy_all<R: Wait, V: Looker>(
     rt: &R,
     node: &Node<'_>,
     names: &[Digest],
+    looker: &mut V,
     buffer: &mut Vec<u8>,
 ) -> Result<u64> {
     let mut copied = 0u64;
     for name in names {
+        let shown = looker.look()?;
         let chunk = node.get(rt, name)?;
         buffer.clear();
         buffer.extend_from_slice(chunk.view().bytes())?;
-        copied = copied.wrapping_add(buffer.len() as u64);
+        copied = copied.wrapping_add(shown.wrapping_add(buffer.len()) as u64);
     }
     Ok(copied)
 }
 
 /// All reads of one thread, into a buffer of its own.
-fn copy_rounds<R: Wait>(rt: &R, alloc: Global, node: &Node<'_>, names: &[Digest]) -> Result<u64> {
+fn copy_rounds<R: Wait, V: Looker>(
+    rt: &R,
+    alloc: Global,
+    node: &Node<'_>,
+    names: &[Digest],
+    looker: &mut V,
+) -> Result<u64> {
     let mut buffer = Vec::with_capacity(alloc, CHUNK)?;
     let mut copied = 0u64;
     for _ in 0..ROUNDS {
-        copied = copied.wrapping_add(copy_all(rt, node, names, &mut buffer)?);
+        copied = copied.wrapping_add(copy_all(rt, node, names, looker, &mut buffer)?);
     }
     Ok(copied)
 }
 
 /// What a thread does.
-fn read_and_tell<R: Wait>(rt: &R, alloc: Global, node: &Node<'_>, names: &[Digest], tally: &Tally) {
-    match copy_rounds(rt, alloc, node, names) {
+fn read_and_tell<R: Wait, V: Looker>(
+    rt: &R,
+    alloc: Global,
+    node: &Node<'_>,
+    names: &[Digest],
+    looker: V,
+    tally: &Tally,
+) {
+    let mut looker = looker;
+    match copy_rounds(rt, alloc, node, names, &mut looker) {
         Ok(copied) => tally.copied.fetch_add(copied, Ordering::SeqCst),
         Err(_) => tally.failed.fetch_add(1, Ordering::SeqCst),
     };
 }
 
-/// So many threads that read. One that can't be made counts as failed.
-fn run_threads<R: Threads + Wait + Sync>(
+/// So many threads that read, each with a looker of its own.
+fn run_threads<R: Threads + Wait + Sync, V: Looker>(
     rt: &R,
     alloc: Global,
     node: &Node<'_>,
     names: &[Digest],
+    lookers: Vec<V>,
     tally: &Tally,
-    threads: u64,
-) {
-    thread::scope(thread::scope_env(), rt, |scope| {
-        for _ in 0..threads {
-            if scope
-                .spawn(move || read_and_tell(rt, alloc, node, names, tally))
-                .is_err()
-            {
-                tally.failed.fetch_add(1, Ordering::SeqCst);
-            }
-        }
-    });
+) -> Result<(), AllocError> {
+    thread::map_vec(
+        rt,
+        lookers,
+        &|looker: V| read_and_tell(rt, alloc, node, names, looker, tally),
+    )?;
+    Ok(())
 }
 
 impl Tally {
@@ -100,17 +135,26 @@ impl Tally {
     }
 }
 
-/// The time of the reads of so many threads through a node that has all chunks.
-fn time_all<R: Threads + Wait + Clock + Sync>(
+/// A looker for each of so many threads.
+fn lookers_of<V: Looker>(alloc: Global, looker: &V, threads: u64) -> Result<Vec<V>> {
+    let mut lookers = Vec::new(alloc);
+    for _ in 0..threads {
+        lookers.push(looker.again()?)?;
+    }
+    Ok(lookers)
+}
+
+/// The time of the reads of these threads through a node that has all chunks.
+fn time_all<R: Threads + Wait + Clock + Sync, V: Looker>(
     rt: &R,
     alloc: Global,
     node: &Node<'_>,
     names: &[Digest],
-    threads: u64,
+    lookers: Vec<V>,
 ) -> Result<Measured> {
     let tally = Tally::new();
     let begun = Instant::now(rt)?;
-    run_threads(rt, alloc, node, names, &tally, threads);
+    run_threads(rt, alloc, node, names, lookers, &tally)?;
     let took = begun.elapsed(rt)?;
     if tally.failed.load(Ordering::SeqCst) > 0 {
         return Err(anyhow!("a thread failed"));
@@ -122,28 +166,30 @@ fn time_all<R: Threads + Wait + Clock + Sync>(
 }
 
 /// The same through a node over this source, by which each chunk is read once before.
-fn time_node<R: Threads + Wait + Clock + Sync>(
+fn time_node<R: Threads + Wait + Clock + Sync, V: Looker>(
     rt: &R,
     alloc: Global,
     source: ChunkMaker<'_>,
     names: &[Digest],
-    threads: u64,
+    lookers: Vec<V>,
 ) -> Result<Measured> {
     let node = lone_node(alloc, source)?;
-    let _ = copy_all(rt, &node, names, &mut Vec::new(alloc))?;
-    time_all(rt, alloc, &node, names, threads)
+    let _ = copy_all(rt, &node, names, &mut NoLook, &mut Vec::new(alloc))?;
+    time_all(rt, alloc, &node, names, lookers)
 }
 
-/// The time of the reads of so many threads, of chunks that were each read once before.
-pub(crate) fn time_threads<R: Threads + Wait + Clock + Sync>(
+/// The time of the reads of so many threads, of chunks that were each read once before. Each thread looks before each read.
+pub(crate) fn time_threads<R: Threads + Wait + Clock + Sync, V: Looker>(
     rt: &R,
     alloc: Global,
     threads: u64,
+    looker: &V,
 ) -> Result<Measured> {
     let names = names(alloc, CHUNKS)?;
     let loads = AtomicU64::new(0);
     let source = ChunkMaker::new(alloc, names.as_slice(), &loads);
-    let measured = time_node(rt, alloc, source, names.as_slice(), threads)?;
+    let lookers = lookers_of(alloc, looker, threads)?;
+    let measured = time_node(rt, alloc, source, names.as_slice(), lookers)?;
     assert_loaded_once(&loads, CHUNKS)?;
     Ok(measured)
 }

@@ -46,7 +46,7 @@ impl Sink for Counting {
 }
 
 /// The requests of a connection: as many GETs as it may have.
-pub(crate) fn gets(alloc: Global) -> Result<String, AllocError> {
+fn gets(alloc: Global) -> Result<String, AllocError> {
     let mut requests = String::new(alloc);
     for _ in 0..REQUESTS {
         requests.push_str(GET)?;

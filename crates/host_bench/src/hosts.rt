@@ -34,90 +34,107 @@ fn unexpected(refusal: Refusal) -> Error {
 }
 
 /// Makes a command the next entry, and answers its number.
-fn change<H: House>(house: &mut H, command: Command) -> Result<u64> {
-    house.commit(command).map_err(|why| unexpected(why.into()))
+fn change(server: &mut Server<MemShelf, MemDisk>, command: Command) -> Result<u64> {
+    server.commit(command).map_err(|why| unexpected(why.into()))
 }
 
 /// Uploads the bytes as the file at a path of a deploy.
-fn upload_one<H: House>(house: &mut H, deploy: u64, path: &FilePath, bytes: &[u8]) -> Result<()> {
+fn upload_one(
+    server: &mut Server<MemShelf, MemDisk>,
+    deploy: u64,
+    path: &FilePath,
+    bytes: &[u8],
+) -> Result<()> {
     let site = SiteName::new("one")?;
-    let _ = house
+    let _ = server
         .upload(&site, deploy, path, bytes)
         .map_err(unexpected)?;
     Ok(())
 }
 
 /// Whether the deploy that an entry opened lacks nothing. It lists what is lacking, as the reply to an opening does.
-fn lacks_nothing<H: House>(alloc: Global, house: &H, number: u64) -> Result<bool> {
-    match house.log().entry(number) {
+fn lacks_nothing(alloc: Global, server: &Server<MemShelf, MemDisk>, number: u64) -> Result<bool> {
+    match server.log().entry(number) {
         Some(Entry::Change(Command::Open { files, .. })) => {
-            Ok(house.missing(alloc, files)?.as_slice().is_empty())
+            Ok(server.missing(alloc, files)?.as_slice().is_empty())
         }
         _ => Err(anyhow!("an opening opened nothing")),
     }
 }
 
 /// Opens a deploy of what is listed, and publishes it if it lacks nothing. It answers the deploy's number.
-fn open_listing<H: House>(alloc: Global, house: &mut H, files: Listing) -> Result<u64> {
+fn open_listing(
+    alloc: Global,
+    server: &mut Server<MemShelf, MemDisk>,
+    files: Listing,
+) -> Result<u64> {
     let opening = Command::Open {
         site: SiteName::new("one")?,
         files,
         auto: true,
     };
-    let number = change(house, opening)?;
-    if lacks_nothing(alloc, house, number)? {
+    let number = change(server, opening)?;
+    if lacks_nothing(alloc, server, number)? {
         let site = SiteName::new("one")?;
-        let _ = change(house, Command::Publish { site, number })?;
+        let _ = change(server, Command::Publish { site, number })?;
     }
     Ok(number)
 }
 
 /// Opens a deploy that adds these files to the site, and answers its number.
-pub(crate) fn open<H: House>(
+pub(crate) fn open(
     alloc: Global,
-    house: &mut H,
+    server: &mut Server<MemShelf, MemDisk>,
     files: Range<u64>,
     contents: Contents,
 ) -> Result<u64> {
-    open_listing(alloc, house, listing(alloc, true, files, contents)?)
+    open_listing(alloc, server, listing(alloc, true, files, contents)?)
 }
 
 /// Keeps a deploy of one file, which is uploaded, and answers its number.
-pub(crate) fn keep<H: House>(alloc: Global, house: &mut H, file: u64) -> Result<u64> {
+pub(crate) fn keep(
+    alloc: Global,
+    server: &mut Server<MemShelf, MemDisk>,
+    file: u64,
+) -> Result<u64> {
     let end = file.saturating_add(1);
     let deploy = open_listing(
         alloc,
-        house,
+        server,
         listing(alloc, false, file..end, Contents::Own)?,
     )?;
     let mut planned = Vec::new(alloc);
     plan(alloc, &mut planned, deploy, file..end)?;
-    upload_all(house, planned)?;
+    upload_all(server, planned)?;
     Ok(deploy)
 }
 
 /// Makes the site serve a file of these bytes as well, at the path of a number.
-pub(crate) fn add_file<H: House>(
+pub(crate) fn add_file(
     alloc: Global,
-    house: &mut H,
+    server: &mut Server<MemShelf, MemDisk>,
     number: u64,
     bytes: Vec<u8>,
 ) -> Result<()> {
     let listing = one_file(alloc, number, Digest::of_bytes(bytes.as_slice()))?;
-    let deploy = open_listing(alloc, house, listing)?;
-    upload_one(house, deploy, &path(alloc, number)?, bytes.as_slice())
+    let deploy = open_listing(alloc, server, listing)?;
+    upload_one(server, deploy, &path(alloc, number)?, bytes.as_slice())
 }
 
 /// Makes the site serve a file of these bytes, the first.
-pub(crate) fn serve_file<H: House>(alloc: Global, house: &mut H, bytes: Vec<u8>) -> Result<()> {
-    add_file(alloc, house, 0, bytes)
+pub(crate) fn serve_file(
+    alloc: Global,
+    server: &mut Server<MemShelf, MemDisk>,
+    bytes: Vec<u8>,
+) -> Result<()> {
+    add_file(alloc, server, 0, bytes)
 }
 
 /// Moves an alias of the site to a deploy.
-pub(crate) fn move_alias<H: House>(house: &mut H, number: u64) -> Result<()> {
+pub(crate) fn move_alias(server: &mut Server<MemShelf, MemDisk>, number: u64) -> Result<()> {
     let site = SiteName::new("one")?;
     let name = AliasName::new("next")?;
-    let _ = change(house, Command::MoveAlias { site, name, number })?;
+    let _ = change(server, Command::MoveAlias { site, name, number })?;
     Ok(())
 }
 
@@ -139,44 +156,59 @@ pub(crate) fn plan(
 }
 
 /// Uploads each of these, in their order.
-pub(crate) fn upload_all<H: House>(house: &mut H, uploads: Vec<Upload>) -> Result<()> {
+pub(crate) fn upload_all(
+    server: &mut Server<MemShelf, MemDisk>,
+    uploads: Vec<Upload>,
+) -> Result<()> {
     for planned in uploads {
         let Upload {
             deploy,
             path,
             bytes,
         } = planned;
-        upload_one(house, deploy, &path, bytes.as_slice())?;
+        upload_one(server, deploy, &path, bytes.as_slice())?;
     }
     Ok(())
 }
 
 /// Opens a deploy of these files, and uploads all of them.
-pub(crate) fn fill<H: House>(alloc: Global, house: &mut H, files: Range<u64>) -> Result<()> {
-    let deploy = open(alloc, house, files.start..files.end, Contents::Own)?;
+pub(crate) fn fill(
+    alloc: Global,
+    server: &mut Server<MemShelf, MemDisk>,
+    files: Range<u64>,
+) -> Result<()> {
+    let deploy = open(alloc, server, files.start..files.end, Contents::Own)?;
     let mut planned = Vec::new(alloc);
     plan(alloc, &mut planned, deploy, files)?;
-    upload_all(house, planned)
+    upload_all(server, planned)
 }
 
 /// Makes the site serve so many files, all of one content, which is uploaded.
-pub(crate) fn serve<H: House>(alloc: Global, house: &mut H, count: u64) -> Result<()> {
-    fill(alloc, house, 0..1)?;
+pub(crate) fn serve(
+    alloc: Global,
+    server: &mut Server<MemShelf, MemDisk>,
+    count: u64,
+) -> Result<()> {
+    fill(alloc, server, 0..1)?;
     for first in (0..count).step_by(MOST_FILES) {
         let end = count.min(first.saturating_add(MOST_FILES as u64));
-        let _ = open(alloc, house, first..end, Contents::First)?;
+        let _ = open(alloc, server, first..end, Contents::First)?;
     }
     Ok(())
 }
 
 /// Renames the first file of the site, or renames it back.
-pub(crate) fn rename<H: House>(alloc: Global, house: &mut H, back: bool) -> Result<()> {
+pub(crate) fn rename(
+    alloc: Global,
+    server: &mut Server<MemShelf, MemDisk>,
+    back: bool,
+) -> Result<()> {
     let here = path(alloc, 0)?;
     let there = FilePath::read(alloc, "/renamed")?;
     let (source, target) = if back { (there, here) } else { (here, there) };
     let site = SiteName::new("one")?;
     let _ = change(
-        house,
+        server,
         Command::Rename {
             site,
             source,

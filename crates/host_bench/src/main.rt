@@ -1,25 +1,19 @@
-//! Measures calls of a host, of a desk and of a store: a run makes one measurement and prints its number, or two that are compared. bench/README.md has
-//! them all.
+//! Measures calls of a host and of a store: a run makes one measurement and prints its number. bench/README.md has them all.
 #![tactic(auto)]
 
 ghost use Rattle.std.specs.Prelude.{◌≡◌};
 
-mod commits;
 mod connections;
 mod copies;
-mod desks;
 mod files;
 mod hosts;
-mod looks;
 mod measurements;
-mod reads;
-mod seats;
 mod serving;
 mod stores;
 mod undos;
 
 use anyhow::{Result, anyhow};
-use measurements::{DeskMeasurement, Measurement};
+use measurements::Measurement;
 use std::env;
 
 /// Makes the measurement of these words.
@@ -42,10 +36,5 @@ fn answer(rt: &HostRuntime, words: &[String]) -> Result<()> {
 
 fn main(rt: HostRuntime) -> Result<()> {
     let words: Vec<String> = env::args(&rt)?.skip(1).collect(rt.alloc())?;
-    let Some(wanted) = DeskMeasurement::read(words.as_slice()) else {
-        return answer(&rt, words.as_slice());
-    };
-    // Only here has the runtime threads.
-    let both = desks::measure(&rt, rt.alloc(), wanted.measured, wanted.count)?;
-    Ok(println!(rt; "{} {}", both.these, both.those)?)
+    answer(&rt, words.as_slice())
 }

@@ -2,14 +2,13 @@
 ghost use Rattle.std.specs.Prelude.{◌≡◌};
 
 use crate::copies::time_copies;
-use crate::desks::OfDesk;
 use crate::hosts::empty_server;
 use crate::serving::{OfServer, each};
 use crate::stores::{time_digest, time_distinct, time_equal, time_read, time_upload};
 use crate::undos::{EARLY, time_undos};
 use anyhow::Result;
 
-/// What can be measured, a line each. The last three print two numbers.
+/// What can be measured, a line each.
 pub(crate) const LIST: &str =
     "get FILES        nanoseconds of a GET of a file of 64 bytes in a site that serves so many, in connections of 100
 cached BYTES     nanoseconds of a GET of a file of so many bytes, all of whose chunks are in the cache
@@ -26,10 +25,7 @@ digest BYTES     nanoseconds of a pass of SHA-1 over so many bytes
 upload BYTES     nanoseconds of an upload of so many bytes to a store in memory
 equal BYTES      the same where all pieces of the file are the same
 uploads FILES    nanoseconds of an upload of 16 MiB to a store in memory, to which so many files go
-read BYTES       nanoseconds of a read of so many bytes from a store in memory, into one body
-look LOOKS       nanoseconds of so many looks at a desk, of which none finds a new entry, and of as many further owners of its snapshot
-reads THREADS    nanoseconds of 20,000 looks, each for a GET of 64 KiB over memory, which copies it, by each of so many threads, and by one
-commits TURNS    nanoseconds of 10 commits in each of so many turns, from a seat of a desk and by the host of one connection, over files in this folder";
+read BYTES       nanoseconds of a read of so many bytes from a store in memory, into one body";
 
 /// How many copies are timed of a history.
 const COPIES: u64 = 400;
@@ -92,11 +88,6 @@ impl Measured {
     }
 }
 
-/// A count, if it is one at least.
-fn count_of(count: &str) -> Option<u64> {
-    count.parse::<u64>().ok().filter(|count| *count > 0)
-}
-
 /// A measurement, with how many files, bytes, entries or changes it has: one at least.
 #[derive(Clone, Copy)]
 pub(crate) struct Measurement {
@@ -108,7 +99,7 @@ impl Measurement {
     /// The measurement of these words, if there is one.
     pub(crate) fn read(name: &str, count: &str) -> Option<Measurement> {
         let measured = Measured::named(name)?;
-        let count = count_of(count)?;
+        let count = count.parse::<u64>().ok().filter(|count| *count > 0)?;
         Some(Measurement { measured, count })
     }
 
@@ -118,29 +109,5 @@ impl Measurement {
             Measured::Server(calls) => calls.run(rt, &mut empty_server(rt.alloc())?, self.count),
             Measured::Store(calls) => calls.run(rt, self.count),
         }
-    }
-}
-
-/// A measurement of a desk, with how many looks, threads or turns it has: one at least.
-#[derive(Clone, Copy)]
-pub(crate) struct DeskMeasurement {
-    pub(crate) measured: OfDesk,
-    pub(crate) count: u64,
-}
-
-impl DeskMeasurement {
-    /// The measurement of these words, if they name one of a desk.
-    pub(crate) fn read(words: &[String]) -> Option<DeskMeasurement> {
-        let [name, count] = words else {
-            return None;
-        };
-        let measured = match name.as_str() {
-            "look" => OfDesk::Look,
-            "reads" => OfDesk::Reads,
-            "commits" => OfDesk::Commits,
-            _ => return None,
-        };
-        let count = count_of(count.as_str())?;
-        Some(DeskMeasurement { measured, count })
     }
 }

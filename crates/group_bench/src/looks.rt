@@ -1,0 +1,156 @@
+//! Looks at what is shown of a list, as a worker looks at a desk, and further owners of what is shown.
+ghost use Rattle.std.specs.Prelude.{◌≡◌, [], IfOk};
+ghost use Rattle.left_right.specs.Handles.{pending, published};
+
+use crate::Measured;
+use crate::thread_reads::{Looker, time_threads};
+use anyhow::{Result, anyhow};
+use left_right::WriteHandle;
+use seen_lists::{ListName, Listed, NewList, Receipt, SeenList, Shown, Visitor};
+use std::alloc::{AllocError, Global};
+use std::marker::Brand;
+use std::sync::{Arc, Wait};
+use std::thread::Threads;
+use std::time::{Clock, Instant};
+
+/// How many visitors there is room for.
+const VISITORS: usize = 16;
+
+/// A snapshot: the items.
+#[derive(Drop)]
+struct Items {
+    items: Vec<u64>,
+}
+
+impl Listed<u64> for Items {
+    ghost items = { λ snap. snap.items.items };
+}
+
+/// Who looks.
+type Reader<L> = Visitor<u64, L, Items>;
+
+/// What is measured.
+#[derive(Clone, Copy)]
+pub(crate) enum OfLooks {
+    /// So many looks.
+    Look,
+    /// So many further owners of what a look shows.
+    Own,
+    /// Reads of chunks by so many threads, which look before each of them.
+    Reads,
+}
+
+/// Looks once.
+fn look<L: ListName<u64>>(reader: &mut Reader<L>) -> Result<Arc<Items>> {
+    match reader.look() {
+        Ok(snap) => Ok(snap),
+        Err(_) => Err(anyhow!("a look has no memory")),
+    }
+}
+
+impl<L: ListName<u64> + Send + Sync> Looker for Visitor<u64, L, Items> {
+    fn again(&self) -> Result<Visitor<u64, L, Items>> {
+        Ok(Visitor::again(self)?)
+    }
+
+    fn look(&mut self) -> Result<usize> {
+        let snap = look(self)?;
+        Ok(snap.items.len())
+    }
+}
+
+/// The time of so many looks.
+fn time_looks<L: ListName<u64>, R: Clock>(
+    rt: &R,
+    reader: Reader<L>,
+    looks: u64,
+) -> Result<Measured> {
+    let mut reader = reader;
+    let mut sum = 0u64;
+    let begun = Instant::now(rt)?;
+    for _ in 0..looks {
+        let snap = look(&mut reader)?;
+        sum = sum.wrapping_add(snap.items.len() as u64);
+    }
+    Ok(Measured {
+        took: begun.elapsed(rt)?,
+        sum,
+    })
+}
+
+/// The time in which what a look shows is given a further owner for a moment, so often.
+fn time_owners<L: ListName<u64>, R: Clock>(
+    rt: &R,
+    reader: Reader<L>,
+    times: u64,
+) -> Result<Measured> {
+    let mut reader = reader;
+    let snap = look(&mut reader)?;
+    let mut sum = 0u64;
+    let begun = Instant::now(rt)?;
+    for _ in 0..times {
+        let share = Arc::try_clone(&snap)?;
+        sum = sum.wrapping_add(share.items.len() as u64);
+    }
+    Ok(Measured {
+        took: begun.elapsed(rt)?,
+        sum,
+    })
+}
+
+/// The receipt of no items.
+fn none<L: ListName<u64>>(
+    alloc: Global,
+    list: &SeenList<u64, L>,
+) -> Result<Receipt<u64, L, Items>, AllocError>
+    requires { list.now ≡ [] }
+    ensures { IfOk result (λ receipt. receipt ≡ []) }
+{
+    let items = Items {
+        items: Vec::new(alloc),
+    };
+    Ok(Receipt::of(Arc::new(alloc, items)?, list.front()))
+}
+
+/// Shows a receipt.
+fn shown<L: ListName<u64>, R: Wait + Drop>(
+    alloc: Global,
+    rt: R,
+    receipt: &Receipt<u64, L, Items>,
+) -> Result<WriteHandle<Shown<u64, L, Items>, Receipt<u64, L, Items>, R>, AllocError> {
+    let one = Shown::of(receipt.again()?);
+    let other = Shown::of(receipt.again()?);
+    WriteHandle::new(alloc, rt, one, other, VISITORS)
+}
+
+/// Makes the measurement at a list without items.
+fn time_named<L: ListName<u64> + Send + Sync, R: Threads + Wait + Clock + Sync>(
+    rt: &R,
+    alloc: Global,
+    new: NewList<u64>,
+    wanted: OfLooks,
+    count: u64,
+) -> Result<Measured>
+    requires book { new ≡ L.book }
+    requires found { L.found ≡ [] }
+{
+    let list = new.named::<L>(0);
+    let first = none(alloc, &list)?;
+    let handle = shown(alloc, rt, &first)?;
+    let reader = Visitor::of(handle.handle()?, first.again()?);
+    match wanted {
+        OfLooks::Look => time_looks(rt, reader, count),
+        OfLooks::Own => time_owners(rt, reader, count),
+        OfLooks::Reads => time_threads(rt, alloc, count, &reader),
+    }
+}
+
+/// Makes the measurement, with so many looks, owners or threads.
+pub(crate) fn time<R: Threads + Wait + Clock + Sync>(
+    rt: &R,
+    alloc: Global,
+    wanted: OfLooks,
+    count: u64,
+) -> Result<Measured> {
+    time_named::<Brand, R>(rt, alloc, NewList::new(rt), wanted, count)
+}

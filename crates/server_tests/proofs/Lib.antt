@@ -1,2 +1,0 @@
--- what proofs by hand share
-pub mod Recorded

@@ -1,2 +1,0 @@
--- what the stream of the tests that records its bytes claims
-pub mod Recorders

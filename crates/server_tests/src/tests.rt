@@ -1,3 +1,0 @@
-//! A connection whose reads and writes are recorded.
-mod records;
-mod talks;
