@@ -2,9 +2,10 @@
 of its locks.
 """
 
+import resource
 import unittest
 
-from lib.client import LARGEST_FILE
+from lib.client import LARGEST_FILE, digest_of
 from lib.desks import DEPLOYERS, AtDesk, Look, entering, uploading
 from lib.stores import PIECE, opening_of
 import journal
@@ -36,6 +37,7 @@ class Answers(AtDesk):
         printed = self.assert_steps(
             (entering(0, OPEN), "Made(1)", 1, False, [OPEN]),
             (entering(1, UNDO_99), "Refused(NoSuchChange, 1)", 0, False, [OPEN]),
+            (entering(1, PUBLISH), f"Refused(NotComplete({digest_of(b'hello')}), 1)", 0, False, [OPEN]),
         )
         self.assertEqual((printed.found, printed.shares), (0, [1] + [0] * 7))
         self.assertEqual(printed.closed, ["None of 7", "Some(1)"])
@@ -62,6 +64,35 @@ class Answers(AtDesk):
         )
         printed = self.assert_steps((entering(3, UNDO_3), "Refused(AlreadyUndone, 4)", 0, True, [OPEN, PUBLISH, REMOVE, UNDO_3]))
         self.assertEqual((printed.found, printed.closed), (4, ["None of 7", "Some(4)"]))
+
+
+class FullDisks(AtDesk):
+    """Each file may have as many bytes as the journal has, and no more."""
+
+    def run_full(self, *lines):
+        """Runs the program with that limit. It then gets an error in place of a signal."""
+        limits = resource.getrlimit(resource.RLIMIT_FSIZE)
+        resource.setrlimit(resource.RLIMIT_FSIZE, (len(self.read_journal()), limits[1]))
+        try:
+            return self.run_lines("steps", lines, restore_signals=False)
+        finally:
+            resource.setrlimit(resource.RLIMIT_FSIZE, limits)
+
+    def assert_broken(self, entries, is_served, entry):
+        """The entry isn't made. From then on the desk is broken, for another seat, too, and shows what it showed."""
+        status, printed, errors = self.run_full(entering(0, entry), entering(1, entry))
+        self.assertEqual((status, errors, printed.answers), (0, "", ["Device", "Broken"]))
+        self.assertEqual(printed.looks, [Look.of(0, is_served, entries)] * 2)
+        self.assertEqual((printed.found, printed.shares), (len(entries), [0] * DEPLOYERS))
+        self.assertEqual(journal.read(self.read_journal()), entries)
+
+    def test_break_a_desk_at_a_change(self):
+        self.write_journal([OPEN])
+        self.assert_broken([OPEN], False, OPEN)
+
+    def test_break_a_desk_at_an_undo(self):
+        self.play("steps", entering(0, OPEN), HELLO_TO_1)
+        self.assert_broken([OPEN, PUBLISH], True, UNDO_2)
 
 
 class Openings(AtDesk):

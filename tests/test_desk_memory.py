@@ -1,5 +1,6 @@
 """Something is asked of a desk again and again, over `shared_desk_tests`, each time with another allocation refused: where there is no memory the seat's
-count, what is shown and the bytes of the journal stay, and the same call makes the entry then. So it is with the opening of the desk.
+count, what is shown and the bytes of the journal stay, and the same call makes the entry then. So it is with the opening of the desk. Where all allocations
+are refused from a place on, each run ends.
 """
 
 import os
@@ -25,11 +26,11 @@ class Memory(AtDesk):
         subprocess.run(["gcc", "-O1", "-shared", "-fPIC", "-o", self.library, SOURCE, "-ldl"], check=True, timeout=SECONDS)
         self.copy = self.new_folder() / "store"
 
-    def run_refusing(self, place, *lines):
+    def run_refusing(self, place, *lines, **names):
         """The same in a copy of the folder. Answers how it ends, what is printed, the journal's bytes then, and how many allocations there were."""
         counted = self.library.with_name("allocations")
         shutil.copytree(self.folder, self.copy)
-        names = {"LD_PRELOAD": str(self.library), "REFUSED_PLACE": str(place), "ALLOCATIONS_FILE": str(counted)}
+        names |= {"LD_PRELOAD": str(self.library), "REFUSED_PLACE": str(place), "ALLOCATIONS_FILE": str(counted)}
         status, printed, _ = self.run_lines("steps", lines, folder=self.copy, env=os.environ | names)
         found = (self.copy / "journal").read_bytes()
         shutil.rmtree(self.copy)
@@ -74,6 +75,18 @@ class Memory(AtDesk):
                 lacking += 1
                 self.assertEqual((found, printed.looks, printed.closed[1]), (before, [self.earlier], f"Some({len(self.earlier.words)})"))
         self.assertGreater(lacking, 10)
+        self.assert_ends_without_memory(line)
+
+    def assert_ends_without_memory(self, line):
+        """Where there is none from a place on, each run ends, so nothing takes memory once the entry is put; and the entry is made, or not."""
+        before, ends = self.read_journal(), set()
+        _, _, _, count = self.run_refusing(0, line)
+        for place in range(1, count + 1):
+            with self.subTest(place=place):
+                _, printed, found, _ = self.run_refusing(place, line, REFUSED_FROM_THERE="1")
+                self.assertEqual(found, self.after if self.made in printed.answers else before)
+                ends.add(found)
+        self.assertEqual(ends, {before, self.after})
 
     def test_an_upload_publishes(self):
         self.play("steps", entering(0, OPEN))
