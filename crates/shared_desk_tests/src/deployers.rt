@@ -1,15 +1,13 @@
 //! Deployers: what they are answered, and what they see then.
 
+use crate::asked::Asked;
 use crate::scripts::{Task, Upload};
 use anyhow::{Result, anyhow};
-use blob_store::{Shelf, UploadFault};
-use byte_view::BlobInfo;
+use blob_store::UploadFault;
 use change_undo::{Entry, Log};
-use host_disk::Disk;
 use host_names::{Digest, FilePath, SiteName};
-use left_right::Absorb;
-use seen_lists::{ListName, Visitor};
-use shared_desk::{Desk, UploadError};
+use seen_lists::Visitor;
+use shared_desk::UploadError;
 use site_change::{ChangeRefusal, Command};
 use site_desk::{DeskError, DeskName, HostSnap, Notice, Seat};
 use std::alloc::Global;
@@ -123,48 +121,25 @@ impl<J: DeskName> Deployer<J> {
     }
 
     /// What the desk answers where this is to be its next entry.
-    fn enter<
-        K: ListName<BlobInfo>,
-        D: Disk,
-        S: Shelf,
-        T: Absorb<Notice<J>, State = [Entry; 0]> + Drop,
-        R: Wait + Drop,
-    >(&mut self, rt: &impl Wait, desk: &Desk<J, K, D, S, T, R>, entry: Entry) -> Told {
-        let answer = match entry {
-            Entry::Change(command) => desk.commit(rt, &mut self.seat, command),
-            Entry::Undo { site, change } => desk.undo(rt, &mut self.seat, &site, change),
-        };
+    fn enter<A: Asked<J>>(&mut self, rt: &impl Wait, desk: &A, entry: Entry) -> Told {
+        let answer = desk.enter(rt, &mut self.seat, entry);
         self.learn_answer(answer)
     }
 
     /// What it answers to an upload.
-    fn upload<
-        K: ListName<BlobInfo>,
-        D: Disk,
-        S: Shelf,
-        T: Absorb<Notice<J>, State = [Entry; 0]> + Drop,
-        R: Wait + Drop,
-    >(&mut self, rt: &impl Wait, desk: &Desk<J, K, D, S, T, R>, upload: &Upload) -> Told {
-        let Upload {
-            site,
-            number,
-            path,
-            text,
-        } = upload;
-        let number = number.unwrap_or(self.last);
-        let answer = desk.upload(rt, &mut self.seat, site, number, path, text.as_bytes());
+    fn upload<A: Asked<J>>(&mut self, rt: &impl Wait, desk: &A, upload: &Upload) -> Told {
+        let number = upload.number.unwrap_or(self.last);
+        let answer = desk.take(rt, &mut self.seat, number, upload);
         self.learn_upload(answer)
     }
 
     /// Asks for something, and prints what is answered.
-    pub(crate) fn ask<
-        K: ListName<BlobInfo>,
-        D: Disk,
-        S: Shelf,
-        T: Absorb<Notice<J>, State = [Entry; 0]> + Drop,
-        R: Wait + Drop,
-        W: Wait + Print,
-    >(&mut self, rt: &W, desk: &Desk<J, K, D, S, T, R>, task: Task) -> Result<()> {
+    pub(crate) fn ask<A: Asked<J>, W: Wait + Print>(
+        &mut self,
+        rt: &W,
+        desk: &A,
+        task: Task,
+    ) -> Result<()> {
         let told = match task {
             Task::Enter(entry) => self.enter(rt, desk, entry),
             Task::Upload(upload) => self.upload(rt, desk, &upload),

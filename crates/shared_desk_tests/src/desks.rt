@@ -3,6 +3,7 @@ ghost use Rattle.std.specs.Prelude.{◌≡◌, IfOk, IfSome};
 ghost use Rattle.shared_desk.specs.FoundFiles.{files_of};
 ghost use Rattle.shared_desk.specs.NewDesks.{AreNames};
 
+use crate::asked::Asked;
 use crate::deployers::{Deployer, Reader};
 use crate::gates::{GatedDisk, GatedShelf, Gates};
 use crate::scripts::{DEPLOYERS, Step, deal, read};
@@ -14,9 +15,10 @@ use byte_view::BlobInfo;
 use change_undo::{Entry, GREATEST_LIMIT};
 use found_host::Found;
 use host_disk::Disk;
-use seen_lists::{ListName, Shown};
+use left_right::Absorb;
+use seen_lists::ListName;
 use shared_desk::{Desk, NewDesk, open};
-use site_desk::{DeskName, HostSnap, Seat, Seats};
+use site_desk::{DeskName, Notice, Seat, Seats};
 use std::alloc::{AllocError, Global};
 use std::io::Print;
 use std::marker::Brand;
@@ -25,9 +27,6 @@ use std::thread::Threads;
 
 /// How many visitors a desk has room for: each deployer, each reader, and the first one of all.
 const VISITORS: usize = 17;
-
-/// A desk of which a snapshot is shown.
-type OpenDesk<J, K, D, S, R> = Desk<J, K, D, S, Shown<Entry, J, HostSnap>, R>;
 
 /// What is played.
 #[derive(Drop)]
@@ -62,17 +61,10 @@ fn deployers_of<J: DeskName>(
 }
 
 /// Plays these steps, one after the other.
-fn play_steps<
-    J: DeskName,
-    K: ListName<BlobInfo>,
-    D: Disk + Drop,
-    S: Shelf + Drop,
-    R: Wait + Drop,
-    W: Wait + Print,
->(
+fn play_steps<J: DeskName, A: Asked<J>, W: Wait + Print>(
     rt: &W,
     alloc: Global,
-    desk: &OpenDesk<J, K, D, S, R>,
+    desk: &A,
     deployers: &mut Vec<Deployer<J>>,
     steps: Vec<Step>,
 ) -> Result<()> {
@@ -103,34 +95,24 @@ fn give_back<J: DeskName>(
 }
 
 /// Closes a desk with one seat missing, and then with all.
-fn close<
-    J: DeskName,
-    K: ListName<BlobInfo>,
-    D: Disk + Drop,
-    S: Shelf + Drop,
-    R: Wait + Drop,
-    W: Print,
->(rt: &W, desk: &mut OpenDesk<J, K, D, S, R>, seats: &mut Vec<Seat<J>>) -> Result<()> {
+fn close<J: DeskName, A: Asked<J>>(
+    rt: &impl Print,
+    desk: &mut A,
+    seats: &mut Vec<Seat<J>>,
+) -> Result<()> {
     let last = seats.pop().ok_or(anyhow!("there are no seats"))?;
-    println!(rt; "closed {:?} of {}", desk.close(seats), seats.len())?;
+    println!(rt; "closed {:?} of {}", desk.end(seats), seats.len())?;
     seats.push(last)?;
-    println!(rt; "closed {:?}", desk.close(seats))?;
+    println!(rt; "closed {:?}", desk.end(seats))?;
     Ok(())
 }
 
 /// Plays these steps, each deployer in a thread of its own. Hands the deployers back.
-fn play_at_once<
-    J: DeskName + Send + Sync,
-    K: ListName<BlobInfo> + Send + Sync,
-    D: Disk + Drop + Send,
-    S: Shelf + Drop + Send,
-    R: Wait + Drop + Send + Sync,
-    W: Threads + Wait + Print + Sync,
->(
+fn play_at_once<J: DeskName + Send + Sync, A: Asked<J> + Sync, W: Threads + Wait + Print + Sync>(
     rt: &W,
     alloc: Global,
     what: &Play<'_>,
-    desk: &OpenDesk<J, K, D, S, R>,
+    desk: &A,
     deployers: Vec<Deployer<J>>,
     reader: &Reader<J>,
     steps: Vec<Step>,
@@ -143,18 +125,11 @@ fn play_at_once<
 }
 
 /// Plays what is asked for at a desk. Hands the deployers back.
-fn play_all<
-    J: DeskName + Send + Sync,
-    K: ListName<BlobInfo> + Send + Sync,
-    D: Disk + Drop + Send,
-    S: Shelf + Drop + Send,
-    R: Wait + Drop + Send + Sync,
-    W: Threads + Wait + Print + Sync,
->(
+fn play_all<J: DeskName + Send + Sync, A: Asked<J> + Sync, W: Threads + Wait + Print + Sync>(
     rt: &W,
     alloc: Global,
     what: &Play<'_>,
-    desk: &OpenDesk<J, K, D, S, R>,
+    desk: &A,
     deployers: Vec<Deployer<J>>,
     reader: &Reader<J>,
 ) -> Result<Vec<Deployer<J>>> {
@@ -167,47 +142,38 @@ fn play_all<
     Ok(deployers)
 }
 
-/// Plays the lines at an open desk, and gives the seats back.
-fn play_seated<
-    J: DeskName + Send + Sync,
-    K: ListName<BlobInfo> + Send + Sync,
-    D: Disk + Drop + Send,
-    S: Shelf + Drop + Send,
-    R: Wait + Drop + Send + Sync,
-    W: Threads + Wait + Print + Sync,
->(
+/// Plays the lines at a desk, and closes it.
+fn play_seated<J: DeskName + Send + Sync, A: Asked<J> + Sync, W: Threads + Wait + Print + Sync>(
     rt: &W,
     alloc: Global,
     what: &Play<'_>,
-    desk: &OpenDesk<J, K, D, S, R>,
-    seats: Seats<J>,
+    desk: &mut A,
+    deployers: Vec<Deployer<J>>,
     reader: &Reader<J>,
-) -> Result<Vec<Seat<J>>> {
-    let mut seats = seats;
-    let deployers = deployers_of(alloc, &mut seats, reader)?;
-    let deployers = play_all(rt, alloc, what, desk, deployers, reader)?;
-    give_back(rt, alloc, deployers)
+) -> Result<()> {
+    let deployers = play_all(rt, alloc, what, &*desk, deployers, reader)?;
+    let mut seats = give_back(rt, alloc, deployers)?;
+    close(rt, desk, &mut seats)
 }
 
-/// Plays the lines at an open desk, and closes it.
+/// Plays the lines at an open desk. Threads may share it, whatever is shown of it.
 fn play_over<
     J: DeskName + Send + Sync,
     K: ListName<BlobInfo> + Send + Sync,
     D: Disk + Drop + Send,
     S: Shelf + Drop + Send,
+    T: Absorb<Notice<J>, State = [Entry; 0]> + Drop + Send + Sync,
     R: Wait + Drop + Send + Sync,
     W: Threads + Wait + Print + Sync,
 >(
     rt: &W,
     alloc: Global,
     what: &Play<'_>,
-    desk: Box<OpenDesk<J, K, D, S, R>>,
-    seats: Seats<J>,
-    reader: Reader<J>,
+    desk: &mut Desk<J, K, D, S, T, R>,
+    deployers: Vec<Deployer<J>>,
+    reader: &Reader<J>,
 ) -> Result<()> {
-    let mut desk = desk;
-    let mut seats = play_seated(rt, alloc, what, &desk, seats, &reader)?;
-    close(rt, &mut desk, &mut seats)
+    play_seated(rt, alloc, what, desk, deployers, reader)
 }
 
 /// Plays at the desk of what is found, and closes it. If there is no memory for the desk, hands back what is found.
@@ -232,12 +198,15 @@ fn play_at<
     requires limit { found.limit ≡ 1000000 }
     ensures { IfOk result (λ left. IfSome left (λ back. back ≡ found)) }
 {
-    let (desk, seats, reader) = match open::<J, K, D, S, R>(alloc, shows, new, found, VISITORS) {
+    let (desk, mut seats, reader) = match open::<J, K, D, S, R>(
+        alloc, shows, new, found, VISITORS,
+    ) {
         Ok(opened) => opened,
         Err(back) => return Ok(Some(back)),
     };
-    let desk = boxed(alloc, desk)?;
-    play_over(rt, alloc, what, desk, seats, reader)?;
+    let mut desk = boxed(alloc, desk)?;
+    let deployers = deployers_of(alloc, &mut seats, &reader)?;
+    play_over(rt, alloc, what, &mut *desk, deployers, &reader)?;
     Ok(None)
 }
 

@@ -2,6 +2,7 @@
 //! prints what is answered and seen. tests/test_desk.py has the lines, and compares what is printed.
 #![tactic(auto)]
 
+mod asked;
 mod deployers;
 mod desks;
 mod gates;

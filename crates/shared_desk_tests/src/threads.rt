@@ -1,19 +1,13 @@
 //! Threads at one desk.
 
+use crate::asked::Asked;
 use crate::deployers::{Deployer, Reader};
 use crate::gates::Gates;
 use crate::scripts::{DEPLOYERS, Task};
 use crate::stages::Stage;
 use crate::works::{Shared, Tally, Work, do_work};
 use anyhow::{Result, anyhow};
-use blob_store::Shelf;
-use byte_view::BlobInfo;
-use change_undo::Entry;
-use host_disk::Disk;
-use left_right::Absorb;
-use seen_lists::ListName;
-use shared_desk::Desk;
-use site_desk::{DeskName, Notice};
+use site_desk::DeskName;
 use std::alloc::{AllocError, Global};
 use std::io::Print;
 use std::sync::{Mutex, Wait};
@@ -111,16 +105,8 @@ fn share_out<
 }
 
 /// Does these works at a desk, each in a thread of its own.
-fn do_all<
-    J: DeskName + Send + Sync,
-    K: ListName<BlobInfo> + Send + Sync,
-    D: Disk + Send,
-    S: Shelf + Send,
-    T: Absorb<Notice<J>, State = [Entry; 0]> + Drop + Send + Sync,
-    R: Wait + Drop + Send + Sync,
-    W: Threads + Wait + Print + Sync,
->(
-    shared: &Shared<'_, W, Desk<J, K, D, S, T, R>, Mutex<Deployer<J>>>,
+fn do_all<J: DeskName + Send + Sync, A: Asked<J> + Sync, W: Threads + Wait + Print + Sync>(
+    shared: &Shared<'_, W, A, Mutex<Deployer<J>>>,
     works: Vec<Work<J>>,
 ) -> Result<(), AllocError> {
     share_out(
@@ -135,15 +121,11 @@ fn do_all<
 /// Does these works at a desk, each in a thread of its own. Fails if one of them does.
 pub(crate) fn work_at_once<
     J: DeskName + Send + Sync,
-    K: ListName<BlobInfo> + Send + Sync,
-    D: Disk + Send,
-    S: Shelf + Send,
-    T: Absorb<Notice<J>, State = [Entry; 0]> + Drop + Send + Sync,
-    R: Wait + Drop + Send + Sync,
+    A: Asked<J> + Sync,
     W: Threads + Wait + Print + Sync,
 >(
     rt: &W,
-    desk: &Desk<J, K, D, S, T, R>,
+    desk: &A,
     gates: &Gates,
     deployers: &[Mutex<Deployer<J>>],
     works: Vec<Work<J>>,

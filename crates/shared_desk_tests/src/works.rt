@@ -1,18 +1,11 @@
 //! What each thread does at a desk.
 
+use crate::asked::Asked;
 use crate::deployers::{Deployer, Reader};
 use crate::gates::{Gate, Gates};
 use crate::scripts::Task;
 use anyhow::{Result, anyhow};
-use blob_store::Shelf;
-use byte_view::BlobInfo;
-use change_undo::Entry;
-use host_disk::Disk;
-use host_names::Digest;
-use left_right::Absorb;
-use seen_lists::ListName;
-use shared_desk::Desk;
-use site_desk::{DeskName, Notice};
+use site_desk::DeskName;
 use std::io::Print;
 use std::sync::atomic::{AtomicU64, Ordering};
 use std::sync::{Mutex, Wait};
@@ -61,17 +54,9 @@ impl Tally {
 }
 
 /// Does all tasks of a deployer.
-fn deploy<
-    J: DeskName,
-    K: ListName<BlobInfo>,
-    D: Disk,
-    S: Shelf,
-    T: Absorb<Notice<J>, State = [Entry; 0]> + Drop,
-    R: Wait + Drop,
-    W: Wait + Print,
->(
+fn deploy<J: DeskName, A: Asked<J>, W: Wait + Print>(
     rt: &W,
-    desk: &Desk<J, K, D, S, T, R>,
+    desk: &A,
     deployer: &mut Deployer<J>,
     tasks: Vec<Task>,
 ) -> Result<()> {
@@ -122,22 +107,14 @@ fn look_meanwhile<J: DeskName>(rt: &impl Print, gate: &Gate, reader: &mut Reader
 }
 
 /// Reads the chunk `hello`, which is asked for while a put is held back, and prints how many puts there were until then.
-fn read_meanwhile<
-    J: DeskName,
-    K: ListName<BlobInfo>,
-    D: Disk,
-    S: Shelf,
-    T: Absorb<Notice<J>, State = [Entry; 0]> + Drop,
-    R: Wait + Drop,
-    W: Wait + Print,
->(rt: &W, gate: &Gate, desk: &Desk<J, K, D, S, T, R>) -> Result<()> {
-    let name = Digest::of_bytes(b"hello");
+fn read_meanwhile<J: DeskName, A: Asked<J>, W: Wait + Print>(
+    rt: &W,
+    gate: &Gate,
+    desk: &A,
+) -> Result<()> {
     let is_held = gate.await_held();
     gate.open();
-    let mut files = desk.files().lock(rt);
-    let read = files.chunk(&name);
-    let puts = gate.held();
-    let is_right = read.is_ok_and(|chunk| chunk.view().bytes() == b"hello".as_slice());
+    let (is_right, puts) = desk.read(rt, gate, b"hello");
     println!(rt; "held {is_held} read {is_right} after {puts} puts")?;
     Ok(())
 }
@@ -153,16 +130,8 @@ pub(crate) struct Shared<'a, R, A, B> {
 }
 
 /// A deployer's thread.
-fn deploy_at<
-    J: DeskName,
-    K: ListName<BlobInfo>,
-    D: Disk,
-    S: Shelf,
-    T: Absorb<Notice<J>, State = [Entry; 0]> + Drop,
-    R: Wait + Drop,
-    W: Wait + Print,
->(
-    shared: &Shared<'_, W, Desk<J, K, D, S, T, R>, Mutex<Deployer<J>>>,
+fn deploy_at<J: DeskName, A: Asked<J>, W: Wait + Print>(
+    shared: &Shared<'_, W, A, Mutex<Deployer<J>>>,
     number: usize,
     tasks: Vec<Task>,
 ) {
@@ -175,15 +144,10 @@ fn deploy_at<
 }
 
 /// Does the work of a thread.
-pub(crate) fn do_work<
-    J: DeskName,
-    K: ListName<BlobInfo>,
-    D: Disk,
-    S: Shelf,
-    T: Absorb<Notice<J>, State = [Entry; 0]> + Drop,
-    R: Wait + Drop,
-    W: Wait + Print,
->(shared: &Shared<'_, W, Desk<J, K, D, S, T, R>, Mutex<Deployer<J>>>, work: Work<J>) {
+pub(crate) fn do_work<J: DeskName, A: Asked<J>, W: Wait + Print>(
+    shared: &Shared<'_, W, A, Mutex<Deployer<J>>>,
+    work: Work<J>,
+) {
     let (rt, desk, gates, tally) = (shared.rt, shared.desk, shared.gates, shared.tally);
     match work {
         Work::Deploy(number, tasks) => deploy_at(shared, number, tasks),
