@@ -10,21 +10,45 @@ mod told;
 
 use anyhow::Result;
 use played::{Played, begin};
-use std::io::{BufRead, BufReader};
+use std::alloc::Global;
+use std::io::{BufRead, BufReader, Print};
 
-fn main(rt: HostRuntime) -> Result<()> {
+/// The lines on standard input.
+fn read_lines(rt: &HostRuntime) -> Result<Vec<String>> {
     let alloc = rt.alloc();
-    let mut lines = BufReader::new(alloc, rt.reader())?.lines(alloc);
-    let Some(first) = lines.next() else {
-        return Ok(());
-    };
-    let first = first?;
-    let mut played = Played::new(alloc, begin(alloc, first.as_str())?);
+    let mut lines = Vec::new(alloc);
+    for line in BufReader::new(alloc, rt.reader())?.lines(alloc) {
+        lines.push(line?)?;
+    }
+    Ok(lines)
+}
+
+/// Reads a line of a world, and prints what it asks for.
+fn answer(rt: &impl Print, alloc: Global, played: &mut Played, line: &str) -> Result<()> {
+    match played.read(alloc, line)? {
+        Some(text) => Ok(println!(rt; "{text}")?),
+        None => Ok(()),
+    }
+}
+
+/// Reads these lines of a world.
+fn answer_all(rt: &impl Print, alloc: Global, played: &mut Played, lines: &[String]) -> Result<()> {
     for line in lines {
-        let line = line?;
-        if let Some(text) = played.read(alloc, line.as_str())? {
-            println!(rt; "{text}")?;
-        }
+        answer(rt, alloc, played, line.as_str())?;
     }
     Ok(())
+}
+
+/// Begins a world by the first line, and reads the others.
+fn play(rt: &impl Print, alloc: Global, lines: &[String]) -> Result<()> {
+    let Some((first, rest)) = lines.split_first() else {
+        return Ok(());
+    };
+    let mut played = Played::new(alloc, begin(alloc, first.as_str())?);
+    answer_all(rt, alloc, &mut played, rest)
+}
+
+fn main(rt: HostRuntime) -> Result<()> {
+    let lines = read_lines(&rt)?;
+    play(&rt, rt.alloc(), lines.as_slice())
 }

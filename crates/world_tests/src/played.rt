@@ -7,10 +7,15 @@ use anyhow::{Result, anyhow};
 use host_world::{Step, World};
 use std::alloc::Global;
 
-/// The world that a line asks for: the limits of its log and of its caches, and how many nodes and visitors it has.
+/// The world that a line asks for.
 pub(crate) fn begin(alloc: Global, line: &str) -> Result<World> {
     let words: Vec<&str> = line.split_whitespace().collect(alloc)?;
-    let [entries, cache, nodes, visitors] = words.as_slice() else {
+    world_of(alloc, words.as_slice())
+}
+
+/// The world of these words: the limits of its log and of its caches, and how many nodes and visitors it has.
+fn world_of(alloc: Global, words: &[&str]) -> Result<World> {
+    let [entries, cache, nodes, visitors] = words else {
         return Err(anyhow!("a world has two limits, nodes and visitors"));
     };
     world(
