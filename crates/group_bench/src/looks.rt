@@ -29,6 +29,9 @@ impl Listed<u64> for Items {
 /// Who looks.
 type Reader<L> = Visitor<u64, L, Items>;
 
+/// Who shows it.
+type Writer<L, R> = WriteHandle<Shown<u64, L, Items>, Receipt<u64, L, Items>, R>;
+
 /// What is measured.
 #[derive(Clone, Copy)]
 pub(crate) enum OfLooks {
@@ -59,39 +62,44 @@ impl<L: ListName<u64> + Send + Sync> Looker for Visitor<u64, L, Items> {
     }
 }
 
+/// Looks so often, and counts the items that are shown.
+fn look_often<L: ListName<u64>>(reader: &mut Reader<L>, looks: u64) -> Result<u64> {
+    let mut sum = 0u64;
+    for _ in 0..looks {
+        let snap = look(reader)?;
+        sum = sum.wrapping_add(snap.items.len() as u64);
+    }
+    Ok(sum)
+}
+
+/// Gives a snapshot a further owner for a moment, so often, and counts its items.
+fn own_often(snap: &Arc<Items>, times: u64) -> Result<u64, AllocError> {
+    let mut sum = 0u64;
+    for _ in 0..times {
+        let share = Arc::try_clone(snap)?;
+        sum = sum.wrapping_add(share.items.len() as u64);
+    }
+    Ok(sum)
+}
+
 /// The time of so many looks.
 fn time_looks<L: ListName<u64>, R: Clock>(
     rt: &R,
-    reader: Reader<L>,
+    reader: &mut Reader<L>,
     looks: u64,
 ) -> Result<Measured> {
-    let mut reader = reader;
-    let mut sum = 0u64;
     let begun = Instant::now(rt)?;
-    for _ in 0..looks {
-        let snap = look(&mut reader)?;
-        sum = sum.wrapping_add(snap.items.len() as u64);
-    }
+    let sum = look_often(reader, looks)?;
     Ok(Measured {
         took: begun.elapsed(rt)?,
         sum,
     })
 }
 
-/// The time in which what a look shows is given a further owner for a moment, so often.
-fn time_owners<L: ListName<u64>, R: Clock>(
-    rt: &R,
-    reader: Reader<L>,
-    times: u64,
-) -> Result<Measured> {
-    let mut reader = reader;
-    let snap = look(&mut reader)?;
-    let mut sum = 0u64;
+/// The time in which this snapshot is given so many further owners, each for a moment.
+fn time_owners<R: Clock>(rt: &R, snap: &Arc<Items>, times: u64) -> Result<Measured> {
     let begun = Instant::now(rt)?;
-    for _ in 0..times {
-        let share = Arc::try_clone(&snap)?;
-        sum = sum.wrapping_add(share.items.len() as u64);
-    }
+    let sum = own_often(snap, times)?;
     Ok(Measured {
         took: begun.elapsed(rt)?,
         sum,
@@ -117,10 +125,41 @@ fn shown<L: ListName<u64>, R: Wait + Drop>(
     alloc: Global,
     rt: R,
     receipt: &Receipt<u64, L, Items>,
-) -> Result<WriteHandle<Shown<u64, L, Items>, Receipt<u64, L, Items>, R>, AllocError> {
+) -> Result<Writer<L, R>, AllocError> {
     let one = Shown::of(receipt.again()?);
     let other = Shown::of(receipt.again()?);
     WriteHandle::new(alloc, rt, one, other, VISITORS)
+}
+
+/// Shows a list without items, of which nothing more is shown, and a reader of it.
+fn show_none<L: ListName<u64>, R: Wait + Drop>(
+    alloc: Global,
+    rt: R,
+    new: NewList<u64>,
+) -> Result<(Writer<L, R>, Reader<L>), AllocError>
+    requires book { new ≡ L.book }
+    requires found { L.found ≡ [] }
+{
+    let list = new.named::<L>(0);
+    let first = none(alloc, &list)?;
+    let writer = shown(alloc, rt, &first)?;
+    let reader = Visitor::of(writer.handle()?, first.again()?);
+    Ok((writer, reader))
+}
+
+/// Makes the measurement by a reader.
+fn time_by<L: ListName<u64> + Send + Sync, R: Threads + Wait + Clock + Sync>(
+    rt: &R,
+    alloc: Global,
+    reader: &mut Reader<L>,
+    wanted: OfLooks,
+    count: u64,
+) -> Result<Measured> {
+    match wanted {
+        OfLooks::Look => time_looks(rt, reader, count),
+        OfLooks::Own => time_owners(rt, &look(reader)?, count),
+        OfLooks::Reads => time_threads(rt, alloc, count, &*reader),
+    }
 }
 
 /// Makes the measurement at a list without items.
@@ -134,15 +173,8 @@ fn time_named<L: ListName<u64> + Send + Sync, R: Threads + Wait + Clock + Sync>(
     requires book { new ≡ L.book }
     requires found { L.found ≡ [] }
 {
-    let list = new.named::<L>(0);
-    let first = none(alloc, &list)?;
-    let handle = shown(alloc, rt, &first)?;
-    let reader = Visitor::of(handle.handle()?, first.again()?);
-    match wanted {
-        OfLooks::Look => time_looks(rt, reader, count),
-        OfLooks::Own => time_owners(rt, reader, count),
-        OfLooks::Reads => time_threads(rt, alloc, count, &reader),
-    }
+    let (_writer, mut reader) = show_none::<L, &R>(alloc, rt, new)?;
+    time_by(rt, alloc, &mut reader, wanted, count)
 }
 
 /// Makes the measurement, with so many looks, owners or threads.

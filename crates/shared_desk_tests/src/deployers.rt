@@ -133,6 +133,14 @@ impl<J: DeskName> Deployer<J> {
         self.learn_upload(answer)
     }
 
+    /// What it answers to something.
+    fn answer<A: Asked<J>>(&mut self, rt: &impl Wait, desk: &A, task: Task) -> Told {
+        match task {
+            Task::Enter(entry) => self.enter(rt, desk, entry),
+            Task::Upload(upload) => self.upload(rt, desk, &upload),
+        }
+    }
+
     /// Asks for something, and prints what is answered.
     pub(crate) fn ask<A: Asked<J>, W: Wait + Print>(
         &mut self,
@@ -140,12 +148,8 @@ impl<J: DeskName> Deployer<J> {
         desk: &A,
         task: Task,
     ) -> Result<()> {
-        let told = match task {
-            Task::Enter(entry) => self.enter(rt, desk, entry),
-            Task::Upload(upload) => self.upload(rt, desk, &upload),
-        };
-        println!(rt; "deployer {} {told:?}", self.number)?;
-        Ok(())
+        let told = self.answer(rt, desk, task);
+        Ok(println!(rt; "deployer {} {told:?}", self.number)?)
     }
 
     /// Looks, and prints how many entries were made from the seat, whether `/a.txt` is served, and what all entries do.

@@ -60,6 +60,22 @@ fn deployers_of<J: DeskName>(
     Ok(deployers)
 }
 
+/// Plays a step: its deployer asks, and then looks.
+fn play_step<J: DeskName, A: Asked<J>, W: Wait + Print>(
+    rt: &W,
+    alloc: Global,
+    desk: &A,
+    deployers: &mut Vec<Deployer<J>>,
+    step: Step,
+) -> Result<()> {
+    let Step { deployer, task } = step;
+    let Some(deployer) = deployers.get_mut(deployer) else {
+        return Err(anyhow!("there is no such deployer"));
+    };
+    deployer.ask(rt, desk, task)?;
+    deployer.look(rt, alloc)
+}
+
 /// Plays these steps, one after the other.
 fn play_steps<J: DeskName, A: Asked<J>, W: Wait + Print>(
     rt: &W,
@@ -69,27 +85,27 @@ fn play_steps<J: DeskName, A: Asked<J>, W: Wait + Print>(
     steps: Vec<Step>,
 ) -> Result<()> {
     for step in steps {
-        let Step { deployer, task } = step;
-        let Some(deployer) = deployers.get_mut(deployer) else {
-            return Err(anyhow!("there is no such deployer"));
-        };
-        deployer.ask(rt, desk, task)?;
-        deployer.look(rt, alloc)?;
+        play_step(rt, alloc, desk, deployers, step)?;
     }
     Ok(())
 }
 
-/// The seats that deployers give back. How many entries were made from each is printed.
+/// Prints how many entries were made from the seat of each.
+fn tell_shares<J: DeskName>(rt: &impl Print, deployers: &[Deployer<J>]) -> Result<()> {
+    for deployer in deployers {
+        println!(rt; "share {}", deployer.seat.share())?;
+    }
+    Ok(())
+}
+
+/// The seats that deployers give back.
 fn give_back<J: DeskName>(
-    rt: &impl Print,
     alloc: Global,
     deployers: Vec<Deployer<J>>,
-) -> Result<Vec<Seat<J>>> {
+) -> Result<Vec<Seat<J>>, AllocError> {
     let mut seats = Vec::new(alloc);
     for deployer in deployers {
-        let Deployer { seat, .. } = deployer;
-        println!(rt; "share {}", seat.share())?;
-        seats.push(seat)?;
+        seats.push(deployer.seat)?;
     }
     Ok(seats)
 }
@@ -100,11 +116,13 @@ fn close<J: DeskName, A: Asked<J>>(
     desk: &mut A,
     seats: &mut Vec<Seat<J>>,
 ) -> Result<()> {
-    let last = seats.pop().ok_or(anyhow!("there are no seats"))?;
-    println!(rt; "closed {:?} of {}", desk.end(seats), seats.len())?;
+    let Some(last) = seats.pop() else {
+        return Err(anyhow!("there are no seats"));
+    };
+    let (ended, count) = (desk.end(seats), seats.len());
     seats.push(last)?;
-    println!(rt; "closed {:?}", desk.end(seats))?;
-    Ok(())
+    println!(rt; "closed {ended:?} of {count}")?;
+    Ok(println!(rt; "closed {:?}", desk.end(seats))?)
 }
 
 /// Plays these steps, each deployer in a thread of its own. Hands the deployers back.
@@ -152,7 +170,8 @@ fn play_seated<J: DeskName + Send + Sync, A: Asked<J> + Sync, W: Threads + Wait 
     reader: &Reader<J>,
 ) -> Result<()> {
     let deployers = play_all(rt, alloc, what, &*desk, deployers, reader)?;
-    let mut seats = give_back(rt, alloc, deployers)?;
+    tell_shares(rt, deployers.as_slice())?;
+    let mut seats = give_back(alloc, deployers)?;
     close(rt, desk, &mut seats)
 }
 
