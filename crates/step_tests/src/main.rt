@@ -8,14 +8,21 @@ mod serving;
 
 use anyhow::Result;
 use serving::written;
-use std::io::{BufRead, BufReader};
+use std::alloc::Global;
+use std::io::{BufRead, BufReader, Print};
+
+/// Serves the connection of a line, and prints what was written.
+fn answer(rt: &impl Print, alloc: Global, line: &str) -> Result<()> {
+    let written = written(alloc, line)?;
+    let digits = hex::encode(alloc, written.as_slice())?;
+    Ok(println!(rt; "{digits}")?)
+}
 
 fn main(rt: HostRuntime) -> Result<()> {
     let alloc = rt.alloc();
     for line in BufReader::new(alloc, rt.reader())?.lines(alloc) {
         let line = line?;
-        let digits = hex::encode(alloc, written(alloc, line.as_str())?.as_slice())?;
-        println!(rt; "{digits}")?;
+        answer(&rt, alloc, line.as_str())?;
     }
     Ok(())
 }

@@ -28,17 +28,28 @@ fn written_at_once(alloc: Global, input: Pieces) -> Result<Vec<u8>> {
     Ok(duplex.sink.0)
 }
 
+/// Takes the steps of a connection up to its end.
+fn go_to_the_end(
+    alloc: Global,
+    connection: &mut Connection,
+    duplex: &mut Metered<Script>,
+    server: &mut Server<MemShelf, MemDisk>,
+) -> Result<()> {
+    for _ in 0..MOST_STEPS {
+        if let Progress::Ended(_) = connection.go_on(alloc, duplex, server) {
+            return Ok(());
+        }
+    }
+    Err(anyhow!("the connection doesn't end"))
+}
+
 /// What is written to a stream, in steps.
 fn written_in_steps(alloc: Global, script: Script) -> Result<Vec<u8>> {
     let mut server = new_server(alloc)?;
     let mut duplex = Metered::new(script);
     let mut connection = Connection::new(alloc)?;
-    for _ in 0..MOST_STEPS {
-        if let Progress::Ended(_) = connection.go_on(alloc, &mut duplex, &mut server) {
-            return Ok(Vec::from_slice(alloc, duplex.stream().written())?);
-        }
-    }
-    Err(anyhow!("the connection doesn't end"))
+    go_to_the_end(alloc, &mut connection, &mut duplex, &mut server)?;
+    Ok(Vec::from_slice(alloc, duplex.stream().written())?)
 }
 
 /// The numbers of a word, with commas between them.
@@ -55,6 +66,12 @@ fn pieces(alloc: Global, digits: &str, cuts: &[usize]) -> Result<Pieces> {
     Ok(Pieces::new(alloc, hex::decode(alloc, digits)?, cuts)?)
 }
 
+/// The same at the places that a word has.
+fn cut_pieces(alloc: Global, cuts: &str, digits: &str) -> Result<Pieces> {
+    let cuts = numbers(alloc, cuts)?;
+    pieces(alloc, digits, cuts.as_slice())
+}
+
 /// How many bytes a write takes, if it has to wait before it takes some.
 fn bound(word: &str) -> Result<Option<usize>> {
     if word == "all" {
@@ -67,16 +84,17 @@ fn bound(word: &str) -> Result<Option<usize>> {
 /// where the stream is cut. Between these there may be how many bytes a write takes, or `all`: then the stream is answered in steps, and else at once.
 pub fn written(alloc: Global, line: &str) -> Result<Vec<u8>> {
     let words: Vec<&str> = line.split(' ').collect(alloc)?;
-    match words.as_slice() {
+    written_by(alloc, words.as_slice())
+}
+
+/// The same by the words of a line.
+fn written_by(alloc: Global, words: &[&str]) -> Result<Vec<u8>> {
+    match words {
         [digits] => written_at_once(alloc, pieces(alloc, *digits, &[])?),
-        [cuts, digits] => {
-            let cuts = numbers(alloc, *cuts)?;
-            written_at_once(alloc, pieces(alloc, *digits, cuts.as_slice())?)
-        }
+        [cuts, digits] => written_at_once(alloc, cut_pieces(alloc, *cuts, *digits)?),
         [cuts, most, digits] => {
-            let cuts = numbers(alloc, *cuts)?;
             let most = bound(*most)?;
-            let input = pieces(alloc, *digits, cuts.as_slice())?;
+            let input = cut_pieces(alloc, *cuts, *digits)?;
             written_in_steps(alloc, Script::new(input, most, Vec::new(alloc)))
         }
         _ => Err(anyhow!(
