@@ -160,18 +160,32 @@ fn play_all<J: DeskName + Send + Sync, A: Asked<J> + Sync, W: Threads + Wait + P
     Ok(deployers)
 }
 
+/// Plays the lines at a desk, and hands the seats back.
+fn play_from<J: DeskName + Send + Sync, A: Asked<J> + Sync, W: Threads + Wait + Print + Sync>(
+    rt: &W,
+    alloc: Global,
+    what: &Play<'_>,
+    desk: &A,
+    deployers: Vec<Deployer<J>>,
+    reader: &Reader<J>,
+) -> Result<Vec<Seat<J>>> {
+    let deployers = play_all(rt, alloc, what, desk, deployers, reader)?;
+    tell_shares(rt, deployers.as_slice())?;
+    Ok(give_back(alloc, deployers)?)
+}
+
 /// Plays the lines at a desk, and closes it.
 fn play_seated<J: DeskName + Send + Sync, A: Asked<J> + Sync, W: Threads + Wait + Print + Sync>(
     rt: &W,
     alloc: Global,
     what: &Play<'_>,
     desk: &mut A,
-    deployers: Vec<Deployer<J>>,
+    seats: Seats<J>,
     reader: &Reader<J>,
 ) -> Result<()> {
-    let deployers = play_all(rt, alloc, what, &*desk, deployers, reader)?;
-    tell_shares(rt, deployers.as_slice())?;
-    let mut seats = give_back(alloc, deployers)?;
+    let mut seats = seats;
+    let deployers = deployers_of(alloc, &mut seats, reader)?;
+    let mut seats = play_from(rt, alloc, what, &*desk, deployers, reader)?;
     close(rt, desk, &mut seats)
 }
 
@@ -189,10 +203,10 @@ fn play_over<
     alloc: Global,
     what: &Play<'_>,
     desk: &mut Desk<J, K, D, S, T, R>,
-    deployers: Vec<Deployer<J>>,
-    reader: &Reader<J>,
+    seats: Seats<J>,
+    reader: Reader<J>,
 ) -> Result<()> {
-    play_seated(rt, alloc, what, desk, deployers, reader)
+    play_seated(rt, alloc, what, desk, seats, &reader)
 }
 
 /// Plays at the desk of what is found, and closes it. If there is no memory for the desk, hands back what is found.
@@ -217,16 +231,14 @@ fn play_at<
     requires limit { found.limit ≡ 1000000 }
     ensures { IfOk result (λ left. IfSome left (λ back. back ≡ found)) }
 {
-    let (desk, mut seats, reader) = match open::<J, K, D, S, R>(
-        alloc, shows, new, found, VISITORS,
-    ) {
-        Ok(opened) => opened,
-        Err(back) => return Ok(Some(back)),
-    };
-    let mut desk = boxed(alloc, desk)?;
-    let deployers = deployers_of(alloc, &mut seats, &reader)?;
-    play_over(rt, alloc, what, &mut *desk, deployers, &reader)?;
-    Ok(None)
+    match open::<J, K, D, S, R>(alloc, shows, new, found, VISITORS) {
+        Ok((desk, seats, reader)) => {
+            let mut desk = boxed(alloc, desk)?;
+            play_over(rt, alloc, what, &mut *desk, seats, reader)?;
+            Ok(None)
+        }
+        Err(back) => Ok(Some(back)),
+    }
 }
 
 /// The same under names of its own.
@@ -252,6 +264,21 @@ fn find<D: Disk + Drop, S: Shelf + Drop>(alloc: Global, disk: D, shelf: S) -> Re
     }
 }
 
+/// Plays at the desk of what was handed back.
+fn play_again<
+    D: Disk + Drop + Send,
+    S: Shelf + Drop + Send,
+    R: Threads + Wait + Print + Send + Sync,
+>(rt: &R, alloc: Global, what: &Play<'_>, back: Found<D, S>) -> Result<()>
+    requires limit { back.limit ≡ 1000000 }
+{
+    println!(rt; "found {} again", back.history().len())?;
+    match play_anywhere(rt, alloc, what, back)? {
+        Some(_) => Err(anyhow!("a desk has no memory twice")),
+        None => Ok(()),
+    }
+}
+
 /// Plays at the desk of what is found. If there is no memory for the desk, it is opened once more.
 fn play_found<
     D: Disk + Drop + Send,
@@ -260,12 +287,9 @@ fn play_found<
 >(rt: &R, alloc: Global, what: &Play<'_>, found: Found<D, S>) -> Result<()>
     requires limit { found.limit ≡ 1000000 }
 {
-    let Some(back) = play_anywhere(rt, alloc, what, found)? else {
-        return Ok(());
-    };
-    println!(rt; "found {} again", back.history().len())?;
-    match play_anywhere(rt, alloc, what, back)? {
-        Some(_) => Err(anyhow!("a desk has no memory twice")),
+    println!(rt; "found {}", found.history().len())?;
+    match play_anywhere(rt, alloc, what, found)? {
+        Some(back) => play_again(rt, alloc, what, back),
         None => Ok(()),
     }
 }
@@ -278,8 +302,6 @@ pub(crate) fn play_in<
 >(rt: &R, alloc: Global, what: &Play<'_>, disk: D, shelf: S) -> Result<()> {
     let disk = GatedDisk::new(disk, &what.gates.syncs);
     let shelf = GatedShelf::new(shelf, &what.gates.puts);
-    let found = find(alloc, disk, shelf)?;
-    println!(rt; "found {}", found.history().len())?;
-    play_found(rt, alloc, what, found)?;
+    play_found(rt, alloc, what, find(alloc, disk, shelf)?)?;
     what.gates.tell(rt)
 }

@@ -9,7 +9,7 @@ mod steps;
 mod told;
 
 use anyhow::Result;
-use played::{Played, begin};
+use played::Played;
 use std::alloc::Global;
 use std::io::{BufRead, BufReader, Print};
 
@@ -44,7 +44,7 @@ fn play(rt: &impl Print, alloc: Global, lines: &[String]) -> Result<()> {
     let Some((first, rest)) = lines.split_first() else {
         return Ok(());
     };
-    let mut played = Played::new(alloc, begin(alloc, first.as_str())?);
+    let mut played = Played::begin(alloc, first.as_str())?;
     answer_all(rt, alloc, &mut played, rest)
 }
 

@@ -8,7 +8,7 @@ use host_world::{Step, World};
 use std::alloc::Global;
 
 /// The world that a line asks for.
-pub(crate) fn begin(alloc: Global, line: &str) -> Result<World> {
+fn begin(alloc: Global, line: &str) -> Result<World> {
     let words: Vec<&str> = line.split_whitespace().collect(alloc)?;
     world_of(alloc, words.as_slice())
 }
@@ -48,11 +48,12 @@ pub(crate) struct Played {
 }
 
 impl Played {
-    pub(crate) fn new(alloc: Global, world: World) -> Played {
-        Played {
-            world,
+    /// The world that a line asks for, before its first step.
+    pub(crate) fn begin(alloc: Global, line: &str) -> Result<Played> {
+        Ok(Played {
+            world: begin(alloc, line)?,
             steps: Vec::new(alloc),
-        }
+        })
     }
 
     /// Reads a line: a step, which is to be taken; or the word `show` and a visitor, of whom is told after all steps so far.

@@ -40,22 +40,45 @@ fn step_by(word: &str, visitor: usize) -> Result<Step> {
     }
 }
 
+/// The step of one word.
+fn lone_step(alloc: Global, word: &str) -> Result<Step> {
+    match word {
+        "publish" => Ok(Step::Publish),
+        "upload" => Ok(Step::Upload(Vec::new(alloc))),
+        _ => Err(anyhow!("there is no such step")),
+    }
+}
+
+/// The step of a word and another, which is an entry, bytes or a visitor.
+fn step_with(alloc: Global, word: &str, other: &str) -> Result<Step> {
+    match word {
+        "entry" => asking(alloc, other),
+        "upload" => Ok(Step::Upload(hex::decode(alloc, other)?)),
+        _ => step_by(word, other.parse::<usize>()?),
+    }
+}
+
+/// The step of a visitor that enters with this request.
+fn entering(alloc: Global, visitor: &str, request: &[&str]) -> Result<Step> {
+    let visitor = visitor.parse::<usize>()?;
+    let request = request_of(alloc, request)?;
+    Ok(Step::Enter { visitor, request })
+}
+
+/// The step of a visitor whose call is answered by these bytes.
+fn answering(alloc: Global, visitor: &str, bytes: &str) -> Result<Step> {
+    let visitor = visitor.parse::<usize>()?;
+    let bytes = hex::decode(alloc, bytes)?;
+    Ok(Step::Call(visitor, Call::Answer(Some(bytes))))
+}
+
 /// The step of these words. Bytes are in hexadecimal digits.
 pub(crate) fn step_of(alloc: Global, words: &[&str]) -> Result<Step> {
     match words {
-        [word] if *word == "publish" => Ok(Step::Publish),
-        [word] if *word == "upload" => Ok(Step::Upload(Vec::new(alloc))),
-        [word, text] if *word == "entry" => asking(alloc, text),
-        [word, bytes] if *word == "upload" => Ok(Step::Upload(hex::decode(alloc, *bytes)?)),
-        [word, visitor, request @ ..] if *word == "enter" => Ok(Step::Enter {
-            visitor: visitor.parse::<usize>()?,
-            request: request_of(alloc, request)?,
-        }),
-        [word, visitor, bytes] if *word == "answer" => {
-            let bytes = hex::decode(alloc, *bytes)?;
-            Ok(Step::Call(visitor.parse::<usize>()?, Call::Answer(Some(bytes))))
-        }
-        [word, visitor] => step_by(word, visitor.parse::<usize>()?),
+        [word] => lone_step(alloc, word),
+        [word, visitor, request @ ..] if *word == "enter" => entering(alloc, visitor, request),
+        [word, other] => step_with(alloc, word, other),
+        [word, visitor, bytes] if *word == "answer" => answering(alloc, visitor, bytes),
         _ => Err(anyhow!("there is no such step")),
     }
 }
