@@ -1,6 +1,8 @@
 """The gate ./test and the runner tests/run: nothing that failed is counted as passed, and all is counted."""
 
 import os
+import pathlib
+import re
 import shutil
 import signal
 import subprocess
@@ -10,6 +12,7 @@ import unittest
 
 from lib.sandbox import Sandbox
 
+TOP = pathlib.Path(__file__).resolve().parent.parent
 PARTS = """\
 import os, sys
 print("the end-to-end tests")
@@ -92,7 +95,7 @@ class Gate(unittest.TestCase):
         lines = err.splitlines()
         self.assertIn("rt ci proves 2 lines, with their tests, and tries 1 must-fail edits", lines[0])
         self.assertIn("tests/run", lines[1])
-        self.assertEqual(lines[2:], ["test: rt ci took 0 minutes", "test: python3 tests/run took 0 minutes"])
+        self.assertEqual(lines[2:], ["test: rt ci took 0 minutes", "test: python3 tests/run -j 2 took 0 minutes"])
 
     def test_builds_the_program_for_the_tests_where_the_gate_left_none(self):
         self.sandbox.add_crates("low:\nfilehost: low\n")
@@ -228,6 +231,20 @@ class Runner(unittest.TestCase):
         status, lines = self.call("-j", "2")
         self.assertEqual((status, lines[-1]), (1, "1 passed, 3 failed"))
         self.assertIn("test_four ended with status 0 and counted no failure", lines)
+
+    def test_runs_files_alone_that_test_times(self):
+        """Such a file begins once all others have ended, though more could run at once."""
+        (named,) = re.findall(r"^ALONE = \{(.*)\}$", (TOP / "tests/run").read_text(), re.M)
+        names = re.findall(r'"(\w+)"', named)
+        self.assertGreater(len(names), 4)
+        for name in names:
+            self.assertTrue((TOP / "tests" / f"{name}.py").is_file(), name)
+        slow = "import time, unittest\nclass It(unittest.TestCase):\n    def test_it(self):\n        time.sleep(0.5)\n        open('SLOW', 'w').close()\n"
+        sure = "import os, unittest\nclass It(unittest.TestCase):\n    def test_it(self): self.assertTrue(os.path.exists('SLOW'))\n"
+        mark = str(self.sandbox.folder / "slow-has-ended")
+        self.sandbox.write("tests/test_slow.py", slow.replace("SLOW", mark))
+        self.sandbox.write(f"tests/{names[0]}.py", sure.replace("SLOW", mark))
+        self.assertEqual(self.call("-j", "3")[1][-1], "2 passed, 0 failed")
 
     def test_tells_how_long_each_file_took(self):
         self.add_three_files()
