@@ -14,24 +14,19 @@ use shared_desk::{Desk, UploadError};
 use site_desk::{DeskError, DeskName, Notice, Seat};
 use std::sync::Wait;
 
+/// What an entry is answered.
+pub(crate) type Entered<J> = Result<Notice<J>, DeskError<Notice<J>>>;
+
+/// What an upload is answered.
+pub(crate) type Taken<J> = Result<Option<Notice<J>>, UploadError<Notice<J>>>;
+
 /// A desk that threads share.
 pub(crate) trait Asked<J: DeskName> {
     /// Its answer where this is to be its next entry.
-    fn enter<W: Wait>(
-        &self,
-        rt: &W,
-        seat: &mut Seat<J>,
-        entry: Entry,
-    ) -> Result<Notice<J>, DeskError<Notice<J>>>;
+    fn enter<W: Wait>(&self, rt: &W, seat: &mut Seat<J>, entry: Entry) -> Entered<J>;
 
     /// Its answer to an upload to the deploy of this number.
-    fn take<W: Wait>(
-        &self,
-        rt: &W,
-        seat: &mut Seat<J>,
-        number: u64,
-        upload: &Upload,
-    ) -> Result<Option<Notice<J>>, UploadError<Notice<J>>>;
+    fn take<W: Wait>(&self, rt: &W, seat: &mut Seat<J>, number: u64, upload: &Upload) -> Taken<J>;
 
     /// Whether the chunk of these bytes is read, and how many calls the gate has held back when it is.
     fn read<W: Wait>(&self, rt: &W, gate: &Gate, bytes: &[u8]) -> (bool, u64);
@@ -48,25 +43,14 @@ impl<
     T: Absorb<Notice<J>, State = [Entry; 0]> + Drop,
     R: Wait + Drop,
 > Asked<J> for Desk<J, K, D, S, T, R> {
-    fn enter<W: Wait>(
-        &self,
-        rt: &W,
-        seat: &mut Seat<J>,
-        entry: Entry,
-    ) -> Result<Notice<J>, DeskError<Notice<J>>> {
+    fn enter<W: Wait>(&self, rt: &W, seat: &mut Seat<J>, entry: Entry) -> Entered<J> {
         match entry {
             Entry::Change(command) => self.commit(rt, seat, command),
             Entry::Undo { site, change } => self.undo(rt, seat, &site, change),
         }
     }
 
-    fn take<W: Wait>(
-        &self,
-        rt: &W,
-        seat: &mut Seat<J>,
-        number: u64,
-        upload: &Upload,
-    ) -> Result<Option<Notice<J>>, UploadError<Notice<J>>> {
+    fn take<W: Wait>(&self, rt: &W, seat: &mut Seat<J>, number: u64, upload: &Upload) -> Taken<J> {
         self.upload(
             rt,
             seat,

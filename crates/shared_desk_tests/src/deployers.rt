@@ -1,6 +1,6 @@
 //! Deployers: what they are answered, and what they see then.
 
-use crate::asked::Asked;
+use crate::asked::{Asked, Entered, Taken};
 use crate::scripts::{Task, Upload};
 use anyhow::{Result, anyhow};
 use blob_store::UploadFault;
@@ -99,7 +99,7 @@ impl<J: DeskName> Deployer<J> {
     }
 
     /// Learns the receipt of an answer to a change or an undo, and tells what it is.
-    fn learn_answer(&mut self, answer: Result<Notice<J>, DeskError<Notice<J>>>) -> Told {
+    fn learn_answer(&mut self, answer: Entered<J>) -> Told {
         match answer {
             Ok(receipt) => self.learn_made(receipt),
             Err(error) => self.learn_error(error),
@@ -107,7 +107,7 @@ impl<J: DeskName> Deployer<J> {
     }
 
     /// Learns the receipt of an answer to an upload, and tells what it is.
-    fn learn_upload(&mut self, answer: Result<Option<Notice<J>>, UploadError<Notice<J>>>) -> Told {
+    fn learn_upload(&mut self, answer: Taken<J>) -> Told {
         match answer {
             Ok(Some(receipt)) => self.learn_made(receipt),
             Ok(None) => Told::Stored,
