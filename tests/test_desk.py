@@ -2,12 +2,11 @@
 of its locks.
 """
 
-import resource
 import unittest
 
 from lib.client import LARGEST_FILE, digest_of
 from lib.desks import DEPLOYERS, AtDesk, Look, entering, uploading
-from lib.stores import PIECE, opening_of
+from lib.stores import PIECE, limited, opening_of
 import journal
 
 OPEN = opening_of({"/a.txt": b"hello"})
@@ -69,26 +68,19 @@ class Answers(AtDesk):
 class FullDisks(AtDesk):
     """Each file may have as many bytes as the journal has, and no more."""
 
-    def run_full(self, *lines):
-        """Runs the program with that limit. It then gets an error in place of a signal."""
-        limits = resource.getrlimit(resource.RLIMIT_FSIZE)
-        resource.setrlimit(resource.RLIMIT_FSIZE, (len(self.read_journal()), limits[1]))
-        try:
-            return self.run_lines("steps", lines, restore_signals=False)
-        finally:
-            resource.setrlimit(resource.RLIMIT_FSIZE, limits)
-
     def assert_broken(self, entries, is_served, entry):
         """The entry isn't made. From then on the desk is broken, for another seat, too, and shows what it showed."""
-        status, printed, errors = self.run_full(entering(0, entry), entering(1, entry))
+        before = self.read_journal()
+        status, printed, errors = self.run_lines("steps", [entering(0, entry), entering(1, entry)], **limited(len(before)))
         self.assertEqual((status, errors, printed.answers), (0, "", ["Device", "Broken"]))
         self.assertEqual(printed.looks, [Look.of(0, is_served, entries)] * 2)
         self.assertEqual((printed.found, printed.shares), (len(entries), [0] * DEPLOYERS))
-        self.assertEqual(journal.read(self.read_journal()), entries)
+        self.assertEqual(printed.closed, ["None of 7", f"Some({len(entries)})"])
+        self.assertEqual(self.read_journal(), before)
 
     def test_break_a_desk_at_a_change(self):
-        self.write_journal([OPEN])
-        self.assert_broken([OPEN], False, OPEN)
+        self.play("steps", entering(0, OPEN), HELLO_TO_1)
+        self.assert_broken([OPEN, PUBLISH], True, REMOVE)
 
     def test_break_a_desk_at_an_undo(self):
         self.play("steps", entering(0, OPEN), HELLO_TO_1)

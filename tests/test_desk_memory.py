@@ -78,12 +78,14 @@ class Memory(AtDesk):
         self.assert_ends_without_memory(line)
 
     def assert_ends_without_memory(self, line):
-        """Where there is none from a place on, each run ends, so nothing takes memory once the entry is put; and the entry is made, or not."""
+        """If there is no memory from a place on, each run ends, and the entry is told exactly if the journal has it: so nothing takes memory once it is put."""
         before, ends = self.read_journal(), set()
         _, _, _, count = self.run_refusing(0, line)
         for place in range(1, count + 1):
             with self.subTest(place=place):
-                _, printed, found, _ = self.run_refusing(place, line, REFUSED_FROM_THERE="1")
+                # The library may have no memory to tell how many allocations there were.
+                status, printed, found, _ = self.run_refusing(place, line, REFUSED_FROM_THERE="1")
+                self.assertGreaterEqual(status, 0)
                 self.assertEqual(found, self.after if self.made in printed.answers else before)
                 ends.add(found)
         self.assertEqual(ends, {before, self.after})

@@ -2,7 +2,7 @@
 
 import os
 import pathlib
-import re
+import runpy
 import shutil
 import signal
 import subprocess
@@ -232,19 +232,18 @@ class Runner(unittest.TestCase):
         self.assertEqual((status, lines[-1]), (1, "1 passed, 3 failed"))
         self.assertIn("test_four ended with status 0 and counted no failure", lines)
 
-    def test_runs_files_alone_that_test_times(self):
-        """Such a file begins once all others have ended, though more could run at once."""
-        (named,) = re.findall(r"^ALONE = \{(.*)\}$", (TOP / "tests/run").read_text(), re.M)
-        names = re.findall(r'"(\w+)"', named)
+    def test_runs_files_alone_that_have_limits_of_time(self):
+        """Each begins once all others have ended, though more could run at once."""
+        names = sorted(runpy.run_path(str(TOP / "tests/run"))["ALONE"])
         self.assertGreater(len(names), 4)
         for name in names:
             self.assertTrue((TOP / "tests" / f"{name}.py").is_file(), name)
-        slow = "import time, unittest\nclass It(unittest.TestCase):\n    def test_it(self):\n        time.sleep(0.5)\n        open('SLOW', 'w').close()\n"
-        sure = "import os, unittest\nclass It(unittest.TestCase):\n    def test_it(self): self.assertTrue(os.path.exists('SLOW'))\n"
-        mark = str(self.sandbox.folder / "slow-has-ended")
-        self.sandbox.write("tests/test_slow.py", slow.replace("SLOW", mark))
-        self.sandbox.write(f"tests/{names[0]}.py", sure.replace("SLOW", mark))
-        self.assertEqual(self.call("-j", "3")[1][-1], "2 passed, 0 failed")
+        # It takes half a second, in which the mark that it is at work is there. Those that run alone find no mark.
+        body = "open(MARK, 'x').close()\n        time.sleep(0.5)\n        os.remove(MARK)"
+        text = f"import os, time, unittest\nMARK = {str(self.sandbox.folder / 'at-work')!r}\nclass It(unittest.TestCase):\n    def test_it(self):\n        {body}\n"
+        for name in ("test_slow", names[0], names[1]):
+            self.sandbox.write(f"tests/{name}.py", text)
+        self.assertEqual(self.call("-j", "3")[1][-1], "3 passed, 0 failed")
 
     def test_tells_how_long_each_file_took(self):
         self.add_three_files()

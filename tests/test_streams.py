@@ -47,11 +47,13 @@ class Pieces(Program):
             self.assert_answers(ASKED[:length], replies_within(length), f"cut after {length} bytes")
 
     def test_are_answered_before_more_comes(self):
-        """Before the last byte of a request nothing is written of its reply, and after it the whole, though no more comes."""
+        """No byte of a reply comes before the last byte of its request. Then the whole reply comes, though nothing more is sent."""
         client = Client(self)
         for asked, wanted in TALK:
             for place in range(len(asked)):
-                self.assertEqual(select.select([client.program.stdout], [], [], 0)[0], [], f"before byte {place} of {asked[:50]}")
+                # The program has the time to answer too early before the last byte.
+                seconds = 0.1 if place == len(asked) - 1 else 0
+                self.assertEqual(select.select([client.program.stdout], [], [], seconds)[0], [], f"before byte {place} of {asked[:50]}")
                 client.send(asked[place:place + 1])
             self.assertEqual(client.receive(len(wanted)), wanted)
         self.assertEqual(client.end(), (0, b"", b""))

@@ -117,7 +117,11 @@ class AtDesk(unittest.TestCase):
     def run_lines(self, stage, lines, **how):
         """The status, what is printed, and the words on standard error."""
         with self.start(stage, **how) as program:
-            out, errors = program.communicate("".join(f"{line}\n" for line in lines), timeout=SECONDS)
+            try:
+                out, errors = program.communicate("".join(f"{line}\n" for line in lines), timeout=SECONDS)
+            except subprocess.TimeoutExpired:
+                program.kill()
+                raise
         return program.returncode, Printed(out), errors
 
     def play(self, stage, *lines):

@@ -1,4 +1,4 @@
-//! Looks at what is shown of a list, as a worker looks at a desk, and further owners of what is shown.
+//! Looks at a list, as a worker looks at a desk, and further owners of what a look shows.
 ghost use Rattle.std.specs.Prelude.{◌≡◌, [], IfOk};
 ghost use Rattle.left_right.specs.Handles.{pending, published};
 
@@ -56,28 +56,33 @@ impl<L: ListName<u64> + Send + Sync> Looker for Visitor<u64, L, Items> {
         Ok(Visitor::again(self)?)
     }
 
-    fn look(&mut self) -> Result<usize> {
-        let snap = look(self)?;
-        Ok(snap.items.len())
+    fn look(&mut self) -> Result<()> {
+        let _ = look(self)?;
+        Ok(())
     }
 }
 
-/// Looks so often, and counts the items that are shown.
+/// What a look or an owner counts: one, and the items.
+fn counted(snap: &Items) -> u64 {
+    (snap.items.len() as u64).wrapping_add(1)
+}
+
+/// Looks so often, and counts the looks with the items that they show.
 fn look_often<L: ListName<u64>>(reader: &mut Reader<L>, looks: u64) -> Result<u64> {
     let mut sum = 0u64;
     for _ in 0..looks {
         let snap = look(reader)?;
-        sum = sum.wrapping_add(snap.items.len() as u64);
+        sum = sum.wrapping_add(counted(&snap));
     }
     Ok(sum)
 }
 
-/// Gives a snapshot a further owner for a moment, so often, and counts its items.
+/// Gives a snapshot a further owner for a moment, so often, and counts the owners with its items.
 fn own_often(snap: &Arc<Items>, times: u64) -> Result<u64, AllocError> {
     let mut sum = 0u64;
     for _ in 0..times {
         let share = Arc::try_clone(snap)?;
-        sum = sum.wrapping_add(share.items.len() as u64);
+        sum = sum.wrapping_add(counted(&share));
     }
     Ok(sum)
 }
@@ -107,7 +112,7 @@ fn time_owners<R: Clock>(rt: &R, snap: &Arc<Items>, times: u64) -> Result<Measur
 }
 
 /// The receipt of no items.
-fn none<L: ListName<u64>>(
+fn empty_receipt<L: ListName<u64>>(
     alloc: Global,
     list: &SeenList<u64, L>,
 ) -> Result<Receipt<u64, L, Items>, AllocError>
@@ -121,7 +126,7 @@ fn none<L: ListName<u64>>(
 }
 
 /// Shows a receipt.
-fn shown<L: ListName<u64>, R: Wait + Drop>(
+fn show<L: ListName<u64>, R: Wait + Drop>(
     alloc: Global,
     rt: R,
     receipt: &Receipt<u64, L, Items>,
@@ -131,8 +136,8 @@ fn shown<L: ListName<u64>, R: Wait + Drop>(
     WriteHandle::new(alloc, rt, one, other, VISITORS)
 }
 
-/// Shows a list without items, of which nothing more is shown, and a reader of it.
-fn show_none<L: ListName<u64>, R: Wait + Drop>(
+/// Shows an empty list, and gives its writer and a reader.
+fn show_empty<L: ListName<u64>, R: Wait + Drop>(
     alloc: Global,
     rt: R,
     new: NewList<u64>,
@@ -141,8 +146,8 @@ fn show_none<L: ListName<u64>, R: Wait + Drop>(
     requires found { L.found ≡ [] }
 {
     let list = new.named::<L>(0);
-    let first = none(alloc, &list)?;
-    let writer = shown(alloc, rt, &first)?;
+    let first = empty_receipt(alloc, &list)?;
+    let writer = show(alloc, rt, &first)?;
     let reader = Visitor::of(writer.handle()?, first.again()?);
     Ok((writer, reader))
 }
@@ -173,7 +178,8 @@ fn time_named<L: ListName<u64> + Send + Sync, R: Threads + Wait + Clock + Sync>(
     requires book { new ≡ L.book }
     requires found { L.found ≡ [] }
 {
-    let (_writer, mut reader) = show_none::<L, &R>(alloc, rt, new)?;
+    // While the writer stays there is something to look at.
+    let (_writer, mut reader) = show_empty::<L, &R>(alloc, rt, new)?;
     time_by(rt, alloc, &mut reader, wanted, count)
 }
 

@@ -1,5 +1,5 @@
-//! Measures calls of a ring, of flights and of a cache, as bench/groupcache.go measures groupcache's, and reads through nodes: a run
-//! makes one measurement, and prints the nanoseconds of all its calls and the sum of their answers.
+//! Measures calls of a ring, of flights and of a cache, as bench/groupcache.go measures groupcache's, reads through nodes, and
+//! looks at a list: a run makes one measurement, and prints the nanoseconds of all its calls and the sum of their answers.
 #![tactic(auto)]
 
 ghost use Rattle.std.specs.Prelude.{◌≡◌};
@@ -37,9 +37,9 @@ run ROUNDS       as many flights, which nobody joins
 hot ROUNDS       so many reads of each of 1024 chunks of 64 KiB that a node has in its cache
 share ROUNDS     as many times a second owner of each of 1024 chunks, which a read makes at least
 threads THREADS  200 reads of each of 64 such chunks by each of so many threads, which copy them
-looks THREADS    the same with a look at what is shown of a list before each read, at which nothing came since the look before
+looks THREADS    the same with a look at a list before each read, which finds nothing new
 look COUNT       so many such looks
-own COUNT        so many further owners of what such a look shows
+own COUNT        so many further owners of what such a look shows, the least that a look does
 fill PORT        a read of each of 3000 such chunks by 8 threads, through the first of three nodes, which are at PORT and the next two
 far PORT         5000 reads of each of 64 such chunks that the first of these nodes keeps and another owns
 digest COUNT     so many digests of such a chunk
@@ -62,7 +62,7 @@ fn keys(alloc: Global) -> Result<Vec<Digest>, AllocError> {
     Ok(keys)
 }
 
-/// Makes the measurement of this name: over so many rounds of these keys or of chunks, or by so many threads.
+/// Makes the measurement of this name: over so many rounds of these keys or of chunks, so many calls, or by so many threads.
 fn measure<R: Net<Listener = TcpListener, Stream = TcpStream> + Threads + Wait + Clock + Sync>(
     rt: &R,
     alloc: Global,

@@ -26,8 +26,8 @@ pub(crate) trait Looker: Send + Drop {
     /// The same for another thread.
     fn again(&self) -> Result<Self>;
 
-    /// Looks, and answers how many items are shown.
-    fn look(&mut self) -> Result<usize>;
+    /// Looks.
+    fn look(&mut self) -> Result<()>;
 }
 
 /// Nothing is done before a read.
@@ -39,8 +39,8 @@ impl Looker for NoLook {
         Ok(NoLook)
     }
 
-    fn look(&mut self) -> Result<usize> {
-        Ok(0)
+    fn look(&mut self) -> Result<()> {
+        Ok(())
     }
 }
 
@@ -68,11 +68,11 @@ fn copy_all<R: Wait, V: Looker>(
 ) -> Result<u64> {
     let mut copied = 0u64;
     for name in names {
-        let shown = looker.look()?;
+        looker.look()?;
         let chunk = node.get(rt, name)?;
         buffer.clear();
         buffer.extend_from_slice(chunk.view().bytes())?;
-        copied = copied.wrapping_add(shown.wrapping_add(buffer.len()) as u64);
+        copied = copied.wrapping_add(buffer.len() as u64);
     }
     Ok(copied)
 }
@@ -109,7 +109,7 @@ fn read_and_tell<R: Wait, V: Looker>(
     };
 }
 
-/// So many threads that read, each with a looker of its own.
+/// Threads that read, one for each looker. A looker for which no thread can be made is used in this one.
 fn run_threads<R: Threads + Wait + Sync, V: Looker>(
     rt: &R,
     alloc: Global,
@@ -144,7 +144,7 @@ fn lookers_of<V: Looker>(alloc: Global, looker: &V, threads: u64) -> Result<Vec<
     Ok(lookers)
 }
 
-/// The time of the reads of these threads through a node that has all chunks.
+/// The time of the reads by these lookers, a thread for each, through a node that has all chunks.
 fn time_all<R: Threads + Wait + Clock + Sync, V: Looker>(
     rt: &R,
     alloc: Global,
@@ -178,7 +178,7 @@ fn time_node<R: Threads + Wait + Clock + Sync, V: Looker>(
     time_all(rt, alloc, &node, names, lookers)
 }
 
-/// The time of the reads of so many threads, of chunks that were each read once before. Each thread looks before each read.
+/// The time of the reads of so many threads, of chunks that were each read once before. Before each read a thread does what its looker does.
 pub(crate) fn time_threads<R: Threads + Wait + Clock + Sync, V: Looker>(
     rt: &R,
     alloc: Global,

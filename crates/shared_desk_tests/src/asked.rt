@@ -14,25 +14,31 @@ use shared_desk::{Desk, UploadError};
 use site_desk::{DeskError, DeskName, Notice, Seat};
 use std::sync::Wait;
 
-/// What an entry is answered.
+/// The answer to an entry.
 pub(crate) type Entered<J> = Result<Notice<J>, DeskError<Notice<J>>>;
 
-/// What an upload is answered.
-pub(crate) type Taken<J> = Result<Option<Notice<J>>, UploadError<Notice<J>>>;
+/// The answer to an upload.
+pub(crate) type Uploaded<J> = Result<Option<Notice<J>>, UploadError<Notice<J>>>;
 
 /// A desk that threads share.
-pub(crate) trait Asked<J: DeskName> {
+pub(crate) trait AskedDesk<J: DeskName> {
     /// Its answer where this is to be its next entry.
     fn enter<W: Wait>(&self, rt: &W, seat: &mut Seat<J>, entry: Entry) -> Entered<J>;
 
     /// Its answer to an upload to the deploy of this number.
-    fn take<W: Wait>(&self, rt: &W, seat: &mut Seat<J>, number: u64, upload: &Upload) -> Taken<J>;
+    fn upload<W: Wait>(
+        &self,
+        rt: &W,
+        seat: &mut Seat<J>,
+        number: u64,
+        upload: &Upload,
+    ) -> Uploaded<J>;
 
-    /// Whether the chunk of these bytes is read, and how many calls the gate has held back when it is.
+    /// Reads the chunk of these bytes. Tells whether it has them, and how many calls have come to the gate by then.
     fn read<W: Wait>(&self, rt: &W, gate: &Gate, bytes: &[u8]) -> (bool, u64);
 
     /// Closes it, if these are all its seats. Answers how many entries there are.
-    fn end(&mut self, seats: &mut Vec<Seat<J>>) -> Option<u64>;
+    fn close(&mut self, seats: &mut Vec<Seat<J>>) -> Option<u64>;
 }
 
 impl<
@@ -42,7 +48,7 @@ impl<
     S: Shelf,
     T: Absorb<Notice<J>, State = [Entry; 0]> + Drop,
     R: Wait + Drop,
-> Asked<J> for Desk<J, K, D, S, T, R> {
+> AskedDesk<J> for Desk<J, K, D, S, T, R> {
     fn enter<W: Wait>(&self, rt: &W, seat: &mut Seat<J>, entry: Entry) -> Entered<J> {
         match entry {
             Entry::Change(command) => self.commit(rt, seat, command),
@@ -50,7 +56,13 @@ impl<
         }
     }
 
-    fn take<W: Wait>(&self, rt: &W, seat: &mut Seat<J>, number: u64, upload: &Upload) -> Taken<J> {
+    fn upload<W: Wait>(
+        &self,
+        rt: &W,
+        seat: &mut Seat<J>,
+        number: u64,
+        upload: &Upload,
+    ) -> Uploaded<J> {
         self.upload(
             rt,
             seat,
@@ -65,11 +77,12 @@ impl<
         let name = Digest::of_bytes(bytes);
         let mut files = self.files().lock(rt);
         let read = files.chunk(&name);
+        // The files are still locked, so no put comes between the read and the count.
         let held = gate.held();
         (read.is_ok_and(|chunk| chunk.view().bytes() == bytes), held)
     }
 
-    fn end(&mut self, seats: &mut Vec<Seat<J>>) -> Option<u64> {
+    fn close(&mut self, seats: &mut Vec<Seat<J>>) -> Option<u64> {
         self.close(seats)
     }
 }

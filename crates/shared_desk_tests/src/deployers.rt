@@ -1,6 +1,6 @@
 //! Deployers: what they are answered, and what they see then.
 
-use crate::asked::{Asked, Entered, Taken};
+use crate::asked::{AskedDesk, Entered, Uploaded};
 use crate::scripts::{Task, Upload};
 use anyhow::{Result, anyhow};
 use blob_store::UploadFault;
@@ -107,7 +107,7 @@ impl<J: DeskName> Deployer<J> {
     }
 
     /// Learns the receipt of an answer to an upload, and tells what it is.
-    fn learn_upload(&mut self, answer: Taken<J>) -> Told {
+    fn learn_upload(&mut self, answer: Uploaded<J>) -> Told {
         match answer {
             Ok(Some(receipt)) => self.learn_made(receipt),
             Ok(None) => Told::Stored,
@@ -121,20 +121,20 @@ impl<J: DeskName> Deployer<J> {
     }
 
     /// What the desk answers where this is to be its next entry.
-    fn enter<A: Asked<J>>(&mut self, rt: &impl Wait, desk: &A, entry: Entry) -> Told {
+    fn enter<A: AskedDesk<J>>(&mut self, rt: &impl Wait, desk: &A, entry: Entry) -> Told {
         let answer = desk.enter(rt, &mut self.seat, entry);
         self.learn_answer(answer)
     }
 
     /// What it answers to an upload.
-    fn upload<A: Asked<J>>(&mut self, rt: &impl Wait, desk: &A, upload: &Upload) -> Told {
+    fn upload<A: AskedDesk<J>>(&mut self, rt: &impl Wait, desk: &A, upload: &Upload) -> Told {
         let number = upload.number.unwrap_or(self.last);
-        let answer = desk.take(rt, &mut self.seat, number, upload);
+        let answer = desk.upload(rt, &mut self.seat, number, upload);
         self.learn_upload(answer)
     }
 
     /// What it answers to something.
-    fn answer<A: Asked<J>>(&mut self, rt: &impl Wait, desk: &A, task: Task) -> Told {
+    fn answer<A: AskedDesk<J>>(&mut self, rt: &impl Wait, desk: &A, task: Task) -> Told {
         match task {
             Task::Enter(entry) => self.enter(rt, desk, entry),
             Task::Upload(upload) => self.upload(rt, desk, &upload),
@@ -142,7 +142,7 @@ impl<J: DeskName> Deployer<J> {
     }
 
     /// Asks for something, and prints what is answered.
-    pub(crate) fn ask<A: Asked<J>, W: Wait + Print>(
+    pub(crate) fn ask<A: AskedDesk<J>, W: Wait + Print>(
         &mut self,
         rt: &W,
         desk: &A,

@@ -5,7 +5,7 @@ ghost use Rattle.shared_desk.specs.NewDesks.{AreNames};
 
 use crate::deployers::Reader;
 use crate::gates::{GatedDisk, GatedShelf};
-use crate::played::{Play, play_seated};
+use crate::played::{Play, play_and_close};
 use crate::scripts::DEPLOYERS;
 use anyhow::{Result, anyhow};
 use blob_store::Shelf;
@@ -31,7 +31,7 @@ fn boxed<T: Drop>(alloc: Global, value: T) -> Result<Box<T>, AllocError> {
     Ok(Box::new(alloc, value)?)
 }
 
-/// Plays the lines at an open desk. Threads may share it, whatever is shown of it.
+/// Plays the lines at an open desk, and closes it. It knows no type of what is shown, so the proof that threads may share a desk holds for any.
 fn play_over<
     J: DeskName + Send + Sync,
     K: ListName<BlobInfo> + Send + Sync,
@@ -48,7 +48,7 @@ fn play_over<
     seats: Seats<J>,
     reader: Reader<J>,
 ) -> Result<()> {
-    play_seated(rt, alloc, what, desk, seats, &reader)
+    play_and_close(rt, alloc, what, desk, seats, &reader)
 }
 
 /// Plays at the desk of what is found, and closes it. If there is no memory for the desk, hands back what is found.

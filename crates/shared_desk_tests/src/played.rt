@@ -1,6 +1,6 @@
-//! What is played at a desk.
+//! Deployers play at a desk, one after the other or all at once.
 
-use crate::asked::Asked;
+use crate::asked::AskedDesk;
 use crate::deployers::{Deployer, Reader};
 use crate::gates::Gates;
 use crate::scripts::{DEPLOYERS, Step, deal, read};
@@ -41,7 +41,7 @@ fn deployers_of<J: DeskName>(
 }
 
 /// Plays a step: its deployer asks, and then looks.
-fn play_step<J: DeskName, A: Asked<J>, W: Wait + Print>(
+fn play_step<J: DeskName, A: AskedDesk<J>, W: Wait + Print>(
     rt: &W,
     alloc: Global,
     desk: &A,
@@ -57,7 +57,7 @@ fn play_step<J: DeskName, A: Asked<J>, W: Wait + Print>(
 }
 
 /// Plays these steps, one after the other.
-fn play_steps<J: DeskName, A: Asked<J>, W: Wait + Print>(
+fn play_steps<J: DeskName, A: AskedDesk<J>, W: Wait + Print>(
     rt: &W,
     alloc: Global,
     desk: &A,
@@ -91,7 +91,7 @@ fn give_back<J: DeskName>(
 }
 
 /// Closes a desk with one seat missing, and then with all.
-fn close<J: DeskName, A: Asked<J>>(
+fn close<J: DeskName, A: AskedDesk<J>>(
     rt: &impl Print,
     desk: &mut A,
     seats: &mut Vec<Seat<J>>,
@@ -99,14 +99,18 @@ fn close<J: DeskName, A: Asked<J>>(
     let Some(last) = seats.pop() else {
         return Err(anyhow!("there are no seats"));
     };
-    let (ended, count) = (desk.end(seats), seats.len());
+    let (ended, count) = (desk.close(seats), seats.len());
     seats.push(last)?;
     println!(rt; "closed {ended:?} of {count}")?;
-    Ok(println!(rt; "closed {:?}", desk.end(seats))?)
+    Ok(println!(rt; "closed {:?}", desk.close(seats))?)
 }
 
 /// Plays these steps, each deployer in a thread of its own. Hands the deployers back.
-fn play_at_once<J: DeskName + Send + Sync, A: Asked<J> + Sync, W: Threads + Wait + Print + Sync>(
+fn play_at_once<
+    J: DeskName + Send + Sync,
+    A: AskedDesk<J> + Sync,
+    W: Threads + Wait + Print + Sync,
+>(
     rt: &W,
     alloc: Global,
     what: &Play<'_>,
@@ -123,7 +127,7 @@ fn play_at_once<J: DeskName + Send + Sync, A: Asked<J> + Sync, W: Threads + Wait
 }
 
 /// Plays what is asked for at a desk. Hands the deployers back.
-fn play_all<J: DeskName + Send + Sync, A: Asked<J> + Sync, W: Threads + Wait + Print + Sync>(
+fn play_all<J: DeskName + Send + Sync, A: AskedDesk<J> + Sync, W: Threads + Wait + Print + Sync>(
     rt: &W,
     alloc: Global,
     what: &Play<'_>,
@@ -141,7 +145,11 @@ fn play_all<J: DeskName + Send + Sync, A: Asked<J> + Sync, W: Threads + Wait + P
 }
 
 /// Plays the lines at a desk, and hands the seats back.
-fn play_from<J: DeskName + Send + Sync, A: Asked<J> + Sync, W: Threads + Wait + Print + Sync>(
+fn play_to_the_seats<
+    J: DeskName + Send + Sync,
+    A: AskedDesk<J> + Sync,
+    W: Threads + Wait + Print + Sync,
+>(
     rt: &W,
     alloc: Global,
     what: &Play<'_>,
@@ -155,9 +163,9 @@ fn play_from<J: DeskName + Send + Sync, A: Asked<J> + Sync, W: Threads + Wait + 
 }
 
 /// Plays the lines at a desk, and closes it.
-pub(crate) fn play_seated<
+pub(crate) fn play_and_close<
     J: DeskName + Send + Sync,
-    A: Asked<J> + Sync,
+    A: AskedDesk<J> + Sync,
     W: Threads + Wait + Print + Sync,
 >(
     rt: &W,
@@ -169,6 +177,6 @@ pub(crate) fn play_seated<
 ) -> Result<()> {
     let mut seats = seats;
     let deployers = deployers_of(alloc, &mut seats, reader)?;
-    let mut seats = play_from(rt, alloc, what, &*desk, deployers, reader)?;
+    let mut seats = play_to_the_seats(rt, alloc, what, &*desk, deployers, reader)?;
     close(rt, desk, &mut seats)
 }

@@ -1,6 +1,6 @@
 //! Threads at one desk.
 
-use crate::asked::Asked;
+use crate::asked::AskedDesk;
 use crate::deployers::{Deployer, Reader};
 use crate::gates::Gates;
 use crate::scripts::{DEPLOYERS, Task};
@@ -105,7 +105,7 @@ fn share_out<
 }
 
 /// Does these works at a desk, each in a thread of its own.
-fn do_all<J: DeskName + Send + Sync, A: Asked<J> + Sync, W: Threads + Wait + Print + Sync>(
+fn do_all<J: DeskName + Send + Sync, A: AskedDesk<J> + Sync, W: Threads + Wait + Print + Sync>(
     shared: &Shared<'_, W, A, Mutex<Deployer<J>>>,
     works: Vec<Work<J>>,
 ) -> Result<(), AllocError> {
@@ -121,7 +121,7 @@ fn do_all<J: DeskName + Send + Sync, A: Asked<J> + Sync, W: Threads + Wait + Pri
 /// Does these works at a desk, each in a thread of its own. Fails if one of them does.
 pub(crate) fn work_at_once<
     J: DeskName + Send + Sync,
-    A: Asked<J> + Sync,
+    A: AskedDesk<J> + Sync,
     W: Threads + Wait + Print + Sync,
 >(
     rt: &W,

@@ -1,6 +1,6 @@
 //! What each thread does at a desk.
 
-use crate::asked::Asked;
+use crate::asked::AskedDesk;
 use crate::deployers::{Deployer, Reader};
 use crate::gates::{Gate, Gates};
 use crate::scripts::Task;
@@ -54,7 +54,7 @@ impl Tally {
 }
 
 /// Does all tasks of a deployer.
-fn deploy<J: DeskName, A: Asked<J>, W: Wait + Print>(
+fn deploy<J: DeskName, A: AskedDesk<J>, W: Wait + Print>(
     rt: &W,
     desk: &A,
     deployer: &mut Deployer<J>,
@@ -107,7 +107,7 @@ fn look_meanwhile<J: DeskName>(rt: &impl Print, gate: &Gate, reader: &mut Reader
 }
 
 /// Reads the chunk `hello`, which is asked for while a put is held back, and prints how many puts there were until then.
-fn read_meanwhile<J: DeskName, A: Asked<J>, W: Wait + Print>(
+fn read_meanwhile<J: DeskName, A: AskedDesk<J>, W: Wait + Print>(
     rt: &W,
     gate: &Gate,
     desk: &A,
@@ -130,7 +130,7 @@ pub(crate) struct Shared<'a, R, A, B> {
 }
 
 /// A deployer's thread.
-fn deploy_at<J: DeskName, A: Asked<J>, W: Wait + Print>(
+fn deploy_at<J: DeskName, A: AskedDesk<J>, W: Wait + Print>(
     shared: &Shared<'_, W, A, Mutex<Deployer<J>>>,
     number: usize,
     tasks: Vec<Task>,
@@ -144,7 +144,7 @@ fn deploy_at<J: DeskName, A: Asked<J>, W: Wait + Print>(
 }
 
 /// Does the work of a thread.
-pub(crate) fn do_work<J: DeskName, A: Asked<J>, W: Wait + Print>(
+pub(crate) fn do_work<J: DeskName, A: AskedDesk<J>, W: Wait + Print>(
     shared: &Shared<'_, W, A, Mutex<Deployer<J>>>,
     work: Work<J>,
 ) {

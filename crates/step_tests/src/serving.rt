@@ -66,7 +66,7 @@ fn pieces(alloc: Global, digits: &str, cuts: &[usize]) -> Result<Pieces> {
     Ok(Pieces::new(alloc, hex::decode(alloc, digits)?, cuts)?)
 }
 
-/// The same at the places that a word has.
+/// The bytes of these digits, cut at the places that a word lists.
 fn cut_pieces(alloc: Global, cuts: &str, digits: &str) -> Result<Pieces> {
     let cuts = numbers(alloc, cuts)?;
     pieces(alloc, digits, cuts.as_slice())
