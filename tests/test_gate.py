@@ -240,7 +240,8 @@ class Runner(unittest.TestCase):
             self.assertTrue((TOP / "tests" / f"{name}.py").is_file(), name)
         # It takes half a second, in which the mark that it is at work is there. Those that run alone find no mark.
         body = "open(MARK, 'x').close()\n        time.sleep(0.5)\n        os.remove(MARK)"
-        text = f"import os, time, unittest\nMARK = {str(self.sandbox.folder / 'at-work')!r}\nclass It(unittest.TestCase):\n    def test_it(self):\n        {body}\n"
+        mark = str(self.sandbox.folder / "at-work")
+        text = f"import os, time, unittest\nMARK = {mark!r}\nclass It(unittest.TestCase):\n    def test_it(self):\n        {body}\n"
         for name in ("test_slow", names[0], names[1]):
             self.sandbox.write(f"tests/{name}.py", text)
         self.assertEqual(self.call("-j", "3")[1][-1], "3 passed, 0 failed")
