@@ -13,6 +13,8 @@ OPEN = opening_of({"/a.txt": b"hello"})
 PUBLISH, REMOVE, CANCEL = ("publish", "one", 1), ("remove", "one", "/a.txt"), ("cancel", "one", 1)
 UNDO_2, UNDO_3, UNDO_99 = ("undo", "one", 2), ("undo", "one", 3), ("undo", "one", 99)
 HELLO_TO_1 = uploading(0, 1, "/a.txt", "hello")
+# The digest as it is printed.
+HELLO = list(bytes.fromhex(digest_of(b"hello")))
 # Of a file of the greatest size, whose pieces are all others, and its table.
 LARGE = "".join(f"{number:04}" * (PIECE // 4) for number in range(LARGEST_FILE // PIECE))
 PUTS = LARGEST_FILE // PIECE + 1
@@ -36,7 +38,7 @@ class Answers(AtDesk):
         printed = self.assert_steps(
             (entering(0, OPEN), "Made(1)", 1, False, [OPEN]),
             (entering(1, UNDO_99), "Refused(NoSuchChange, 1)", 0, False, [OPEN]),
-            (entering(1, PUBLISH), f"Refused(NotComplete({digest_of(b'hello')}), 1)", 0, False, [OPEN]),
+            (entering(1, PUBLISH), f"Refused(NotComplete(Digest({HELLO})), 1)", 0, False, [OPEN]),
         )
         self.assertEqual((printed.found, printed.shares), (0, [1] + [0] * 7))
         self.assertEqual(printed.closed, ["None of 7", "Some(1)"])
