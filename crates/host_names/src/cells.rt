@@ -77,14 +77,21 @@ impl<'a> CellRef<'a> {
         }
     }
 
-    /// In the order of cells: by site, then by kind as listed, then by path, number or name.
+    /// In the order of cells: by site, then by kind as listed, then by path, number or name. Paths and names are compared only within a site
+    /// and a kind.
     pub fn compare(self, other: CellRef<'_>) -> Ordering
         ensures { result ≡ cell_cmp (cell_of self.entry) (cell_of other.entry) }
     {
-        self.site()
-            .cmp(other.site())
-            .then(self.rank().cmp(&other.rank()))
-            .then(self.text().cmp(other.text()))
+        let sites = self.site().cmp(other.site());
+        if sites.is_ne() {
+            return sites;
+        }
+        let kinds = self.rank().cmp(&other.rank());
+        if kinds.is_ne() {
+            return kinds;
+        }
+        self.text()
+            .cmp(other.text())
             .then(self.number().cmp(&other.number()))
     }
 

@@ -59,6 +59,7 @@ impl Digest {
     {
         let bytes = self.0;
         let digits = hex_digits(&bytes);
-        ArrayString::from_byte_string(&digits).unwrap()
+        let text = unsafe { str::from_utf8_unchecked(&digits) };
+        ArrayString::from(text).unwrap()
     }
 }
