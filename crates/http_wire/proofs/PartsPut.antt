@@ -1,5 +1,5 @@
 -- Parts that are put one after another.
-use Rattle.std.proofs.Common.{◌≡◌, ℕ, List, [], ◌∷◌, ◌++◌, Option, None, Some, Ok, Err, refl, sym, ap, subst, ◌∙◌, append_assoc, append-nil}
+use Rattle.std.proofs.Common.{◌≡◌, ℕ, List, [], ◌∷◌, ◌++◌, length, Option, None, Some, Result, Ok, Err, refl, sym, ap, subst, ◌∙◌, append_assoc, append-nil, arith}
 use Rattle.std.specs.List.{concat}
 use Rattle.std.specs.Iterator.{YieldsFirstBy}
 use Rattle.http_wire.specs.declared.halts.Halt.{Halt}
@@ -86,3 +86,18 @@ pub all_parts : {S : Type 0} (saw : S → Event → S → Type 0) (old new : S) 
     → left ≡ [] → PartsSoFar saw old new all left o n → Ran saw NoRead old new (Puts (Ok tt) (concat all) o n)
 all_parts saw old new all left o n none so =
     subst (λ l. Ran saw NoRead old new (Puts (Ok tt) (concat l) o n)) (sym (so.all_is ∙ ap (λ l. so.done ++ l) none ∙ append-nil so.done)) so.ran
+
+-- a text of no bytes
+no_bytes : (text : List ℕ) → length text ≡ 0 → text ≡ []
+no_bytes [] none = refl
+no_bytes (b ∷ text) none = absurd (omega (arith, none))
+
+-- the last part that has bytes
+pub last_part : {S P A : Type 0} (saw : S → Event → S → Type 0) (text : A → List ℕ) (texts : P → List (List ℕ)) (old mid new : S) (result : Result (Unit {0}) (Halt WriteFailed))
+    (all : List (List ℕ)) (a b : P) (first : A) (o m n : Gathered) → PartsSoFar saw old mid all (texts a) o m → YieldsFirstBy text texts a (Some first) b → length (concat (texts b)) ≡ 0
+    → Ran saw NoRead mid new (Puts result (text first) m n) → Ran saw NoRead old new (Puts result (concat all) o n)
+last_part saw text texts old mid new result all a b first o m n so one none ran =
+    let whole : concat all ≡ concat so.done ++ text first =
+    ap concat (so.all_is ∙ ap (λ l. so.done ++ l) one) ∙ concat-append so.done (text first ∷ texts b)
+    ∙ ap (λ u. concat so.done ++ (text first ++ u)) (no_bytes (concat (texts b)) none) ∙ ap (λ u. concat so.done ++ u) (append-nil (text first)) in
+    subst (λ t. Ran saw NoRead old new (Puts result t o n)) (sym whole) (puts_then saw old mid new result (concat so.done) (text first) o m n so.ran ran)

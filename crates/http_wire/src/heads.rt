@@ -135,10 +135,7 @@ impl Head {
     pub fn target(&self) -> &str
         ensures { result.now ≡ self.now.target }
     {
-        match str::from_utf8(self.target.of(&self.text)) {
-            Ok(target) => target,
-            Err(_) => unreachable!(),
-        }
+        unsafe { str::from_utf8_unchecked(self.target.of(&self.text)) }
     }
 
     /// Returns all fields, in order: the name and the value of each.

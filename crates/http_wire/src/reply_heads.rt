@@ -72,12 +72,12 @@ fn put_line<D: Duplex>(
     let Some(value) = line.value else {
         return Ok(());
     };
-    let pieces: [&[u8]; 3] = [
+    out.put_three(
+        duplex,
         line.before.as_bytes(),
         value.as_bytes(),
         line.behind.as_bytes(),
-    ];
-    put_pieces(duplex, out, &pieces)
+    )
 }
 
 // Puts the lines in order.

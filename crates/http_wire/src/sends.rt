@@ -175,7 +175,7 @@ impl Outgoing {
 
     // Puts three more pieces, without the bytes that were already taken: gathers pieces while there is room, and writes the others after
     // the gathered bytes.
-    fn put_three<D: Duplex>(
+    pub(crate) fn put_three<D: Duplex>(
         &mut self,
         duplex: &mut D,
         first: &[u8],
@@ -210,7 +210,11 @@ impl Outgoing {
         ensures ran { Ran D.saw NoRead duplex.old duplex.new (Puts result piece.now self.old self.new) }
         ensures waits { IsErrOf result Halt.WouldWait → D.waits duplex.new }
     {
-        self.put_three(duplex, piece, &[], &[])
+        let piece = self.behind(piece);
+        if self.gather(piece) {
+            return Ok(());
+        }
+        self.write(duplex, piece, &[], &[])
     }
 }
 
@@ -241,6 +245,7 @@ fn bytes_of<P: BodyParts>(part: &Option<P::Item>) -> &[u8]
 }
 
 /// Puts the parts of a body in order, each from where it lies in memory. Puts three at once, so that they go out with the gathered bytes.
+/// The last part that has bytes is put alone, so a body of one part is asked for no other.
 pub fn put_parts<D: Duplex, P: BodyParts<Item: Drop> + Drop>(
     duplex: &mut D,
     out: &mut Outgoing,
@@ -251,6 +256,9 @@ pub fn put_parts<D: Duplex, P: BodyParts<Item: Drop> + Drop>(
 {
     let mut parts = parts;
     'parts: while let Some(first) = parts.next() {
+        if parts.length() == 0 {
+            return out.put(duplex, P::bytes(&first));
+        }
         let second = parts.next();
         let third = parts.next();
         out.put_three(
