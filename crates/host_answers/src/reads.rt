@@ -106,12 +106,12 @@ fn send<H: Holder>(
     alloc: Global,
     holder: &mut H,
     info: &Arc<BlobInfo>,
-    plan: ReplyPlan,
+    plan: &ReplyPlan,
     path: &FilePath,
 ) -> Reply
-    requires within { All (LiesWithin (length info.now.value)) (intervals_in plan) }
-    requires some { plan ≢ None416 }
-    ensures { SendsBy H.gave H.failed holder.old path.now info.now.value plan (answer_of result) holder.new }
+    requires within { All (LiesWithin (length info.now.value)) (intervals_in plan.now) }
+    requires some { plan.now ≢ None416 }
+    ensures { SendsBy H.gave H.failed holder.old path.now info.now.value plan.now (answer_of result) holder.new }
 {
     match read_body(alloc, holder, info, plan, file_type(path)) {
         Ok(body) => Reply::of_file(path, info, body),
@@ -152,7 +152,7 @@ pub(crate) fn read<H: House>(
     }
     let plan = plan_asked(head, file.info());
     match wanted(file.info(), &plan) {
-        Ok(info) => send(alloc, house, &info, plan, path),
+        Ok(info) => send(alloc, house, &info, &plan, path),
         Err(why) => Reply::plain(why),
     }
 }

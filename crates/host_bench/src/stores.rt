@@ -118,7 +118,7 @@ pub(crate) fn time_read(rt: &HostRuntime, bytes: usize) -> Result<Duration> {
     ))?;
     let plain = FieldText::new("text/plain");
     let begun = Instant::now(rt)?;
-    let body = read_body(rt.alloc(), &mut node, &info, Choice::Whole, plain)?;
+    let body = read_body(rt.alloc(), &mut node, &info, &Choice::Whole, plain)?;
     let took = begun.elapsed(rt)?;
     if !are_bytes(body.parts(), file.as_slice()) {
         return Err(anyhow!("other bytes were read"));

@@ -134,27 +134,27 @@ impl FileBody {
     /// Makes the body of these holds. Returns `ReadFault::OutOfMemory` if the body has 2^64 bytes or more.
     fn new(
         holds: Holds,
-        plan: ReplyPlan,
+        plan: &ReplyPlan,
         boundary: Option<Boundary>,
         content_type: FieldText<'static>,
         info: &BlobInfo,
     ) -> Result<FileBody, ReadFault>
-        requires held { AreFor (held_in holds) info.now plan }
+        requires held { AreFor (held_in holds) info.now plan.now }
         requires lawful { All IsHeld (held_in holds) }
-        requires within { All (LiesWithin (length info.now)) (intervals_in plan) }
-        requires separated { HasBoundary boundary plan }
+        requires within { All (LiesWithin (length info.now)) (intervals_in plan.now) }
+        requires separated { HasBoundary boundary plan.now }
         ensures made { IfOk result (λ body. body ≡ record {
-          plan = plan;
+          plan = plan.now;
           boundary = boundary;
-          bytes = shown_text (text_in boundary) content_type.entry.text.now (held_in holds) plan;
+          bytes = shown_text (text_in boundary) content_type.entry.text.now (held_in holds) plan.now;
         }) }
         ensures fault { IfErr result (λ fault. fault ≡ OutOfMemory) }
-        ensures memory { IfErr result (λ _. HasParts plan) }
+        ensures memory { IfErr result (λ _. HasParts plan.now) }
     {
-        let length = body_length(holds.as_slice(), &plan, &boundary, content_type, info);
+        let length = body_length(holds.as_slice(), plan, &boundary, content_type, info);
         let length = length.ok_or(ReadFault::OutOfMemory)?;
         Ok(FileBody {
-            sends: sends_of(&plan),
+            sends: sends_of(plan),
             boundary,
             content_type,
             holds,
@@ -223,21 +223,21 @@ pub fn read_body<H: Holder>(
     alloc: Global,
     holder: &mut H,
     info: &Arc<BlobInfo>,
-    plan: ReplyPlan,
+    plan: &ReplyPlan,
     content_type: FieldText<'static>,
 ) -> Result<FileBody, ReadFault>
-    requires { All (LiesWithin (length info.now.value)) (intervals_in plan) }
+    requires { All (LiesWithin (length info.now.value)) (intervals_in plan.now) }
     ensures read { IfOk result
-        (λ body. IsRead H.gave holder.old info.now.value plan content_type.entry.text.now body holder.new) }
-    ensures fault { IfErr result (λ fault. IsNotRead H.gave H.failed holder.old info.now.value plan fault holder.new) }
-    ensures some { IfErr result (λ _. IsTrue (sends_bytes (length info.now.value) plan)) }
+        (λ body. IsRead H.gave holder.old info.now.value plan.now content_type.entry.text.now body holder.new) }
+    ensures fault { IfErr result (λ fault. IsNotRead H.gave H.failed holder.old info.now.value plan.now fault holder.new) }
+    ensures some { IfErr result (λ _. IsTrue (sends_bytes (length info.now.value) plan.now)) }
 {
-    let holds = hold_for(alloc, holder, info, &plan)?;
-    match boundary_for(holds.as_slice(), &plan, info.digest()) {
+    let holds = hold_for(alloc, holder, info, plan)?;
+    match boundary_for(holds.as_slice(), plan, info.digest()) {
         Ok(boundary) => Ok(FileBody::new(holds, plan, boundary, content_type, info)?),
         Err(NoBoundary) => {
             let whole = hold_whole(alloc, holder, info)?;
-            Ok(FileBody::new(whole, Choice::Whole, None, content_type, info)?)
+            Ok(FileBody::new(whole, &Choice::Whole, None, content_type, info)?)
         }
     }
 }

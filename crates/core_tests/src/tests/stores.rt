@@ -225,7 +225,7 @@ fn assert_read(
     let mut node = NodeFiles::new(alloc, files).map_err(|_| "there is no memory for a node")?;
     let planned = plan(&info, &parse(range.as_bytes()), IfRange::Absent);
     let plain = FieldText::new("text/plain");
-    let body = read_body(alloc, &mut node, &info, planned, plain)?;
+    let body = read_body(alloc, &mut node, &info, &planned, plain)?;
     let parts = told(alloc, body.parts())?;
     assert_text(rt, range, parts.as_str(), wanted);
     Ok(())

@@ -101,9 +101,9 @@ impl Connection {
     {
         match self.wire.try_read_head(duplex) {
             Ok(head) => {
-                let phase = after_head(alloc, head);
-                let size = phase.size();
-                self.enter(phase);
+                self.out.begin();
+                self.phase = after_head(alloc, head);
+                let size = self.phase.size();
                 if size > 0 {
                     return Progress::Body(size);
                 }
@@ -209,12 +209,12 @@ impl Connection {
     {
         let head_only = is_head_only(&request.head);
         let close = request.closes();
-        let reply = service.answer(alloc, request);
-        self.enter(Phase::Reply(Sending {
-            reply,
+        self.out.begin();
+        self.phase = Phase::Reply(Sending {
+            reply: service.answer(alloc, request),
             close,
             head_only,
-        }));
+        });
     }
 
     // Goes on with a reply, after which the next request is read, or the connection ends.
@@ -253,10 +253,10 @@ impl Connection {
         ensures follows { FollowsReply close self.old.number self.new.number self.new.phase }
     {
         if close || self.number >= MOST_REQUESTS {
-            self.stay(Phase::Ended(Ok(())));
+            self.phase = Phase::Ended(Ok(()));
         } else {
             self.number += 1;
-            self.stay(Phase::Head);
+            self.phase = Phase::Head;
         }
     }
 }

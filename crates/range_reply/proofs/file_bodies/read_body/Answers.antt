@@ -16,8 +16,8 @@ returns-in_err-new-in-Ok-clause-fault g c =
     let file = c.args.info.now.value in
     let why = c.in_err-new-in-Ok.field-0.0 in
     let is : c.from_residual-in_err-new-in-Ok.result ≡ Err why = search rules in
-    let fault : IsNotRead g.H.Holder.gave g.H.Holder.failed c.args.holder.now file c.args.plan why c.hold_for.new.holder =
-    inl (no_room g.H.Holder.gave g.H.Holder.failed file c.args.holder.now c.hold_for.new.holder why (stretches (length file) c.args.plan) (held_in c.in_ok-holds.holds)
+    let fault : IsNotRead g.H.Holder.gave g.H.Holder.failed c.args.holder.now file c.args.plan.now why c.hold_for.new.holder =
+    inl (no_room g.H.Holder.gave g.H.Holder.failed file c.args.holder.now c.hold_for.new.holder why (stretches (length file) c.args.plan.now) (held_in c.in_ok-holds.holds)
     c.in_ok-holds.ensures.held c.in_err-new-in-Ok.ensures.fault) in
     search (rules, fault)
 
@@ -25,7 +25,7 @@ pub returns-in_ok-new-in-Ok-clause-read : goal.returns-in_ok-new-in-Ok-clause-re
 returns-in_ok-new-in-Ok-clause-read g c =
     let gave = g.H.Holder.gave in
     let file = c.args.info.now.value in
-    let plan = c.args.plan in
+    let plan = c.args.plan.now in
     let boundary = c.in-Ok.boundary in
     let content_type = c.args.content_type.text.now in
     let holds = held_in c.in_ok-holds.holds in
@@ -56,7 +56,7 @@ pub returns-in_err-whole-in-Err-clause-fault : goal.returns-in_err-whole-in-Err-
 returns-in_err-whole-in-Err-clause-fault g c =
     let gave = g.H.Holder.gave in
     let file = c.args.info.now.value in
-    let plan = c.args.plan in
+    let plan = c.args.plan.now in
     let xs = held_in c.in_ok-holds.holds in
     let why = c.in_err-whole-in-Err.field-0.0 in
     let parts = c.in-Err.ensures.several in
@@ -73,7 +73,7 @@ pub returns-in_ok-new-in-Err-clause-read : goal.returns-in_ok-new-in-Err-clause-
 returns-in_ok-new-in-Err-clause-read g c =
     let gave = g.H.Holder.gave in
     let file = c.args.info.now.value in
-    let plan = c.args.plan in
+    let plan = c.args.plan.now in
     let content_type = c.args.content_type.text.now in
     let xs = held_in c.in_ok-holds.holds in
     let held = c.in_ok-holds.ensures.held in
