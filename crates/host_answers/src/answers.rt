@@ -1,7 +1,6 @@
 //! What a request is answered.
-ghost use Rattle.std.specs.Prelude.{◌≡◌, Ok};
 ghost use Rattle.host_replies.specs.Bodies.{answer_of};
-ghost use Rattle.host_answers.specs.Answers.{AnswersBy, CarriesOut, DoesBy};
+ghost use Rattle.host_answers.specs.Answers.{AnswersBy, DoesBy};
 
 use crate::asking::asked_for;
 use crate::change_lists::show_changes;
@@ -36,24 +35,18 @@ fn carry_out<H: House>(alloc: Global, house: &mut H, head: &Head, body: &[u8], a
     }
 }
 
-/// A look, and the reply to what a request asks for.
-fn respond<H: House>(alloc: Global, house: &mut H, head: &Head, body: &[u8], ask: Ask) -> Reply
-    ensures { CarriesOut H.calls H.gave H.failed house.old head.now body.now (Ok ask) (answer_of result) house.new }
-{
-    match house.look() {
-        Ok(()) => carry_out(alloc, house, head, body, ask),
-        Err(_) => Reply::out_of_memory(),
-    }
-}
-
-/// The calls that are made for a request, and the reply that they give.
+/// The calls that are made for a request, and the reply that they give: a look, and then what it asks for.
 fn answer_by<H: House>(alloc: Global, house: &mut H, head: &Head, body: &[u8]) -> Reply
     ensures { AnswersBy H.calls H.gave H.failed house.old head.now body.now (answer_of result) house.new }
 {
-    match asked_for(alloc, head, body) {
-        Ok(ask) => respond(alloc, house, head, body, ask),
-        Err(why) => refuse(alloc, why),
+    let ask = match asked_for(alloc, head, body) {
+        Ok(ask) => ask,
+        Err(why) => return refuse(alloc, why),
+    };
+    if house.look().is_err() {
+        return Reply::out_of_memory();
     }
+    carry_out(alloc, house, head, body, ask)
 }
 
 /// The reply to a request, and what calls of the house do for it: one look, and then what the request asks for, over what the look shows. A

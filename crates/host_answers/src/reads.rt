@@ -113,10 +113,11 @@ fn send<H: Holder>(
     requires some { plan.now ≢ None416 }
     ensures { SendsBy H.gave H.failed holder.old path.now info.now.value plan.now (answer_of result) holder.new }
 {
-    match read_body(alloc, holder, info, plan, file_type(path)) {
-        Ok(body) => Reply::of_file(path, info, body),
-        Err(why) => Reply::plain(refusal_of_read(why)),
-    }
+    let body = match read_body(alloc, holder, info, plan, file_type(path)) {
+        Ok(body) => body,
+        Err(why) => return Reply::plain(refusal_of_read(why)),
+    };
+    Reply::of_file(path, info, body)
 }
 
 /// The reply to HEAD. Nothing of the file is held and no plan is made for it: what needs no memory is judged first.
@@ -151,8 +152,9 @@ pub(crate) fn read<H: House>(
         return unread(path, file.info());
     }
     let plan = plan_asked(head, file.info());
-    match wanted(file.info(), &plan) {
-        Ok(info) => send(alloc, house, &info, &plan, path),
-        Err(why) => Reply::plain(why),
-    }
+    let info = match wanted(file.info(), &plan) {
+        Ok(info) => info,
+        Err(why) => return Reply::plain(why),
+    };
+    send(alloc, house, &info, &plan, path)
 }

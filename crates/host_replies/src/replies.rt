@@ -203,19 +203,20 @@ impl Reply {
         ensures { answer_of result ≡ sent_answer path.now info.now body }
     {
         let length = info.len() as u64;
-        match body.form() {
-            FileForm::Whole => Reply::of_part(StatusCode::OK, path, info, None, body),
+        let (status, range) = match body.form() {
+            FileForm::Whole => (StatusCode::OK, None),
             FileForm::One(first, last) => {
                 let range = ContentRange::Of {
                     first,
                     last,
                     length,
                 };
-                Reply::of_part(StatusCode::PARTIAL_CONTENT, path, info, Some(range), body)
+                (StatusCode::PARTIAL_CONTENT, Some(range))
             }
-            FileForm::Several(boundary) => Reply::of_parts(info, &boundary, body),
-            FileForm::Nothing => Reply::plain(Refusal::NotSatisfiable(length)),
-        }
+            FileForm::Several(boundary) => return Reply::of_parts(info, &boundary, body),
+            FileForm::Nothing => return Reply::plain(Refusal::NotSatisfiable(length)),
+        };
+        Reply::of_part(status, path, info, range, body)
     }
 
     /// The reply that tells of the file at a path without a byte of it (RFC 9110, section 9.3.2).

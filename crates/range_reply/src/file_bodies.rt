@@ -234,10 +234,10 @@ pub fn read_body<H: Holder>(
 {
     let holds = hold_for(alloc, holder, info, plan)?;
     match boundary_for(holds.as_slice(), plan, info.digest()) {
-        Ok(boundary) => Ok(FileBody::new(holds, plan, boundary, content_type, info)?),
+        Ok(boundary) => FileBody::new(holds, plan, boundary, content_type, info),
         Err(NoBoundary) => {
             let whole = hold_whole(alloc, holder, info)?;
-            Ok(FileBody::new(whole, &Choice::Whole, None, content_type, info)?)
+            FileBody::new(whole, &Choice::Whole, None, content_type, info)
         }
     }
 }

@@ -1,4 +1,5 @@
 use Rattle.std.proofs.Common.{rules, ◌≡◌, [], inl, inr, Err, None, length, refl, sym, ap, subst}
+use Rattle.std.proofs.lemmas.Result.{IfErr-weaker, IfOk-weaker}
 use Rattle.host_names.specs.Digests.{digest_of}
 use Rattle.range_spec.specs.declared.selection.Choice.{Choice}
 use Rattle.range_spec.specs.declared.selection.Choice.TheVariants.{Whole}
@@ -11,18 +12,15 @@ use Rattle.range_reply.proofs.Joined.{are_pure, first-sent, no_boundary, none-mo
 use Rattle.range_reply.proofs.Sent.{sent-pure}
 use Rattle.range_reply.proofs.file_bodies.read_body.Goals as goal
 
-pub returns-in_err-new-in-Ok-clause-fault : goal.returns-in_err-new-in-Ok-clause-fault
-returns-in_err-new-in-Ok-clause-fault g c =
+pub returns-in-Ok-clause-fault : goal.returns-in-Ok-clause-fault
+returns-in-Ok-clause-fault g c =
     let file = c.args.info.now.value in
-    let why = c.in_err-new-in-Ok.field-0.0 in
-    let is : c.from_residual-in_err-new-in-Ok.result ≡ Err why = search rules in
-    let fault : IsNotRead g.H.Holder.gave g.H.Holder.failed c.args.holder.now file c.args.plan.now why c.hold_for.new.holder =
+    IfErr-weaker c.new.result _ _ (λ why is.
     inl (no_room g.H.Holder.gave g.H.Holder.failed file c.args.holder.now c.hold_for.new.holder why (stretches (length file) c.args.plan.now) (held_in c.in_ok-holds.holds)
-    c.in_ok-holds.ensures.held c.in_err-new-in-Ok.ensures.fault) in
-    search (rules, fault)
+    c.in_ok-holds.ensures.held is)) c.new.ensures.fault
 
-pub returns-in_ok-new-in-Ok-clause-read : goal.returns-in_ok-new-in-Ok-clause-read
-returns-in_ok-new-in-Ok-clause-read g c =
+pub returns-in-Ok-clause-read : goal.returns-in-Ok-clause-read
+returns-in-Ok-clause-read g c =
     let gave = g.H.Holder.gave in
     let file = c.args.info.now.value in
     let plan = c.args.plan.now in
@@ -35,7 +33,7 @@ returns-in_ok-new-in-Ok-clause-read g c =
     let seen : c.as_slice.result.now ≡ holds = search rules in
     let are : AreFor holds file plan = record { same_file = held.same_file; in_order = held.in_order } in
     let R : SentFile → Type 0 = λ body. IsRead gave c.args.holder.now file plan content_type body c.hold_for.new.holder in
-    subst R (sym c.in_ok-new-in-Ok.ensures.made) (record {
+    IfOk-weaker c.new.result _ R (λ body is. subst R (sym is) (record {
       holds = holds;
       mid = c.hold_for.new.holder;
       held = held;
@@ -50,7 +48,7 @@ returns-in_ok-new-in-Ok-clause-read g c =
             sent = sent_of file (length file) holds c.as_slice.result.now c.digest.result plan boundary plan seen digest held.same_file held.in_order c.in-Ok.ensures.pure all;
             bytes = sent-pure (text_in boundary) content_type file holds plan are all;
           });
-    })
+    })) c.new.ensures.made
 
 pub returns-in_err-whole-in-Err-clause-fault : goal.returns-in_err-whole-in-Err-clause-fault
 returns-in_err-whole-in-Err-clause-fault g c =
@@ -69,8 +67,8 @@ returns-in_err-whole-in-Err-clause-fault g c =
     inr (parts.0, xs, c.hold_for.new.holder, parts.1, held, no_boundary (all_shown xs) (digest_of file) plan Whole parts.0 parts.1 sent, c.in_err-whole-in-Err.ensures.fault) in
     search (rules, fault)
 
-pub returns-in_ok-new-in-Err-clause-read : goal.returns-in_ok-new-in-Err-clause-read
-returns-in_ok-new-in-Err-clause-read g c =
+pub returns-in_ok-whole-in-Err-clause-read : goal.returns-in_ok-whole-in-Err-clause-read
+returns-in_ok-whole-in-Err-clause-read g c =
     let gave = g.H.Holder.gave in
     let file = c.args.info.now.value in
     let plan = c.args.plan.now in
@@ -85,7 +83,7 @@ returns-in_ok-new-in-Err-clause-read g c =
     let are : AreFor ys file Whole = record { same_file = rest.same_file; in_order = rest.in_order } in
     let R : SentFile → Type 0 = λ body. IsRead gave c.args.holder.now file plan content_type body c.hold_whole.new.holder in
     let B : Choice → Type 0 = λ p. shown_text (text_in None) content_type ys Whole ≡ shown_text (text_in None) content_type (sent_holds xs ys p None) Whole in
-    subst R (sym c.in_ok-new-in-Err.ensures.made) (record {
+    IfOk-weaker c.new-in-Err.result _ R (λ body is. subst R (sym is) (record {
       holds = xs;
       mid = c.hold_for.new.holder;
       held = held;
@@ -98,4 +96,4 @@ returns-in_ok-new-in-Err-clause-read g c =
             (are_pure file xs held.same_file held.lawful (pure-first file xs ys pure));
         bytes = sent-pure (text_in None) content_type file ys Whole are (are_pure file ys rest.same_file rest.lawful (pure-rest file xs ys pure));
       };
-    })
+    })) c.new-in-Err.ensures.made

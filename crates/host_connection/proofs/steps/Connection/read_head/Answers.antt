@@ -1,6 +1,7 @@
 use Rattle.std.proofs.Common.{◌≡◌, ◌∙◌, Err, ap, arith, refl, rules, subst, sym}
 use Rattle.http_wire.specs.declared.faults.HeadFault.{HeadFault}
 use Rattle.http_wire.specs.declared.halts.Halt.{Halt}
+use Rattle.http_wire.specs.Gathering.{Gathered, nothing}
 use Rattle.http_wire.specs.Halting.{TriesHead}
 use Rattle.http_wire.specs.Timing.{Ran}
 use Rattle.http_wire.specs.Wires.{AwaitsHead}
@@ -19,12 +20,14 @@ use Rattle.host_connection.proofs.steps.Connection.read_head.Goals as goal
 pub returns-then-size-gt0-clause-leads : goal.returns-then-size-gt0-clause-leads
 returns-then-size-gt0-clause-leads g c = λ start first so. (
     let a = c.args.self.now in
+    let then_out : Gathered → Connection = λ o. record { wire = c.try_read_head.new.self; out = o; number = a.number; phase = c.after_head.result } in
+    let is : then_out c.begin.new.self ≡ then_out nothing = ap then_out c.begin.ensures in
     let P : Phase → Type 0 = λ p. Carried g.S.Service.answers g.D.Duplex.saw (MayWait g.D.Duplex.waits) start first c.args.duplex.now c.args._service.now a.wire a.out a.number p in (
-      at_connection g.S.Service.answers g.D.Duplex.saw (MayWait g.D.Duplex.waits) start c.try_read_head.new.duplex first c.args._service.now c.enter.new.self _ c.enter.ensures
+      at_connection g.S.Service.answers g.D.Duplex.saw (MayWait g.D.Duplex.waits) start c.try_read_head.new.duplex first c.args._service.now (then_out c.begin.new.self) _ is
           (head_came g.S.Service.answers g.D.Duplex.saw (MayWait g.D.Duplex.waits) start c.args.duplex.now c.try_read_head.new.duplex first c.args._service.now a.number a.wire c.try_read_head.new.self a.out _
-          c.in-Ok.head c.after_head-phase.result (subst P c.requires so) c.in-Ok.ensures.ran c.after_head-phase.ensures refl),
-      subst (λ (k : Connection). AwaitsBodyOf c.size-size.result k.phase) (sym c.enter.ensures)
-          (awaits_body c.in-Ok.head c.size-size.result c.after_head-phase.result c.after_head-phase.ensures c.size-size.ensures (search rules)),
+          c.in-Ok.head c.after_head.result (subst P c.requires so) c.in-Ok.ensures.ran c.after_head.ensures refl),
+      subst (λ (k : Connection). AwaitsBodyOf c.size-size.result k.phase) (sym is)
+          (awaits_body c.in-Ok.head c.size-size.result c.after_head.result c.after_head.ensures c.size-size.ensures (search rules)),
       search rules,
     )
     )
@@ -32,10 +35,12 @@ returns-then-size-gt0-clause-leads g c = λ start first so. (
 pub returns-else-size-gt0-clause-leads : goal.returns-else-size-gt0-clause-leads
 returns-else-size-gt0-clause-leads g c = λ start first so. (
     let a = c.args.self.now in
+    let then_out : Gathered → Connection = λ o. record { wire = c.try_read_head.new.self; out = o; number = a.number; phase = c.after_head.result } in
+    let is : then_out c.begin.new.self ≡ then_out nothing = ap then_out c.begin.ensures in
     let P : Phase → Type 0 = λ p. Carried g.S.Service.answers g.D.Duplex.saw (MayWait g.D.Duplex.waits) start first c.args.duplex.now c.args._service.now a.wire a.out a.number p in
-    at_connection g.S.Service.answers g.D.Duplex.saw (MayWait g.D.Duplex.waits) start c.try_read_head.new.duplex first c.args._service.now c.enter.new.self _ c.enter.ensures
+    at_connection g.S.Service.answers g.D.Duplex.saw (MayWait g.D.Duplex.waits) start c.try_read_head.new.duplex first c.args._service.now (then_out c.begin.new.self) _ is
     (head_came g.S.Service.answers g.D.Duplex.saw (MayWait g.D.Duplex.waits) start c.args.duplex.now c.try_read_head.new.duplex first c.args._service.now a.number a.wire c.try_read_head.new.self a.out _
-    c.in-Ok.head c.after_head-phase.result (subst P c.requires so) c.in-Ok.ensures.ran c.after_head-phase.ensures refl)
+    c.in-Ok.head c.after_head.result (subst P c.requires so) c.in-Ok.ensures.ran c.after_head.ensures refl)
     )
 
 pub returns-in-Err-Failed-clause-leads : goal.returns-in-Err-Failed-clause-leads
@@ -44,7 +49,7 @@ returns-in-Err-Failed-clause-leads g c = λ start first so. (
     let P : Phase → Type 0 = λ p. Carried g.S.Service.answers g.D.Duplex.saw (MayWait g.D.Duplex.waits) start first c.args.duplex.now c.args._service.now a.wire a.out a.number p in
     let Q : Halt HeadFault → Type 0 = λ why. Ran g.D.Duplex.saw (AwaitsHead a.wire) c.args.duplex.now c.try_read_head.new.duplex (TriesHead (Err why) a.wire c.try_read_head.new.self) in
     let why : c.of_head.result ≡ stop_of_head c.in-Err-Failed.fault = search rules in
-    at_connection g.S.Service.answers g.D.Duplex.saw (MayWait g.D.Duplex.waits) start c.try_read_head.new.duplex first c.args._service.now c.enter-in-Err-Failed.new.self _ c.enter-in-Err-Failed.ensures
+    at_connection g.S.Service.answers g.D.Duplex.saw (MayWait g.D.Duplex.waits) start c.try_read_head.new.duplex first c.args._service.now c.enter.new.self _ c.enter.ensures
     (no_head g.S.Service.answers g.D.Duplex.saw (MayWait g.D.Duplex.waits) start c.args.duplex.now c.try_read_head.new.duplex first c.args._service.now a.number a.wire c.try_read_head.new.self a.out _
     c.in-Err-Failed.fault c.after_stop.result (subst P c.requires so) (subst Q c.in-Err-Failed.field-0-is c.in-Err-Failed.ensures.ran)
     (subst (λ (why : Stop). FollowsStop why c.after_stop.result) why c.after_stop.ensures) refl)
@@ -67,20 +72,24 @@ returns-in-Err-WouldWait-clause-leads g c = λ start first so. (
 pub returns-then-size-gt0-clause-advances : goal.returns-then-size-gt0-clause-advances
 returns-then-size-gt0-clause-advances g c =
     let a = c.args.self.now in
-    at_old _ a.number _ a.phase phase.Head _ c.requires (at_new _ a.number phase.Head c.enter.new.self _ c.enter.ensures
-    (head_advances (progress.Body c.size-size.result) a.number c.after_head-phase.result c.in-Ok.head c.after_head-phase.ensures (λ old_left new_left fell. fell) c.size-size.ensures))
+    let then_out : Gathered → Connection = λ o. record { wire = c.try_read_head.new.self; out = o; number = a.number; phase = c.after_head.result } in
+    let is : then_out c.begin.new.self ≡ then_out nothing = ap then_out c.begin.ensures in
+    at_old _ a.number _ a.phase phase.Head _ c.requires (at_new _ a.number phase.Head (then_out c.begin.new.self) _ is
+    (head_advances (progress.Body c.size-size.result) a.number c.after_head.result c.in-Ok.head c.after_head.ensures (λ old_left new_left fell. fell) c.size-size.ensures))
 
 pub returns-else-size-gt0-clause-advances : goal.returns-else-size-gt0-clause-advances
 returns-else-size-gt0-clause-advances g c =
     let a = c.args.self.now in
+    let then_out : Gathered → Connection = λ o. record { wire = c.try_read_head.new.self; out = o; number = a.number; phase = c.after_head.result } in
+    let is : then_out c.begin.new.self ≡ then_out nothing = ap then_out c.begin.ensures in
     let none : 0 ≡ c.size-size.result = omega arith in
-    at_old _ a.number _ a.phase phase.Head _ c.requires (at_new _ a.number phase.Head c.enter.new.self _ c.enter.ensures
-    (head_advances progress.More a.number c.after_head-phase.result c.in-Ok.head c.after_head-phase.ensures (λ old_left new_left fell. fell) (none ∙ c.size-size.ensures)))
+    at_old _ a.number _ a.phase phase.Head _ c.requires (at_new _ a.number phase.Head (then_out c.begin.new.self) _ is
+    (head_advances progress.More a.number c.after_head.result c.in-Ok.head c.after_head.ensures (λ old_left new_left fell. fell) (none ∙ c.size-size.ensures)))
 
 pub returns-in-Err-Failed-clause-advances : goal.returns-in-Err-Failed-clause-advances
 returns-in-Err-Failed-clause-advances g c =
     let a = c.args.self.now in
-    at_old _ a.number _ a.phase phase.Head _ c.requires (at_new _ a.number phase.Head c.enter-in-Err-Failed.new.self _ c.enter-in-Err-Failed.ensures
+    at_old _ a.number _ a.phase phase.Head _ c.requires (at_new _ a.number phase.Head c.enter.new.self _ c.enter.ensures
     (stop_advances a.number phase.Head c.after_stop.result _ (omega arith) c.after_stop.ensures))
 
 pub returns-in-Err-WouldWait-clause-advances : goal.returns-in-Err-WouldWait-clause-advances
