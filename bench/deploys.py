@@ -13,12 +13,14 @@ import tempfile
 import threading
 import time
 
-from servers import PATIENCE, Filehost, Reader, find
+from servers import PATIENCE, Filehost, Reader, StoredHost, find
 from tables import check, random_bytes, say_table, timed
 
 FILES = 1_000
 FILE = 4_096
 CHANGED = 10
+# How many clients send the files of a deploy at once.
+CLIENTS = 8
 
 
 def content_of(version, number):
@@ -147,6 +149,15 @@ class Costs:
             _, count, seconds = bytes_of(filehost, filehost.deploy, self.second)
             self.add("second, filehost, whole listing", seconds, count)
 
+    def list_served(self, room):
+        """The first deploy by `serve`, which takes files from several clients at once."""
+        with contextlib.ExitStack() as stack:
+            filehost = StoredHost(stack, self.program, pathlib.Path(tempfile.mkdtemp(dir=room)))
+            begun = time.perf_counter()
+            _, change = filehost.deploy_at_once(self.first, CLIENTS)
+            self.add("first, filehost serve", time.perf_counter() - begun, None)
+            check(change and all(filehost.get(path)[2] == content for path, content in self.first.items()), "a deploy by several clients")
+
     def patch_and_undo(self, room):
         """Two patches after the first deploy; the earlier one is undone."""
         with contextlib.ExitStack() as stack:
@@ -187,6 +198,7 @@ class Costs:
         for title, name in (
             ("first: filehost", "first, filehost"),
             ("first: the earlier build of filehost", "first, filehost before"),
+            (f"first: filehost serve, files sent over {CLIENTS} connections at once", "first, filehost serve"),
             ("first: copied to a new folder, link switched", "first, copied"),
             ("first: the same, each file synced", base),
             ("10 changed: filehost, listing of all 1,000", "second, filehost, whole listing"),
@@ -197,7 +209,7 @@ class Costs:
             ("taking it back: a new folder of links, made by comparing the versions", "back, by links"),
         ):
             if name in self.took:
-                yield [title, f"{median[name] * 1000:,.1f} ms", f"{median[name] / median[base]:.2f}", f"{self.went[name]:,}"]
+                yield [title, f"{median[name] * 1000:,.1f} ms", f"{median[name] / median[base]:.2f}", "-" if self.went[name] is None else f"{self.went[name]:,}"]
 
 
 def compare_costs(program, before, folder, times):
@@ -205,7 +217,7 @@ def compare_costs(program, before, folder, times):
     costs = Costs(program, before)
     for _ in range(times):
         room = pathlib.Path(tempfile.mkdtemp(dir=folder))
-        for way in (costs.list_before, costs.list_whole, costs.patch_and_undo, costs.copy_and_link):
+        for way in (costs.list_before, costs.list_whole, costs.list_served, costs.patch_and_undo, costs.copy_and_link):
             way(room)
     title = f"A deploy of {FILES:,} files of {FILE:,} bytes"
     say_table(title, ["What", "Time", "Against the synced copy", "Bytes sent and received"], costs.rows())

@@ -1,6 +1,7 @@
 """The servers of bench/compare, each on another port of 127.0.0.1: nginx and caddy over a folder, and filehost over a store; and what they share with those
 of bench/serve."""
 
+import concurrent.futures
 import contextlib
 import getpass
 import grp
@@ -21,7 +22,8 @@ import time
 TOP = pathlib.Path(__file__).resolve().parent.parent
 sys.path[:0] = [str(TOP / "tests"), str(TOP / "scripts")]
 
-from lib.client import digest_of  # noqa: E402
+from lib.client import HEAP, digest_of  # noqa: E402
+from lib.served import free_ports  # noqa: E402
 
 HOST = "127.0.0.1"
 PATIENCE = 20
@@ -195,18 +197,27 @@ class Host(Server):
 
     def deploy(self, files, is_patch=False):
         """Deploys files, sends those that the host lacks, and returns the deploy's number and that of the change that published it."""
+        number, published, paths = self.open(files, is_patch)
+        for path in paths:
+            published = self.upload(self.reader, number, path, files[path])
+        return number, published
+
+    def open(self, files, is_patch=False):
+        """Opens a deploy of files. Returns its number, that of the change that published it, if it was, and the paths of the files that the host lacks."""
         listed = {path: digest_of(content) for path, content in files.items()}
         paths = {digest: path for path, digest in listed.items()}
         status, told = self.tell(f"sites/{SITE}/deploys", {"files": listed, "patch": is_patch})
-        for digest in told.get("required", ()):
-            target = f"/api/v1/deploys/{told['id']}/files{paths[digest]}"
-            status, _, body = self.reader.ask("PUT", target, [], files[paths[digest]])
-            told |= json.loads(body)
-            if status != 200:
-                break
         if status != 200:
             raise Refusal(f"filehost refused a deploy: {status}, {told.get('error')}")
-        return int(told["id"]), told["published"]
+        return int(told["id"]), told["published"], [paths[digest] for digest in told["required"]]
+
+    def upload(self, reader, number, path, content):
+        """Sends a file of a deploy. Returns the number of the change that published it, if that was the last one."""
+        status, _, body = reader.ask("PUT", f"/api/v1/deploys/{number}/files{path}", [], content)
+        told = json.loads(body)
+        if status != 200:
+            raise Refusal(f"filehost refused a file: {status}, {told.get('error')}")
+        return told["published"]
 
     def put(self, path, content, modified=None):
         """Deploys one file, and leaves all others as they are. A deploy has no time of a file."""
@@ -298,6 +309,34 @@ class Filehost(Host):
         stack.callback(server.shutdown)
         threading.Thread(target=server.serve_forever, kwargs={"poll_interval": 0.05}, daemon=True).start()
         super().__init__(stack, "filehost", server.server_address[1])
+
+
+class StoredHost(Host):
+    """The program, which serves over a store."""
+
+    variables = HEAP
+
+    def __init__(self, stack, program, folder):
+        super().__init__(stack, "filehost serve", free_ports())
+        self.folder, self.program, self.store = folder, program, folder / "store"
+        self.store.mkdir(parents=True)
+        self.start()
+
+    def command(self):
+        return [self.program, "serve", "--listen", f"{HOST}:{self.port}", "--store", self.store]
+
+    def deploy_at_once(self, files, clients):
+        """Deploys files as `deploy` does, and sends those that the host lacks by so many clients at once."""
+        number, published, paths = self.open(files)
+
+        def send(first):
+            with contextlib.ExitStack() as stack:
+                reader = Reader(stack, self.port)
+                return [self.upload(reader, number, path, files[path]) for path in paths[first::clients]]
+
+        with concurrent.futures.ThreadPoolExecutor(clients) as pool:
+            sent = sum(pool.map(send, range(clients)), [])
+        return number, max(filter(None, sent), default=published)
 
 
 class Kept(Server):
