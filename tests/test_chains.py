@@ -1,6 +1,7 @@
 """What a reader of a contract has to read (scripts/chain): as much as docs/chains.txt says, and what is defined there."""
 
 import pathlib
+import re
 import subprocess
 import sys
 import tempfile
@@ -113,6 +114,20 @@ class OfThisRepository(unittest.TestCase):
                 *chain, total = printed.stdout.splitlines()
                 self.assertEqual(total, f"{counts[0]} definitions, {counts[1]} lines")
                 self.assertEqual(len(chain), int(counts[0]))
+
+    def test_is_told_by_subject(self):
+        rows = re.findall(r"^\| [^|]+ \| (\d+) \| (\d+) \| [^|]+ \| ([^|]+) \|$", (TOP / "docs/CHAIN.md").read_text(), re.MULTILINE)
+        owners = {file: number for number, (*_, files) in enumerate(rows) for file in re.findall(r"`([\w/]+)`", files)}
+        printed = subprocess.run([TOP / "scripts/chain", "host_server", "run_solo"], capture_output=True, text=True, timeout=60, check=True)
+        counted = [[0, 0] for _ in rows]
+        for line in printed.stdout.splitlines()[:-1]:
+            file, _, lines = line.split()
+            named = [owner for owner in owners if f"{file.removesuffix('.antt')}/".startswith(f"{owner}/")]
+            self.assertTrue(named, f"docs/CHAIN.md names no subject of {file}")
+            counts = counted[owners[max(named, key=len)]]
+            counts[0] += 1
+            counts[1] += int(lines)
+        self.assertEqual([[int(definitions), int(lines)] for definitions, lines, _ in rows], counted)
 
     def test_leads_the_program_down_to_what_each_command_means(self):
         printed = subprocess.run([TOP / "scripts/chain", "host_server", "run_solo"], capture_output=True, text=True, timeout=60, check=True)
