@@ -130,16 +130,17 @@ def clauses_at(text, start):
     return "\n".join(clauses)
 
 
-def chain_of(top, clauses, modules, imports):
-    """The definitions that these clauses rest on, in the order in which a reader meets them: module, name, lines."""
+def chain_of(top, clauses, modules, imports, without=()):
+    """The definitions that these clauses rest on, in the order in which a reader meets them: module, name, lines. Those whose names are in
+    `without` are left out, with what only they name."""
     chain, seen = [], set()
     waiting = list(named_in(top, clauses, modules, imports))[::-1]
     while waiting:
         definition = waiting.pop()
-        if definition in seen:
+        module, name = definition
+        if definition in seen or name in without:
             continue
         seen.add(definition)
-        module, name = definition
         there = module_at(top, module)
         text = there.definitions[name]
         chain.append((module.removeprefix("Rattle.").replace(".specs.", "/", 1).replace(".", "/") + ".antt", name, len(text.splitlines())))

@@ -97,6 +97,10 @@ class OfASmallRepository(unittest.TestCase):
         self.assertIsNone(definitions.contract_of(self.top, "upper", "nothing"))
         self.assertIsNone(definitions.contract_of(self.top, "upper", "no_such_function"))
 
+    def test_is_shorter_without_a_definition_and_what_only_that_names(self):
+        contract = definitions.contract_of(self.top, "upper", "count")
+        self.assertEqual([name for _, name, _ in definitions.chain_of(self.top, *contract, without=["both"])], ["IsCounted", "kind_of", "Kind"])
+
     def test_takes_names_that_are_written_in_full(self):
         text = "ensures { result ≡ Rattle.lower.specs.Counts.unread }"
         self.assertEqual(definitions.chain_of(self.top, text, {}, {}), [("lower/Counts.antt", "unread", 2)])
