@@ -1,4 +1,4 @@
-"""In which writes replies go out: a small one is one write, and of a large one each piece of the file is written as it lies.
+"""In which writes replies go out: a small one is one write, and of a large file three pieces at a time go out in one.
 
 The stream is a socket that keeps the bytes of each write together, so that what is received at once is what was written at once.
 """
@@ -13,8 +13,10 @@ from lib.range_replies import TWO_PARTS, parts
 from lib.stores import PIECE, pieces_of
 from lib.wire import NO_FILE
 
-# A reply of at most this many bytes is one write.
+# So many bytes of small parts are gathered before they are written.
 ROOM = 8_192
+# One write takes so many pieces of a file, beside what was gathered.
+AT_ONCE = 3
 LARGEST_WRITE = 1 << 20
 BINARY = "application/octet-stream"
 
@@ -60,19 +62,19 @@ class Writes(Program):
         talk = [(opening({"/w.txt": digest}), opened(1, digest)), (upload(1, "w.txt", content), uploaded(content, 2))]
         self.assert_writes(talk, (request("GET", "/s/one/w.txt", "Range: bytes=0-4,-5"), [TWO_PARTS]))
 
-    def test_of_a_reply_are_one_up_to_the_room(self):
+    def test_of_a_file_of_up_to_three_pieces_are_one(self):
         head = len(to_head(sent(b"a" * 8_000, kind=BINARY)))
-        for size in (ROOM - head, ROOM - head + 1, ROOM, ROOM + 1):
+        for size in (ROOM - head, ROOM - head + 1, ROOM, ROOM + 1, PIECE, PIECE + 1, AT_ONCE * PIECE):
             content = bytes(place % 251 for place in range(size))
-            reply = sent(content, kind=BINARY)
-            writes = [reply] if len(reply) <= ROOM else [to_head(reply), content]
             with self.subTest(size=size):
-                self.assert_writes(self.talk_with(content), (request("GET", "/s/one/d"), writes))
+                self.assert_writes(self.talk_with(content), (request("GET", "/s/one/d"), [sent(content, kind=BINARY)]))
 
-    def test_of_a_large_file_are_its_head_and_its_pieces(self):
-        content = bytes(place % 251 for place in range(2 * PIECE + 77))
+    def test_of_a_large_file_have_three_pieces_each(self):
+        content = bytes(place % 251 for place in range(7 * PIECE + 77))
         reply = sent(content, kind=BINARY)
-        self.assert_writes(self.talk_with(content), (request("GET", "/s/one/d"), [to_head(reply), *pieces_of(content)]),
+        pieces = pieces_of(content)
+        first, *others = [b"".join(pieces[at:at + AT_ONCE]) for at in range(0, len(pieces), AT_ONCE)]
+        self.assert_writes(self.talk_with(content), (request("GET", "/s/one/d"), [to_head(reply) + first, *others]),
                            (request("HEAD", "/s/one/d"), [to_head(reply)]))
 
     def test_of_several_large_parts_have_their_pieces_as_they_lie(self):

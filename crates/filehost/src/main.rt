@@ -3,11 +3,14 @@
 
 ghost use Rattle.std.specs.Prelude.{◌≡◌, ◌⊎◌};
 
+mod standard_streams;
+
 use blob_store::{FolderReader, LockedReader};
 use command_line::ServeOptions;
 use host_nodes::{has_ports, open_memory, refuse_ports, run_serve};
 use host_server::{open_folder, run_solo};
-use http_wire::{Pair, Reading, Writing};
+use http_wire::Writing;
+use standard_streams::StandardStreams;
 use std::io::ErrorKind;
 use std::process::ExitCode;
 use std::{env, io};
@@ -55,9 +58,9 @@ fn words(rt: &HostRuntime) -> io::Result<Vec<String>> {
 
 /// Runs the program on its standard streams, and answers its exit status; or what `serve` is told, if the words ask for that.
 fn run(rt: &HostRuntime, words: &[String]) -> Result<u8, ServeOptions> {
-    let mut duplex = Pair {
-        source: Reading(rt.stdin()),
-        sink: Writing(rt.stdout()),
+    let mut duplex = StandardStreams {
+        input: rt.stdin(),
+        output: rt.stdout(),
     };
     let mut errors = Writing(rt.stderr());
     run_solo(rt, rt.alloc(), words, &mut duplex, &mut errors)
