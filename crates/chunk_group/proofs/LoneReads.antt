@@ -16,7 +16,7 @@ use Rattle.chunk_group.specs.Stores.{LoadedOfFiles}
 use Rattle.chunk_group.specs.declared.file_sources.FileSource.{FileSource}
 use Rattle.chunk_group.specs.declared.solo_groups.SoloGroup.{SoloGroup}
 use Rattle.chunk_group.proofs.Alone.{asks_source}
-use Rattle.chunk_group.specs.Cached.{FailedOfNode, GaveOfNode, IsFound, IsLoaded, ReadsChunk}
+use Rattle.chunk_group.specs.Cached.{GaveOfNode, IsFound, IsLoaded, ReadsChunk}
 use Rattle.chunk_group.specs.Shelves.{shelf_of}
 
 -- ---- one read
@@ -81,7 +81,7 @@ module _ {H S L C : Type 0} (did : S → Call → S → Type 0) (failures : S �
 
   module _ (file : List ℕ) (first last : ℕ) where
     pub failed_alone : (r : Result Held ReadFault) → IfErr r (λ why. IsNotHeld ReadsGroup old file first last why new)
-        → IfErr r (λ why. FailedOfNode did failures (shelf_of old) file first last why (shelf_of new))
+        → IfErr r (λ why. IsNotHeld (ReadsChunk did failures) (shelf_of old) file first last why (shelf_of new))
     failed_alone (Ok hold) stop = tt
     failed_alone (Err why) stop = (not_held ReadsGroup (ReadsChunk did failures) shelf_of IsLone step old new file first last why lone stop).0
 

@@ -10,10 +10,9 @@ use Rattle.blob_store.specs.declared.shelves.ShelfName.{ShelfName}
 use Rattle.blob_store.specs.declared.shelves.ShelfName.TheVariants.{Part}
 use Rattle.blob_store.specs.Calls.{Call}
 use Rattle.chunk_lru.specs.Caches.{Cache}
-use Rattle.chunk_lru.specs.Rules.{held, looked_up}
+use Rattle.chunk_lru.specs.Rules.{added, held, looked_up}
 use Rattle.chunk_lru.specs.declared.caches.Which.TheVariants.{Main}
-use Rattle.chunk_reads.specs.Reading.{IsNotHeld, Reads, ReadsInTurn}
-use Rattle.chunk_group.specs.Kept.{KeptIn}
+use Rattle.chunk_reads.specs.Reading.{Reads, ReadsInTurn}
 use Rattle.chunk_group.specs.Stores.{IsPiece}
 
 -- a shelf, and the cache that its chunks are read through
@@ -37,7 +36,8 @@ pub record IsFound {S : Type 0} (old : CachedShelf S) (name : Digest) (answer : 
 -- the shelf is asked once: the chunk that it gives is answered, and kept in the main list, or there was no memory to keep it; or there was none to
 -- answer it, and it isn't kept; or the shelf gives none, and why is answered
 abbrev pub IsFromShelf : {S : Type 0} → (did : S → Call → S → Type 0) → CachedShelf S → Digest → Result (List ℕ) ReadFault → CachedShelf S → Type 0
-IsFromShelf did old name (Ok chunk) new = IsPiece did old.shelf name (Ok chunk) new.shelf × KeptIn Main chunk old.cache new.cache
+IsFromShelf did old name (Ok chunk) new =
+    IsPiece did old.shelf name (Ok chunk) new.shelf × ((new.cache ≡ added Main chunk old.cache) ⊎ (new.cache ≡ old.cache))
 IsFromShelf did old name (Err fault) new =
     (IsPiece did old.shelf name (Err fault) new.shelf ⊎ ((fault ≡ OutOfMemory) × ((chunk : List ℕ) × IsPiece did old.shelf name (Ok chunk) new.shelf)))
     × (new.cache ≡ old.cache)
@@ -59,11 +59,6 @@ ReadsChunk did failures old name answer new = IsFound old name answer new ⊎ Is
 -- the chunks of a hold were read one after another, and nothing else was done
 abbrev pub GaveOfNode : {S : Type 0} → (did : S → Call → S → Type 0) → (failures : S → ℕ) → CachedShelf S → Held → CachedShelf S → Type 0
 GaveOfNode did failures old hold new = ReadsInTurn (ReadsChunk did failures) old hold.chunks new
-
--- why a stretch of a file can't be held: one of its chunks can't be read, after those before it; or there was no memory to keep the last of those read; or one isn't as
--- long as its piece
-abbrev pub FailedOfNode : {S : Type 0} → (did : S → Call → S → Type 0) → (failures : S → ℕ) → CachedShelf S → List ℕ → (first last : ℕ) → ReadFault → CachedShelf S → Type 0
-FailedOfNode did failures old file first last fault new = IsNotHeld (ReadsChunk did failures) old file first last fault new
 
 -- ---- what is in the cache
 

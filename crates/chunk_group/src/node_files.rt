@@ -3,7 +3,8 @@ ghost use Rattle.std.specs.Prelude.{◌≡◌, ◌<◌, ◌≤◌, IfErr, IfOk, 
 ghost use Rattle.chunk_lru.specs.Caches.{empty};
 ghost use Rattle.std.specs.Borrow.{Lends, sem};
 ghost use Rattle.blob_store.specs.contracts.shelf_files.Files as files;
-ghost use Rattle.chunk_group.specs.Cached.{FailedOfNode, GaveOfNode, with_shelf};
+ghost use Rattle.chunk_reads.specs.Reading.{IsNotHeld};
+ghost use Rattle.chunk_group.specs.Cached.{GaveOfNode, ReadsChunk, with_shelf};
 ghost use Rattle.chunk_group.specs.contracts.node_files.NodeFiles.{the_row};
 
 use crate::coins::Counter;
@@ -93,7 +94,7 @@ impl<S: Shelf> NodeFiles<S> {
         requires within { last < length info.value }
         ensures stretch { IfOk result (λ hold. (hold.file ≡ info.value) × (hold.first ≡ first) × (hold.last ≡ last)) }
         ensures read { IfOk result (λ hold. GaveOfNode S.did S.failures self.old hold self.new) }
-        ensures fault { IfErr result (λ fault. FailedOfNode S.did S.failures self.old info.value first last fault self.new) }
+        ensures fault { IfErr result (λ fault. IsNotHeld (ReadsChunk S.did S.failures) self.old info.value first last fault self.new) }
     {
         self.group.hold(info, first, last)
     }
@@ -102,7 +103,7 @@ impl<S: Shelf> NodeFiles<S> {
 impl<S: Shelf> Holder for NodeFiles<S> {
     ghost gave = { GaveOfNode S.did S.failures };
 
-    ghost failed = { FailedOfNode S.did S.failures };
+    ghost failed = { IsNotHeld (ReadsChunk S.did S.failures) };
 
     fn hold(&mut self, info: Arc<BlobInfo>, first: usize, last: usize) -> Result<Hold, ReadFault> {
         self.hold(info, first, last)

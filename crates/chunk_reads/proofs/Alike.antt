@@ -20,9 +20,9 @@ module _ {N M : Type 0} (reads : Reads N) (others : Reads M) (as_other : N → M
       let before = in_turn old mid chunks good turns in
       let last = step mid new name (Err why) before.1 fault in
       (inl (as_other mid, name, left, (chunks, named, before.0), last.0), last.1)
-  not_read old new names why good (inr (memory, (chunks, left, some, named, turns))) =
+  not_read old new names why good (inr (memory, (left, fewer, (chunks, named, turns)))) =
       let before = in_turn old new chunks good turns in
-      (inr (memory, (chunks, left, some, named, before.0)), before.1)
+      (inr (memory, (left, fewer, (chunks, named, before.0))), before.1)
 
   pub not_held : (old new : N) (file : List ℕ) (first last : ℕ) (why : ReadFault) → Good old → IsNotHeld reads old file first last why new
       → IsNotHeld others (as_other old) file first last why (as_other new) × Good new

@@ -23,9 +23,9 @@ module _ {N : Type 0} (honest : N → Bool) (reads well : Reads N)
       let all = turns old is.0 some.0 end.0 some.2 in
       (all.0, inl (inl (is.0, is.1, is.2, (some.0, some.1, all.1), end.1)))
   not_held old new file first last why so (inl (inr is)) =
-      let some = is.1 in
-      let all = turns old new some.0 so some.4 in
-      (all.0, inl (inr (is.0, (some.0, some.1, some.2, some.3, all.1))))
+      let some = is.1.2 in
+      let all = turns old new some.0 so some.2 in
+      (all.0, inl (inr (is.0, (is.1.0, is.1.1, (some.0, some.1, all.1)))))
   not_held old new file first last why so (inr is) =
       let some = is.1 in
       let all = turns old new some.0 so some.2 in

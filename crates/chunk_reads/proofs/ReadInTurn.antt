@@ -1,6 +1,6 @@
 -- Chunks that are read one after another.
-use Rattle.std.proofs.Common.{◌≡◌, ◌≢◌, inl, inr, List, [], ◌∷◌, ◌++◌, ℕ, Ok, map, refl, sym, ap, subst, ◌∙◌}
-use Rattle.std.proofs.lemmas.List.{append-nil, append_assoc, map-append}
+use Rattle.std.proofs.Common.{◌≡◌, ◌≢◌, inl, inr, List, [], ◌∷◌, ◌++◌, ℕ, Ok, map, length, refl, sym, ap, subst, ◌∙◌, arith}
+use Rattle.std.proofs.lemmas.List.{append-nil, append_assoc, length-append, map-append}
 use Rattle.host_names.specs.declared.digests.Digest.{Digest}
 use Rattle.host_names.specs.Digests.{digest_of}
 use Rattle.chunk_reads.specs.declared.faults.ReadFault.{ReadFault}
@@ -17,9 +17,9 @@ module _ {N : Type 0} (reads : Reads N) where
   reads_then old mid new [] chunk turns one = (new, subst (λ n. reads n (digest_of chunk) (Ok chunk) new) turns one, refl)
   reads_then old mid new (c ∷ chunks) chunk turns one = (turns.0, turns.1, reads_then turns.0 mid new chunks chunk turns.2 one)
 
-some_chunks : (before : List (List ℕ)) (chunk : List ℕ) → before ++ chunk ∷ [] ≢ []
-some_chunks [] chunk none = absurd (cc none)
-some_chunks (one ∷ before) chunk none = absurd (cc none)
+-- after one name fewer are left
+fewer : (before : List Digest) (name : Digest) (rest names : List Digest) → before ++ name ∷ rest ≡ names → rest ≢ names
+fewer before name rest names is same = absurd (omega (arith, length-append before (name ∷ rest), ap length is, ap length same))
 
 module _ {N : Type 0} (reads : Reads N) (old now new : N) (chunks : List (List ℕ)) (left rest names : List Digest) (name : Digest) where
   -- a chunk more is read
@@ -40,7 +40,8 @@ module _ {N : Type 0} (reads : Reads N) (old now new : N) (chunks : List (List �
   no_more why more so (inl fault) = inl (now, name, rest, (chunks, ap (λ l. map digest_of chunks ++ l) (sym more) ∙ so.named, so.read), fault)
   no_more why more so (inr fault) =
       let after = longer fault.1.0 fault.1.1 more so fault.1.2 in
-      inr (fault.0, (chunks ++ fault.1.0 ∷ [], rest, some_chunks chunks fault.1.0, after.named, after.read))
+      let others = fewer (map digest_of chunks) name rest names (ap (λ l. map digest_of chunks ++ l) (sym more) ∙ so.named) in
+      inr (fault.0, (rest, others, (chunks ++ fault.1.0 ∷ [], after.named, after.read)))
 
 pub all_read : {N : Type 0} (reads : Reads N) (old now : N) (chunks : List (List ℕ)) (left names : List Digest) → ReadSoFar reads old now chunks left names
     → left ≡ [] → map digest_of chunks ≡ names

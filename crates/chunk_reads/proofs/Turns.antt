@@ -59,8 +59,8 @@ module _ {N : Type 0} (reads : Reads N) (file : List ℕ) (Asked : Digest → Ty
       not_read old new names why are inv (inl at) =
           let before = some_pass old at.0 names (at.1 ∷ at.2) are inv at.3 in
           of_fault at.0 new at.1 why before.1.0 before.0 at.4
-      not_read old new names why are inv (inr (full, (chunks, left, some, named, turns))) =
-          subst (λ w. Stop w new) (sym full) (of_none new (some_pass old new names left are inv (chunks, named, turns)).0)
+      not_read old new names why are inv (inr (full, (left, fewer, some))) =
+          subst (λ w. Stop w new) (sym full) (of_none new (some_pass old new names left are inv some).0)
 
       pub of_failed : (old new : N) (first last : ℕ) (why : ReadFault) → Inv old → Failed reads old file first last why new → Stop why new
       of_failed old new first last why inv (inl stop) = not_read old new (map digest_of (pieces_met file first last)) why (asked first last) inv stop

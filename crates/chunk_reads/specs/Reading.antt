@@ -19,17 +19,12 @@ ReadsInTurn {N} reads old (chunk ∷ chunks) new = (mid : N) × reads old (diges
 abbrev pub ReadsSome : {N : Type 0} → Reads N → N → List Digest → List Digest → N → Type 0
 ReadsSome reads old names left new = (chunks : List (List ℕ)) × (map digest_of chunks ++ left ≡ names) × ReadsInTurn reads old chunks new
 
--- chunks of the first of these names are read, one at least
-abbrev pub ReadsFirst : {N : Type 0} → Reads N → N → List Digest → N → Type 0
-ReadsFirst reads old names new =
-    (chunks : List (List ℕ)) × (left : List Digest) × (chunks ≢ []) × (map digest_of chunks ++ left ≡ names) × ReadsInTurn reads old chunks new
-
 -- why the chunks of these names can't be read: the next one can't, after those before it; or there was no memory to keep the last of those
 -- that were read
 abbrev pub AreNotRead : {N : Type 0} → Reads N → N → List Digest → ReadFault → N → Type 0
 AreNotRead {N} reads old names why new =
     ((mid : N) × (name : Digest) × (left : List Digest) × ReadsSome reads old names (name ∷ left) mid × reads mid name (Err why) new)
-    ⊎ ((why ≡ OutOfMemory) × ReadsFirst reads old names new)
+    ⊎ ((why ≡ OutOfMemory) × ((left : List Digest) × (left ≢ names) × ReadsSome reads old names left new))
 
 -- the chunks have the names of the pieces that the stretch meets, and one is not as long as its piece
 pub record HaveWrongLengths (chunks : List (List ℕ)) (file : List ℕ) (first last : ℕ) : Type 0 where

@@ -1,9 +1,8 @@
 -- The command `serve`, and what its words ask for.
-use Rattle.std.specs.Prelude.{◌≡◌, ℕ, List, Option, None, Some, codes, option_map}
+use Rattle.std.specs.Prelude.{◌≡◌, ℕ, List, Option, None, Some, IsSomeAnd, MatchOption, codes, option_map}
 use Rattle.std.specs.String.{string_bytes}
 use Rattle.std.specs.Str.Parse.{digits_value, without_leading_plus}
 use Rattle.std.specs.Net.Grammar.{IsSocketText}
-use Rattle.std.specs.declared.net.socket_addr.SocketAddr.{SocketAddr}
 use Rattle.clap.specs.Values.{IsUnsignedIn}
 use Rattle.clap.specs.Words.{App, Row, Rule, Text, first_of, new_app, with_rule}
 use Rattle.command_line.specs.Options.{option_rule, number_rule, required, with_default}
@@ -35,19 +34,11 @@ IsNumberAt most (Some text) n = IsUnsignedIn 1 most text × (n ≡ digits_value 
 
 -- it was given with this number, or wasn't given
 abbrev pub IsOptionalAt : ℕ → Option Text → Option ℕ → Type 0
-IsOptionalAt most None None = Unit {0}
-IsOptionalAt most None (Some n) = ⊥
-IsOptionalAt most (Some text) None = ⊥
-IsOptionalAt most (Some text) (Some n) = IsNumberAt most (Some text) n
-
--- it was given with a text that writes this address
-abbrev pub IsAddressAt : Option Text → SocketAddr → Type 0
-IsAddressAt None address = ⊥
-IsAddressAt (Some text) address = IsSocketText text address
+IsOptionalAt most given n = MatchOption n (given ≡ None) (IsNumberAt most given)
 
 -- the options that these rows tell
 pub record AreServeRows (rows : List Row) (options : ServeOptions) : Type 0 where
-  pub listen : IsAddressAt (first_of (codes "listen") rows) options.listen
+  pub listen : IsSomeAnd (first_of (codes "listen") rows) (λ text. IsSocketText text options.listen)
   pub nodes : IsNumberAt 8 (first_of (codes "nodes") rows) options.nodes
   pub workers : IsNumberAt 8 (first_of (codes "workers") rows) options.workers
   pub store : option_map string_bytes options.store ≡ first_of (codes "store") rows

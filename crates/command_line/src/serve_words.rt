@@ -1,10 +1,11 @@
 //! The words of the command `serve`.
-ghost use Rattle.std.specs.Prelude.{◌≡◌, ◌≢◌, ℕ, Option, Some, IfErr, IfNone, IfOk, IfSome, OnErr, codes, false, option_map};
+ghost use Rattle.std.specs.Prelude.{◌≡◌, ◌≢◌, ℕ, Option, Some, IfErr, IfNone, IfOk, IfSome, IsSomeAnd, OnErr, codes, false, option_map};
+ghost use Rattle.std.specs.Net.Grammar.{IsSocketText};
 ghost use Rattle.std.specs.declared.net.socket_addr.SocketAddr.{SocketAddr as Address};
 ghost use Rattle.clap.specs.Words.{app_of, first_of, found_of, new_app, rows_of};
 ghost use Rattle.clap.specs.declared.builder.command.Command.TheViews.{out-Command};
 ghost use Rattle.command_line.specs.Serving as spec;
-ghost use Rattle.command_line.specs.Serving.{AreServeRows, IsAddressAt, IsNumberAt, IsOptionalAt};
+ghost use Rattle.command_line.specs.Serving.{AreServeRows, IsNumberAt, IsOptionalAt};
 ghost use Rattle.command_line.specs.declared.serve_words.Misread.TheVariants.{OutOfMemory};
 ghost use Rattle.command_line.specs.declared.serve_options.ServeOptions.{ServeOptions as Options};
 
@@ -108,8 +109,8 @@ fn optional_in(given: &ArgMatches, name: &str, most: u64) -> Result<Option<u64>,
 
 /// The address that a text writes, if it writes one.
 fn address_of(text: &str) -> Option<SocketAddr>
-    ensures some { IfSome result (IsAddressAt (Some text.now)) }
-    ensures none { IfNone result ((address : Address) → ¬ (IsAddressAt (Some text.now) address)) }
+    ensures some { IfSome result (IsSocketText text.now) }
+    ensures none { IfNone result ((address : Address) → ¬ (IsSocketText text.now address)) }
 {
     match text.parse::<SocketAddr>() {
         Ok(address) => Some(address),
@@ -119,9 +120,11 @@ fn address_of(text: &str) -> Option<SocketAddr>
 
 /// The address of the first node.
 fn address_in(given: &ArgMatches) -> Option<SocketAddr>
-    ensures some { IfSome result (IsAddressAt (first_of (codes "listen") (rows_of (found_of given.now)))) }
+    ensures some { IfSome result (λ address.
+        IsSomeAnd (first_of (codes "listen") (rows_of (found_of given.now))) (λ text. IsSocketText text address)) }
     ensures none { IfNone result ((address : Address)
-        → ¬ (IsAddressAt (first_of (codes "listen") (rows_of (found_of given.now))) address)) }
+        → ¬ (IsSomeAnd (first_of (codes "listen") (rows_of (found_of given.now)))
+        (λ text. IsSocketText text address))) }
 {
     match text_in(given, "listen") {
         Some(text) => address_of(text),

@@ -4,9 +4,10 @@ use Rattle.byte_view.specs.Contents.{Contents}
 use Rattle.blob_store.specs.Calls.{Call}
 use Rattle.change_undo.specs.declared.entries.Entry.{Entry}
 use Rattle.change_journal.specs.entries.Held.{Keeps}
-use Rattle.change_journal.specs.entries.Files.{IsBadRecord, IsFound, IsNoJournal}
+use Rattle.change_journal.specs.entries.Files.{header}
 use Rattle.change_journal.specs.entries.Texts.{AllStored, IsText, texts}
-use Rattle.change_journal.specs.file.Walks.{IsOnlyRead, TellsStop}
+use Rattle.change_journal.specs.file.Openings.{IsForeign, IsFound}
+use Rattle.change_journal.specs.file.Walks.{IsBadRecord, IsOnlyRead, TellsStop}
 use Rattle.change_journal.specs.declared.file.faults.OpenFault as of_disk
 use Rattle.change_journal.specs.declared.file.faults.OpenFault.TheVariants as journal_fault
 use Rattle.host_disk.specs.declared.disks.Disk.{Ghosts}
@@ -19,11 +20,11 @@ use Rattle.found_host.specs.declared.faults.OpenFault.TheVariants as fault
 
 -- the entries that were found are the journal's
 pub has_journal : {D : Type 0} (disk : Ghosts D) (old : D) (journal : Keeps D) (log : List Entry) → (journal.entries ≡ log) × (journal.broken ≡ false)
-    → (IsTrue disk.is_modelled → IsFound (texts log) (disk.seen old)) → (IsTrue disk.is_modelled → AllStored (disk.may_leave journal.disk) log)
+    → (IsTrue disk.is_modelled → IsFound header (texts log) (disk.seen old)) → (IsTrue disk.is_modelled → AllStored (disk.may_leave journal.disk) log)
     → disk.faults journal.disk ≡ disk.faults old → HasJournal disk old journal
 has_journal disk old journal log are found stored no_fault = record {
   whole = are.1;
-  found = subst (λ entries. IsTrue disk.is_modelled → IsFound (texts entries) (disk.seen old)) (sym are.0) found;
+  found = subst (λ entries. IsTrue disk.is_modelled → IsFound header (texts entries) (disk.seen old)) (sym are.0) found;
   stored = subst (λ entries. IsTrue disk.is_modelled → AllStored (disk.may_leave journal.disk) entries) (sym are.0) stored;
   no_fault = no_fault;
 }
@@ -48,14 +49,14 @@ not_there did old limit entries fault.OutOfMemory new why = inl why
 
 -- why the journal can't be opened
 pub journal_stops : {D : Type 0} (disk : Ghosts D) (old : D) (why : of_disk.OpenFault) (new : D)
-    → (IsTrue disk.is_modelled → why ≡ journal_fault.BadHeader → IsNoJournal (disk.seen old))
-    → (IsTrue disk.is_modelled → (number : ℕ) → why ≡ journal_fault.BadRecord number → IsBadRecord IsText number (disk.seen old))
+    → (IsTrue disk.is_modelled → why ≡ journal_fault.BadHeader → IsForeign header (disk.seen old))
+    → (IsTrue disk.is_modelled → (number : ℕ) → why ≡ journal_fault.BadRecord number → IsBadRecord header (λ before. IsText) number (disk.seen old))
     → (IsTrue disk.is_modelled → (why ≡ journal_fault.Device → ⊥) → IsOnlyRead disk.seen disk.may_leave disk.moment disk.left_since old new)
     → IsSpared disk old new → TellsStop why (disk.faults old) (disk.faults new) → IsJournalFault disk old (of_journal why) new
-journal_stops disk old journal_fault.BadHeader new header bad unwritten spared told = (λ modelled. header modelled refl, λ modelled. unwritten modelled (λ e. absurd (cc e)))
-journal_stops disk old (journal_fault.BadRecord number) new header bad unwritten spared told = (λ modelled. bad modelled number refl, λ modelled. unwritten modelled (λ e. absurd (cc e)))
-journal_stops disk old journal_fault.Device new header bad unwritten spared told = (told.0 refl, spared)
-journal_stops disk old journal_fault.OutOfMemory new header bad unwritten spared told = λ modelled. unwritten modelled (λ e. absurd (cc e))
+journal_stops disk old journal_fault.BadHeader new foreign bad unwritten spared told = (λ modelled. foreign modelled refl, λ modelled. unwritten modelled (λ e. absurd (cc e)))
+journal_stops disk old (journal_fault.BadRecord number) new foreign bad unwritten spared told = (λ modelled. bad modelled number refl, λ modelled. unwritten modelled (λ e. absurd (cc e)))
+journal_stops disk old journal_fault.Device new foreign bad unwritten spared told = (told.0 refl, spared)
+journal_stops disk old journal_fault.OutOfMemory new foreign bad unwritten spared told = λ modelled. unwritten modelled (λ e. absurd (cc e))
 
 -- ---- which fault of the journal is told as which
 

@@ -8,9 +8,10 @@ use Rattle.blob_store.specs.declared.openings.OpenFault.TheVariants as blobs_fau
 use Rattle.blob_store.specs.declared.openings.Wanted.{Wanted}
 use Rattle.change_undo.specs.Logs.{Log}
 use Rattle.change_journal.specs.entries.Held.{Keeps}
-use Rattle.change_journal.specs.entries.Files.{IsBadRecord, IsFound, IsNoJournal, IsRefused}
+use Rattle.change_journal.specs.entries.Files.{header}
 use Rattle.change_journal.specs.entries.Texts.{AllStored, IsText, texts}
-use Rattle.change_journal.specs.file.Walks.{IsOnlyRead}
+use Rattle.change_journal.specs.file.Openings.{IsForeign, IsFound, IsRefused}
+use Rattle.change_journal.specs.file.Walks.{IsBadRecord, IsOnlyRead}
 use Rattle.change_journal.specs.declared.file.faults.OpenFault as of_disk
 use Rattle.change_journal.specs.declared.file.faults.OpenFault.TheVariants as journal_fault
 use Rattle.host_disk.specs.declared.disks.Disk.{Ghosts}
@@ -27,7 +28,7 @@ use Rattle.found_host.specs.Remains.{Remains}
 -- the disk has an open journal: of a modelled one, its entries are those that the file held, and whatever a crash leaves holds them
 pub record HasJournal {D : Type 0} (disk : Ghosts D) (old : D) (journal : Keeps D) : Type 0 where
   pub whole : journal.broken ≡ false
-  pub found : IsTrue disk.is_modelled → IsFound (texts journal.entries) (disk.seen old)
+  pub found : IsTrue disk.is_modelled → IsFound header (texts journal.entries) (disk.seen old)
   pub stored : IsTrue disk.is_modelled → AllStored (disk.may_leave journal.disk) journal.entries
   pub no_fault : disk.faults journal.disk ≡ disk.faults old
 
@@ -57,13 +58,14 @@ IsUnwritten disk old new = IsTrue disk.is_modelled → IsOnlyRead disk.seen disk
 
 -- of a modelled disk: nothing was written to a file that is refused
 abbrev pub IsSpared : {D : Type 0} → Ghosts D → D → D → Type 0
-IsSpared disk old new = IsTrue disk.is_modelled → IsRefused IsText (disk.seen old) → IsOnlyRead disk.seen disk.may_leave disk.moment disk.left_since old new
+IsSpared disk old new =
+    IsTrue disk.is_modelled → IsRefused header (λ before. IsText) (disk.seen old) → IsOnlyRead disk.seen disk.may_leave disk.moment disk.left_since old new
 
 -- the journal can't be opened: the file is none, or has a bad record, or there was no memory, and nothing was written; or the device failed, which
 -- is counted, and nothing was written to a file that is refused
 abbrev pub IsJournalFault : {D : Type 0} → Ghosts D → D → OpenFault → D → Type 0
-IsJournalFault disk old fault.BadHeader new = (IsTrue disk.is_modelled → IsNoJournal (disk.seen old)) × IsUnwritten disk old new
-IsJournalFault disk old (fault.BadRecord n) new = (IsTrue disk.is_modelled → IsBadRecord IsText n (disk.seen old)) × IsUnwritten disk old new
+IsJournalFault disk old fault.BadHeader new = (IsTrue disk.is_modelled → IsForeign header (disk.seen old)) × IsUnwritten disk old new
+IsJournalFault disk old (fault.BadRecord n) new = (IsTrue disk.is_modelled → IsBadRecord header (λ before. IsText) n (disk.seen old)) × IsUnwritten disk old new
 IsJournalFault disk old fault.JournalDevice new = (disk.faults new ≡ min (disk.faults old + 1) (2 ^ 64 - 1)) × IsSpared disk old new
 IsJournalFault disk old fault.OutOfMemory new = IsUnwritten disk old new
 IsJournalFault disk old why new = ⊥

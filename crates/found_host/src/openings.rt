@@ -1,7 +1,8 @@
 //! Openings: a host is found again by a journal's entries and the files on a shelf.
 ghost use Rattle.std.specs.Prelude.{◌≡◌, ◌⊎◌, ◌<◌, ◌≤◌, ℕ, IfErr, IfOk, IsTrue, List, MatchResult, length};
 ghost use Rattle.change_journal.specs.file.Failures.{MayFailReading};
-ghost use Rattle.change_journal.specs.entries.Files.{HasRecord, IsNoJournal, IsRefused};
+ghost use Rattle.change_journal.specs.file.Openings.{IsForeign, IsRefused};
+ghost use Rattle.change_journal.specs.entries.Files.{HasRecord, header};
 ghost use Rattle.change_journal.specs.entries.Texts.{HoldsEntries, IsText, MayHoldNext};
 ghost use Rattle.change_undo.specs.Logs as logs;
 ghost use Rattle.change_undo.specs.declared.entries.Entry.{Entry as Line};
@@ -101,10 +102,10 @@ impl<D: Disk, S: Shelf> Found<D, S> {
             (λ stop. LeavesOnly D.moment D.left_since disk stop.disk (MayHoldNext had next)) }
         ensures memory { IsTrue D.is_modelled → IfErr result (λ stop. stop.fault ≡ OutOfMemory
             → HasRecord (D.seen disk) ⊎ HadJournal D.Disk disk stop.disk) }
-        ensures no_journal { IsTrue D.is_modelled → IsNoJournal (D.seen disk)
+        ensures no_journal { IsTrue D.is_modelled → IsForeign header (D.seen disk)
             → MatchResult result (λ _. ⊥) (λ stop.
             (stop.fault ≡ BadHeader) ⊎ (stop.fault ≡ JournalDevice)) }
-        ensures reason { IsTrue D.is_modelled → IsRefused IsText (D.seen disk)
+        ensures reason { IsTrue D.is_modelled → IsRefused header (λ before. IsText) (D.seen disk)
             → IfErr result (λ stop. stop.fault ≡ JournalDevice
             → MayFailReading D.seen D.may_fail (D.seen disk)) }
         ensures device { IfErr result (λ stop. stop.fault ≡ BlobsDevice

@@ -1,5 +1,6 @@
 -- What stays of a house by each of its calls stays by all that is done for an answer.
 use Rattle.std.proofs.Common.{◌≡◌, inl, inr, ℕ, List, [], ◌∷◌, Bool, true, false, Option, Some, None, Result, Ok, Err, sym, subst}
+use Rattle.std.specs.List.{FoldsTo}
 use Rattle.std.specs.declared.alloc.AllocError.{AllocError}
 use Rattle.host_names.specs.declared.digests.Digest.{Digest}
 use Rattle.host_names.specs.declared.names.SiteName.{SiteName}
@@ -13,7 +14,7 @@ use Rattle.site_change.specs.declared.commands.Command.TheVariants as command
 use Rattle.change_undo.specs.Logs.{entry_at}
 use Rattle.range_spec.specs.declared.selection.Choice.{Choice}
 use Rattle.range_spec.specs.declared.selection.Choice.TheVariants.{Whole, One, Many, None416}
-use Rattle.range_reply.specs.Holding.{AreNotHeld, GivesHolds}
+use Rattle.range_reply.specs.Holding.{AreNotHeld}
 use Rattle.range_reply.specs.Sending.{IsNotRead}
 use Rattle.http_wire.specs.Requests.{RequestParts}
 use Rattle.host_api.specs.declared.bodies.Ask.{Ask}
@@ -46,8 +47,8 @@ module _ {H : Type 0} (grows : H → H → Type 0) (calls : Calls H) (gave : Gav
 
   -- ---- files
 
-  given : (old : H) (holds : List Held) (new : H) → GivesHolds gave old holds new → grows old new
-  given old [] new is = same old new is
+  given : (old : H) (holds : List Held) (new : H) → FoldsTo gave old holds new → grows old new
+  given old [] new is = same old new (sym is)
   given old (hold ∷ holds) new (mid, first, more) = by.goes_on old mid new (by.gave_grows old hold mid first) (given mid holds new more)
 
   not_held : (old : H) (file : List ℕ) (stretches : List (ℕ × ℕ)) (why : ReadFault) (new : H) → AreNotHeld gave failed old file stretches why new → grows old new

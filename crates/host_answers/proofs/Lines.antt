@@ -11,9 +11,17 @@ use Rattle.change_undo.specs.declared.entries.Entry.{Entry}
 use Rattle.change_undo.specs.Histories.{entry_at, undone}
 use Rattle.change_undo.specs.Logs.{Log}
 use Rattle.host_api.specs.declared.change_lines.ChangeLine.{ChangeLine}
-use Rattle.host_answers.specs.ChangeLists.{line_in, line_at, lines_of, last_of, most_lines, shown_lines}
+use Rattle.host_answers.specs.ChangeLists.{line_in, line_at, lines_of, shown_lines}
 
 -- ---- the last so many
+
+-- so many at most, from the end
+abbrev last_of : {A : Type 0} → ℕ → List A → List A
+last_of n xs = drop (length xs - n) xs
+
+-- how many lines are shown
+abbrev pub most_lines : ℕ
+most_lines = 1000
 
 last_of_few : {A : Type 0} (n : ℕ) (xs : List A) → length xs ≤ n → last_of n xs ≡ xs
 last_of_few n xs few =

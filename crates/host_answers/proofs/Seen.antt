@@ -1,5 +1,6 @@
 -- What is done by calls of a house is done by those of what it is taken for, if that is so of each call.
 use Rattle.std.proofs.Common.{◌≡◌, inl, inr, ℕ, List, [], ◌∷◌, Bool, true, false, Option, Some, None, Result, Ok, Err, sym, ap, subst}
+use Rattle.std.specs.List.{FoldsTo}
 use Rattle.std.specs.declared.alloc.AllocError.{AllocError}
 use Rattle.host_names.specs.declared.digests.Digest.{Digest}
 use Rattle.host_names.specs.declared.names.SiteName.{SiteName}
@@ -13,7 +14,7 @@ use Rattle.site_change.specs.declared.commands.Command.TheVariants as command
 use Rattle.change_undo.specs.Logs.{entry_at}
 use Rattle.range_spec.specs.declared.selection.Choice.{Choice}
 use Rattle.range_spec.specs.declared.selection.Choice.TheVariants.{Whole, One, Many, None416}
-use Rattle.range_reply.specs.Holding.{AreHeld, AreNotHeld, GivesHolds}
+use Rattle.range_reply.specs.Holding.{AreHeld, AreNotHeld}
 use Rattle.range_reply.specs.Sending.{IsNotRead, IsRead, SentFile}
 use Rattle.http_wire.specs.Requests.{RequestParts}
 use Rattle.host_api.specs.declared.bodies.Ask.{Ask}
@@ -39,7 +40,7 @@ pub record HoldsAs {G H : Type 0} (f : H → G) (gave : Gave H) (failed : Failed
   pub failed_is : (old : H) (file : List ℕ) (first last : ℕ) (why : ReadFault) (new : H) → failed old file first last why new → fails (f old) file first last why (f new)
 
 module _ {G H : Type 0} (f : H → G) (gave : Gave H) (failed : Failed H) (gives : Gave G) (fails : Failed G) (same_as : HoldsAs f gave failed gives fails) where
-  given : (old : H) (holds : List Held) (new : H) → GivesHolds gave old holds new → GivesHolds gives (f old) holds (f new)
+  given : (old : H) (holds : List Held) (new : H) → FoldsTo gave old holds new → FoldsTo gives (f old) holds (f new)
   given old [] new is = ap f is
   given old (hold ∷ holds) new (mid, first, more) = (f mid, same_as.gave_is old hold mid first, given mid holds new more)
 

@@ -1,11 +1,12 @@
 -- Finding what a request asks for, where memory may run out.
-use Rattle.std.proofs.Common.{◌≡◌, ◌≢◌, ◌⊎◌, inl, inr, Bool, true, false, ◌||◌, List, ℕ, Result, Ok, Err, IfOk, IfErr, IsErrOf, refl, sym, ap, ◌∙◌}
+use Rattle.std.proofs.Common.{◌≡◌, ◌≢◌, ◌⊎◌, inl, inr, Bool, true, List, ℕ, Result, Ok, Err, IfOk, IfErr, IsErrOf, refl, sym, ap, ◌∙◌}
 use Rattle.host_api.specs.Bodies.{asked, is_parsed, then_with}
 use Rattle.host_api.specs.Routes.{routed, has_path}
 use Rattle.host_api.specs.declared.bodies.Ask.{Ask}
 use Rattle.host_api.specs.declared.refusals.Refusal.{Refusal}
 use Rattle.host_api.specs.declared.refusals.Refusal.TheVariants.{OutOfMemory}
 use Rattle.host_api.specs.declared.routes.Route.{Route}
+use Rattle.host_api.specs.declared.routes.Route.TheVariants.{Ready}
 use Rattle.http_wire.specs.Requests.{RequestParts}
 use Rattle.host_answers.specs.Asking.{asked_for, asking_takes, route_takes}
 
@@ -23,18 +24,16 @@ or_refused : {P : Type 0} (takes : Bool) (reason : Refusal) → (reason ≡ OutO
 or_refused takes reason (inl none) memory refused = inl (none, memory none)
 or_refused takes reason (inr some) memory refused = inr (refused some)
 
-or_true : (a : Bool) → (a || true) ≡ true
-or_true true = refl
-or_true false = refl
-
 -- the path of a file takes memory, so the route does
 path_taken : (body : List ℕ) (route : Result Route Refusal) → has_path route ≡ true → route_takes body route ≡ true
-path_taken body (Ok route) takes = ap (λ b. b || is_parsed route body) takes
+path_taken body (Ok (Ready wanted)) takes = takes
+path_taken body (Ok route) takes = absurd (cc takes)
 path_taken body (Err reason) takes = takes
 
 -- the same of the body
 body_taken : (body : List ℕ) (route : Route) → is_parsed route body ≡ true → route_takes body (Ok route) ≡ true
-body_taken body route parsed = ap (λ b. has_path (Ok route) || b) parsed ∙ or_true (has_path (Ok route))
+body_taken body (Ready wanted) parsed = absurd (cc parsed)
+body_taken body route parsed = parsed
 
 -- no route is taken
 pub no_route : (parts : RequestParts) (method target body : List ℕ) (reason : Refusal) (result : Result Route Refusal) → method ≡ parts.method → target ≡ parts.target

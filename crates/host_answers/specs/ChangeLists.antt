@@ -1,11 +1,11 @@
 -- The list of the changes of a site.
 use Rattle.std.specs.Prelude.{ℕ, ◌-◌, List, length, drop, not, Option, Some, None, option_and_then, if◌then◌else◌}
-use Rattle.std.specs.List.{filter_map}
+use Rattle.std.specs.List.{enumerate_from, filter_map}
 use Rattle.host_names.specs.declared.names.SiteName.{SiteName}
 use Rattle.change_undo.specs.declared.entries.Entry.{Entry}
 use Rattle.change_undo.specs.declared.entries.Entry.TheVariants as entry
 use Rattle.change_undo.specs.Histories.{entry_at, is_among, same_site, site_of_entry, undone}
-use Rattle.change_undo.specs.Logs.{Log, numbered}
+use Rattle.change_undo.specs.Logs.{Log}
 use Rattle.host_api.specs.ChangeLines.{word_of}
 use Rattle.host_api.specs.declared.change_lines.ChangeLine.{ChangeLine}
 use Rattle.host_api.specs.declared.change_lines.ChangeLine.TheVariants as line
@@ -21,19 +21,11 @@ line_in site gone e = if same_site (site_of_entry e.1) site then Some (line_of g
 
 -- the lines of a site, the oldest first
 abbrev pub lines_of : Log → SiteName → List ChangeLine
-lines_of entries site = filter_map (line_in site (undone entries)) (numbered entries)
-
--- so many at most, from the end
-abbrev pub last_of : {A : Type 0} → ℕ → List A → List A
-last_of n xs = drop (length xs - n) xs
-
--- how many of them are shown
-abbrev pub most_lines : ℕ
-most_lines = 1000
+lines_of entries site = filter_map (line_in site (undone entries)) (enumerate_from 1 entries)
 
 -- the last 1,000 lines of a site, the oldest first
 abbrev pub shown_lines : Log → SiteName → List ChangeLine
-shown_lines entries site = last_of most_lines (lines_of entries site)
+shown_lines entries site = let lines = lines_of entries site in drop (length lines - 1000) lines
 
 -- ---- what private functions say
 

@@ -5,7 +5,8 @@ ghost use Rattle.range_spec.specs.Understood.{IsUnderstoodAs};
 ghost use Rattle.range_spec.specs.declared.grammar.Asked.{Asked as Range};
 ghost use Rattle.range_spec.specs.declared.grammar.Asked.TheVariants.{Ignore};
 ghost use Rattle.range_spec.specs.declared.selection.Choice.TheVariants.{None416};
-ghost use Rattle.range_reply.specs.Conditions.{condition_of};
+ghost use Rattle.range_reply.specs.Conditions.{allows_range};
+ghost use Rattle.range_reply.specs.Plans.{lets_ranges};
 ghost use Rattle.http_wire.specs.Fields.{values_of};
 ghost use Rattle.host_api.specs.Types.{type_of};
 ghost use Rattle.host_api.specs.declared.refusals.Refusal.TheVariants.{NotSatisfiable, OutOfMemory};
@@ -45,7 +46,7 @@ fn range_value(head: &Head) -> Option<&[u8]>
 
 /// What its If-Range fields say of the file with this digest (RFC 9110, section 13.1.5).
 fn condition(head: &Head, digest: Digest) -> IfRange
-    ensures { result ≡ condition_of digest (values_of (codes "if-range") head.now.fields) }
+    ensures { lets_ranges result ≡ allows_range digest (values_of (codes "if-range") head.now.fields) }
 {
     let mut values = head.values("if-range");
     match (values.next(), values.next()) {

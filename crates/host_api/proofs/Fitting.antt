@@ -8,7 +8,7 @@ use Rattle.std.specs.List.{list_all, prefix_len}
 use Rattle.std.specs.Str.{bytes_eq}
 use Rattle.host_api.specs.Fits.{slashed, HasNoSlash, IsFor, AreFor, MayFollow, said, Fits}
 use Rattle.host_api.specs.Patterns.{is_rest}
-use Rattle.host_api.specs.Targets.{Part, word, site, alias, number, Bindings, rest_alone, with_site, with_alias, with_number, with_part, bound, before, from_first, fit}
+use Rattle.host_api.specs.Targets.{Part, word, site, alias, number, Bindings, rest_alone, with_part, bound, before, from_first, fit}
 use Rattle.host_api.proofs.Cuts.{cut}
 
 -- ---- cuts
@@ -61,9 +61,9 @@ put_in : (part : Part) (segment : List ℕ) (found : Option Bindings) (b : Bindi
 put_in (word w) segment found b e =
     let both = if_some (bytes_eq segment w) found b e in
     (b, both.1, (bytes_eq-Decides segment w).0 both.0, refl)
-put_in site segment found b e = let m = mapped (with_site segment) found b e in (m.0, m.1, tt, m.2)
-put_in alias segment found b e = let m = mapped (with_alias segment) found b e in (m.0, m.1, tt, m.2)
-put_in number segment found b e = let m = mapped (with_number segment) found b e in (m.0, m.1, tt, m.2)
+put_in site segment found b e = let m = mapped (λ (inner : Bindings). record inner { site_text = segment }) found b e in (m.0, m.1, tt, m.2)
+put_in alias segment found b e = let m = mapped (λ (inner : Bindings). record inner { alias_text = segment }) found b e in (m.0, m.1, tt, m.2)
+put_in number segment found b e = let m = mapped (λ (inner : Bindings). record inner { number_text = segment }) found b e in (m.0, m.1, tt, m.2)
 
 bound_so : (part : Part) (segment : List ℕ) (inner : Bindings) → IsFor part segment → bound part segment (Some inner) ≡ Some (with_part part segment inner)
 bound_so (word w) segment inner is = ap (λ t. cond t (Some inner) None) ((bytes_eq-Decides segment w).1 is)

@@ -1,10 +1,11 @@
 -- Texts of lists: the first item, and each other after a comma.
 use Rattle.std.proofs.Common.{◌≡◌, ℕ, List, [], ◌∷◌, ◌++◌, map, codes, sym, ap, ◌∙◌, append-nil}
 use Rattle.std.specs.List.{flat_map, join_with_byte}
+use Rattle.std.specs.Str.{byte}
 use Rattle.std.proofs.lemmas.List.Concat.{flat_map-cons}
 use Rattle.hex.specs.Hex.{encode_lower}
 use Rattle.host_names.specs.declared.digests.Digest.{Digest}
-use Rattle.host_api.specs.ChangeLines.{line_text, line_list}
+use Rattle.host_api.specs.ChangeLines.{line_text}
 use Rattle.host_api.specs.Texts.{quoted, digest_list}
 use Rattle.host_api.specs.declared.change_lines.ChangeLine.{ChangeLine}
 
@@ -17,6 +18,6 @@ pub digest_list-cons : (first : Digest) (others : List Digest)
     → digest_list (first ∷ others) ≡ quoted (encode_lower first.0) ++ flat_map (λ d. codes "," ++ quoted (encode_lower d.0)) others
 digest_list-cons first others = joined (λ d. quoted (encode_lower d.0)) 44 first others
 
-pub line_list-cons : (first : ChangeLine) (others : List ChangeLine)
-    → line_list (first ∷ others) ≡ line_text first ++ flat_map (λ line. codes "," ++ line_text line) others
-line_list-cons first others = joined line_text 44 first others
+pub line_texts-cons : (first : ChangeLine) (others : List ChangeLine)
+    → join_with_byte (byte ",") (map line_text (first ∷ others)) ≡ line_text first ++ flat_map (λ line. codes "," ++ line_text line) others
+line_texts-cons first others = joined line_text 44 first others

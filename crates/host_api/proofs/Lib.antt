@@ -1,6 +1,7 @@
 pub mod JoinedTexts
 pub mod LastPlaces
 mod MethodNames
+mod DeployTexts
 mod NumberTexts
 pub mod Cuts
 mod Fitting

@@ -1,13 +1,13 @@
 -- What a body asks for (RFC 8259, as `serde_json` reads it).
-use Rattle.std.specs.Prelude.{ℕ, Bool, true, false, ◌&&◌, List, Option, Some, None, Result, Ok, Err, option_map, option_and_then, ok_or, not, nat_le, if◌then◌else◌, codes}
+use Rattle.std.specs.Prelude.{ℕ, Bool, true, false, ◌&&◌, List, Option, Some, None, Result, Ok, Err, is_some, option_map, option_and_then, ok_or, not, nat_le, if◌then◌else◌, codes}
 use Rattle.std.specs.FinMap as map
 use Rattle.std.specs.Cmp.Lexicographic.{slice_cmp}
 use Rattle.std.specs.Ordering.{nat_cmp}
 use Rattle.std.specs.Result.{result_ok}
 use Rattle.std.specs.Str.{is_utf8}
 use Rattle.hex.specs.Hex.{decode_sized}
-use Rattle.serde_json.specs.Data.{Num, unsigned, negative, float, Data, null, boolean, number, string, array, object, Members, no_members, member}
-use Rattle.serde_json.specs.Find.{get_member, as_object, as_bool}
+use Rattle.serde_json.specs.Data.{Num, unsigned, Data, number, string, Members, no_members, member}
+use Rattle.serde_json.specs.Find.{get_member, as_null, as_object, as_bool, as_str}
 use Rattle.serde_json.specs.Read.{read}
 use Rattle.host_names.specs.Path.{is_path, with_slash}
 use Rattle.host_names.specs.declared.digests.Digest.{Digest}
@@ -60,24 +60,12 @@ digest_from text = option_map (λ (bytes : List ℕ). record { 0 = bytes }) (res
 
 -- the digest that a value spells
 abbrev pub digest_in : Data → Result Digest Refusal
-digest_in null = Err BadBody
-digest_in (boolean b) = Err BadBody
-digest_in (number n) = Err BadBody
-digest_in (string text) = ok_or (digest_from text) BadDigest
-digest_in (array items) = Err BadBody
-digest_in (object ms) = Err BadBody
-
-abbrev pub is_null : Data → Bool
-is_null null = true
-is_null (boolean b) = false
-is_null (number n) = false
-is_null (string text) = false
-is_null (array items) = false
-is_null (object ms) = false
+digest_in value = then_with (ok_or (as_str value) BadBody) (λ text. ok_or (digest_from text) BadDigest)
 
 -- what is listed by a value: in a patch `null` lists a removal, and every other value lists a digest
 abbrev pub listed_in : Bool → Data → Result (Option Digest) Refusal
-listed_in patch value = if patch && is_null value then Ok None else then_with (digest_in value) (λ digest. Ok (Some digest))
+listed_in patch value =
+    if patch && is_some (as_null value) then Ok None else then_with (digest_in value) (λ digest. Ok (Some digest))
 
 -- what a deploy lists, by path
 abbrev pub Files : Type 0
@@ -99,31 +87,25 @@ abbrev pub with_all : Bool → Files → Members → Result Files Refusal
 with_all patch files no_members = Ok files
 with_all patch files (member key value ms) = then_with (with_one patch files (with_slash key) value) (λ more. with_all patch more ms)
 
-abbrev pub open_with : SiteName → Option Form → Result Ask Refusal
-open_with name None = Err BadBody
-open_with name (Some form) =
-    then_with (with_all form.patch map.empty form.files) (λ files. Ok (ask.Command (command.Open name (form.patch, map.entries files) (not form.draft))))
-
 -- the deploy that a body opens, or the first reason why it opens none
 abbrev pub open_ask : SiteName → List ℕ → Result Ask Refusal
-open_ask name body = open_with name (option_and_then form_of (object_of body))
+open_ask name body =
+    then_with (ok_or (option_and_then form_of (object_of body)) BadBody) (λ form.
+    then_with (with_all form.patch map.empty form.files) (λ files.
+    Ok (ask.Command (command.Open name (form.patch, map.entries files) (not form.draft)))))
 
 -- ---- naming an entry by its number
 
 -- the number, or 0 where no entry can have it
 abbrev pub entry_number : Num → ℕ
 entry_number (unsigned n) = if nat_le n greatest_number then n else 0
-entry_number (negative z) = 0
-entry_number (float x) = 0
+entry_number other = 0
 
 -- the number that a value writes, or 0, which no entry has
 abbrev pub number_in : Data → Option ℕ
-number_in null = None
-number_in (boolean b) = None
 number_in (number n) = Some (entry_number n)
 number_in (string text) = Some (number_of text)
-number_in (array items) = None
-number_in (object ms) = None
+number_in other = None
 
 -- the number that a body has as its member of this name
 abbrev pub number_at : List ℕ → List ℕ → Option ℕ
@@ -131,38 +113,22 @@ number_at name body = option_and_then number_in (option_and_then (get_member nam
 
 -- ---- undoing a change
 
-abbrev pub undo_with : SiteName → Option ℕ → Result Ask Refusal
-undo_with site None = Err BadBody
-undo_with site (Some change) = Ok (ask.Undo site change)
-
 -- the change that a body undoes
 abbrev pub undo_ask : SiteName → List ℕ → Result Ask Refusal
-undo_ask site body = undo_with site (number_at (codes "change") body)
+undo_ask site body = ok_or (option_map (ask.Undo site) (number_at (codes "change") body)) BadBody
 
 -- ---- letting an alias name a deploy
 
-abbrev pub alias_with : SiteName → AliasName → Option ℕ → Result Ask Refusal
-alias_with site name None = Err BadBody
-alias_with site name (Some deploy) = Ok (ask.Command (command.MoveAlias site name deploy))
-
 -- the deploy that a body lets an alias name
 abbrev pub alias_ask : SiteName → AliasName → List ℕ → Result Ask Refusal
-alias_ask site name body = alias_with site name (number_at (codes "deploy") body)
+alias_ask site name body =
+    ok_or (option_map (λ n. ask.Command (command.MoveAlias site name n)) (number_at (codes "deploy") body)) BadBody
 
 -- ---- renaming a file
 
--- the text that a value is
-abbrev pub text_in : Data → Option (List ℕ)
-text_in null = None
-text_in (boolean b) = None
-text_in (number n) = None
-text_in (string text) = Some text
-text_in (array items) = None
-text_in (object ms) = None
-
 -- the text that a body has as its member of this name
 abbrev pub text_at : List ℕ → List ℕ → Option (List ℕ)
-text_at name body = option_and_then text_in (option_and_then (get_member name) (object_of body))
+text_at name body = option_and_then as_str (option_and_then (get_member name) (object_of body))
 
 -- the path that a text writes, with or without its slash
 abbrev pub path_in : List ℕ → Result (List ℕ) Refusal

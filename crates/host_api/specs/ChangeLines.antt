@@ -26,10 +26,6 @@ line_text (Change entry kind is_live) =
     ++ codes "\",\"live\":" ++ (if is_live then codes "true" else codes "false") ++ codes "}"
 line_text (Undo entry change) = codes "{\"entry\":" ++ decimal entry ++ codes ",\"kind\":\"undo\",\"of\":" ++ decimal change ++ codes "}"
 
--- with a comma between each two lines
-abbrev pub line_list : List ChangeLine → List ℕ
-line_list lines = join_with_byte (byte ",") (map line_text lines)
-
--- the text of a list of changes
+-- the text of a list of changes, with a comma between each two lines
 abbrev pub list_text : List ChangeLine → List ℕ
-list_text lines = codes "{\"changes\":[" ++ line_list lines ++ codes "]}"
+list_text lines = codes "{\"changes\":[" ++ join_with_byte (byte ",") (map line_text lines) ++ codes "]}"

@@ -12,3 +12,4 @@ pub mod Types
 pub mod Limits
 -- what only private functions need
 pub mod Patterns
+pub mod States

@@ -1,10 +1,11 @@
 -- Which route a method and a target take.
 use Rattle.std.specs.Prelude.{ℕ, Bool, true, false, List, [], ◌∷◌, Option, Some, None, Result, Ok, Err, not, ◌&&◌, if◌then◌else◌, codes}
+use Rattle.std.specs.List.{list_any}
 use Rattle.std.specs.Str.{bytes_eq}
 use Rattle.host_names.specs.Name.{is_name}
 use Rattle.host_names.specs.declared.names.AliasName.{AliasName}
 use Rattle.host_names.specs.declared.names.SiteName.{SiteName}
-use Rattle.host_api.specs.Methods.{is_among, methods_of}
+use Rattle.host_api.specs.Methods.{names_of}
 use Rattle.host_api.specs.Numbers.{number_of}
 use Rattle.host_api.specs.Targets.{Part, word, site, alias, number, Bindings, fit, path_of, has_hash, read_path, written_path}
 use Rattle.host_api.specs.declared.methods.Methods.{Methods}
@@ -79,7 +80,7 @@ found_in (row ∷ others) path = first_found row.named (fit row.parts row.has_re
 
 -- whether a resource has the method
 abbrev pub has_method : Resource → List ℕ → Bool
-has_method r method = is_among method (methods_of r)
+has_method r method = list_any (bytes_eq method) (names_of r.methods)
 
 -- whether a name that the target has to have is none
 abbrev pub misnames : ResourceKind → Bindings → Bool

@@ -42,28 +42,19 @@ pub record Bindings : Type 0 where
 abbrev pub rest_alone : List ℕ → Bindings
 rest_alone text = record { site_text = []; alias_text = []; number_text = []; rest = text }
 
-abbrev pub with_site : List ℕ → Bindings → Bindings
-with_site text b = record { site_text = text; alias_text = b.alias_text; number_text = b.number_text; rest = b.rest }
-
-abbrev pub with_alias : List ℕ → Bindings → Bindings
-with_alias text b = record { site_text = b.site_text; alias_text = text; number_text = b.number_text; rest = b.rest }
-
-abbrev pub with_number : List ℕ → Bindings → Bindings
-with_number text b = record { site_text = b.site_text; alias_text = b.alias_text; number_text = text; rest = b.rest }
-
 -- what is found with the segment in the place of a part
 abbrev pub with_part : Part → List ℕ → Bindings → Bindings
 with_part (word w) segment b = b
-with_part site segment b = with_site segment b
-with_part alias segment b = with_alias segment b
-with_part number segment b = with_number segment b
+with_part site segment b = record b { site_text = segment }
+with_part alias segment b = record b { alias_text = segment }
+with_part number segment b = record b { number_text = segment }
 
 -- what the parts after it found, if the segment is of the part
 abbrev pub bound : Part → List ℕ → Option Bindings → Option Bindings
 bound (word w) segment found = if bytes_eq segment w then found else None
-bound site segment found = option_map (with_site segment) found
-bound alias segment found = option_map (with_alias segment) found
-bound number segment found = option_map (with_number segment) found
+bound site segment found = option_map (λ (b : Bindings). record b { site_text = segment }) found
+bound alias segment found = option_map (λ (b : Bindings). record b { alias_text = segment }) found
+bound number segment found = option_map (λ (b : Bindings). record b { number_text = segment }) found
 
 -- the text is segments of these parts, each after a slash, and after them nothing, or a rest that begins with a slash
 abbrev pub fit : List Part → Bool → List ℕ → Option Bindings

@@ -13,7 +13,6 @@ use Rattle.host_api.specs.ChangeLines.{list_text}
 use Rattle.host_api.specs.Refusals.{name_of}
 use Rattle.host_api.specs.declared.refusals.Refusal.{Refusal}
 use Rattle.host_api.specs.declared.refusals.Refusal.TheVariants.{Change}
-use Rattle.host_api.specs.declared.texts.DeployState.{DeployState}
 use Rattle.host_api.specs.declared.texts.DeployState.TheVariants.{Open, Kept}
 use Rattle.host_api.specs.declared.texts.Told.{Told}
 use Rattle.host_api.specs.declared.texts.Told.TheVariants.{Opened, Uploaded, Entered, Deploy, Changes, Refused}
@@ -53,17 +52,7 @@ opened_text id published required =
 abbrev pub uploaded_text : Option ℕ → Digest → List ℕ
 uploaded_text published digest = codes "{\"published\":" ++ number_or_null published ++ codes ",\"sha\":\"" ++ encode_lower digest.0 ++ codes "\"}"
 
--- the word for the state of a deploy
-abbrev pub state_name : DeployState → List ℕ
-state_name (Open required) = codes "open"
-state_name Kept = codes "kept"
-
--- the digests of the deploy's files that are missing
-abbrev pub required_of : DeployState → List Digest
-required_of (Open required) = required
-required_of Kept = []
-
--- a deploy that is shown
+-- a deploy that is shown: the digests of its files that are missing, and the word for its state
 abbrev pub deploy_text : ℕ → SiteName → List Digest → List ℕ → List ℕ
 deploy_text id site required state =
     codes "{\"id\":\"" ++ decimal id ++ codes "\",\"required\":[" ++ digest_list required
@@ -78,6 +67,7 @@ abbrev pub told_text : Told → List ℕ
 told_text (Opened id published required) = opened_text id published required
 told_text (Uploaded published digest) = uploaded_text published digest
 told_text (Entered number) = codes "{\"entry\":" ++ decimal number ++ codes "}"
-told_text (Deploy id site state) = deploy_text id site (required_of state) (state_name state)
+told_text (Deploy id site (Open required)) = deploy_text id site required (codes "open")
+told_text (Deploy id site Kept) = deploy_text id site [] (codes "kept")
 told_text (Changes lines) = list_text lines
 told_text (Refused refusal) = refused_text refusal

@@ -1,6 +1,7 @@
 //! The list of the changes of a site, and its text.
-ghost use Rattle.std.specs.Prelude.{◌≡◌, ◌++◌, IfOk, OnOk, codes};
-ghost use Rattle.std.specs.List.{flat_map};
+ghost use Rattle.std.specs.Prelude.{◌≡◌, ◌++◌, IfOk, OnOk, codes, map};
+ghost use Rattle.std.specs.List.{flat_map, join_with_byte};
+ghost use Rattle.std.specs.Str.{byte};
 ghost use Rattle.std.specs.String.{string_bytes};
 ghost use Rattle.host_api.specs.ChangeLines as spec;
 
@@ -106,7 +107,7 @@ fn push_others(text: &mut String, lines: &[ChangeLine]) -> Result<(), AllocError
 
 // Appends lines, with a comma between each two.
 fn push_lines(text: &mut String, lines: &[ChangeLine]) -> Result<(), AllocError>
-    ensures { OnOk result (string_bytes text.new ≡ string_bytes text.old ++ spec.line_list lines.now) }
+    ensures { OnOk result (string_bytes text.new ≡ string_bytes text.old ++ join_with_byte (byte ",") (map spec.line_text lines.now)) }
 {
     let Some((first, others)) = lines.split_first() else {
         return Ok(());

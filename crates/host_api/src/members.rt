@@ -1,6 +1,6 @@
 //! Members of bodies that name an entry or a path.
 ghost use Rattle.std.specs.Prelude.{◌≡◌, option_and_then, option_map};
-ghost use Rattle.serde_json.specs.Find.{as_object, get_member};
+ghost use Rattle.serde_json.specs.Find.{as_object, as_str, get_member};
 ghost use Rattle.serde_json.specs.View.{number_view, view};
 ghost use Rattle.host_api.specs.Bodies as spec;
 
@@ -30,7 +30,7 @@ fn number_in(value: &Value) -> Option<u64>
 
 // The text that a value is.
 fn text_in(value: &Value) -> Option<&str>
-    ensures { option_map (λ text. text.now) result ≡ spec.text_in (view value.now) }
+    ensures { option_map (λ text. text.now) result ≡ as_str (view value.now) }
 {
     match value {
         Value::String(text) => Some(text.as_str()),
@@ -51,7 +51,7 @@ pub(crate) fn number_member(body: &Value, name: &str) -> Option<u64>
 #[tactic(auto, using(crate::proofs::ObjectBodies::get_in_object))]
 pub(crate) fn text_member<'a>(body: &'a Value, name: &str) -> Option<&'a str>
     ensures { option_map (λ text. text.now) result
-        ≡ option_and_then spec.text_in (option_and_then (get_member name.now) (as_object (view body.now))) }
+        ≡ option_and_then as_str (option_and_then (get_member name.now) (as_object (view body.now))) }
 {
     text_in(body.get(name)?)
 }

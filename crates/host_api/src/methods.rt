@@ -1,6 +1,8 @@
 //! The methods of what targets name (RFC 9110, section 9).
-ghost use Rattle.std.specs.Prelude.{◌≡◌, map};
-ghost use Rattle.host_api.specs.Methods.{is_among, list_text, names_of};
+ghost use Rattle.std.specs.Prelude.{◌≡◌, codes, map};
+ghost use Rattle.std.specs.List.{join_by, list_any};
+ghost use Rattle.std.specs.Str.{bytes_eq};
+ghost use Rattle.host_api.specs.Methods.{names_of};
 
 /// Which methods something has.
 #[derive(Clone, Copy, Debug, PartialEq, Eq)]
@@ -23,7 +25,7 @@ impl Methods {
     // Their names, and the text that lists them.
     fn listed(self) -> (&'static [&'static str], &'static str)
         ensures names { map (λ name. name.now) result.0.now ≡ names_of self }
-        ensures text { result.1.now ≡ list_text (names_of self) }
+        ensures text { result.1.now ≡ join_by (λ name. name) (codes ", ") (names_of self) }
     {
         match self {
             Methods::Read => (&["GET", "HEAD"], "GET, HEAD"),
@@ -37,14 +39,14 @@ impl Methods {
 
     /// Their names, separated by commas.
     pub(crate) fn text(self) -> &'static str
-        ensures { result.now ≡ list_text (names_of self) }
+        ensures { result.now ≡ join_by (λ name. name) (codes ", ") (names_of self) }
     {
         self.listed().1
     }
 
     /// Whether the method is one of them.
     pub(crate) fn contains(self, method: &str) -> bool
-        ensures { result ≡ is_among method.now (names_of self) }
+        ensures { result ≡ list_any (bytes_eq method.now) (names_of self) }
     {
         self.listed().0.contains(&method)
     }

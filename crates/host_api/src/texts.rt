@@ -1,7 +1,8 @@
 //! The texts of replies, as JSON (RFC 8259).
 ghost use Rattle.std.specs.Prelude.{◌≡◌, ◌++◌, [], IfOk, OnOk};
 ghost use Rattle.std.specs.String.{string_bytes};
-ghost use Rattle.host_api.specs.Texts.{number_or_null, state_name, required_of, opened_text, uploaded_text, deploy_text, told_text};
+ghost use Rattle.host_api.specs.States.{state_name, required_of};
+ghost use Rattle.host_api.specs.Texts.{number_or_null, opened_text, uploaded_text, deploy_text, told_text};
 
 use crate::change_lines::{ChangeLine, list_text};
 use crate::digest_texts::push_digests;
@@ -148,6 +149,7 @@ fn deploy(
 }
 
 /// The text of a reply, as JSON.
+#[tactic(auto, using(crate::proofs::DeployTexts::told_deploy))]
 pub fn text(alloc: Global, told: &Told) -> Result<String, AllocError>
     ensures { IfOk result (λ text. string_bytes text ≡ told_text told.now) }
 {

@@ -20,14 +20,11 @@ none_taken : (new : Stream) (front : List ℕ) → 0 < length front → Consumes
 none_taken None front some taken = absurd taken
 none_taken (Some rest) front some taken = front_none front rest some taken
 
-longer : (text body : List ℕ) → 0 < length text → 0 < length (text ++ body)
-longer text body some = grind (arith, length-append)
-
 nothing_sent : (sent : List ℕ) → IsCut (Some []) sent → sent ≡ []
 nothing_sent sent (inl (short, none)) = none
 nothing_sent sent (inr cut) =
     let head = cut.invited.head in
-    absurd (none_taken cut.rest cut.invited.text (some_head cut.invited.text head.head) head.taken)
+    absurd (none_taken cut.rest head.0 (some_head head.0 head.1.head) head.1.taken)
 
 module _ {H : Type 0} (answers : Answering H) (host next : H) where
   put_none : (replies : List (List ℕ)) (rest sent : List ℕ) → AreServed answers 1 host (Some []) replies next (Some rest) → IsCut (Some rest) sent
@@ -36,8 +33,8 @@ module _ {H : Type 0} (answers : Answering H) (host next : H) where
       let none : sent ≡ [] = nothing_sent sent (subst (λ (s : Stream). IsCut s sent) left cut) in
       absurd (cc (put ∙ none))
   put_none (reply ∷ more) rest sent (mid, left, exchange, served) cut put =
-      let request = exchange.request in
-      absurd (none_taken left (request.text ++ exchange.body) (longer request.text exchange.body (some_head request.text request.head)) request.taken)
+      let head = exchange.request.head in
+      absurd (none_taken exchange.request.rest head.0 (some_head head.0 head.1.head) head.1.taken)
 
 pub not_caught_up : {H : Type 0} (answers : Answering H) (host : H) → IsCaughtUp answers host [] (0 ∷ []) → ⊥
 not_caught_up answers host is = put_none answers host is.next is.replies is.rest is.sent is.served is.cut is.put_is

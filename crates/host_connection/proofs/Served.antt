@@ -4,7 +4,7 @@ use Rattle.std.specs.Io.KnownBytes.{Appends}
 use Rattle.std.specs.List.{concat}
 use Rattle.std.proofs.lemmas.List.{append-nil, append_assoc, length-append}
 use Rattle.host_replies.specs.Replies.{closes}
-use Rattle.host_connection.specs.Serving.{Answering, Stream, IsExchange, AreServed, Ends, Serves, is_last_at}
+use Rattle.host_connection.specs.Serving.{Answering, Stream, IsAnswered, AreServed, Ends, Serves, is_last_at}
 use Rattle.host_connection.specs.declared.connections.ConnectionFault.{ConnectionFault}
 use Rattle.host_connection.specs.declared.connections.ConnectionFault.TheVariants as fault
 use Rattle.host_connection.specs.Carrying.{SoFar}
@@ -18,16 +18,16 @@ concat-push [] sent = append-nil sent
 concat-push (r ∷ replies) sent = ap (λ rest. r ++ rest) (concat-push replies sent) ∙ sym (append_assoc r (concat replies) sent)
 
 one_more : {H : Type 0} (answers : Answering H) (n : ℕ) (host mid next : H) (old left new : Stream) (replies : List (List ℕ)) (sent : List ℕ) → AreServed answers n host old replies mid left
-    → IsExchange answers mid (is_last_at (n + length replies)) left sent next new → AreServed answers n host old (replies ++ sent ∷ []) next new
+    → IsAnswered answers mid (is_last_at (n + length replies)) false left sent next new → AreServed answers n host old (replies ++ sent ∷ []) next new
 one_more {H = H} answers n host mid next old left new [] sent served exchange =
-    let P : H → Type 0 = λ h. IsExchange answers h (is_last_at n) old sent next new in
-    let Q : Stream → Type 0 = λ s. IsExchange answers mid (is_last_at n) s sent next new in
+    let P : H → Type 0 = λ h. IsAnswered answers h (is_last_at n) false old sent next new in
+    let Q : Stream → Type 0 = λ s. IsAnswered answers mid (is_last_at n) false s sent next new in
     let at : n + 0 ≡ n = omega arith in
-    let here = subst (λ m. IsExchange answers mid (is_last_at m) left sent next new) at exchange in
+    let here = subst (λ m. IsAnswered answers mid (is_last_at m) false left sent next new) at exchange in
     (next, new, subst P served.0 (subst Q served.1 here), (refl, refl))
 one_more answers n host mid next old left new (r ∷ replies) sent served exchange =
     let at : n + length (r ∷ replies) ≡ (n + 1) + length replies = omega arith in
-    let there = subst (λ m. IsExchange answers mid (is_last_at m) left sent next new) at exchange in
+    let there = subst (λ m. IsAnswered answers mid (is_last_at m) false left sent next new) at exchange in
     (served.0, served.1, served.2, one_more answers (n + 1) served.0 mid next served.1 left new replies sent served.3 there)
 
 appends_then : (a b c : Stream) (xs ys : List ℕ) → Appends a b xs → Appends b c ys → Appends a c (xs ++ ys)
@@ -48,7 +48,7 @@ at_first answers host stream old held is = record {
 }
 
 -- an exchange that is followed by another is not the last
-not_last : {H : Type 0} (answers : Answering H) (host next : H) (n : ℕ) (old new : Stream) (sent : List ℕ) → IsExchange answers host (is_last_at n) old sent next new → n ≤ 100 → n + 1 ≤ 100
+not_last : {H : Type 0} (answers : Answering H) (host next : H) (n : ℕ) (old new : Stream) (sent : List ℕ) → IsAnswered answers host (is_last_at n) false old sent next new → n ≤ 100 → n + 1 ≤ 100
 not_last answers host next n old new sent exchange within =
     elim (n == 100) as (λ t. (n == 100) ≡ t → closes exchange.parts t ≡ false → n + 1 ≤ 100) [
       | true ↦ λ at closing. cc closing
@@ -59,7 +59,7 @@ pub goes_on : {H : Type 0} (answers : Answering H) (read_fails write_fails : Typ
     → SoFar answers first stream n host old held mid_held → Turns answers read_fails write_fails (Ok Exchange) (is_last_at n) host old new mid_held new_held next
     → SoFar answers first stream (n + 1) next new held new_held
 goes_on answers read_fails write_fails first stream n host next old new held mid_held new_held so turn =
-    let there = subst (λ m. IsExchange answers host (is_last_at m) old turn.0 next new) so.number turn.1 in
+    let there = subst (λ m. IsAnswered answers host (is_last_at m) false old turn.0 next new) so.number turn.1 in
     let longer = length-append so.replies (turn.0 ∷ []) in
     record {
       replies = so.replies ++ turn.0 ∷ [];

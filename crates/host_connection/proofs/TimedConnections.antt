@@ -4,7 +4,7 @@ use Rattle.std.specs.Io.KnownBytes.{Appends, prepend_known}
 use Rattle.http_wire.specs.Timing.{Event, ReadFails, WriteFails, all_got, all_put, IsLatest, Timely, Gives, Ran}
 use Rattle.http_wire.proofs.Trails.{put_joined, goes_on_joined, latest_joined, steps_joined, timely_joined}
 use Rattle.host_connection.specs.Serving.{Answering, Stream, Ends, Serves, is_last_at}
-use Rattle.host_connection.specs.Timing.{IsCaughtUp, IdleWithoutMemory, Connects, AwaitsRequest}
+use Rattle.host_connection.specs.Timing.{IsCaughtUp, Connects, AwaitsRequest}
 use Rattle.host_connection.specs.declared.connections.ConnectionFault.{ConnectionFault}
 use Rattle.host_connection.specs.declared.connections.ConnectionFault.TheVariants as fault
 use Rattle.host_connection.specs.Carrying.{SoFar, ConnectionSoFar}
@@ -111,7 +111,7 @@ turn_last answers saw old mid new first n host next buffer rest so ran =
       steps = steps_joined saw old mid new ran.events so.events so.steps ran.steps;
       timely = turn_timely answers saw old mid new first n host next buffer rest (Ok End) so ran;
       claimed = record {
-        idle = tt;
+        idle = λ is. absurd (cc is);
         serves = λ left new_left gives. (
             let turned = turn_of answers saw old mid new first n host next buffer rest (Ok End) so ran left new_left gives in
             ends_well answers (IsLatest ReadFails events) (IsLatest WriteFails events) first left n host next turned.old (prepend_known rest new_left) (Some []) (Some (all_put so.events)) (Some (all_put events))
@@ -120,11 +120,15 @@ turn_last answers saw old mid new first n host next buffer rest so ran =
       };
     }
 
+-- nothing happened where there was no memory to begin
+abbrev IsIdle : Result (Unit {0}) ConnectionFault → List Event → Type 0
+IsIdle result events = result ≡ Err fault.OutOfMemory → events ≡ []
+
 -- a turn doesn't end for want of memory to begin
 idle_without_memory : {S H : Type 0} (answers : Answering H) (saw : S → Event → S → Type 0) (mid new : S) (n : ℕ) (host next : H) (buffer rest : List ℕ) (why : ConnectionFault) (events : List Event)
-    → Ran saw (AwaitsRequest buffer) mid new (TurnsAs answers (Err why) (is_last_at n) host next buffer rest) → IdleWithoutMemory (Err why) events
-idle_without_memory answers saw mid new n host next buffer rest fault.InputFault events ran = tt
-idle_without_memory answers saw mid new n host next buffer rest fault.OutputFault events ran = tt
+    → Ran saw (AwaitsRequest buffer) mid new (TurnsAs answers (Err why) (is_last_at n) host next buffer rest) → IsIdle (Err why) events
+idle_without_memory answers saw mid new n host next buffer rest fault.InputFault events ran = λ is. absurd (cc is)
+idle_without_memory answers saw mid new n host next buffer rest fault.OutputFault events ran = λ is. absurd (cc is)
 idle_without_memory answers saw mid new n host next buffer rest fault.OutOfMemory events ran = absurd (ran.claimed.of_stream None None (record { taken = tt; end = λ latest. tt }))
 
 pub turn_failed : {S H : Type 0} (answers : Answering H) (saw : S → Event → S → Type 0) (old mid new : S) (why : ConnectionFault) (first : H) (n : ℕ) (host next : H) (buffer rest : List ℕ)
@@ -173,5 +177,5 @@ never_ran answers saw old host = record {
   events = [];
   steps = refl;
   timely = tt;
-  claimed = record { idle = refl; serves = λ left new_left gives. never_began answers (IsLatest ReadFails []) (IsLatest WriteFails []) host left (Some []) };
+  claimed = record { idle = λ _. refl; serves = λ left new_left gives. never_began answers (IsLatest ReadFails []) (IsLatest WriteFails []) host left (Some []) };
 }

@@ -10,7 +10,6 @@ use Rattle.http_wire.specs.declared.faults.HeadFault.{HeadFault}
 use Rattle.http_wire.specs.declared.faults.HeadFault.TheVariants as head_fault
 use Rattle.http_wire.specs.Expectations.{ExpectsContinue}
 use Rattle.http_wire.specs.Fields.{AnnouncesBody}
-use Rattle.host_api.specs.declared.refusals.HeadRefusal.TheVariants.{HeadTooLarge, BadHead}
 use Rattle.http_wire.specs.Requests.{RequestParts}
 use Rattle.http_wire.specs.Timing.{Event, AtEnd, ReadFails, WriteFails, all_got, all_put, IsLatest, GoesOn, Timely, Ran, NoRead}
 use Rattle.http_wire.specs.Wires.{AwaitsHead, AwaitsBody, ReadsHead, ReadsBody}
@@ -46,12 +45,12 @@ head_missed head_fault.ReadFault buffer rest events reads = record {
 head_missed head_fault.HeadTooLarge buffer rest events reads = record {
   nothing_put = reads.nothing_put;
   ends = reads.ends;
-  of_stream = λ left new_left gives. (HeadTooLarge, (prepend_known rest new_left, reads.of_stream left new_left gives), refl);
+  of_stream = λ left new_left gives. inl (prepend_known rest new_left, reads.of_stream left new_left gives, refl);
 }
 head_missed head_fault.BadHead buffer rest events reads = record {
   nothing_put = reads.nothing_put;
   ends = reads.ends;
-  of_stream = λ left new_left gives. (BadHead, (prepend_known rest new_left, reads.of_stream left new_left gives), refl);
+  of_stream = λ left new_left gives. (let bad = reads.of_stream left new_left gives in inr (prepend_known rest new_left, bad.0, bad.1, bad.2, refl));
 }
 head_missed head_fault.OutOfMemory buffer rest events reads = record {
   nothing_put = reads.nothing_put;

@@ -13,7 +13,7 @@ use Rattle.host_connection.specs.declared.connections.ConnectionFault.TheVariant
 use Rattle.host_connection.specs.declared.stops.Stop.TheVariants as stop
 use Rattle.std.specs.declared.vec.Vec.{Vec}
 use Rattle.http_wire.specs.Timing.{Event, ReadFails, WriteFails, all_put, IsLatest, GoesOn, Gives}
-use Rattle.host_connection.specs.Serving.{Stream, limit_of, Answering, IsInterim, IsLast, IsExchange, IsCut, IsBegun, IsFrontSent, RefusesBody, IsSent}
+use Rattle.host_connection.specs.Serving.{Stream, limit_of, Answering, IsInterim, IsAnswered, IsNotRead, IsCut, IsBegun, IsFrontSent, RefusesBody, IsSent}
 use Rattle.host_connection.specs.Timing.{ReadEnds}
 
 -- the head announces a body of this size, which is read once this was sent
@@ -82,9 +82,11 @@ Exchanges answers write_fails (Err fault.OutOfMemory) close host parts body held
 -- what the turn of a connection does
 abbrev pub Turns : {H : Type 0} → Answering H → (read_fails write_fails : Type 0) → Result Next ConnectionFault → Bool → H → Stream → Stream → Stream → Stream → H → Type 0
 Turns answers read_fails write_fails (Ok Exchange) is_last host old new held new_held next =
-    (sent : List ℕ) × IsExchange answers host is_last old sent next new × Appends held new_held sent
+    (sent : List ℕ) × IsAnswered answers host is_last false old sent next new × Appends held new_held sent
 Turns answers read_fails write_fails (Ok End) is_last host old new held new_held next =
-    (sent : List ℕ) × ((IsCut old sent × (next ≡ host)) ⊎ IsLast answers host is_last old sent next) × Appends held new_held sent
+    (sent : List ℕ)
+    × ((IsCut old sent × (next ≡ host)) ⊎ ((new : Stream) × IsAnswered answers host is_last true old sent next new) ⊎ (IsNotRead old sent × (next ≡ host)))
+    × Appends held new_held sent
 Turns answers read_fails write_fails (Err fault.InputFault) is_last host old new held new_held next =
     read_fails × ((sent : List ℕ) × IsBegun old sent × (next ≡ host) × Appends held new_held sent)
 Turns answers read_fails write_fails (Err fault.OutputFault) is_last host old new held new_held next =

@@ -1,7 +1,6 @@
 -- One exchange, put together from its parts.
 use Rattle.std.proofs.Common.{◌≡◌, ◌<◌, inl, inr, ℕ, List, [], ◌++◌, length, Bool, true, false, Some, None, unwrap_or, Result, Ok, Err, codes, refl, sym, ap, ap₂, subst, ◌∙◌}
 use Rattle.std.specs.Io.KnownBytes.{Appends, Consumes}
-use Rattle.std.proofs.KnownBytes.{Consumes-trans}
 use Rattle.std.specs.Str.{bytes_eq}
 use Rattle.std.proofs.lemmas.List.{append-nil, append_assoc}
 use Rattle.http_wire.specs.Fields.{AnnouncesBody}
@@ -144,9 +143,7 @@ head_stopped read_fails write_fails old (stop.OutOfMemory head_only) none = inr 
 abbrev pub invited : (old mid : Stream) (parts : RequestParts) (size : ℕ) (sent : List ℕ) → ServesHead old mid parts → Invites parts size sent → IsInvited old mid size sent
 invited old mid parts size sent head invites = record {
   parts = parts;
-  text = head.0;
-  head = head.1;
-  says = head.2;
+  head = head;
   announced = invites.0;
   is_interim = invites.1;
 }
@@ -164,10 +161,8 @@ body_stopped read_fails write_fails old mid parts sent (stop.Refused reason head
     let refused = none.1 in
     subst (λ u. IsNotRead old (u ++ sent_text true head_only (refused_answer (Head reason)))) (sym none.0) (inr (inl (record {
       parts = parts;
-      text = head.0;
       new = mid;
-      head = head.1;
-      says = head.2;
+      head = head;
       why = refused.1.0;
       none = refused.1.2;
       sent_is = ap₂ (λ h r. sent_text true h (refused_answer (Head r))) refused.0 refused.1.1;
@@ -184,10 +179,8 @@ body_stopped read_fails write_fails old mid parts sent (stop.OutOfMemory head_on
 pub taken : (old mid new : Stream) (parts : RequestParts) (body : List ℕ) → ServesHead old mid parts
     → AnnouncesBody parts.fields (limit_of parts) (length body) → Consumes mid new body → TakesRequest old new parts body
 taken old mid new parts body head announced consumed = record {
-  text = head.0;
-  head = head.1.head;
-  short = head.1.short;
-  says = head.2;
+  rest = mid;
+  head = head;
   announced = announced;
-  taken = Consumes-trans old mid new head.0 body head.1.taken consumed;
+  taken = consumed;
 }

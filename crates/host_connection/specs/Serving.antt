@@ -1,5 +1,5 @@
 -- One connection: requests in, and a reply to each.
-use Rattle.std.specs.Prelude.{◌≡◌, ◌⊎◌, ℕ, ◌+◌, ◌<◌, ◌≤◌, ◌==◌, List, [], ◌∷◌, ◌++◌, length, Bool, true, false, Option, Result, Ok, Err, IfSome, codes}
+use Rattle.std.specs.Prelude.{◌≡◌, ◌⊎◌, ℕ, ◌+◌, ◌<◌, ◌==◌, List, [], ◌∷◌, ◌++◌, length, Bool, true, false, Option, Result, Ok, Err, IfSome, codes}
 use Rattle.std.specs.Io.KnownBytes.{Consumes, Appends}
 use Rattle.std.specs.List.{concat}
 use Rattle.std.specs.Str.{bytes_eq}
@@ -7,9 +7,9 @@ use Rattle.http_wire.specs.declared.faults.LengthFault.{LengthFault}
 use Rattle.http_wire.specs.declared.faults.LengthFault.TheVariants as fault_of
 use Rattle.http_wire.specs.Expectations.{ExpectsContinue, continue_text}
 use Rattle.http_wire.specs.Fields.{AnnouncesBody, IsBodyLength}
-use Rattle.http_wire.specs.HeadText.{IsHeadText, CutShort, head_limit}
-use Rattle.http_wire.specs.Requests.{RequestParts, Says}
-use Rattle.http_wire.specs.Wires.{HasWholeHead, TakesHead, RefusesHead, RefusesLargeHead}
+use Rattle.http_wire.specs.HeadText.{CutShort}
+use Rattle.http_wire.specs.Requests.{RequestParts, IsBadHead}
+use Rattle.http_wire.specs.Wires.{TakesHead, ServesHead, RefusesLargeHead}
 use Rattle.host_api.specs.Limits.{body_limit}
 use Rattle.host_api.specs.declared.refusals.HeadRefusal.{HeadRefusal}
 use Rattle.host_api.specs.declared.refusals.HeadRefusal.TheVariants.{HeadTooLarge, BadHead, CodingRefused, LengthBad, BodyTooLarge}
@@ -37,12 +37,10 @@ Answering H = H → RequestParts → List ℕ → Answer → H → Type 0
 
 -- a request is taken from the stream: a head that says these parts, and the body that it announces
 pub record TakesRequest (old new : Stream) (parts : RequestParts) (body : List ℕ) : Type 0 where
-  pub text : List ℕ
-  pub head : IsHeadText text
-  pub short : length text ≤ head_limit
-  pub says : Says text parts
+  pub rest : Stream
+  pub head : ServesHead old rest parts
   pub announced : AnnouncesBody parts.fields (limit_of parts) (length body)
-  pub taken : Consumes old new (text ++ body)
+  pub taken : Consumes rest new body
 
 -- what is sent between a head of these parts and its body: the interim reply, where the client may wait for it
 abbrev pub IsInterim : RequestParts → List ℕ → Type 0
@@ -63,21 +61,16 @@ pub record IsAnswered {H : Type 0} (answers : Answering H) (host : H) (is_last c
 -- a head is there that announces a body of this size, which is read once this was sent; the rest of the stream is behind the head
 pub record IsInvited (old rest : Stream) (size : ℕ) (sent : List ℕ) : Type 0 where
   pub parts : RequestParts
-  pub text : List ℕ
-  pub head : TakesHead old rest text
-  pub says : Says text parts
+  pub head : ServesHead old rest parts
   pub announced : AnnouncesBody parts.fields (limit_of parts) size
   pub is_interim : IsInterim parts sent
 
--- no head that is served can be read, for this reason
-abbrev pub IsHeadBad : HeadRefusal → Stream → Type 0
-IsHeadBad HeadTooLarge old = (new : Stream) × RefusesLargeHead old new
-IsHeadBad BadHead old = (new : Stream) × RefusesHead old new
-IsHeadBad why old = ⊥
-
--- that is told, and the reply has its body, since the method is not known
+-- no head that is served can be read, which is told, and the reply has its body, since the method is not known
 abbrev pub IsHeadRefused : Stream → List ℕ → Type 0
-IsHeadRefused old sent = (why : HeadRefusal) × IsHeadBad why old × (sent ≡ sent_text true false (refused_answer (Head why)))
+IsHeadRefused old sent =
+    ((new : Stream) × RefusesLargeHead old new × (sent ≡ sent_text true false (refused_answer (Head HeadTooLarge))))
+    ⊎ ((new : Stream) × (text : List ℕ) × TakesHead old new text × IsBadHead text
+    × (sent ≡ sent_text true false (refused_answer (Head BadHead))))
 
 -- what is told of a fault of the body's length
 abbrev pub refusal_of : LengthFault → HeadRefusal
@@ -88,17 +81,16 @@ refusal_of fault_of.BodyTooLarge = BodyTooLarge
 -- the head announces no body that is read
 pub record IsBodyRefused (old : Stream) (sent : List ℕ) : Type 0 where
   pub parts : RequestParts
-  pub text : List ℕ
   pub new : Stream
-  pub head : TakesHead old new text
-  pub says : Says text parts
+  pub head : ServesHead old new parts
   pub why : LengthFault
   pub none : IsBodyLength (Err why) parts.fields (limit_of parts)
   pub sent_is : sent ≡ sent_for true parts.method (refused_answer (Head (refusal_of why)))
 
 -- there is no memory for the head that is there, and the reply has its body, since the method is not known
 abbrev pub IsHeadWithoutMemory : Stream → List ℕ → Type 0
-IsHeadWithoutMemory old sent = HasWholeHead old × (sent ≡ sent_text true false (refused_answer OutOfMemory))
+IsHeadWithoutMemory old sent =
+    ((rest : Stream) × (parts : RequestParts) × ServesHead old rest parts) × (sent ≡ sent_text true false (refused_answer OutOfMemory))
 
 -- there is no memory for the body that the head announces
 pub record IsBodyWithoutMemory (old : Stream) (sent : List ℕ) : Type 0 where
@@ -112,15 +104,6 @@ pub record IsBodyWithoutMemory (old : Stream) (sent : List ℕ) : Type 0 where
 -- the request is not read whole, and this is sent
 abbrev pub IsNotRead : Stream → List ℕ → Type 0
 IsNotRead old sent = IsHeadRefused old sent ⊎ IsBodyRefused old sent ⊎ IsHeadWithoutMemory old sent ⊎ IsBodyWithoutMemory old sent
-
--- the exchange after which the connection ends
-abbrev pub IsLast : {H : Type 0} → Answering H → H → Bool → Stream → List ℕ → H → Type 0
-IsLast answers host is_last old sent next =
-    ((new : Stream) × IsAnswered answers host is_last true old sent next new) ⊎ (IsNotRead old sent × (next ≡ host))
-
--- any other exchange
-abbrev pub IsExchange : {H : Type 0} → Answering H → H → Bool → Stream → List ℕ → H → Stream → Type 0
-IsExchange answers host is_last old sent next new = IsAnswered answers host is_last false old sent next new
 
 -- ---- where the stream ends before the next whole request
 
@@ -141,14 +124,11 @@ IsCut old sent = (IfSome old CutShort × (sent ≡ [])) ⊎ IsBodyCut old sent
 abbrev pub IsBegun : Stream → List ℕ → Type 0
 IsBegun old sent = (sent ≡ []) ⊎ ((rest : Stream) × (size : ℕ) × IsInvited old rest size sent)
 
--- a text begins with this
-abbrev pub Begins : (front text : List ℕ) → Type 0
-Begins front text = (more : List ℕ) × (text ≡ front ++ more)
-
 -- a request is answered, and of what is sent for it the first part is sent, and all that comes before its body
 abbrev pub IsReplyCut : {H : Type 0} → Answering H → H → Bool → Stream → (sent rest : List ℕ) → H → Type 0
 IsReplyCut answers host is_last old sent rest next =
-    (new : Stream) × (close : Bool) × (answered : IsAnswered answers host is_last close old (sent ++ rest) next new) × Begins answered.interim sent
+    (new : Stream) × (close : Bool) × (answered : IsAnswered answers host is_last close old (sent ++ rest) next new)
+    × ((more : List ℕ) × (sent ≡ answered.interim ++ more))
 
 -- A front of what is sent for a request was sent, and some of it was not. What the request did remains where its reply was cut;
 -- where it isn't read, or its body wasn't yet, it does nothing.
@@ -163,16 +143,18 @@ pub record IsFrontSent {H : Type 0} (answers : Answering H) (host : H) (is_last 
 abbrev pub is_last_at : ℕ → Bool
 is_last_at n = n == 100
 
--- these were sent, each for a request, the first of them for that of number n
+-- these were sent, each for a request after which the connection goes on, the first of them for that of number n
 abbrev pub AreServed : {H : Type 0} → Answering H → ℕ → H → Stream → List (List ℕ) → H → Stream → Type 0
 AreServed answers n host old [] next new = (next ≡ host) × (new ≡ old)
 AreServed {H = H} answers n host old (sent ∷ more) next new =
-    (mid : H) × (left : Stream) × IsExchange answers host (is_last_at n) old sent mid left × AreServed answers (n + 1) mid left more next new
+    (mid : H) × (left : Stream) × IsAnswered answers host (is_last_at n) false old sent mid left
+    × AreServed answers (n + 1) mid left more next new
 
 -- how a connection ended that had come to the request of number n: what was sent since, and what the host has
 abbrev pub Ends : {H : Type 0} → Answering H → (read_fails write_fails : Type 0) → Result (Unit {0}) ConnectionFault → ℕ → H → Stream → List ℕ → H → Type 0
 Ends answers read_fails write_fails (Ok done) n host old sent next =
-    (IsCut old sent × (next ≡ host)) ⊎ IsLast answers host (is_last_at n) old sent next
+    (IsCut old sent × (next ≡ host)) ⊎ ((new : Stream) × IsAnswered answers host (is_last_at n) true old sent next new)
+    ⊎ (IsNotRead old sent × (next ≡ host))
 Ends answers read_fails write_fails (Err fault.InputFault) n host old sent next = read_fails × IsBegun old sent × (next ≡ host)
 Ends answers read_fails write_fails (Err fault.OutputFault) n host old sent next =
     write_fails × IsFrontSent answers host (is_last_at n) old sent next

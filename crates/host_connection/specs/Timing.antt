@@ -23,17 +23,11 @@ pub record IsCaughtUp {H : Type 0} (answers : Answering H) (host : H) (got put :
   pub cut : IsCut (Some rest) sent
   pub put_is : put ≡ concat replies ++ sent
 
--- where there was no memory to begin, nothing was read or written
-abbrev pub IdleWithoutMemory : Result (Unit {0}) ConnectionFault → List Event → Type 0
-IdleWithoutMemory (Ok done) events = Unit {0}
-IdleWithoutMemory (Err fault.InputFault) events = Unit {0}
-IdleWithoutMemory (Err fault.OutputFault) events = Unit {0}
-IdleWithoutMemory (Err fault.OutOfMemory) events = events ≡ []
-
 -- What a connection did by these events, over each stream of which its reads are the next: where it says that a read or
 -- a write failed, that was the last event, and where it says that there was no memory, there was none.
 pub record Connects {H : Type 0} (answers : Answering H) (result : Result (Unit {0}) ConnectionFault) (host next : H) (events : List Event) : Type 0 where
-  pub idle : IdleWithoutMemory result events
+  -- where there was no memory to begin, nothing was read or written
+  pub idle : result ≡ Err fault.OutOfMemory → events ≡ []
   pub serves : (left new_left : Stream) → Gives events left new_left
       → Serves answers (IsLatest ReadFails events) (IsLatest WriteFails events) result host next left (Some []) (Some (all_put events))
 

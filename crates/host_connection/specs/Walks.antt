@@ -1,13 +1,14 @@
 -- The steps of a connection, one after another, whichever service is lent to each.
-use Rattle.std.specs.Prelude.{List, [], ◌∷◌, Some, Result}
+use Rattle.std.specs.Prelude.{◌≡◌, List, [], ◌∷◌, Some, Result, Err}
 use Rattle.http_wire.specs.Timing.{Event, ReadFails, WriteFails, all_put, Gives, IsLatest, Ran}
 use Rattle.host_connection.specs.declared.connections.ConnectionFault.{ConnectionFault}
+use Rattle.host_connection.specs.declared.connections.ConnectionFault.TheVariants as fault
 use Rattle.host_connection.specs.declared.steps.Connection.{Connection}
 use Rattle.host_connection.specs.declared.steps.Progress.{Progress}
 use Rattle.host_connection.specs.declared.steps.Progress.TheVariants as progress
 use Rattle.host_connection.specs.Carrying.{Carries, Leads}
 use Rattle.host_connection.specs.Serving.{Answering, Serves, Stream}
-use Rattle.host_connection.specs.Timing.{IdleWithoutMemory, IsCaughtUp}
+use Rattle.host_connection.specs.Timing.{IsCaughtUp}
 
 -- what a step came to
 pub record Step (S H : Type 0) : Type 0 where
@@ -41,7 +42,7 @@ Anything events = Unit {0}
 
 -- the theorem of a whole connection, whatever its service is in the end
 pub record ConnectsAnyhow {H : Type 0} (answers : Answering H) (result : Result (Unit {0}) ConnectionFault) (host : H) (events : List Event) : Type 0 where
-  pub idle : IdleWithoutMemory result events
+  pub idle : result ≡ Err fault.OutOfMemory → events ≡ []
   pub serves : (left new_left : Stream) → Gives events left new_left
       → (next : H) × Serves answers (IsLatest ReadFails events) (IsLatest WriteFails events) result host next left (Some []) (Some (all_put events))
 

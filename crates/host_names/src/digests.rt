@@ -59,6 +59,7 @@ impl Digest {
     {
         let bytes = self.0;
         let digits = hex_digits(&bytes);
+        // SAFETY: they are hexadecimal digits, each a character of ASCII.
         let text = unsafe { str::from_utf8_unchecked(&digits) };
         ArrayString::from(text).unwrap()
     }

@@ -1,5 +1,5 @@
 -- What a request for a file asks for, and why a file can't be sent.
-use Rattle.std.specs.Prelude.{◌≡◌, ℕ, List, [], ◌∷◌, Bool, true, false, length, codes}
+use Rattle.std.specs.Prelude.{◌≡◌, ℕ, List, [], ◌∷◌, Bool, true, length, codes, if◌then◌else◌}
 use Rattle.std.specs.Str.{bytes_eq}
 use Rattle.host_names.specs.Digests.{digest_of}
 use Rattle.chunk_reads.specs.declared.faults.ReadFault.{ReadFault}
@@ -7,9 +7,10 @@ use Rattle.chunk_reads.specs.declared.faults.ReadFault.TheVariants as fault
 use Rattle.range_spec.specs.declared.grammar.Asked.{Asked}
 use Rattle.range_spec.specs.declared.grammar.Asked.TheVariants.{Ignore}
 use Rattle.range_spec.specs.declared.selection.Choice.{Choice}
+use Rattle.range_spec.specs.declared.selection.Choice.TheVariants.{Whole}
 use Rattle.range_spec.specs.Understood.{IsUnderstoodAs}
-use Rattle.range_reply.specs.Conditions.{condition_of}
-use Rattle.range_reply.specs.Plans.{planned}
+use Rattle.range_reply.specs.Conditions.{allows_range}
+use Rattle.range_reply.specs.Plans.{choice_in}
 use Rattle.http_wire.specs.Fields.{values_of}
 use Rattle.http_wire.specs.Requests.{RequestParts}
 use Rattle.host_api.specs.declared.refusals.Refusal.{Refusal}
@@ -18,9 +19,7 @@ use Rattle.host_api.specs.declared.refusals.Refusal.TheVariants as reason
 -- what these values of Range ask for (RFC 9110, section 14.2): a lone one of a GET
 abbrev pub AskedBy : Bool → List (List ℕ) → Asked → Type 0
 AskedBy true (value ∷ []) range = IsUnderstoodAs value range
-AskedBy true (value ∷ other ∷ values) range = range ≡ Ignore
-AskedBy true [] range = range ≡ Ignore
-AskedBy false values range = range ≡ Ignore
+AskedBy is_get values range = range ≡ Ignore
 
 -- what a request of these parts asks for by its Range
 abbrev pub AsksRange : RequestParts → Asked → Type 0
@@ -28,7 +27,8 @@ AsksRange parts range = AskedBy (bytes_eq parts.method (codes "GET")) (values_of
 
 -- what is to be sent of a file where a request of these parts asks for that: its If-Range may let the range be ignored (section 13.1.5)
 abbrev pub plan_of : RequestParts → Asked → List ℕ → Choice
-plan_of parts range file = planned range (condition_of (digest_of file) (values_of (codes "if-range") parts.fields)) (length file)
+plan_of parts range file =
+    if allows_range (digest_of file) (values_of (codes "if-range") parts.fields) then choice_in range (length file) else Whole
 
 -- why a file can't be read, as it is told
 abbrev pub refusal_of_read : ReadFault → Refusal

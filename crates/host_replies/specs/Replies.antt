@@ -1,10 +1,10 @@
 -- What a reply says, and what is sent of it.
-use Rattle.std.specs.Prelude.{◌≡◌, ◌⊎◌, ℕ, List, [], Bool, true, false, IsTrue, ◌||◌, ◌==◌, Option, Some, None, is_some, length, if◌then◌else◌, codes}
+use Rattle.std.specs.Prelude.{◌≡◌, ◌⊎◌, ℕ, List, [], ◌++◌, Bool, true, false, IsTrue, ◌||◌, ◌==◌, Option, Some, None, is_some, length, if◌then◌else◌, codes}
 use Rattle.std.specs.Str.{bytes_eq}
 use Rattle.hex.specs.Hex.{encode_lower}
 use Rattle.host_names.specs.Digests.{digest_of}
 use Rattle.http_wire.specs.Connections.{asks_close}
-use Rattle.http_wire.specs.Replies.{HeadFields, reply_text}
+use Rattle.http_wire.specs.Replies.{HeadFields, head_text}
 use Rattle.http_wire.specs.Requests.{RequestParts}
 use Rattle.http_wire.specs.declared.replies.ContentRange.{ContentRange}
 use Rattle.http_wire.specs.declared.replies.ContentRange.TheVariants.{Unsatisfied}
@@ -14,7 +14,7 @@ use Rattle.host_api.specs.Texts.{has_cell, told_text}
 use Rattle.host_api.specs.declared.refusals.Refusal.{Refusal}
 use Rattle.host_api.specs.declared.refusals.Refusal.TheVariants.{BadMethod, NotSatisfiable, OutOfMemory}
 use Rattle.host_api.specs.declared.texts.Told.{Told}
-use Rattle.host_api.specs.declared.texts.Told.TheVariants.{Opened, Uploaded, Entered, Deploy, Changes, Refused}
+use Rattle.host_api.specs.declared.texts.Told.TheVariants.{Refused}
 
 -- what a reply says, and its body as GET has it
 pub record Answer : Type 0 where
@@ -31,31 +31,17 @@ pub record Answer : Type 0 where
 
 -- the status code of the reply (RFC 9110, section 15)
 abbrev pub status_told : Told → ℕ
-status_told (Opened id published required) = 200
-status_told (Uploaded published digest) = 200
-status_told (Entered number) = 200
-status_told (Deploy id site state) = 200
-status_told (Changes lines) = 200
 status_told (Refused refusal) = status_of refusal
+status_told told = 200
 
 -- which bytes of the file there are, where none of the range are
-abbrev pub range_refused : Refusal → Option ContentRange
-range_refused (NotSatisfiable size) = Some (Unsatisfied size)
-range_refused refusal = None
-
--- the same of what is told
 abbrev pub range_told : Told → Option ContentRange
-range_told (Refused refusal) = range_refused refusal
+range_told (Refused (NotSatisfiable size)) = Some (Unsatisfied size)
 range_told told = None
 
 -- the methods that the route has, where it hasn't that of the request
-abbrev pub allow_refused : Refusal → Option (List ℕ)
-allow_refused (BadMethod resource) = Some (allow_text resource)
-allow_refused refusal = None
-
--- the same of what is told
 abbrev pub allow_told : Told → Option (List ℕ)
-allow_told (Refused refusal) = allow_refused refusal
+allow_told (Refused (BadMethod resource)) = Some (allow_text resource)
 allow_told told = None
 
 -- the reply that tells this, as JSON
@@ -90,15 +76,7 @@ part_answer status content_type file range bytes = record {
 
 -- what is told of a file of this type that isn't read: its length, and the tag of the whole
 abbrev pub unread_answer : List ℕ → List ℕ → Answer
-unread_answer content_type file = record {
-  status = 200;
-  content_type = content_type;
-  etag = Some (encode_lower (digest_of file).0);
-  content_range = None;
-  allow = None;
-  body = file;
-  withheld = true;
-}
+unread_answer content_type file = record (part_answer 200 content_type file None file) { withheld = true }
 
 -- ---- what is sent
 
@@ -124,13 +102,9 @@ fields_for close answer = record {
 abbrev pub is_head : RequestParts → Bool
 is_head parts = bytes_eq parts.method (codes "HEAD")
 
--- what is sent of the body: to HEAD nothing (RFC 9110, section 9.3.2)
-abbrev pub sent_body : Bool → Answer → List ℕ
-sent_body head_only answer = if head_only then [] else answer.body
-
--- the reply as it is sent
+-- the reply as it is sent: of its body, nothing is sent to HEAD (RFC 9110, section 9.3.2)
 abbrev pub sent_text : Bool → Bool → Answer → List ℕ
-sent_text close head_only answer = reply_text (fields_for close answer) (sent_body head_only answer)
+sent_text close head_only answer = head_text (fields_for close answer) ++ (if head_only then [] else answer.body)
 
 -- the reply to a request of this method, as it is sent
 abbrev pub sent_for : Bool → List ℕ → Answer → List ℕ

@@ -4,6 +4,7 @@ use Rattle.host_names.specs.declared.names.SiteName.{SiteName}
 use Rattle.site_change.specs.declared.refusals.ChangeRefusal.TheVariants.{NoSuchAlias, NoSuchDeploy, NoSuchFile}
 use Rattle.site_state.specs.Files.{Paths, at_path}
 use Rattle.site_state.specs.States.{State, alias_at, kept_at, live_at}
+use Rattle.host_api.specs.Bodies.{then_with}
 use Rattle.host_api.specs.declared.refusals.Refusal.{Refusal}
 use Rattle.host_api.specs.declared.refusals.Refusal.TheVariants.{Change}
 use Rattle.host_api.specs.declared.versions.Version.{Version}
@@ -14,13 +15,10 @@ abbrev pub kept_file : Option (Paths (List ℕ)) → List ℕ → Result (List �
 kept_file None path = Err (Change NoSuchDeploy)
 kept_file (Some tree) path = ok_or (at_path tree path) (Change NoSuchFile)
 
--- the same of the deploy that an alias names, which every state keeps (`State::aliases_are_named`)
-abbrev pub alias_file : State → SiteName → Option ℕ → List ℕ → Result (List ℕ) Refusal
-alias_file state site None path = Err (Change NoSuchAlias)
-alias_file state site (Some n) path = kept_file (kept_at state site n) path
-
--- the file that the version has at the path, or the first reason why it has none
+-- the file that the version has at the path, or the first reason why it has none; every state keeps the deploy that an
+-- alias names (`State::aliases_are_named`)
 abbrev pub file_of : State → SiteName → Version → List ℕ → Result (List ℕ) Refusal
 file_of state site version.Live path = ok_or (live_at state site path) (Change NoSuchFile)
-file_of state site (version.Alias name) path = alias_file state site (alias_at state site name) path
+file_of state site (version.Alias name) path =
+    then_with (ok_or (alias_at state site name) (Change NoSuchAlias)) (λ n. kept_file (kept_at state site n) path)
 file_of state site (version.Kept n) path = kept_file (kept_at state site n) path

@@ -6,7 +6,7 @@ use Rattle.blob_store.specs.Calls.{Call}
 use Rattle.site_change.specs.declared.commands.Command.{Command}
 use Rattle.site_change.specs.declared.commands.Command.TheVariants as command
 use Rattle.site_change.specs.declared.refusals.ChangeRefusal.{ChangeRefusal}
-use Rattle.site_change.specs.declared.refusals.ChangeRefusal.TheVariants.{NoSuchDeploy}
+use Rattle.site_change.specs.declared.refusals.ChangeRefusal.TheVariants.{Clash, NoSuchDeploy}
 use Rattle.change_undo.specs.Histories.{entry_at, may_take_memory}
 use Rattle.change_undo.specs.declared.entries.Entry.{Entry}
 use Rattle.change_undo.specs.declared.entries.Entry.TheVariants.{Change, Undo}
@@ -18,15 +18,16 @@ use Rattle.host_api.specs.declared.refusals.Refusal.{Refusal}
 use Rattle.host_api.specs.declared.refusals.Refusal.TheVariants as reason
 use Rattle.host_api.specs.declared.texts.Told.{Told}
 use Rattle.host_api.specs.declared.texts.Told.TheVariants as told
-use Rattle.host_replies.specs.Replies.{Answer, Tells, refused_answer, takes_text, told_answer}
+use Rattle.host_replies.specs.Replies.{Answer, Tells, refused_answer, takes_text}
 use Rattle.host_answers.specs.Answers.{ChangesBy, FollowsBy, InSite, UndoesBy, told_entry, told_stop}
 use Rattle.host_answers.specs.Deploys.{Opening, opened_by, site_of_deploy}
 use Rattle.host_answers.specs.declared.stops.Stop.{Stop}
 use Rattle.host_answers.specs.declared.stops.Stop.TheVariants as stop
-use Rattle.host_server.specs.Asks.{AskRunsOut, AskStops, IsReplyToAsk, IsTold, holds_up}
+use Rattle.host_server.specs.Asks.{AskStops, IsReplyToAsk}
+use Rattle.host_server.specs.HeldUp.{holds_up}
 use Rattle.host_server.specs.Journals.{is_broken}
-use Rattle.host_server.specs.Memory.{CommandRunsOut, DeployRunsOut, TextRunsOut, UndoRunsOut, refusal_on}
-use Rattle.host_server.specs.Outcomes.{AreRequired, Outcome, commit_outcome, deploy_outcome, enter_outcome, entering, outcome_on, refused}
+use Rattle.host_server.specs.Memory.{CommandRunsOut, DeployRunsOut}
+use Rattle.host_server.specs.Outcomes.{AreRequired, Outcome, commit_outcome, deploy_outcome, enter_outcome, entering, outcome_on, refused, undone}
 use Rattle.host_server.specs.Reasons.{commit_refusal, undo_refusal}
 use Rattle.host_server.specs.ServerHouses.{CommitsAt, EntersAt, UnlessBroken, calls_of}
 use Rattle.host_server.specs.ServerJournals.{Breaks, GoesOn}
@@ -48,23 +49,25 @@ plainly why answer plain (inr ran_out) = absurd (plain ran_out.1)
 -- ---- what is answered to what isn't held up
 
 module _ {S D : Type 0} {disk : Ghosts D} (server next : Server S D disk) (answer : Answer) where
-  -- an outcome is told, or the call or its text ran out of memory, or the journal's device failed
-  abbrev pub IsDone : (runs_out stops : Type 0) → Outcome → Type 0
-  IsDone runs_out stops out =
-      ((IsTold out answer next.house × (next.files ≡ server.files)) × GoesOn server next)
-      ⊎ (((answer ≡ refused_answer reason.OutOfMemory) × ((runs_out ⊎ TextRunsOut out next.house) × (next.files ≡ server.files))) × GoesOn server next)
-      ⊎ (((answer ≡ refused_answer reason.Device) × (stops × (next.files ≡ server.files))) × Breaks server next)
+  -- an outcome is told; or there was no memory for an entry, or the journal's device failed
+  abbrev pub IsDone : (stops : Type 0) → Outcome → Type 0
+  IsDone stops out =
+      (Tells out.told answer × (next.house ≡ out.host) × (next.files ≡ server.files) × GoesOn server next)
+      ⊎ ((answer ≡ refused_answer reason.OutOfMemory) × stops × (next.files ≡ server.files) × GoesOn server next)
+      ⊎ ((answer ≡ refused_answer reason.Device) × stops × (next.files ≡ server.files) × Breaks server next)
+
+  -- where a call ran out of memory there was none for an entry, or the outcome is one whose text takes memory
+  abbrev pub Lacks : (stops : Type 0) → Outcome → Type 0
+  Lacks stops out = stops ⊎ (IsTrue (takes_text out.told) × (next.house ≡ out.host))
 
   abbrev pub IsBrokenOr : (does : Type 0) → Type 0
   IsBrokenOr does =
       ((is_broken server.journal ≡ true) × (answer ≡ refused_answer reason.Broken) × (next ≡ server))
       ⊎ ((is_broken server.journal ≡ false) × does)
 
-  pub done : (R B : Type 0) (out : Outcome) (tells : Told) → tells ≡ out.told → next.house ≡ out.host → next.files ≡ server.files → GoesOn server next
-      → Tells tells answer → IsDone R B out
-  done R B out tells same house files kept (inl says) = inl (((says ∙ ap told_answer same, house), files), kept)
-  done R B out tells same house files kept (inr ran_out) =
-      inr (inl ((ran_out.0, (inr (house, subst (λ (t : Told). IsTrue (takes_text t)) same ran_out.1), files)), kept))
+  pub done : (B : Type 0) (out : Outcome) (tells : Told) → tells ≡ out.told → next.house ≡ out.host → next.files ≡ server.files → GoesOn server next
+      → Tells tells answer → IsDone B out
+  done B out tells same house files kept says = inl (subst (λ (t : Told). Tells t answer) same says, house, files, kept)
 
   -- the journal has failed before
   pub unless_told : {Q : Type 0} (does : Server S D disk → Result ℕ Stop → Server S D disk → Type 0) (result : Result ℕ Stop)
@@ -74,29 +77,33 @@ module _ {S D : Type 0} {disk : Ghosts D} (server next : Server S D disk) (answe
   unless_told does result (inr (whole, is)) says then = inr (whole, then is)
 
   -- there is no entry
-  pub not_entered : (R B : Type 0) (out : Outcome) (entry : Entry) (refusal : Option ChangeRefusal) (may_lack : Type 0) (why : Stop)
+  pub not_entered : (B : Type 0) (out : Outcome) (entry : Entry) (refusal : Option ChangeRefusal) (may_lack : Type 0) (why : Stop)
       → ((told_why : ChangeRefusal) → refusal ≡ Some told_why → out ≡ refused server.house (reason.Change told_why))
-      → (may_lack → next.house ≡ server.house → R) → (refusal ≡ None → next.house ≡ server.house → B)
-      → EntersAt entry refusal may_lack server (Err why) next → Tells (told.Refused (told_stop why)) answer → IsDone R B out
-  not_entered R B out entry refusal may_lack stop.Broken refuses runs_out stops never says = absurd never
-  not_entered R B out entry refusal may_lack (stop.Refused why) refuses runs_out stops (is, (house, journal, files)) says =
+      → (may_lack → next.house ≡ server.house → Lacks B out) → (refusal ≡ None → next.house ≡ server.house → B)
+      → EntersAt entry refusal may_lack server (Err why) next → Tells (told.Refused (told_stop why)) answer → IsDone B out
+  not_entered B out entry refusal may_lack stop.Broken refuses lacks stops never says = absurd never
+  not_entered B out entry refusal may_lack (stop.Refused why) refuses lacks stops (is, (house, journal, files)) says =
       let there = refuses why is in
-      done R B out (told.Refused (reason.Change why)) (sym (ap (λ (o : Outcome). o.told) there)) (house ∙ sym (ap (λ (o : Outcome). o.host) there)) files
+      done B out (told.Refused (reason.Change why)) (sym (ap (λ (o : Outcome). o.told) there)) (house ∙ sym (ap (λ (o : Outcome). o.host) there)) files
       (keeps_same disk server.house next.house server.journal next.journal house journal) says
-  not_entered R B out entry refusal may_lack stop.OutOfMemory refuses runs_out stops (may, (house, journal, files)) says =
-      inr (inl ((no_memory answer says, (inl (runs_out may house), files)), keeps_same disk server.house next.house server.journal next.journal house journal))
-  not_entered R B out entry refusal may_lack stop.Device refuses runs_out stops (none, house, put, files) says =
-      inr (inr ((plainly reason.Device answer (λ e. cc e) says, (stops none house, files)), breaks_at disk entry server.house next.house server.journal next.journal house put))
+  not_entered B out entry refusal may_lack stop.OutOfMemory refuses lacks stops (may, (house, journal, files)) says =
+      let kept = keeps_same disk server.house next.house server.journal next.journal house journal in
+      elim (lacks may house) [
+        | inl stopped ↦ inr (inl (no_memory answer says, stopped, files, kept))
+        | inr (takes, left) ↦ inl (inr (no_memory answer says, takes), left, files, kept)
+      ]
+  not_entered B out entry refusal may_lack stop.Device refuses lacks stops (none, house, put, files) says =
+      inr (inr (plainly reason.Device answer (λ e. cc e) says, stops none house, files, breaks_at disk entry server.house next.house server.journal next.journal house put))
 
-  pub entered_told : (R B : Type 0) (entry : Entry) (refusal : Option ChangeRefusal) (may_lack : Type 0) (result : Result ℕ Stop)
-      → (may_lack → next.house ≡ server.house → R) → (refusal ≡ None → next.house ≡ server.house → B)
-      → EntersAt entry refusal may_lack server result next → Tells (told_entry result) answer → IsDone R B (enter_outcome server.house entry refusal)
-  entered_told R B entry refusal may_lack (Ok number) runs_out stops (none, is, house, put, files) says =
+  pub entered_told : (B : Type 0) (entry : Entry) (refusal : Option ChangeRefusal) (may_lack : Type 0) (result : Result ℕ Stop)
+      → (may_lack → next.house ≡ server.house → Lacks B (enter_outcome server.house entry refusal)) → (refusal ≡ None → next.house ≡ server.house → B)
+      → EntersAt entry refusal may_lack server result next → Tells (told_entry result) answer → IsDone B (enter_outcome server.house entry refusal)
+  entered_told B entry refusal may_lack (Ok number) lacks stops (none, is, house, put, files) says =
       let there : enter_outcome server.house entry refusal ≡ entering server.house entry = ap (enter_outcome server.house entry) none in
-      done R B (enter_outcome server.house entry refusal) (told.Entered number) (ap told.Entered is ∙ sym (ap (λ (o : Outcome). o.told) there))
+      done B (enter_outcome server.house entry refusal) (told.Entered number) (ap told.Entered is ∙ sym (ap (λ (o : Outcome). o.told) there))
       (house ∙ sym (ap (λ (o : Outcome). o.host) there)) files (entered_ok disk entry server.house next.house server.journal next.journal put house) says
-  entered_told R B entry refusal may_lack (Err why) runs_out stops is says =
-      not_entered R B (enter_outcome server.house entry refusal) entry refusal may_lack why (λ told_why some. ap (enter_outcome server.house entry) some) runs_out stops is says
+  entered_told B entry refusal may_lack (Err why) lacks stops is says =
+      not_entered B (enter_outcome server.house entry refusal) entry refusal may_lack why (λ told_why some. ap (enter_outcome server.house entry) some) lacks stops is says
 
 -- ---- what is asked for
 
@@ -113,8 +120,8 @@ module _ {S D : Type 0} {disk : Ghosts D} (did : S → Call → S → Type 0) (f
   abbrev pub CarriesOut : Result Ask Refusal → Type 0
   CarriesOut asking =
       (IsReplyToAsk did failures server parts body asking answer next × GoesOn server next)
-      ⊎ (((answer ≡ refused_answer reason.OutOfMemory) × AskRunsOut did failures server parts body asking next) × GoesOn server next)
-      ⊎ (((answer ≡ refused_answer reason.Device) × AskStops did server body asking next) × Breaks server next)
+      ⊎ ((answer ≡ refused_answer reason.OutOfMemory) × AskStops did server body asking next × GoesOn server next)
+      ⊎ ((answer ≡ refused_answer reason.Device) × AskStops did server body asking next × Breaks server next)
 
   -- the answer to what is asked for
   abbrev pub AnswersAsk : Result Ask Refusal → Type 0
@@ -130,16 +137,37 @@ module _ {S D : Type 0} {disk : Ghosts D} (did : S → Call → S → Type 0) (f
   pub free : (asking : Result Ask Refusal) → holds_up server asking ≡ false → CarriesOut asking → AnswersAsk asking
   free asking is does = inr (is, does)
 
+  -- an outcome that comes of what is asked for
+  pub carried_out : (asking : Result Ask Refusal) (B : Type 0) (out : Outcome)
+      → (Tells out.told answer → next.house ≡ out.host → next.files ≡ server.files → IsReplyToAsk did failures server parts body asking answer next)
+      → (B → next.files ≡ server.files → AskStops did server body asking next) → IsDone server next answer B out → CarriesOut asking
+  carried_out asking B out replies stops (inl (says, house, files, kept)) = inl (replies says house files, kept)
+  carried_out asking B out replies stops (inr (inl (says, left, files, kept))) = inr (inl (says, stops left files, kept))
+  carried_out asking B out replies stops (inr (inr (says, left, files, broken))) = inr (inr (says, stops left files, broken))
+
+  pub map_done : {P Q : Type 0} → (P → Q) → IsBrokenOr server next answer P → IsBrokenOr server next answer Q
+  map_done f (inl held_up) = inl held_up
+  map_done f (inr (whole, does)) = inr (whole, f does)
+
   -- ---- an undo
+
+  -- the undo isn't refused, or by a clash
+  undo_lacks : (entry : Entry) (refusal : Option ChangeRefusal) → IsTrue (may_take_memory refusal) → next.house ≡ server.house
+      → Lacks server next answer ((next.house ≡ server.house) × (refusal ≡ None)) (enter_outcome server.house entry refusal)
+  undo_lacks entry None may house = inl (house, refl)
+  undo_lacks entry (Some (Clash later cell)) may house = inr (refl, house)
+  undo_lacks entry (Some other) may house = absurd (cc may)
 
   pub undo_told : (site : SiteName) (k : ℕ) → UndoesBy (calls_of did failures) server site k answer next → AnswersAsk (Ok (ask.Undo site k))
   undo_told site k (result, undoes, says) =
       let refusal = undo_refusal server.house site k in
       let may = IsTrue (may_take_memory refusal) in
+      let B : Type 0 = (next.house ≡ server.house) × (refusal ≡ None) in
+      let out = undone server.house site k refusal in
       held (Ok (ask.Undo site k)) (and_true (is_broken server.journal))
+      (map_done (carried_out (Ok (ask.Undo site k)) B out (λ says house files. (out, refl, says, house, files)) (λ left files. (left, files)))
       (unless_told server next answer (EntersAt (Undo site k) refusal may) result undoes says (λ is.
-      entered_told server next answer (UndoRunsOut server.house site k next.house) ((next.house ≡ server.house) × (refusal ≡ None)) (Undo site k) refusal may result
-      (λ takes house. (house, takes)) (λ none house. (house, none)) is says))
+      entered_told server next answer B (Undo site k) refusal may result (undo_lacks (Undo site k) refusal) (λ none house. (house, none)) is says)))
 
   -- ---- a command that opens nothing
 
@@ -147,14 +175,13 @@ module _ {S D : Type 0} {disk : Ghosts D} (did : S → Call → S → Type 0) (f
   abbrev pub CommandDone : Command → Type 0
   CommandDone change =
       (required : List Digest) × AreRequired server.house.uploads change (commit_refusal server.house change) required
-      × IsDone server next answer (CommandRunsOut server.house change next.house) (CommandRunsOut server.house change next.house)
-      (commit_outcome server.house change required (commit_refusal server.house change))
+      × IsDone server next answer (CommandRunsOut server.house change next.house) (commit_outcome server.house change required (commit_refusal server.house change))
 
   pub command_done : (change : Command) → CommandDone change → CarriesOut (Ok (ask.Command change))
-  command_done change (required, are, inl ((told_is, files), kept)) = inl (((required, are, told_is), files), kept)
-  command_done change (required, are, inr (inl ((says, (inl out, files)), kept))) = inr (inl ((says, (inl out, files)), kept))
-  command_done change (required, are, inr (inl ((says, (inr text, files)), kept))) = inr (inl ((says, (inr (required, are, text), files)), kept))
-  command_done change (required, are, inr (inr ((says, (stops, files)), broken))) = inr (inr ((says, (stops, files)), broken))
+  command_done change (required, are, is) =
+      let out = commit_outcome server.house change required (commit_refusal server.house change) in
+      carried_out (Ok (ask.Command change)) (CommandRunsOut server.house change next.house) out (λ says house files. (out, (required, are, refl), says, house, files))
+      (λ left files. (left, files)) is
 
   -- nothing follows
   only_told : (mid : Server S D disk) (result : Result ℕ Stop) → FollowsBy (calls_of did failures) mid None result answer next → Tells (told_entry result) answer × (next ≡ mid)
@@ -168,14 +195,14 @@ module _ {S D : Type 0} {disk : Ghosts D} (did : S → Call → S → Type 0) (f
       (subst (CommitsAt server change result) (sym only.1) commits, only.0)
 
   -- the entry of such a command alone
-  alone : (R B : Type 0) (change : Command) → opened_by change ≡ None → ChangesBy (calls_of did failures) server change answer next
-      → (commit_refusal server.house change ≡ None → next.house ≡ server.house → R) → (commit_refusal server.house change ≡ None → next.house ≡ server.house → B)
-      → IsBrokenOr server next answer (IsDone server next answer R B (enter_outcome server.house (Change change) (commit_refusal server.house change)))
-  alone R B change none (result, mid, commits, follows) runs_out stops =
+  alone : (B : Type 0) (change : Command) → opened_by change ≡ None → ChangesBy (calls_of did failures) server change answer next
+      → (commit_refusal server.house change ≡ None → next.house ≡ server.house → B)
+      → IsBrokenOr server next answer (IsDone server next answer B (enter_outcome server.house (Change change) (commit_refusal server.house change)))
+  alone B change none (result, mid, commits, follows) stops =
       let told_so = not_opened change mid result none commits follows in
       let refusal = commit_refusal server.house change in
       unless_told server next answer (EntersAt (Change change) refusal (refusal ≡ None)) result told_so.0 told_so.1 (λ is.
-      entered_told server next answer R B (Change change) refusal (refusal ≡ None) result runs_out stops is told_so.1)
+      entered_told server next answer B (Change change) refusal (refusal ≡ None) result (λ free_of house. inl (stops free_of house)) stops is told_so.1)
 
   none_required : (change : Command) (refusal : Option ChangeRefusal) → opened_by change ≡ None → AreRequired server.house.uploads change refusal []
   none_required (command.Open site files auto) refusal none = absurd (cc none)
@@ -187,43 +214,37 @@ module _ {S D : Type 0} {disk : Ghosts D} (did : S → Call → S → Type 0) (f
   same_outcome (command.Open site files auto) None none = absurd (cc none)
   same_outcome change None none = refl
 
-  pub map_done : {P Q : Type 0} → (P → Q) → IsBrokenOr server next answer P → IsBrokenOr server next answer Q
-  map_done f (inl held_up) = inl held_up
-  map_done f (inr (whole, does)) = inr (whole, f does)
-
   pub commit_told : (change : Command) → opened_by change ≡ None → ChangesBy (calls_of did failures) server change answer next → AnswersAsk (Ok (ask.Command change))
   commit_told change none changes =
-      let R = CommandRunsOut server.house change next.house in
+      let B = CommandRunsOut server.house change next.house in
       let refusal = commit_refusal server.house change in
       held (Ok (ask.Command change)) (and_true (is_broken server.journal))
-      (map_done (λ is. command_done change ([], none_required change refusal none, subst (IsDone server next answer R R) (same_outcome change refusal none) is))
-      (alone R R change none changes (λ is house. (is, inl house)) (λ is house. (is, inl house))))
+      (map_done (λ is. command_done change ([], none_required change refusal none, subst (IsDone server next answer B) (same_outcome change refusal none) is))
+      (alone B change none changes (λ is house. (is, inl house))))
 
   -- ---- a command on a deploy
 
-  no_deploy : (R B : Type 0) (change : SiteName → Command) (site : Option SiteName) → site ≡ None → Tells (told.Refused (reason.Change NoSuchDeploy)) answer → next ≡ server
-      → IsDone server next answer R B (outcome_on server.house change site)
-  no_deploy R B change site none says same =
+  no_deploy : (B : Type 0) (change : SiteName → Command) (site : Option SiteName) → site ≡ None → Tells (told.Refused (reason.Change NoSuchDeploy)) answer → next ≡ server
+      → IsDone server next answer B (outcome_on server.house change site)
+  no_deploy B change site none says same =
       let house = ap (λ (s : Server S D disk). s.house) same in
       let there : outcome_on server.house change site ≡ refused server.house (reason.Change NoSuchDeploy) = ap (outcome_on server.house change) none in
-      done server next answer R B (outcome_on server.house change site) (told.Refused (reason.Change NoSuchDeploy)) (sym (ap (λ (o : Outcome). o.told) there))
+      done server next answer B (outcome_on server.house change site) (told.Refused (reason.Change NoSuchDeploy)) (sym (ap (λ (o : Outcome). o.told) there))
       (house ∙ sym (ap (λ (o : Outcome). o.host) there)) (ap (λ (s : Server S D disk). s.files) same)
       (keeps_same disk server.house next.house server.journal next.journal house (ap (λ (s : Server S D disk). s.journal) same)) says
 
   pub deploy_told : (n : ℕ) (asking : Ask) (change : SiteName → Command) (site : Option SiteName) → site_of_deploy (entry_at server.house.entries n) ≡ site
       → (holds_up server (Ok asking) ≡ (is_broken server.journal && is_some (site_of_deploy (entry_at server.house.entries n))))
       → ((owner : SiteName) → opened_by (change owner) ≡ None)
-      → (IsDone server next answer (DeployRunsOut server.house n change next.house) (DeployRunsOut server.house n change next.house) (deploy_outcome server.house n change)
-      → CarriesOut (Ok asking))
+      → (IsDone server next answer (DeployRunsOut server.house n change next.house) (deploy_outcome server.house n change) → CarriesOut (Ok asking))
       → InSite (calls_of did failures) server site (λ owner. ChangesBy (calls_of did failures) server (change owner)) answer next → AnswersAsk (Ok asking)
   deploy_told n asking change None is holds none carried (says, same) =
-      let R = DeployRunsOut server.house n change next.house in
       free (Ok asking) (holds ∙ ap (λ (s : Option SiteName). is_broken server.journal && is_some s) is ∙ and_false (is_broken server.journal))
-      (carried (no_deploy R R change (site_of_deploy (entry_at server.house.entries n)) is says same))
+      (carried (no_deploy (DeployRunsOut server.house n change next.house) change (site_of_deploy (entry_at server.house.entries n)) is says same))
   deploy_told n asking change (Some owner) is holds none carried changes =
-      let R = DeployRunsOut server.house n change next.house in
+      let B = DeployRunsOut server.house n change next.house in
       let refuses : deploy_outcome server.house n change ≡ enter_outcome server.house (Change (change owner)) (commit_refusal server.house (change owner)) =
       ap (outcome_on server.house change) is in
       held (Ok asking) (holds ∙ ap (λ (s : Option SiteName). is_broken server.journal && is_some s) is ∙ and_true (is_broken server.journal))
-      (map_done (λ does. carried (subst (IsDone server next answer R R) (sym refuses) does))
-      (alone R R (change owner) (none owner) changes (λ free_of house. (house, ap (refusal_on server.house change) is ∙ free_of)) (λ free_of house. (house, ap (refusal_on server.house change) is ∙ free_of))))
+      (map_done (λ does. carried (subst (IsDone server next answer B) (sym refuses) does))
+      (alone B (change owner) (none owner) changes (λ free_of house. (house, owner, is, free_of))))

@@ -16,8 +16,9 @@ use Rattle.host_api.specs.declared.refusals.Refusal.{Refusal}
 use Rattle.host_api.specs.declared.refusals.Refusal.TheVariants as reason
 use Rattle.host_api.specs.declared.versions.Version.{Version}
 use Rattle.host_disk.specs.declared.disks.Disk.{Ghosts}
-use Rattle.host_server.specs.Asks.{IsAnswer, IsReplyToAsk, holds_up}
+use Rattle.host_server.specs.Asks.{IsAnswer, IsReplyToAsk}
 use Rattle.host_answers.specs.Asking.{asked_for}
+use Rattle.host_server.specs.HeldUp.{holds_up}
 use Rattle.host_server.specs.Journals.{is_broken}
 use Rattle.host_server.proofs.EntryAnswers.{and_false}
 use Rattle.host_server.proofs.KnownFiles.{known_cached}
@@ -46,7 +47,8 @@ module _ {S : Type 0} (did : S → Call → S → Type 0) (failures : S → ℕ)
       → IsFileTold did failures head_only old path file plan answer new
       → ((answer ≡ refused_answer reason.OutOfMemory) ⊎ (answer ≡ refused_answer reason.Device) ⊎ IsSentExactly path file plan answer)
       ⊎ (IsTrue head_only × (answer ≡ unread_answer (type_of path) file))
-  told_back true old new path file plan answer there cached (says, same) = inr (refl, says)
+  told_back true old new path file plan answer there cached (inl says, same) = inr (refl, says)
+  told_back true old new path file plan answer there cached (inr says, same) = inl (inl says)
   told_back false old new path file plan answer there cached sent = inl (sent_back old new path file plan answer there cached sent)
 
 module _ {S D : Type 0} {disk : Ghosts D} (did : S → Call → S → Type 0) (failures : S → ℕ) (has : S → ShelfName → Option (List ℕ)) (keeps : AlwaysKeeps did has) where
@@ -70,5 +72,5 @@ module _ {S D : Type 0} {disk : Ghosts D} (did : S → Call → S → Type 0) (f
   answered_back server next parts body answer site version path file known asks is (inl (inr (free, reply), kept)) =
       reply_back server next parts path (file_of (state_of server.house) site version path) file answer is known
       (subst (λ (a : Result Ask Refusal). IsReplyToAsk did failures server parts body a answer next) asks reply)
-  answered_back server next parts body answer site version path file known asks is (inr (inl ((says, out), kept))) = inl says
-  answered_back server next parts body answer site version path file known asks is (inr (inr ((says, stops), broken))) = inr (inl says)
+  answered_back server next parts body answer site version path file known asks is (inr (inl (says, out, kept))) = inl says
+  answered_back server next parts body answer site version path file known asks is (inr (inr (says, stops, broken))) = inr (inl says)

@@ -8,10 +8,9 @@ use Rattle.blob_store.proofs.Honest.{put_some, puts_file}
 use Rattle.blob_store.specs.Calls.{Call}
 use Rattle.blob_store.specs.Keeping.{Keeps, Where}
 use Rattle.blob_store.specs.declared.blobs.UploadFault.{UploadFault}
-use Rattle.blob_store.specs.declared.blobs.UploadFault.TheVariants as fault
-use Rattle.chunk_reads.specs.declared.faults.ReadFault.TheVariants as read_fault
 use Rattle.blob_store.specs.declared.shelves.ShelfName.{ShelfName}
 use Rattle.host_server.proofs.HonestReads.{node_not_read, node_read}
+use Rattle.host_server.proofs.StoredIf.{IsStoredIf}
 use Rattle.chunk_group.specs.Cached.{CachedShelf}
 use Rattle.range_spec.specs.declared.selection.Choice.{Choice}
 use Rattle.http_wire.specs.Requests.{RequestParts}
@@ -21,14 +20,14 @@ use Rattle.host_api.specs.declared.bodies.Ask.TheVariants as ask
 use Rattle.host_api.specs.declared.refusals.Refusal.{Refusal}
 use Rattle.host_api.specs.declared.texts.Told.{Told}
 use Rattle.host_disk.specs.declared.disks.Disk.{Ghosts}
-use Rattle.host_server.specs.Asks.{AskRunsOut, AskStops, IsAnswer, IsReplyToAsk}
+use Rattle.host_server.specs.Asks.{AskStops, IsAnswer, IsReplyToAsk}
 use Rattle.host_answers.specs.Asking.{asked_for}
-use Rattle.host_server.specs.Files.{IsFileSent, IsFileTold, IsReadReply, ReadRunsOut}
+use Rattle.host_server.specs.Files.{IsFileSent, IsFileTold, IsReadReply}
 use Rattle.host_replies.specs.FileAsks.{plan_of}
 use Rattle.host_server.specs.Hosts.{state_of}
 use Rattle.host_server.specs.Outcomes.{judge_upload}
 use Rattle.host_replies.specs.Replies.{Answer, is_head}
-use Rattle.host_server.specs.Storing.{IsNotStored, IsRefusedByStore, IsStored, IsStoredIf, IsUnpublished, IsUploaded, IsUploadReply, UploadRunsOut}
+use Rattle.host_server.specs.Storing.{IsNotStored, IsRefusedByStore, IsStored, IsUnpublished, IsUploaded, IsUploadReply}
 use Rattle.host_replies.specs.Versions.{file_of}
 use Rattle.host_server.specs.declared.servers.Server.{Server}
 
@@ -66,14 +65,6 @@ module _ {S D : Type 0} {disk : Ghosts D} (did : S → Call → S → Type 0) (f
     read_reply parts path (Ok file) answer (uploaded, range, asks, sent, same) =
         let all = file_told did failures honest has keeps (is_head parts) server.files next.files path file (plan_of parts range file) answer so sent in
         (all.0, (uploaded, range, asks, all.1, same))
-
-    read_runs_out : (parts : RequestParts) (file : Result (List ℕ) Refusal) → ReadRunsOut did failures server parts file next
-        → IsTrue (honest server.files.shelf) × ReadRunsOut (Where honest did) failures server parts file next
-    read_runs_out parts (Err why) is = absurd is
-    read_runs_out parts (Ok file) (uploaded, range, asks, some, same, inl files) = (same_files files, (uploaded, range, asks, some, same, inl files))
-    read_runs_out parts (Ok file) (uploaded, range, asks, some, same, inr failed) =
-        let all = node_not_read did failures honest has keeps server.files next.files file (plan_of parts range file) read_fault.OutOfMemory so failed in
-        (all.0, (uploaded, range, asks, some, same, inr all.1))
 
     -- ---- an upload
 
@@ -115,20 +106,9 @@ module _ {S D : Type 0} {disk : Ghosts D} (did : S → Call → S → Type 0) (f
       upload_reply answer (inl (told, done, says)) =
           let all = uploaded told done in
           (all.0, inl (told, all.1, says))
-      upload_reply answer (inr (why, other, none, says)) =
+      upload_reply answer (inr (why, none, says)) =
           let all = refused why none in
-          (all.0, inr (why, other, all.1, says))
-
-      upload_runs_out : UploadRunsOut did failures server n path bytes next → IsTrue (honest server.files.shelf) × UploadRunsOut (Where honest did) failures server n path bytes next
-      upload_runs_out (inl none) =
-          let all = refused fault.OutOfMemory none in
-          (all.0, inl all.1)
-      upload_runs_out (inr (inl left)) =
-          let all = unpublished left in
-          (all.0, inr (inl all.1))
-      upload_runs_out (inr (inr (told, done, text))) =
-          let all = uploaded told done in
-          (all.0, inr (inr (told, all.1, text)))
+          (all.0, inr (why, all.1, says))
 
     -- ---- any request
 
@@ -137,13 +117,7 @@ module _ {S D : Type 0} {disk : Ghosts D} (did : S → Call → S → Type 0) (f
           → IsTrue (honest server.files.shelf) × IsReplyToAsk (Where honest did) failures server parts body asking answer next
       reply_to (Ok (ask.Read site version path)) answer is = read_reply parts path (file_of (state_of server.house) site version path) answer is
       reply_to (Ok (ask.Upload n path)) answer is = upload_reply n path body answer is
-      reply_to asking answer is = (same_files is.1, is)
-
-      runs_out : (asking : Result Ask Refusal) → AskRunsOut did failures server parts body asking next
-          → IsTrue (honest server.files.shelf) × AskRunsOut (Where honest did) failures server parts body asking next
-      runs_out (Ok (ask.Read site version path)) is = read_runs_out parts (file_of (state_of server.house) site version path) is
-      runs_out (Ok (ask.Upload n path)) is = upload_runs_out n path body is
-      runs_out asking is = (same_files is.1, is)
+      reply_to asking answer is = (same_files is.4, is)
 
       stops : (asking : Result Ask Refusal) → AskStops did server body asking next → IsTrue (honest server.files.shelf) × AskStops (Where honest did) server body asking next
       stops (Ok (ask.Upload n path)) is = unpublished n path body is
@@ -155,10 +129,10 @@ module _ {S D : Type 0} {disk : Ghosts D} (did : S → Call → S → Type 0) (f
       answered answer (inl (inr (free, reply), kept)) =
           let all = reply_to (asked_for parts body) answer reply in
           (all.0, inl (inr (free, all.1), kept))
-      answered answer (inr (inl ((says, inl (same, takes)), kept))) = (same_server same, inr (inl ((says, inl (same, takes)), kept)))
-      answered answer (inr (inl ((says, inr (free, out)), kept))) =
-          let all = runs_out (asked_for parts body) out in
-          (all.0, inr (inl ((says, inr (free, all.1)), kept)))
-      answered answer (inr (inr ((says, halts), broken))) =
+      answered answer (inr (inl (says, inl (same, takes), kept))) = (same_server same, inr (inl (says, inl (same, takes), kept)))
+      answered answer (inr (inl (says, inr (free, halts), kept))) =
           let all = stops (asked_for parts body) halts in
-          (all.0, inr (inr ((says, all.1), broken)))
+          (all.0, inr (inl (says, inr (free, all.1), kept)))
+      answered answer (inr (inr (says, halts, broken))) =
+          let all = stops (asked_for parts body) halts in
+          (all.0, inr (inr (says, all.1, broken)))

@@ -14,7 +14,8 @@ use Rattle.range_reply.proofs.Honest.{is_read, not_read}
 use Rattle.range_reply.specs.Sending.{IsNotRead, IsRead}
 use Rattle.range_reply.specs.Sending.{SentFile}
 use Rattle.chunk_reads.proofs.Backwards.{not_held, turns}
-use Rattle.chunk_group.specs.Cached.{CachedShelf, FailedOfNode, GaveOfNode, IsFromShelf, ReadsChunk}
+use Rattle.chunk_reads.specs.Reading.{IsNotHeld}
+use Rattle.chunk_group.specs.Cached.{CachedShelf, GaveOfNode, IsFromShelf, ReadsChunk}
 
 module _ {S : Type 0} (did : S → Call → S → Type 0) (failures : S → ℕ) (honest : S → Bool) (has : S → ShelfName → Option (List ℕ)) (keeps : Keeps did honest has) where
   abbrev Well : S → Call → S → Type 0
@@ -44,8 +45,8 @@ module _ {S : Type 0} (did : S → Call → S → Type 0) (failures : S → ℕ)
   node_gave : (old new : CachedShelf S) (h : Held) → IsTrue (honest new.shelf) → GaveOfNode did failures old h new → IsTrue (honest old.shelf) × GaveOfNode Well failures old h new
   node_gave old new h so is = turns is_honest (ReadsChunk did failures) (ReadsChunk Well failures) one_read old new h.chunks so is
 
-  node_failed : (old new : CachedShelf S) (file : List ℕ) (first last : ℕ) (why : ReadFault) → IsTrue (honest new.shelf) → FailedOfNode did failures old file first last why new
-      → IsTrue (honest old.shelf) × FailedOfNode Well failures old file first last why new
+  node_failed : (old new : CachedShelf S) (file : List ℕ) (first last : ℕ) (why : ReadFault) → IsTrue (honest new.shelf) → IsNotHeld (ReadsChunk did failures) old file first last why new
+      → IsTrue (honest old.shelf) × IsNotHeld (ReadsChunk Well failures) old file first last why new
   node_failed old new file first last why so is = not_held is_honest (ReadsChunk did failures) (ReadsChunk Well failures) one_read old new file first last why so is
 
   pub node_read : (old new : CachedShelf S) (file : List ℕ) (plan : Choice) (content_type : List ℕ) (body : SentFile) → IsTrue (honest new.shelf)
@@ -53,6 +54,6 @@ module _ {S : Type 0} (did : S → Call → S → Type 0) (failures : S → ℕ)
   node_read = is_read is_honest (GaveOfNode did failures) (GaveOfNode Well failures) node_gave
 
   pub node_not_read : (old new : CachedShelf S) (file : List ℕ) (plan : Choice) (why : ReadFault) → IsTrue (honest new.shelf)
-      → IsNotRead (GaveOfNode did failures) (FailedOfNode did failures) old file plan why new
-      → IsTrue (honest old.shelf) × IsNotRead (GaveOfNode Well failures) (FailedOfNode Well failures) old file plan why new
-  node_not_read = not_read is_honest (GaveOfNode did failures) (GaveOfNode Well failures) node_gave (FailedOfNode did failures) (FailedOfNode Well failures) node_failed
+      → IsNotRead (GaveOfNode did failures) (IsNotHeld (ReadsChunk did failures)) old file plan why new
+      → IsTrue (honest old.shelf) × IsNotRead (GaveOfNode Well failures) (IsNotHeld (ReadsChunk Well failures)) old file plan why new
+  node_not_read = not_read is_honest (GaveOfNode did failures) (GaveOfNode Well failures) node_gave (IsNotHeld (ReadsChunk did failures)) (IsNotHeld (ReadsChunk Well failures)) node_failed

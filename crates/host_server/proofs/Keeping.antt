@@ -16,9 +16,10 @@ use Rattle.host_server.specs.Journals.{IsJournaled, IsStopped, KeepsUp}
 use Rattle.host_server.specs.Memory.{is_published}
 use Rattle.host_server.specs.Outcomes.{Publishes, judge_at, judge_listed, published_if_ready, told_of, uploaded, with_site}
 use Rattle.host_server.specs.ServerJournals.{Breaks, GoesOn}
-use Rattle.host_server.specs.Storing.{DoesUpload, IsStored, IsStoredIf, IsUnpublished}
+use Rattle.host_server.specs.Storing.{DoesUpload, IsStored, IsUnpublished}
 use Rattle.host_server.specs.declared.servers.Server.{Server}
 use Rattle.host_server.proofs.Journaling.{journaled_as, journaled_then, keeps_entries, keeps_same}
+use Rattle.host_server.proofs.StoredIf.{IsStoredIf}
 
 -- ---- what an upload does
 

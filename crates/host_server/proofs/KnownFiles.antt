@@ -11,13 +11,12 @@ use Rattle.host_names.specs.declared.names.SiteName.{SiteName}
 use Rattle.blob_store.specs.Calls.{Call, things_of}
 use Rattle.blob_store.specs.Keeping.{AlwaysKeeps, HasFile, Thing}
 use Rattle.blob_store.specs.declared.blobs.UploadFault.{UploadFault}
-use Rattle.blob_store.specs.declared.blobs.UploadFault.TheVariants as fault
-use Rattle.chunk_reads.specs.declared.faults.ReadFault.TheVariants as read_fault
 use Rattle.blob_store.specs.declared.shelves.ShelfName.{ShelfName}
 use Rattle.blob_store.specs.declared.shelves.ShelfName.TheVariants.{Part}
 use Rattle.blob_store.proofs.Kept.{file_put, moved, still_there_after, there_after_fault}
 use Rattle.chunk_lru.specs.Caches.{Cache}
 use Rattle.chunk_group.specs.Cached.{AllCached, CachedShelf, HasCached}
+use Rattle.host_server.proofs.StoredIf.{IsStoredIf}
 use Rattle.host_server.proofs.StoredReads.{fault_cached, fault_stays, read_cached, read_stays}
 use Rattle.range_spec.specs.declared.selection.Choice.{Choice}
 use Rattle.http_wire.specs.Requests.{RequestParts}
@@ -27,18 +26,18 @@ use Rattle.host_api.specs.declared.bodies.Ask.{Ask}
 use Rattle.host_api.specs.declared.bodies.Ask.TheVariants as ask
 use Rattle.host_api.specs.declared.refusals.Refusal.{Refusal}
 use Rattle.host_disk.specs.declared.disks.Disk.{Ghosts}
-use Rattle.host_server.specs.Asks.{AskRunsOut, AskStops, IsAnswer, IsReplyToAsk}
+use Rattle.host_server.specs.Asks.{AskStops, IsAnswer, IsReplyToAsk}
 use Rattle.host_answers.specs.Asking.{asked_for}
-use Rattle.host_server.specs.Files.{IsFileSent, IsFileTold, IsKnown, IsReadReply, ReadRunsOut}
+use Rattle.host_server.specs.Files.{IsFileSent, IsFileTold, IsKnown, IsReadReply}
 use Rattle.host_replies.specs.FileAsks.{plan_of}
 use Rattle.host_server.specs.Hosts.{Host, state_of, with_upload}
 use Rattle.host_server.specs.Outcomes.{judge_upload, uploaded}
 use Rattle.host_server.specs.ReadBack.{AgreesWith, HasKnown, IsKnownPiece, UploadAgrees}
 use Rattle.host_replies.specs.Replies.{Answer, is_head}
-use Rattle.host_server.specs.Storing.{IsRefusedByStore, IsStored, IsStoredIf, IsUploadReply, UploadRunsOut}
+use Rattle.host_server.specs.Storing.{IsRefusedByStore, IsStored, IsUploadReply}
 use Rattle.host_replies.specs.Versions.{file_of}
 use Rattle.host_server.specs.declared.servers.Server.{Server}
-use Rattle.host_server.proofs.SameUploads.{host_same, published_same, runs_out_same, stops_same, uploads_of}
+use Rattle.host_server.proofs.SameUploads.{host_same, published_same, stops_same, uploads_of}
 
 -- ---- what is known once there is one file more
 
@@ -186,14 +185,7 @@ module _ {S D : Type 0} {disk : Ghosts D} (did : S → Call → S → Type 0) (f
       → IsUploadReply did failures server n path bytes answer next → HasKnown has next
   upload_known server next n path bytes answer agrees known (inl (told, done, says)) =
       uploaded_known server next n bytes (judge_upload server.house n path bytes) agrees known done.stored done.cache done.host_is
-  upload_known server next n path bytes answer agrees known (inr (why, other, refused, says)) = refused_known server next (judge_upload server.house n path bytes) bytes why agrees known refused
-
-  upload_out_known : (server next : Server S D disk) (n : ℕ) (path bytes : List ℕ) → AgreesWith server.house.uploads bytes → HasKnown has server
-      → UploadRunsOut did failures server n path bytes next → HasKnown has next
-  upload_out_known server next n path bytes agrees known (inl refused) = refused_known server next (judge_upload server.house n path bytes) bytes fault.OutOfMemory agrees known refused
-  upload_out_known server next n path bytes agrees known (inr (inl left)) = stored_over server next bytes agrees known left.stored left.cache (uploads_of next.house _ left.known)
-  upload_out_known server next n path bytes agrees known (inr (inr (told, done, text))) =
-      uploaded_known server next n bytes (judge_upload server.house n path bytes) agrees known done.stored done.cache done.host_is
+  upload_known server next n path bytes answer agrees known (inr (why, refused, says)) = refused_known server next (judge_upload server.house n path bytes) bytes why agrees known refused
 
   -- ---- a read
 
@@ -222,16 +214,6 @@ module _ {S D : Type 0} {disk : Ghosts D} (did : S → Call → S → Type 0) (f
       (told_cached did failures has keeps server.files next.files path file plan (IsKnownPiece server.house.uploads) (its_piece server next file known uploaded same) (is_head parts) answer
       (there server next file known uploaded same) (known_cached has server known) known.cached sent)
 
-  read_out_known : (server next : Server S D disk) (parts : RequestParts) (file : Result (List ℕ) Refusal) → HasKnown has server
-      → ReadRunsOut did failures server parts file next → HasKnown has next
-  read_out_known server next parts (Err why) known is = absurd is
-  read_out_known server next parts (Ok file) known (uploaded, range, asks, some, same, inl files) = unmoved server next (uploads_of next.house server.house same) files known
-  read_out_known server next parts (Ok file) known (uploaded, range, asks, some, same, inr failed) =
-      let plan = plan_of parts range file in
-      after_read server next file known uploaded same (fault_stays did failures has keeps server.files next.files file plan read_fault.OutOfMemory failed)
-      (fault_cached did failures has keeps file (IsKnownPiece server.house.uploads) (its_piece server next file known uploaded same) server.files next.files plan
-      read_fault.OutOfMemory (there server next file known uploaded same) (known_cached has server known) known.cached failed)
-
   -- ---- any request
 
   reply_known : (server next : Server S D disk) (parts : RequestParts) (body : List ℕ) (asking : Result Ask Refusal) (answer : Answer)
@@ -240,26 +222,20 @@ module _ {S D : Type 0} {disk : Ghosts D} (did : S → Call → S → Type 0) (f
   reply_known server next parts body (Ok (ask.Read site version path)) answer agrees known is =
       read_known server next parts path (file_of (state_of server.house) site version path) answer known is
   reply_known server next parts body (Ok (ask.Upload n path)) answer agrees known is = upload_known server next n path body answer (agrees n path refl) known is
-  reply_known server next parts body asking answer agrees known is = unmoved server next (host_same server.house next.house asking answer is.0) is.1 known
-
-  out_known : (server next : Server S D disk) (parts : RequestParts) (body : List ℕ) (asking : Result Ask Refusal)
-      → ((n : ℕ) (path : List ℕ) → asking ≡ Ok (ask.Upload n path) → AgreesWith server.house.uploads body) → HasKnown has server
-      → AskRunsOut did failures server parts body asking next → HasKnown has next
-  out_known server next parts body (Ok (ask.Read site version path)) agrees known is =
-      read_out_known server next parts (file_of (state_of server.house) site version path) known is
-  out_known server next parts body (Ok (ask.Upload n path)) agrees known is = upload_out_known server next n path body (agrees n path refl) known is
-  out_known server next parts body asking agrees known is = unmoved server next (runs_out_same server.house next.house asking is.0) is.1 known
+  reply_known server next parts body asking answer agrees known is =
+      unmoved server next (uploads_of next.house is.0.host is.3 ∙ host_same server.house asking is.0 is.1) is.4 known
 
   stops_known : (server next : Server S D disk) (body : List ℕ) (asking : Result Ask Refusal)
       → ((n : ℕ) (path : List ℕ) → asking ≡ Ok (ask.Upload n path) → AgreesWith server.house.uploads body) → HasKnown has server
       → AskStops did server body asking next → HasKnown has next
-  stops_known server next body (Ok (ask.Upload n path)) agrees known is = upload_out_known server next n path body (agrees n path refl) known (inr (inl is))
+  stops_known server next body (Ok (ask.Upload n path)) agrees known left =
+      stored_over server next body (agrees n path refl) known left.stored left.cache (uploads_of next.house _ left.known)
   stops_known server next body asking agrees known is = unmoved server next (stops_same server.house next.house asking is.0) is.1 known
 
   pub answered_known : (server next : Server S D disk) (parts : RequestParts) (body : List ℕ) (answer : Answer) → UploadAgrees server.house.uploads parts body → HasKnown has server
       → IsAnswer did failures server parts body answer next → HasKnown has next
   answered_known server next parts body answer agrees known (inl (inl (held, says, same), kept)) = as_it_was server next same known
   answered_known server next parts body answer agrees known (inl (inr (free, reply), kept)) = reply_known server next parts body (asked_for parts body) answer agrees known reply
-  answered_known server next parts body answer agrees known (inr (inl ((says, inl (same, takes)), kept))) = as_it_was server next same known
-  answered_known server next parts body answer agrees known (inr (inl ((says, inr (free, out)), kept))) = out_known server next parts body (asked_for parts body) agrees known out
-  answered_known server next parts body answer agrees known (inr (inr ((says, stops), broken))) = stops_known server next body (asked_for parts body) agrees known stops
+  answered_known server next parts body answer agrees known (inr (inl (says, inl (same, takes), kept))) = as_it_was server next same known
+  answered_known server next parts body answer agrees known (inr (inl (says, inr (free, stops), kept))) = stops_known server next body (asked_for parts body) agrees known stops
+  answered_known server next parts body answer agrees known (inr (inr (says, stops, broken))) = stops_known server next body (asked_for parts body) agrees known stops

@@ -4,6 +4,7 @@ pub mod Entering
 mod KeptByReads
 mod StoredReads
 mod HonestReads
+pub mod StoredIf
 pub mod Keeping
 mod FilesKnown
 mod SameUploads

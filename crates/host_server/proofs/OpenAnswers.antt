@@ -102,8 +102,8 @@ module _ {S D : Type 0} {disk : Ghosts D} (did : S → Call → S → Type 0) (f
       let required = required_for refusal in (
         required.0,
         required.1,
-        not_entered server next answer RunsOut RunsOut (commit_outcome server.house opening required.0 refusal) (Change opening) refusal (refusal ≡ None) why
-            (refused_as required.0) (λ none house. (none, inl house)) (λ none house. (none, inl house)) is says,
+        not_entered server next answer RunsOut (commit_outcome server.house opening required.0 refusal) (Change opening) refusal (refusal ≡ None) why
+            (refused_as required.0) (λ none house. inl (none, inl house)) (λ none house. (none, inl house)) is says,
       )
 
   -- ---- the entry is made
@@ -137,12 +137,12 @@ module _ {S D : Type 0} {disk : Ghosts D} (did : S → Call → S → Type 0) (f
 
     -- it isn't ready
     unpublished : (required : List Digest) → AreMissing server.house.uploads files.1 required → (auto && is_none (least_missing_of server.house.uploads files.1)) ≡ false
-        → IsDone server next answer RunsOut RunsOut (opened id required (record { entry = Ok None; host = mid.house }))
+        → IsDone server next answer RunsOut (opened id required (record { entry = Ok None; host = mid.house }))
         → CommandDone did failures server next parts body answer opening
     unpublished required missing unready is_done = (
       required,
       are_required required missing,
-      subst (IsDone server next answer RunsOut RunsOut)
+      subst (IsDone server next answer RunsOut)
           (ap (opened id required) (sym (publishing_when mid.house site id false (ready false unready))) ∙ sym (outcome_is required)) is_done,
     )
 
@@ -152,13 +152,13 @@ module _ {S D : Type 0} {disk : Ghosts D} (did : S → Call → S → Type 0) (f
     not_listed some says stays =
         let (required, missing) = missing_list server.house.uploads files.1 in
         unpublished required missing (unready_where auto (least_missing_of server.house.uploads files.1) some)
-        (inr (inl ((says, (inr (house_at_mid stays, refl), files_at_mid stays)), at_mid stays)))
+        (inl (inr (says, refl), house_at_mid stays, files_at_mid stays, at_mid stays))
 
     lacked : (required : List Digest) → AreMissing server.house.uploads files.1 required → (auto && is_none (least_missing_of server.house.uploads files.1)) ≡ false
         → OnlyTells mid (told.Opened id None required) answer next → CommandDone did failures server next parts body answer opening
     lacked required missing unready (says, stays) =
         unpublished required missing unready
-        (done server next answer RunsOut RunsOut (opened id required (record { entry = Ok None; host = mid.house })) (told.Opened id None required) refl (house_at_mid stays)
+        (done server next answer RunsOut (opened id required (record { entry = Ok None; host = mid.house })) (told.Opened id None required) refl (house_at_mid stays)
         (files_at_mid stays) (at_mid stays) says)
 
     -- it is ready
@@ -183,11 +183,11 @@ module _ {S D : Type 0} {disk : Ghosts D} (did : S → Call → S → Type 0) (f
       runs_out free house = (none, inr (house ∙ made, opens free))
 
       tried : (result : Result ℕ Stop) → EntersAt (Change publish) against (against ≡ None) mid result next → Tells (told_publishing id result) answer
-          → IsDone server next answer RunsOut RunsOut (opened id [] (publishing mid.house publish against))
+          → IsDone server next answer RunsOut (opened id [] (publishing mid.house publish against))
       tried (Ok number) (free, number_is, house, put_then, files_same) says =
           let there : publishing mid.house publish against ≡ record { entry = Ok (Some (next_number mid.house)); host = with_entry mid.house (Change publish) } =
           ap (publishing mid.house publish) free in
-          done server next answer RunsOut RunsOut (opened id [] (publishing mid.house publish against)) (told.Opened id (Some number) [])
+          done server next answer RunsOut (opened id [] (publishing mid.house publish against)) (told.Opened id (Some number) [])
           (ap (λ n. told.Opened id (Some n) []) number_is ∙ sym (ap (λ (p : Publishing). (opened id [] p).told) there)) (house ∙ sym (ap (λ (p : Publishing). p.host) there))
           (files_same ∙ same)
           (keeps_then disk server.house mid.house next.house server.journal mid.journal next.journal goes_on
@@ -195,19 +195,23 @@ module _ {S D : Type 0} {disk : Ghosts D} (did : S → Call → S → Type 0) (f
       tried (Err stop.Broken) never says = absurd never
       tried (Err (stop.Refused why)) (because, (house, journal, files_same)) says =
           let there : publishing mid.house publish against ≡ record { entry = Err (reason.Change why); host = mid.house } = ap (publishing mid.house publish) because in
-          done server next answer RunsOut RunsOut (opened id [] (publishing mid.house publish against)) (told.Refused (reason.Change why))
+          done server next answer RunsOut (opened id [] (publishing mid.house publish against)) (told.Refused (reason.Change why))
           (sym (ap (λ (p : Publishing). (opened id [] p).told) there)) (house ∙ sym (ap (λ (p : Publishing). p.host) there)) (files_same ∙ same)
           (keeps_then disk server.house mid.house next.house server.journal mid.journal next.journal goes_on
           (keeps_same disk mid.house next.house mid.journal next.journal house journal)) says
       tried (Err stop.OutOfMemory) (free, (house, journal, files_same)) says =
           inr (inl (
-            (no_memory answer says, (inl (runs_out free house), files_same ∙ same)),
+            no_memory answer says,
+            runs_out free house,
+            files_same ∙ same,
             keeps_then disk server.house mid.house next.house server.journal mid.journal next.journal goes_on
                 (keeps_same disk mid.house next.house mid.journal next.journal house journal),
           ))
       tried (Err stop.Device) (free, house, put_in_vain, files_same) says =
           inr (inr (
-            (plainly reason.Device answer (λ e. cc e) says, (runs_out free house, files_same ∙ same)),
+            plainly reason.Device answer (λ e. cc e) says,
+            runs_out free house,
+            files_same ∙ same,
             breaks_then disk server.house mid.house next.house server.journal mid.journal next.journal goes_on
                 (breaks_at disk (Change publish) mid.house next.house mid.journal next.journal house put_in_vain),
           ))
@@ -219,7 +223,7 @@ module _ {S D : Type 0} {disk : Ghosts D} (did : S → Call → S → Type 0) (f
       published_by result (inr (still, enters)) says = (
         [],
         are_required [] missing,
-        subst (IsDone server next answer RunsOut RunsOut)
+        subst (IsDone server next answer RunsOut)
             (ap (opened id []) (sym (publishing_when mid.house site id true now)) ∙ sym (outcome_is []))
             (tried result enters says),
       )

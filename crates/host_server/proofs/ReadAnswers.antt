@@ -1,32 +1,31 @@
 -- What is answered to the reading of a file, by what is held of it.
-use Rattle.std.proofs.Common.{◌≡◌, ◌⊎◌, inl, inr, Bool, true, false, ℕ, List, Result, Ok, Err, IsTrue, length, refl, sym, ap, subst, ◌∙◌}
+use Rattle.std.proofs.Common.{◌≡◌, ◌≢◌, inl, inr, Bool, true, false, ℕ, List, [], Result, Ok, Err, length, refl, sym, ap, subst, ◌∙◌}
+use Rattle.std.proofs.lemmas.List.Elements.{All-nil}
 use Rattle.std.proofs.lemmas.Slice.Eq.{bytes_eq-Decides}
 use Rattle.std.specs.Prelude.{codes}
 use Rattle.std.specs.Str.{bytes_eq}
 use Rattle.byte_view.specs.Contents.{AreDigested}
-use Rattle.host_names.specs.Digests.{digest_of}
+use Rattle.byte_view.specs.Holds.{Held, IsHeld}
 use Rattle.host_names.specs.declared.names.SiteName.{SiteName}
 use Rattle.blob_store.specs.Calls.{Call}
-use Rattle.chunk_group.specs.Cached.{CachedShelf, FailedOfNode, GaveOfNode}
+use Rattle.chunk_reads.specs.Reading.{IsNotHeld}
+use Rattle.chunk_group.specs.Cached.{CachedShelf, GaveOfNode, ReadsChunk}
 use Rattle.chunk_reads.specs.declared.faults.ReadFault.TheVariants as fault
 use Rattle.range_spec.specs.declared.grammar.Asked.{Asked}
 use Rattle.range_spec.specs.declared.grammar.Asked.TheVariants.{Ignore}
 use Rattle.range_spec.specs.declared.selection.Choice.{Choice}
 use Rattle.range_spec.specs.declared.selection.Choice.TheVariants.{Whole, One, Many, None416}
-use Rattle.range_reply.specs.Conditions.{condition_of}
-use Rattle.range_reply.specs.Plans.{planned}
+use Rattle.range_reply.specs.Bodies.{stretches}
+use Rattle.range_reply.specs.Holding.{AreHeld}
 use Rattle.range_reply.specs.Sending.{IsNotRead}
-use Rattle.range_reply.specs.declared.conditions.IfRange.{IfRange}
-use Rattle.range_reply.specs.declared.conditions.IfRange.TheVariants.{Absent, True, False}
 use Rattle.http_wire.specs.Fields.{values_of}
 use Rattle.http_wire.specs.Requests.{RequestParts}
 use Rattle.host_disk.specs.declared.disks.Disk.{Ghosts}
 use Rattle.host_api.specs.declared.bodies.Ask.TheVariants as ask
 use Rattle.host_api.specs.declared.refusals.Refusal.{Refusal}
-use Rattle.host_api.specs.declared.refusals.Refusal.TheVariants as reason
 use Rattle.host_api.specs.declared.versions.Version.{Version}
 use Rattle.host_replies.specs.FileAsks.{AskedBy, AsksRange, plan_of}
-use Rattle.host_replies.specs.Replies.{Answer, is_head, refused_answer}
+use Rattle.host_replies.specs.Replies.{Answer, is_head}
 use Rattle.host_replies.specs.Versions.{file_of}
 use Rattle.host_answers.proofs.Growing as growing
 use Rattle.host_answers.proofs.Growing.{StaysBy}
@@ -34,7 +33,7 @@ use Rattle.host_answers.proofs.Reading.{Sends}
 use Rattle.host_answers.proofs.Seen.{reads_as}
 use Rattle.host_answers.specs.Houses.{Calls}
 use Rattle.host_answers.specs.Reads.{GivesBy, ReadsBy, SendsBy}
-use Rattle.host_server.specs.Files.{IsFileSent, IsFileTold, IsKnown, IsReadReply, ReadRunsOut, is_read}
+use Rattle.host_server.specs.Files.{IsFileSent, IsFileTold, IsKnown, IsReadReply}
 use Rattle.host_server.specs.Hosts.{IsLawful, state_of}
 use Rattle.host_server.specs.Journals.{is_broken}
 use Rattle.host_server.specs.ServerHouses.{KeepsHost, calls_of, failed_at, gave_at}
@@ -70,11 +69,6 @@ module _ {S D : Type 0} {disk : Ghosts D} (did : S → Call → S → Type 0) (f
 
 -- ---- the reply to HEAD
 
-whole_planned : (condition : IfRange) (size : ℕ) → planned Ignore condition size ≡ Whole
-whole_planned Absent size = refl
-whole_planned True size = refl
-whole_planned False size = refl
-
 -- it asks for no range
 no_range : (parts : RequestParts) → is_head parts ≡ true → AsksRange parts Ignore
 no_range parts head =
@@ -85,57 +79,48 @@ no_range parts head =
 -- ---- what is sent
 
 module _ {S : Type 0} (did : S → Call → S → Type 0) (failures : S → ℕ) (old new : CachedShelf S) (path file : List ℕ) (answer : Answer) where
-  -- the plan is carried out, or memory runs out before or while something of the file is read
-  abbrev IsSentOr : Choice → Type 0
-  IsSentOr plan =
-      IsFileSent did failures old path file plan answer new
-      ⊎ ((answer ≡ refused_answer reason.OutOfMemory) × IsTrue (is_read plan)
-      × ((new ≡ old) ⊎ IsNotRead (GaveOfNode did failures) (FailedOfNode did failures) old file plan fault.OutOfMemory new))
+  -- no byte of it was held
+  unheld : (plan : Choice) → new ≡ old → IsNotRead (GaveOfNode did failures) (IsNotHeld (ReadsChunk did failures)) old file plan fault.OutOfMemory new
+  unheld plan same =
+      let none : AreHeld (GaveOfNode did failures) old file [] [] old =
+      record { same_file = All-nil (λ (h : Held). h.file ≡ file); in_order = refl; lawful = All-nil IsHeld; given = refl } in
+      inl ([], stretches (length file) plan, [], old, refl, none, inr (refl, same))
 
-  sent_some : (plan : Choice) → IsTrue (is_read plan) → Sends (GaveOfNode did failures) (FailedOfNode did failures) old new path file plan answer → IsSentOr plan
-  sent_some plan some (inl (body, read, is)) = inl (inr (inl (body, read, is)))
-  sent_some plan some (inr (inl (fault.OutOfMemory, failed, is))) = inr (is, some, inr failed)
-  sent_some plan some (inr (inl (fault.Missing, failed, is))) = inl (inr (inr (fault.Missing, (λ e. cc e), failed, is)))
-  sent_some plan some (inr (inl (fault.Damaged, failed, is))) = inl (inr (inr (fault.Damaged, (λ e. cc e), failed, is)))
-  sent_some plan some (inr (inl (fault.Device, failed, is))) = inl (inr (inr (fault.Device, (λ e. cc e), failed, is)))
-  sent_some plan some (inr (inr (is, same))) = inr (is, some, inl same)
+  sent_some : (plan : Choice) → plan ≢ None416 → Sends (GaveOfNode did failures) (IsNotHeld (ReadsChunk did failures)) old new path file plan answer
+      → IsFileSent did failures old path file plan answer new
+  sent_some plan some (inl (body, read, is)) = inr (inl (body, read, is))
+  sent_some plan some (inr (inl (why, failed, is))) = inr (inr (why, some, failed, is))
+  sent_some plan some (inr (inr (is, same))) = inr (inr (fault.OutOfMemory, some, unheld plan same, is))
 
-  sent_by : (plan : Choice) → SendsBy (GaveOfNode did failures) (FailedOfNode did failures) old path file plan answer new → IsSentOr plan
-  sent_by Whole is = sent_some Whole refl is
-  sent_by (One first last) is = sent_some (One first last) refl is
-  sent_by (Many intervals) is = sent_some (Many intervals) refl is
-  sent_by None416 (is, same) = inl (inl (refl, is, same))
+  sent_by : (plan : Choice) → SendsBy (GaveOfNode did failures) (IsNotHeld (ReadsChunk did failures)) old path file plan answer new
+      → IsFileSent did failures old path file plan answer new
+  sent_by Whole is = sent_some Whole (λ e. cc e) is
+  sent_by (One first last) is = sent_some (One first last) (λ e. cc e) is
+  sent_by (Many intervals) is = sent_some (Many intervals) (λ e. cc e) is
+  sent_by None416 (is, same) = inl (refl, is, same)
 
 module _ {S D : Type 0} {disk : Ghosts D} (did : S → Call → S → Type 0) (failures : S → ℕ) (server next : Server S D disk) (parts : RequestParts) (path : List ℕ) (answer : Answer) where
-  abbrev IsReadOr : Result (List ℕ) Refusal → Type 0
-  IsReadOr found =
-      IsReadReply did failures server parts path found answer next
-      ⊎ ((answer ≡ refused_answer reason.OutOfMemory) × ReadRunsOut did failures server parts found next)
-
   module _ (file : List ℕ) (known : IsKnown server file) (same : next.house ≡ server.house) where
     told_by : (range : Asked) (by_head : Bool) → is_head parts ≡ by_head → AsksRange parts range
-        → IsFileTold did failures by_head server.files path file (plan_of parts range file) answer next.files → IsReadOr (Ok file)
+        → IsFileTold did failures by_head server.files path file (plan_of parts range file) answer next.files
+        → IsReadReply did failures server parts path (Ok file) answer next
     told_by range by_head head asks is =
-        inl (known, range, asks, subst (λ b. IsFileTold did failures b server.files path file (plan_of parts range file) answer next.files) (sym head) is, same)
+        (known, range, asks, subst (λ b. IsFileTold did failures b server.files path file (plan_of parts range file) answer next.files) (sym head) is, same)
 
-    gives_by : (by_head : Bool) → is_head parts ≡ by_head → GivesBy (GaveOfNode did failures) (FailedOfNode did failures) by_head server.files parts path file answer next.files
-        → IsReadOr (Ok file)
-    gives_by true head (inl is, files) = told_by Ignore true head (no_range parts head) (is, files)
-    gives_by true head (inr is, files) =
-        let whole : plan_of parts Ignore file ≡ Whole = whole_planned (condition_of (digest_of file) (values_of (codes "if-range") parts.fields)) (length file) in
-        inr (is, (known, Ignore, no_range parts head, subst (λ (p : Choice). IsTrue (is_read p)) (sym whole) refl, same, inl files))
+    gives_by : (by_head : Bool) → is_head parts ≡ by_head
+        → GivesBy (GaveOfNode did failures) (IsNotHeld (ReadsChunk did failures)) by_head server.files parts path file answer next.files
+        → IsReadReply did failures server parts path (Ok file) answer next
+    gives_by true head is = told_by Ignore true head (no_range parts head) is
     gives_by false head (range, asks, sends) =
-        elim (sent_by did failures server.files next.files path file answer (plan_of parts range file) sends) [
-          | inl sent ↦ told_by range false head asks sent
-          | inr (is, some, left) ↦ inr (is, (known, range, asks, some, same, left))
-        ]
+        told_by range false head asks (sent_by did failures server.files next.files path file answer (plan_of parts range file) sends)
 
   of_files : (found : Result (List ℕ) Refusal) → ((file : List ℕ) → found ≡ Ok file → IsKnown server file)
-      → ReadsBy (gave_at did failures) (failed_at did failures) server parts path found answer next → KeepsHost server next → IsReadOr found
-  of_files (Err why) known is kept = inl is
+      → ReadsBy (gave_at did failures) (failed_at did failures) server parts path found answer next → KeepsHost server next
+      → IsReadReply did failures server parts path found answer next
+  of_files (Err why) known is kept = is
   of_files (Ok file) known is kept =
       gives_by file (known file refl) kept.0 (is_head parts) refl
-      (reads_as (λ (s : Server S D disk). s.files) (gave_at did failures) (failed_at did failures) (GaveOfNode did failures) (FailedOfNode did failures)
+      (reads_as (λ (s : Server S D disk). s.files) (gave_at did failures) (failed_at did failures) (GaveOfNode did failures) (IsNotHeld (ReadsChunk did failures))
       (record { gave_is = λ old hold new is. is.0; failed_is = λ old file first last why new is. is.0 })
       server parts path (Ok file) answer next is)
 
@@ -147,7 +132,4 @@ module _ {S D : Type 0} {disk : Ghosts D} (did : S → Call → S → Type 0) (f
       let kept = growing.reads (KeepsHost {S = S} {D = D} {disk = disk}) (no_calls did failures) (gave_at did failures) (failed_at did failures) (keeps did failures) answer server parts path found next is in
       let journaled = keeps_same disk server.house next.house server.journal next.journal kept.0 kept.1 in
       free did failures server next parts body answer (Ok (ask.Read site version path)) (and_false (is_broken server.journal))
-      (elim (of_files found (λ file there. file_known server.house site version path file digested lawful there) is kept) [
-        | inl reply ↦ inl (reply, journaled)
-        | inr out ↦ inr (inl (out, journaled))
-      ])
+      (inl (of_files found (λ file there. file_known server.house site version path file digested lawful there) is kept, journaled))

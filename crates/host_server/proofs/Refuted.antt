@@ -11,17 +11,19 @@ use Rattle.http_wire.specs.Requests.{RequestParts}
 use Rattle.host_api.specs.declared.bodies.Ask.{Ask}
 use Rattle.host_api.specs.declared.refusals.Refusal.{Refusal}
 use Rattle.host_api.specs.declared.refusals.Refusal.TheVariants as reason
+use Rattle.host_api.specs.declared.texts.Told.{Told}
 use Rattle.host_api.specs.declared.texts.Told.TheVariants.{Uploaded}
 use Rattle.host_disk.specs.declared.disks.Disk.{Ghosts}
-use Rattle.host_server.specs.Asks.{AskRunsOut, AskStops, IsAnswer, IsReplyToAsk, holds_up}
+use Rattle.host_server.specs.Asks.{AskStops, IsAnswer, IsReplyToAsk}
 use Rattle.host_replies.specs.SentFiles.{sent_as}
 use Rattle.host_answers.specs.Asking.{asked_for}
+use Rattle.host_server.specs.HeldUp.{holds_up}
 use Rattle.host_server.specs.Hosts.{Host}
-use Rattle.host_server.specs.Outcomes.{uploaded}
+use Rattle.host_server.specs.Outcomes.{Outcome, uploaded}
 use Rattle.host_server.specs.ReadBack.{IsReadBack}
-use Rattle.host_replies.specs.Replies.{Answer, refused_answer}
-use Rattle.host_server.specs.Storing.{IsStoredIf}
+use Rattle.host_replies.specs.Replies.{Answer, Tells, refused_answer}
 use Rattle.host_server.specs.declared.servers.Server.{Server}
+use Rattle.host_server.proofs.StoredIf.{IsStoredIf}
 
 -- what is sent of a file has another status than 503
 other_status : (path file : List ℕ) (plan : Choice) (boundary : Option Boundary) (bytes : List ℕ) → (sent_as path file plan boundary bytes).status ≡ 503 → ⊥
@@ -57,13 +59,14 @@ module _ {S D : Type 0} {disk : Ghosts D} (did : S → Call → S → Type 0) (f
   refusal_is old new parts body answer why asks (inl (inl (held, says, same), kept)) =
       let wrong : false ≡ true = sym (ap (λ (a : Result Ask Refusal). holds_up old a) asks) ∙ held in absurd (cc wrong)
   refusal_is old new parts body answer why asks (inl (inr (free, reply), kept)) =
-      let told = subst (λ (a : Result Ask Refusal). IsReplyToAsk did failures old parts body a answer new) asks reply in
-      (told.0.1, inl told.0.0)
-  refusal_is old new parts body answer why asks (inr (inl ((says, inl (same, takes)), kept))) = (ap (λ (s : Server S D disk). s.house) same, inr says)
-  refusal_is old new parts body answer why asks (inr (inl ((says, inr (free, out)), kept))) =
-      let left = subst (λ (a : Result Ask Refusal). AskRunsOut did failures old parts body a new) asks out in
-      (left.0.0, inr says)
-  refusal_is old new parts body answer why asks (inr (inr ((says, stops), broken))) =
+      let (out, is, says, house, files) = subst (λ (a : Result Ask Refusal). IsReplyToAsk did failures old parts body a answer new) asks reply in (
+        house ∙ ap (λ (o : Outcome). o.host) is,
+        elim (subst (λ (t : Told). Tells t answer) (ap (λ (o : Outcome). o.told) is) says) [ inl told ↦ inl told | inr none ↦ inr none.0 ],
+      )
+  refusal_is old new parts body answer why asks (inr (inl (says, inl (same, takes), kept))) = (ap (λ (s : Server S D disk). s.house) same, inr says)
+  refusal_is old new parts body answer why asks (inr (inl (says, inr (free, stops), kept))) =
+      absurd ((subst (λ (a : Result Ask Refusal). AskStops did old body a new) asks stops).0)
+  refusal_is old new parts body answer why asks (inr (inr (says, stops, broken))) =
       absurd ((subst (λ (a : Result Ask Refusal). AskStops did old body a new) asks stops).0)
 
 -- a file that is too large is not told as uploaded

@@ -11,12 +11,11 @@ use Rattle.change_undo.specs.declared.entries.Entry.TheVariants.{Change, Undo}
 use Rattle.host_api.specs.declared.bodies.Ask.{Ask}
 use Rattle.host_api.specs.declared.bodies.Ask.TheVariants as ask
 use Rattle.host_api.specs.declared.refusals.Refusal.{Refusal}
-use Rattle.host_server.specs.Asks.{HostRunsOut, HostStops, IsHostReply}
+use Rattle.host_server.specs.Asks.{Comes, HostStops}
 use Rattle.host_answers.specs.Deploys.{site_of_deploy}
 use Rattle.host_server.specs.Hosts.{Host, next_number, with_entry}
-use Rattle.host_server.specs.Outcomes.{commit_outcome, committed, enter_outcome, is_ready, outcome_on, published_if_ready, publishing, undone}
+use Rattle.host_server.specs.Outcomes.{Outcome, commit_outcome, committed, enter_outcome, is_ready, outcome_on, published_if_ready, publishing, refused, undone}
 use Rattle.host_server.specs.Reasons.{commit_refusal, undo_refusal}
-use Rattle.host_replies.specs.Replies.{Answer}
 
 publishing_same : (host : Host) (change : Command) (refusal : Option ChangeRefusal) → (publishing host change refusal).host.uploads ≡ host.uploads
 publishing_same host change None = refl
@@ -51,41 +50,30 @@ undone_same host site k refusal = enter_same host (Undo site k) refusal
 pub uploads_of : (a b : Host) → a ≡ b → a.uploads ≡ b.uploads
 uploads_of a b is = ap (λ (h : Host). h.uploads) is
 
+uploads_told : (a b : Outcome) → a ≡ b → a.host.uploads ≡ b.host.uploads
+uploads_told a b is = ap (λ (o : Outcome). o.host.uploads) is
+
 -- ---- without the files
 
-pub host_same : (host next : Host) (asking : Result Ask Refusal) (answer : Answer) → IsHostReply host asking answer next → next.uploads ≡ host.uploads
-host_same host next (Err why) answer is = uploads_of next host is.1
-host_same host next (Ok (ask.Command change)) answer is = uploads_of next _ is.2.1 ∙ commit_same host change is.0 (commit_refusal host change)
-host_same host next (Ok (ask.Undo site k)) answer is = uploads_of next _ is.1 ∙ undone_same host site k (undo_refusal host site k)
-host_same host next (Ok (ask.Changes site)) answer is = uploads_of next host is.1
-host_same host next (Ok (ask.Deploy n)) answer is = uploads_of next host is.3
-host_same host next (Ok (ask.RemoveDeploy n)) answer is =
-    uploads_of next _ is.1 ∙ on_same host (λ site. command.RemoveDeploy site n) (site_of_deploy (entry_at host.entries n))
-host_same host next (Ok (ask.Cancel n)) answer is = uploads_of next _ is.1 ∙ on_same host (λ site. command.Cancel site n) (site_of_deploy (entry_at host.entries n))
-host_same host next (Ok (ask.Read site version path)) answer is = absurd is
-host_same host next (Ok (ask.Upload n path)) answer is = absurd is
+pub host_same : (host : Host) (asking : Result Ask Refusal) (out : Outcome) → Comes host asking out → out.host.uploads ≡ host.uploads
+host_same host (Err why) out is = uploads_told out (refused host why) is
+host_same host (Ok (ask.Command change)) out (required, are, is) =
+    uploads_told out (commit_outcome host change required (commit_refusal host change)) is ∙ commit_same host change required (commit_refusal host change)
+host_same host (Ok (ask.Undo site k)) out is =
+    uploads_told out (undone host site k (undo_refusal host site k)) is ∙ undone_same host site k (undo_refusal host site k)
+host_same host (Ok (ask.Changes site)) out is = uploads_told out _ is
+host_same host (Ok (ask.Deploy n)) out (shows, same) = uploads_of out.host host same
+host_same host (Ok (ask.RemoveDeploy n)) out is =
+    uploads_told out _ is ∙ on_same host (λ site. command.RemoveDeploy site n) (site_of_deploy (entry_at host.entries n))
+host_same host (Ok (ask.Cancel n)) out is = uploads_told out _ is ∙ on_same host (λ site. command.Cancel site n) (site_of_deploy (entry_at host.entries n))
+host_same host (Ok (ask.Read site version path)) out is = absurd is
+host_same host (Ok (ask.Upload n path)) out is = absurd is
 
-pub runs_out_same : (host next : Host) (asking : Result Ask Refusal) → HostRunsOut host asking next → next.uploads ≡ host.uploads
-runs_out_same host next (Err why) is = uploads_of next host is.0
-runs_out_same host next (Ok (ask.Command change)) (inl (accepted, inl is)) = uploads_of next host is
-runs_out_same host next (Ok (ask.Command change)) (inl (accepted, inr (is, published))) = uploads_of next _ is
-runs_out_same host next (Ok (ask.Command change)) (inr (required, are, is)) = uploads_of next _ is.0 ∙ commit_same host change required (commit_refusal host change)
-runs_out_same host next (Ok (ask.Undo site k)) (inl is) = uploads_of next host is.0
-runs_out_same host next (Ok (ask.Undo site k)) (inr is) = uploads_of next _ is.0 ∙ undone_same host site k (undo_refusal host site k)
-runs_out_same host next (Ok (ask.Changes site)) is = uploads_of next host is
-runs_out_same host next (Ok (ask.Deploy n)) is = uploads_of next host is.0
-runs_out_same host next (Ok (ask.RemoveDeploy n)) (inl is) = uploads_of next host is.0
-runs_out_same host next (Ok (ask.RemoveDeploy n)) (inr is) =
-    uploads_of next _ is.0 ∙ on_same host (λ site. command.RemoveDeploy site n) (site_of_deploy (entry_at host.entries n))
-runs_out_same host next (Ok (ask.Cancel n)) (inl is) = uploads_of next host is.0
-runs_out_same host next (Ok (ask.Cancel n)) (inr is) = uploads_of next _ is.0 ∙ on_same host (λ site. command.Cancel site n) (site_of_deploy (entry_at host.entries n))
-runs_out_same host next (Ok (ask.Read site version path)) is = absurd is
-runs_out_same host next (Ok (ask.Upload n path)) is = absurd is
-
--- the same where the journal's device fails
+-- the same where there is no memory for an entry, or the journal's device fails
 pub stops_same : (host next : Host) (asking : Result Ask Refusal) → HostStops host asking next → next.uploads ≡ host.uploads
 stops_same host next (Err why) is = absurd is
-stops_same host next (Ok (ask.Command change)) is = runs_out_same host next (Ok (ask.Command change)) (inl is)
+stops_same host next (Ok (ask.Command change)) (accepted, inl is) = uploads_of next host is
+stops_same host next (Ok (ask.Command change)) (accepted, inr (is, published)) = uploads_of next _ is
 stops_same host next (Ok (ask.Undo site k)) is = uploads_of next host is.0
 stops_same host next (Ok (ask.Changes site)) is = absurd is
 stops_same host next (Ok (ask.Deploy n)) is = absurd is

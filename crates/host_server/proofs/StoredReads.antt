@@ -18,8 +18,8 @@ use Rattle.range_spec.specs.declared.selection.Choice.{Choice}
 use Rattle.range_reply.specs.Sending.{SentFile}
 use Rattle.range_reply.specs.Sending.{IsExact, IsNotRead, IsRead}
 use Rattle.chunk_lru.specs.Caches.{Cache}
-use Rattle.chunk_reads.specs.Reading.{ReadsInTurn}
-use Rattle.chunk_group.specs.Cached.{AllCached, CachedShelf, FailedOfNode, GaveOfNode, HasCached, IsCached, ReadsChunk}
+use Rattle.chunk_reads.specs.Reading.{IsNotHeld, ReadsInTurn}
+use Rattle.chunk_group.specs.Cached.{AllCached, CachedShelf, GaveOfNode, HasCached, IsCached, ReadsChunk}
 use Rattle.chunk_group.proofs.CachedChunks.{are-cached, both-cached, each-cached}
 use Rattle.chunk_group.proofs.KeptReads.{Has, none_wrong, one_keeps, one_pure, one_stays, one_why}
 use Rattle.chunk_group.proofs.Pieces.{IsOfFile, among_things, names_met}
@@ -74,7 +74,7 @@ module _ {S : Type 0} (did : S → Call → S → Type 0) (failures : S → ℕ)
         → ReadsInTurn (ReadsChunk did failures) now chunks new → StopsOn Damaged new
     wrong_on now new chunks first last so after wrong turns = (after, λ disk. absurd (cc disk))
 
-    stops_on : (new : CachedShelf S) (plan : Choice) (why : ReadFault) → IsNotRead (GaveOfNode did failures) (FailedOfNode did failures) old file plan why new → StopsOn why new
+    stops_on : (new : CachedShelf S) (plan : Choice) (why : ReadFault) → IsNotRead (GaveOfNode did failures) (IsNotHeld (ReadsChunk did failures)) old file plan why new → StopsOn why new
     stops_on new plan why is =
         fault_keeps (ReadsChunk did failures) file Any (any_met file) (GoesOn old) read_on StopsOn fault_on none_on wrong_on old new plan why (omega (arith)) is
 
@@ -84,11 +84,11 @@ module _ {S : Type 0} (did : S → Call → S → Type 0) (failures : S → ℕ)
       read_keeps (ReadsChunk did failures) file Any (any_met file) (GoesOn old) (read_on old file) old new content_type plan body (omega (arith)) is
 
   pub fault_goes_on : (old new : CachedShelf S) (file : List ℕ) (plan : Choice) (why : ReadFault)
-      → IsNotRead (GaveOfNode did failures) (FailedOfNode did failures) old file plan why new → failures old.shelf ≤ failures new.shelf
+      → IsNotRead (GaveOfNode did failures) (IsNotHeld (ReadsChunk did failures)) old file plan why new → failures old.shelf ≤ failures new.shelf
   fault_goes_on old new file plan why is = (stops_on old file new plan why is).0
 
   pub fault_counts : (old new : CachedShelf S) (file : List ℕ) (plan : Choice)
-      → IsNotRead (GaveOfNode did failures) (FailedOfNode did failures) old file plan Device new → failures old.shelf < failures new.shelf
+      → IsNotRead (GaveOfNode did failures) (IsNotHeld (ReadsChunk did failures)) old file plan Device new → failures old.shelf < failures new.shelf
   fault_counts old new file plan is = (stops_on old file new plan Device is).1 refl
 
   -- nor by a hold, or where one can't be given
@@ -103,7 +103,7 @@ module _ {S : Type 0} (did : S → Call → S → Type 0) (failures : S → ℕ)
   pub gave_counts : (old : CachedShelf S) (hold : Held) (new : CachedShelf S) → GaveOfNode did failures old hold new → failures old.shelf ≤ failures new.shelf
   gave_counts old hold new is = turns_go_on old new hold.chunks is
 
-  pub failed_counts : (old : CachedShelf S) (file : List ℕ) (first last : ℕ) (why : ReadFault) (new : CachedShelf S) → FailedOfNode did failures old file first last why new
+  pub failed_counts : (old : CachedShelf S) (file : List ℕ) (first last : ℕ) (why : ReadFault) (new : CachedShelf S) → IsNotHeld (ReadsChunk did failures) old file first last why new
       → failures old.shelf ≤ failures new.shelf
   failed_counts old file first last why new is =
       (of_failed (ReadsChunk did failures) file Any (any_met file) (GoesOn old) (read_on old file) (StopsOn old file) (fault_on old file) (none_on old file) (wrong_on old file)
@@ -130,7 +130,7 @@ module _ {S : Type 0} (did : S → Call → S → Type 0) (failures : S → ℕ)
         read_keeps (ReadsChunk did failures) file Any (any_met file) (Same old) (read_same old) old new content_type plan body (λ name. refl) is
 
     pub fault_stays : (old new : CachedShelf S) (file : List ℕ) (plan : Choice) (why : ReadFault)
-        → IsNotRead (GaveOfNode did failures) (FailedOfNode did failures) old file plan why new → (name : ShelfName) → has new.shelf name ≡ has old.shelf name
+        → IsNotRead (GaveOfNode did failures) (IsNotHeld (ReadsChunk did failures)) old file plan why new → (name : ShelfName) → has new.shelf name ≡ has old.shelf name
     fault_stays old new file plan why is =
         fault_keeps (ReadsChunk did failures) file Any (any_met file) (Same old) (read_same old) (λ w node. Same old node) (fault_same old) (λ node so. so)
         (λ now node chunks first last so after wrong turns. after) old new plan why (λ name. refl) is
@@ -168,7 +168,7 @@ module _ {S : Type 0} (did : S → Call → S → Type 0) (failures : S → ℕ)
         kept new content_type plan body inv is =
             read_keeps (ReadsChunk did failures) file (IsOfFile file) (names_met file) Inv keeps_on first new content_type plan body inv is
 
-        stops : (new : CachedShelf S) (plan : Choice) (why : ReadFault) → Inv first → IsNotRead (GaveOfNode did failures) (FailedOfNode did failures) first file plan why new
+        stops : (new : CachedShelf S) (plan : Choice) (why : ReadFault) → Inv first → IsNotRead (GaveOfNode did failures) (IsNotHeld (ReadsChunk did failures)) first file plan why new
             → Stops why new
         stops new plan why inv is =
             fault_keeps (ReadsChunk did failures) file (IsOfFile file) (names_met file) Inv keeps_on Stops fault_stops (λ node so. (so, inr refl)) wrong_stops
@@ -192,7 +192,7 @@ module _ {S : Type 0} (did : S → Call → S → Type 0) (failures : S → ℕ)
           exact Any any_piece old there new content_type plan body (begins Any any_piece old there cached (any_cached old.cache)) is
 
       pub fault_why : (old new : CachedShelf S) (plan : Choice) (why : ReadFault) → HasFile has old.shelf file → HasCached has old
-          → IsNotRead (GaveOfNode did failures) (FailedOfNode did failures) old file plan why new → (why ≡ Device) ⊎ (why ≡ OutOfMemory)
+          → IsNotRead (GaveOfNode did failures) (IsNotHeld (ReadsChunk did failures)) old file plan why new → (why ≡ Device) ⊎ (why ≡ OutOfMemory)
       fault_why old new plan why there cached is =
           (stops Any any_piece old there new plan why (begins Any any_piece old there cached (any_cached old.cache)) is).1
 
@@ -220,7 +220,7 @@ module _ {S : Type 0} (did : S → Call → S → Type 0) (failures : S → ℕ)
           (kept (IsOld old) (new_piece old) old there new content_type plan body (begins (IsOld old) (new_piece old) old there cached (old_cached old)) is).1
 
       pub fault_adds : (old new : CachedShelf S) (plan : Choice) (why : ReadFault) → HasFile has old.shelf file → HasCached has old
-          → IsNotRead (GaveOfNode did failures) (FailedOfNode did failures) old file plan why new
+          → IsNotRead (GaveOfNode did failures) (IsNotHeld (ReadsChunk did failures)) old file plan why new
           → AllCached (λ chunk. IsCached old.cache chunk ⊎ Contains (cut file) chunk) new.cache
       fault_adds old new plan why there cached is =
           with_there (IsOld old) old new
@@ -238,7 +238,7 @@ module _ {S : Type 0} (did : S → Call → S → Type 0) (failures : S → ℕ)
           still_has old new there (kept Any any_piece old there new content_type plan body (begins Any any_piece old there cached (any_cached old.cache)) is)
 
       pub fault_has_cached : (old new : CachedShelf S) (plan : Choice) (why : ReadFault) → HasFile has old.shelf file → HasCached has old
-          → IsNotRead (GaveOfNode did failures) (FailedOfNode did failures) old file plan why new → HasCached has new
+          → IsNotRead (GaveOfNode did failures) (IsNotHeld (ReadsChunk did failures)) old file plan why new → HasCached has new
       fault_has_cached old new plan why there cached is =
           still_has old new there (stops Any any_piece old there new plan why (begins Any any_piece old there cached (any_cached old.cache)) is).0
 
@@ -252,6 +252,6 @@ module _ {S : Type 0} (did : S → Call → S → Type 0) (failures : S → ℕ)
             with_there P old new (kept P each_piece old there new content_type plan body (begins P each_piece old there cached all) is).1
 
         pub fault_cached : (old new : CachedShelf S) (plan : Choice) (why : ReadFault) → HasFile has old.shelf file → HasCached has old → AllCached P old.cache
-            → IsNotRead (GaveOfNode did failures) (FailedOfNode did failures) old file plan why new → AllCached P new.cache
+            → IsNotRead (GaveOfNode did failures) (IsNotHeld (ReadsChunk did failures)) old file plan why new → AllCached P new.cache
         fault_cached old new plan why there cached all is =
             with_there P old new (stops P each_piece old there new plan why (begins P each_piece old there cached all) is).0.1

@@ -1,16 +1,16 @@
 -- What is answered to the reading of a file.
-use Rattle.std.specs.Prelude.{◌≡◌, ◌≢◌, ◌⊎◌, ℕ, List, Bool, true, false, Some, Result, Ok, Err, IsTrue, length}
+use Rattle.std.specs.Prelude.{◌≡◌, ◌≢◌, ◌⊎◌, ℕ, List, Bool, true, false, Some, Result, Ok, Err, length}
 use Rattle.std.specs.FinMap as map
 use Rattle.host_names.specs.Digests.{digest_of}
 use Rattle.blob_store.specs.Calls.{Call}
 use Rattle.chunk_reads.specs.declared.faults.ReadFault.{ReadFault}
-use Rattle.chunk_reads.specs.declared.faults.ReadFault.TheVariants as fault
 use Rattle.range_spec.specs.declared.grammar.Asked.{Asked}
 use Rattle.range_spec.specs.declared.selection.Choice.{Choice}
 use Rattle.range_spec.specs.declared.selection.Choice.TheVariants.{None416}
 use Rattle.range_reply.specs.Sending.{IsNotRead, IsRead}
 use Rattle.range_reply.specs.Sending.{SentFile}
-use Rattle.chunk_group.specs.Cached.{CachedShelf, FailedOfNode, GaveOfNode}
+use Rattle.chunk_reads.specs.Reading.{IsNotHeld}
+use Rattle.chunk_group.specs.Cached.{CachedShelf, GaveOfNode, ReadsChunk}
 use Rattle.http_wire.specs.Requests.{RequestParts}
 use Rattle.host_api.specs.Types.{type_of}
 use Rattle.host_api.specs.declared.refusals.Refusal.{Refusal}
@@ -24,19 +24,20 @@ use Rattle.host_server.specs.declared.servers.Server.{Server}
 -- ---- the reply
 
 -- Such a plan of a file at a path is carried out, and the files are then these: none of the range is there, and that is told; or what was read
--- is sent; or it can't be read, and the reason is told, which is what the shelf answered.
+-- is sent; or it can't be read, and the reason is told: what the shelf answered, or that there was no memory.
 abbrev pub IsFileSent : {S : Type 0} → (did : S → Call → S → Type 0) → (failures : S → ℕ) → CachedShelf S → List ℕ → List ℕ → Choice → Answer → CachedShelf S
     → Type 0
 IsFileSent did failures old path file plan answer new =
     ((plan ≡ None416) × (answer ≡ refused_answer (reason.NotSatisfiable (length file))) × (new ≡ old))
     ⊎ ((body : SentFile) × IsRead (GaveOfNode did failures) old file plan (type_of path) body new × (answer ≡ sent_answer path file body))
-    ⊎ ((why : ReadFault) × (why ≢ fault.OutOfMemory) × IsNotRead (GaveOfNode did failures) (FailedOfNode did failures) old file plan why new
+    ⊎ ((why : ReadFault) × (plan ≢ None416) × IsNotRead (GaveOfNode did failures) (IsNotHeld (ReadsChunk did failures)) old file plan why new
     × (answer ≡ refused_answer (refusal_of_read why)))
 
--- the same for a request of such a method: to HEAD, which is sent no byte of it, nothing is read
+-- the same for a request of such a method: to HEAD, which is sent no byte of it, nothing is read; there may be no memory for its reply
 abbrev pub IsFileTold : {S : Type 0} → (did : S → Call → S → Type 0) → (failures : S → ℕ) → (head_only : Bool) → CachedShelf S → List ℕ → List ℕ → Choice → Answer → CachedShelf S
     → Type 0
-IsFileTold did failures true old path file plan answer new = (answer ≡ unread_answer (type_of path) file) × (new ≡ old)
+IsFileTold did failures true old path file plan answer new =
+    ((answer ≡ unread_answer (type_of path) file) ⊎ (answer ≡ refused_answer reason.OutOfMemory)) × (new ≡ old)
 IsFileTold did failures false old path file plan answer new = IsFileSent did failures old path file plan answer new
 
 -- the file was uploaded
@@ -50,18 +51,3 @@ IsReadReply did failures server parts path (Err refusal) answer next = (answer �
 IsReadReply did failures server parts path (Ok file) answer next =
     IsKnown server file × (range : Asked) × AsksRange parts range
     × IsFileTold did failures (is_head parts) server.files path file (plan_of parts range file) answer next.files × (next.house ≡ server.house)
-
--- ---- where memory runs out
-
--- whether something is read of the file
-abbrev pub is_read : Choice → Bool
-is_read None416 = false
-is_read plan = true
-
--- the reading of this file runs out of memory: before it, or in it
-abbrev pub ReadRunsOut : {S D : Type 0} {disk : Ghosts D} → (did : S → Call → S → Type 0) → (failures : S → ℕ) → Server S D disk → RequestParts → Result (List ℕ) Refusal → Server S D disk → Type 0
-ReadRunsOut did failures server parts (Err refusal) next = ⊥
-ReadRunsOut did failures server parts (Ok file) next =
-    IsKnown server file × (range : Asked) × AsksRange parts range × IsTrue (is_read (plan_of parts range file)) × (next.house ≡ server.house)
-    × ((next.files ≡ server.files)
-    ⊎ IsNotRead (GaveOfNode did failures) (FailedOfNode did failures) server.files file (plan_of parts range file) fault.OutOfMemory next.files)

@@ -1,13 +1,14 @@
 -- Where a request is held up: the journal's device has failed.
-use Rattle.std.specs.Prelude.{ℕ, Bool, true, false, ◌&&◌, Option, Result, Ok, Err, is_some}
-use Rattle.change_journal.specs.entries.Held.{Keeps}
+use Rattle.std.specs.Prelude.{ℕ, Bool, true, false, ◌&&◌, Result, Ok, Err, is_some}
 use Rattle.change_undo.specs.Histories.{entry_at}
 use Rattle.host_api.specs.declared.bodies.Ask.{Ask}
 use Rattle.host_api.specs.declared.bodies.Ask.TheVariants as ask
 use Rattle.host_api.specs.declared.refusals.Refusal.{Refusal}
 use Rattle.host_answers.specs.Deploys.{site_of_deploy}
+use Rattle.host_disk.specs.declared.disks.Disk.{Ghosts}
 use Rattle.host_server.specs.Hosts.{Host}
 use Rattle.host_server.specs.Journals.{is_broken}
+use Rattle.host_server.specs.declared.servers.Server.{Server}
 
 -- whether an entry opened the deploy of a number
 abbrev pub is_opened : Host → ℕ → Bool
@@ -22,7 +23,7 @@ may_change host (ask.Cancel deploy) = is_opened host deploy
 may_change host (ask.Upload deploy path) = is_opened host deploy
 may_change host other = false
 
--- whether what is asked for is held up
-abbrev pub is_held_up : {D : Type 0} → Host → Option (Keeps D) → Result Ask Refusal → Bool
-is_held_up host journal (Ok asking) = is_broken journal && may_change host asking
-is_held_up host journal (Err why) = false
+-- whether what a request asks for is held up, since the journal's device has failed
+abbrev pub holds_up : {S D : Type 0} {disk : Ghosts D} → Server S D disk → Result Ask Refusal → Bool
+holds_up server (Ok asking) = is_broken server.journal && may_change server.house asking
+holds_up server (Err why) = false

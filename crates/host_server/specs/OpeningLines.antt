@@ -4,36 +4,27 @@ use Rattle.hex.specs.Hex.{encode_lower}
 use Rattle.found_host.specs.declared.faults.OpenFault.{OpenFault}
 use Rattle.found_host.specs.declared.faults.OpenFault.TheVariants as fault
 
--- the name of a fault, with what is at fault
-abbrev pub name_of : OpenFault → List ℕ
-name_of fault.BadHeader = codes "journal: BadHeader"
-name_of (fault.BadRecord n) = codes "journal: BadRecord "
-name_of (fault.NotLegal n) = codes "journal: NotLegal "
-name_of fault.JournalDevice = codes "journal: Device"
-name_of (fault.MissingBlob digest) = codes "blobs: MissingBlob "
-name_of (fault.DamagedBlob digest) = codes "blobs: DamagedBlob "
-name_of fault.BlobsDevice = codes "blobs: Device"
-name_of fault.OutOfMemory = codes "out of memory"
+-- what a run says of a fault: its name, with the record, the entry or the file at fault, and the exit status
+abbrev pub shown_of : OpenFault → List ℕ × ℕ
+shown_of fault.BadHeader = (codes "journal: BadHeader", 3)
+shown_of (fault.BadRecord n) = (codes "journal: BadRecord " ++ decimal n, 3)
+shown_of (fault.NotLegal n) = (codes "journal: NotLegal " ++ decimal n, 3)
+shown_of fault.JournalDevice = (codes "journal: Device", 3)
+shown_of (fault.MissingBlob digest) = (codes "blobs: MissingBlob " ++ encode_lower digest.0, 4)
+shown_of (fault.DamagedBlob digest) = (codes "blobs: DamagedBlob " ++ encode_lower digest.0, 4)
+shown_of fault.BlobsDevice = (codes "blobs: Device", 4)
+shown_of fault.OutOfMemory = (codes "out of memory", 2)
 
--- which record, entry or file it is
+-- the line that says it
+abbrev pub opening_line : OpenFault → List ℕ
+opening_line why = codes "filehost: " ++ (shown_of why).0 ++ codes "\n"
+
+-- ---- what private functions say
+
+-- which record, entry or file is at fault
 abbrev pub detail_of : OpenFault → List ℕ
 detail_of (fault.BadRecord n) = decimal n
 detail_of (fault.NotLegal n) = decimal n
 detail_of (fault.MissingBlob digest) = encode_lower digest.0
 detail_of (fault.DamagedBlob digest) = encode_lower digest.0
 detail_of why = []
-
--- the line that says it
-abbrev pub opening_line : OpenFault → List ℕ
-opening_line why = codes "filehost: " ++ name_of why ++ detail_of why ++ codes "\n"
-
--- the exit status
-abbrev pub opening_status : OpenFault → ℕ
-opening_status fault.BadHeader = 3
-opening_status (fault.BadRecord n) = 3
-opening_status (fault.NotLegal n) = 3
-opening_status fault.JournalDevice = 3
-opening_status (fault.MissingBlob digest) = 4
-opening_status (fault.DamagedBlob digest) = 4
-opening_status fault.BlobsDevice = 4
-opening_status fault.OutOfMemory = 2

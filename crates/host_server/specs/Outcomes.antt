@@ -142,7 +142,3 @@ abbrev pub uploaded : Host → ℕ → List ℕ → Result (SiteName × Digest) 
 uploaded host n bytes (Ok at) =
     then_published (published_if_ready (with_upload host bytes) at.0 n) (λ published. Uploaded published at.1)
 uploaded host n bytes (Err why) = refused host why
-
--- what comes of an upload of these bytes to a path of the deploy of a number
-abbrev pub upload_outcome : Host → ℕ → List ℕ → List ℕ → Outcome
-upload_outcome host n path bytes = uploaded host n bytes (judge_upload host n path bytes)

@@ -5,7 +5,8 @@ use Rattle.host_names.specs.declared.digests.Digest.{Digest}
 use Rattle.host_names.specs.declared.names.SiteName.{SiteName}
 use Rattle.byte_view.specs.Contents.{AreDigested}
 use Rattle.blob_store.specs.Calls.{Call}
-use Rattle.chunk_group.specs.Cached.{FailedOfNode, GaveOfNode}
+use Rattle.chunk_reads.specs.Reading.{IsNotHeld}
+use Rattle.chunk_group.specs.Cached.{GaveOfNode, ReadsChunk}
 use Rattle.site_state.specs.Files.{Paths}
 use Rattle.site_state.specs.Missing.{AreMissing, least_missing_of}
 use Rattle.site_change.specs.declared.commands.Command.{Command}
@@ -97,7 +98,7 @@ module _ {S D : Type 0} {disk : Ghosts D} where
 
     abbrev pub failed_at : Failed (Server S D disk)
     failed_at server file first last why next =
-        FailedOfNode did failures server.files file first last why next.files × KeepsHost server next
+        IsNotHeld (ReadsChunk did failures) server.files file first last why next.files × KeepsHost server next
 
     abbrev pub calls_of : Calls (Server S D disk)
     calls_of = record {

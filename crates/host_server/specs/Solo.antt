@@ -1,6 +1,6 @@
 -- What a run of the program does: one connection, to an empty server or to the one that a store keeps, where its words ask for that. Where
 -- its status isn't 0, it says why.
-use Rattle.std.specs.Prelude.{◌≡◌, ◌≢◌, ◌⊎◌, ℕ, List, [], Option, Some, None, Result, Ok, Err, codes}
+use Rattle.std.specs.Prelude.{◌≡◌, ◌≢◌, ◌⊎◌, ℕ, List, [], Some, None, Result, Ok, Err, MatchResult, codes, if◌then◌else◌, is_ok}
 use Rattle.std.specs.FinMap as map
 use Rattle.std.specs.Io.KnownBytes.{Appends}
 use Rattle.command_line.specs.CommandLine.{AskForNothing, AskForServe, AskForSolo}
@@ -20,23 +20,13 @@ use Rattle.found_host.specs.declared.faults.OpenFault.TheVariants as open_fault
 use Rattle.host_disk.specs.declared.disks.Disk.{Ghosts}
 use Rattle.host_disk.specs.declared.mem_disk.MemDisk.{MemDisk}
 use Rattle.host_server.specs.Asks.{IsAnswer}
-use Rattle.host_server.specs.Hosts.{Host}
-use Rattle.host_server.specs.OpeningLines.{opening_line, opening_status}
+use Rattle.host_server.specs.OpeningLines.{opening_line, shown_of}
 use Rattle.host_server.specs.Openings.{IsOpened}
 use Rattle.host_connection.specs.Serving.{Answering, Stream, Serves}
 use Rattle.host_connection.specs.Timing.{Connects, IsCaughtUp}
 use Rattle.host_connection.specs.declared.connections.ConnectionFault.{ConnectionFault}
 use Rattle.host_connection.specs.declared.connections.ConnectionFault.TheVariants as fault
 use Rattle.host_server.specs.declared.servers.Server.{Server}
-
--- a host without entries and uploads, which may have as many entries as any
-abbrev pub empty_host : Host
-empty_host = record { limit = 1000000; entries = []; uploads = map.empty }
-
--- the exit status where the connection ended so
-abbrev pub status_of : Result (Unit {0}) ConnectionFault → ℕ
-status_of (Ok done) = 0
-status_of (Err fault) = 2
 
 -- ---- what is said
 
@@ -54,14 +44,9 @@ fault_line fault.InputFault = codes "filehost: input fault\n"
 fault_line fault.OutputFault = codes "filehost: output fault\n"
 fault_line fault.OutOfMemory = memory_line
 
--- nothing is said where the connection ended well, and else why it ended
-abbrev pub SaysEnd : (says_fail : Type 0) → Result (Unit {0}) ConnectionFault → (said new_said : Stream) → Type 0
-SaysEnd says_fail (Ok done) said new_said = new_said ≡ said
-SaysEnd says_fail (Err fault) said new_said = IsSaid says_fail (fault_line fault) said new_said
-
 -- it is said why a store can't be opened, also by the status
 abbrev pub SaysFault : (says_fail : Type 0) → OpenFault → ℕ → (said new_said : Stream) → Type 0
-SaysFault says_fail why status said new_said = (status ≡ opening_status why) × IsSaid says_fail (opening_line why) said new_said
+SaysFault says_fail why status said new_said = (status ≡ (shown_of why).1) × IsSaid says_fail (opening_line why) said new_said
 
 -- ---- what isn't served
 
@@ -70,36 +55,30 @@ abbrev pub IsRefused : (says_fail : Type 0) → List (List ℕ) → ℕ → (sai
 IsRefused says_fail words status said new_said =
     AskForNothing words × (status ≡ 1) × ((text : List ℕ) × (text ≢ []) × IsSaid says_fail text said new_said)
 
--- memory ran out while the words were read, and that is said
-abbrev pub IsNotRead : (says_fail : Type 0) → ℕ → (said new_said : Stream) → Type 0
-IsNotRead says_fail status said new_said = (status ≡ 2) × IsSaid says_fail memory_line said new_said
-
--- no connection is served, for either reason
-abbrev pub IsNotServed : (says_fail : Type 0) → List (List ℕ) → ℕ → (said new_said : Stream) → Type 0
-IsNotServed says_fail words status said new_said = IsRefused says_fail words status said new_said ⊎ IsNotRead says_fail status said new_said
+-- memory ran out, and that is said
+abbrev pub IsOutOfMemory : (says_fail : Type 0) → ℕ → (said new_said : Stream) → Type 0
+IsOutOfMemory says_fail status said new_said = (status ≡ 2) × IsSaid says_fail memory_line said new_said
 
 -- ---- what is served
 
--- a connection to this server is served, each reply in time, and the status says how it ended
+-- A connection to this server is served, each reply in time, and the status says whether it ended well. Where it didn't, it is said why it
+-- ended; else nothing is said.
 pub record IsServed {H X : Type 0} (answers : Answering H) (duplex : duplexes.Ghosts X) (says_fail : Type 0) (start : H) (status : ℕ) (old new : X) (said new_said : Stream)
     : Type 0 where
   pub ended : Result (Unit {0}) ConnectionFault
-  pub says : status ≡ status_of ended
+  pub says : status ≡ (if is_ok ended then 0 else 2)
   pub next : H
   pub serves : Serves answers duplex.read_fails duplex.write_fails ended start next (duplex.left old) (duplex.held old) (duplex.held new)
   pub timely : Ran duplex.saw (IsCaughtUp answers start) old new (Connects answers ended start next)
-  pub end_said : SaysEnd says_fail ended said new_said
+  pub end_said : MatchResult ended (λ done. new_said ≡ said) (λ why. IsSaid says_fail (fault_line why) said new_said)
 
--- a server without entries, files and a journal, whose shelf is in memory, and whose cache has nothing yet
+-- a server without entries, files and a journal, which may have as many entries as any, whose shelf is in memory, and whose cache has
+-- nothing yet
 pub record IsEmpty {disk : Ghosts MemDisk} (server : Server MemShelf MemDisk disk) : Type 0 where
-  pub host : server.house ≡ empty_host
+  pub host : server.house ≡ record { limit = 1000000; entries = []; uploads = map.empty }
   pub journal : server.journal ≡ None
   pub shelf : (name : ShelfName) → found_in server.files.shelf name ≡ None
   pub cache : server.files.cache ≡ empty 67108864
-
--- there was no memory for the server, and that is said
-abbrev pub IsOutOfMemory : (says_fail : Type 0) → ℕ → (said new_said : Stream) → Type 0
-IsOutOfMemory says_fail status said new_said = (status ≡ 2) × IsSaid says_fail memory_line said new_said
 
 -- a connection to such a server is served; or there was no memory for it, and nothing is read or answered
 abbrev pub IsEmptyServed : {X : Type 0} → (disk : Ghosts MemDisk) → (duplex : duplexes.Ghosts X) → (says_fail : Type 0) → ℕ → (old new : X) → (said new_said : Stream) → Type 0
@@ -117,35 +96,26 @@ RunsStore {S = S} {D = D} disk did failures duplex says_fail first shelf status 
     ⊎ ((why : OpenFault) × (last : D) × (last_shelf : S) × IsOpenFault disk did first shelf 1000000 why last last_shelf
     × SaysFault says_fail why status said new_said × (new ≡ old))
 
--- why there is no disk or shelf in a folder: the journal's file can't be opened, or memory ran out
-abbrev pub IsFolderFault : OpenFault → Type 0
-IsFolderFault open_fault.JournalDevice = Unit {0}
-IsFolderFault open_fault.OutOfMemory = Unit {0}
-IsFolderFault why = ⊥
-
--- A run over the store in a folder, which has a name: over the disk and the shelf there; or there is none, and that is said.
+-- A run over the store in a folder, which has a name: over the disk and the shelf there; or there is none, since the journal's file can't be
+-- opened, or memory ran out, and that is said.
 abbrev pub RunsFolder : {S D X : Type 0} → (disk : Ghosts D) → (shelf : shelves.Ghosts S) → (duplex : duplexes.Ghosts X) → (says_fail : Type 0)
     → (folder : List ℕ) → ℕ → (old new : X) → (said new_said : Stream) → Type 0
 RunsFolder {S = S} {D = D} disk shelf duplex says_fail folder status old new said new_said =
     ((folder ≢ []) × ((first : D) × (there : S) × RunsStore disk shelf.did shelf.failures duplex says_fail first there status old new said new_said))
-    ⊎ ((why : OpenFault) × IsFolderFault why × SaysFault says_fail why status said new_said × (new ≡ old))
+    ⊎ ((why : OpenFault) × ((why ≡ open_fault.JournalDevice) ⊎ (why ≡ open_fault.OutOfMemory)) × SaysFault says_fail why status said new_said
+    × (new ≡ old))
 
 -- ---- the whole
 
--- what is served, by whether the words name a folder
-abbrev pub RunsOver : {S D X : Type 0} → Ghosts MemDisk → (disk : Ghosts D) → (shelf : shelves.Ghosts S) → (duplex : duplexes.Ghosts X) → (says_fail : Type 0)
-    → Option (List ℕ) → ℕ → (old new : X) → (said new_said : Stream) → Type 0
-RunsOver in_memory disk shelf duplex says_fail None status old new said new_said = IsEmptyServed in_memory duplex says_fail status old new said new_said
-RunsOver in_memory disk shelf duplex says_fail (Some folder) status old new said new_said = RunsFolder disk shelf duplex says_fail folder status old new said new_said
-
--- A run: no connection is served, and nothing is read or answered; or the words ask for one. So the status is 1 exactly where the words
--- ask for nothing that the program does, unless memory ran out while they were read; this and a fault of the connection are 2, and a store that
--- can't be opened has a status of its own.
+-- A run: no connection is served, and nothing is read or answered; or the words ask for one, to an empty server or over the store in a
+-- folder. So the status is 1 exactly where the words ask for nothing that the program does, unless memory ran out while they were read; this
+-- and a fault of the connection are 2, and a store that can't be opened has a status of its own.
 abbrev pub Runs : {S D X : Type 0} → Ghosts MemDisk → (disk : Ghosts D) → (shelf : shelves.Ghosts S) → (duplex : duplexes.Ghosts X) → (says_fail : Type 0)
     → List (List ℕ) → ℕ → (old new : X) → (said new_said : Stream) → Type 0
 Runs in_memory disk shelf duplex says_fail words status old new said new_said =
-    (IsNotServed says_fail words status said new_said × (new ≡ old))
-    ⊎ ((store : Option (List ℕ)) × AskForSolo words store × RunsOver in_memory disk shelf duplex says_fail store status old new said new_said)
+    ((IsRefused says_fail words status said new_said ⊎ IsOutOfMemory says_fail status said new_said) × (new ≡ old))
+    ⊎ (AskForSolo words None × IsEmptyServed in_memory duplex says_fail status old new said new_said)
+    ⊎ ((folder : List ℕ) × AskForSolo words (Some folder) × RunsFolder disk shelf duplex says_fail folder status old new said new_said)
 
 -- A run, unless the words ask for `serve`: then these options are handed back, and nothing is read, answered or said.
 abbrev pub RunsSolo : {S D X : Type 0} → Ghosts MemDisk → (disk : Ghosts D) → (shelf : shelves.Ghosts S) → (duplex : duplexes.Ghosts X) → (says_fail : Type 0)

@@ -1,5 +1,5 @@
 -- What comes of an upload, and what is answered to it.
-use Rattle.std.specs.Prelude.{◌≡◌, ◌≢◌, ◌⊎◌, ◌↔◌, ℕ, ◌<◌, ◌≤◌, List, None, Result, Ok, Err, IsSome, IsTrue, length}
+use Rattle.std.specs.Prelude.{◌≡◌, ◌⊎◌, ◌↔◌, ℕ, ◌<◌, ◌≤◌, List, None, Result, Ok, Err, MatchResult, IsSome, IsTrue, length}
 use Rattle.std.specs.FinMap as map
 use Rattle.host_names.specs.Digests.{digest_of}
 use Rattle.byte_view.specs.Contents.{Contents}
@@ -16,9 +16,9 @@ use Rattle.host_disk.specs.declared.disks.Disk.{Ghosts}
 use Rattle.host_answers.specs.Answers.{told_upload}
 use Rattle.host_answers.specs.declared.uploads.Uploaded.{Uploaded}
 use Rattle.host_server.specs.Hosts.{with_upload}
-use Rattle.host_server.specs.Memory.{is_published, TextRunsOut}
-use Rattle.host_server.specs.Outcomes.{judge_upload, upload_outcome, uploaded}
-use Rattle.host_replies.specs.Replies.{Answer, refused_answer, told_answer}
+use Rattle.host_server.specs.Memory.{is_published}
+use Rattle.host_server.specs.Outcomes.{judge_upload, uploaded}
+use Rattle.host_replies.specs.Replies.{Answer, Tells, refused_answer}
 use Rattle.host_server.specs.ServerJournals.{Breaks, GoesOn}
 use Rattle.host_server.specs.declared.servers.Server.{Server}
 
@@ -43,14 +43,11 @@ refusal_of_upload fault.TooLarge = reason.TooLarge
 refusal_of_upload fault.Device = reason.Device
 refusal_of_upload fault.OutOfMemory = reason.OutOfMemory
 
--- where nothing is against the bytes they are on the shelf, which else stays as it was
-abbrev pub IsStoredIf : {S : Type 0} → (did : S → Call → S → Type 0) → Result (SiteName × Digest) Refusal → Contents → S → List ℕ → S → Type 0
-IsStoredIf did (Ok at) uploads old bytes new = IsStored did uploads old bytes new
-IsStoredIf did (Err why) uploads old bytes new = new ≡ old
-
--- the bytes are stored where nothing is against them, what is in the cache stays, and the host does what comes of that
+-- the bytes are stored where nothing is against them, and else the shelf stays as it was; what is in the cache stays, and the host does what
+-- comes of that
 pub record IsUploaded {S D : Type 0} {disk : Ghosts D} (did : S → Call → S → Type 0) (server : Server S D disk) (judged : Result (SiteName × Digest) Refusal) (n : ℕ) (bytes : List ℕ) (told : Told) (next : Server S D disk) : Type 0 where
-  pub stored : IsStoredIf did judged server.house.uploads server.files.shelf bytes next.files.shelf
+  pub stored : MatchResult judged (λ at. IsStored did server.house.uploads server.files.shelf bytes next.files.shelf) (λ why.
+      next.files.shelf ≡ server.files.shelf)
   pub cache : next.files.cache ≡ server.files.cache
   pub told_is : told ≡ (uploaded server.house n bytes judged).told
   pub host_is : next.house ≡ (uploaded server.house n bytes judged).host
@@ -92,14 +89,6 @@ DoesUpload did failures server judged n bytes done next =
 -- the reply to an upload: what comes of it, or the reason why the store doesn't take the bytes
 abbrev pub IsUploadReply : {S D : Type 0} {disk : Ghosts D} → (did : S → Call → S → Type 0) → (failures : S → ℕ) → Server S D disk → ℕ → List ℕ → List ℕ → Answer → Server S D disk → Type 0
 IsUploadReply did failures server n path bytes answer next =
-    ((told : Told) × IsUploaded did server (judge_upload server.house n path bytes) n bytes told next × (answer ≡ told_answer told))
-    ⊎ ((why : UploadFault) × (why ≢ fault.OutOfMemory) × IsRefusedByStore did failures server (judge_upload server.house n path bytes) bytes why next
+    ((told : Told) × IsUploaded did server (judge_upload server.house n path bytes) n bytes told next × Tells told answer)
+    ⊎ ((why : UploadFault) × IsRefusedByStore did failures server (judge_upload server.house n path bytes) bytes why next
     × (answer ≡ refused_answer (refusal_of_upload why)))
-
--- an upload runs out of memory: the store does, or the entry that publishes, or the text of the reply
-abbrev pub UploadRunsOut : {S D : Type 0} {disk : Ghosts D} → (did : S → Call → S → Type 0) → (failures : S → ℕ) → Server S D disk → ℕ → List ℕ → List ℕ → Server S D disk → Type 0
-UploadRunsOut did failures server n path bytes next =
-    IsRefusedByStore did failures server (judge_upload server.house n path bytes) bytes fault.OutOfMemory next
-    ⊎ IsUnpublished did server (judge_upload server.house n path bytes) n bytes next
-    ⊎ ((told : Told) × IsUploaded did server (judge_upload server.house n path bytes) n bytes told next
-    × TextRunsOut (upload_outcome server.house n path bytes) next.house)

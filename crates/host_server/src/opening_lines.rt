@@ -1,8 +1,7 @@
 //! What a run says if its store can't be opened, and its exit status then.
 ghost use Rattle.std.specs.Prelude.{◌≡◌, ◌+◌, ◌≤◌, ◌++◌, codes, length};
 ghost use Rattle.arrayvec.specs.ArrayString.{array_string_len};
-ghost use Rattle.host_server.specs.OpeningLines as spec;
-ghost use Rattle.host_server.specs.OpeningLines.{detail_of, opening_line, opening_status};
+ghost use Rattle.host_server.specs.OpeningLines.{detail_of, opening_line, shown_of};
 
 use arrayvec::ArrayString;
 use found_host::OpenFault;
@@ -13,7 +12,7 @@ const LONGEST: usize = 80;
 
 /// The text of a fault, before the number or name of what is at fault.
 fn name_of(fault: &OpenFault) -> &'static str
-    ensures name { result.now ≡ spec.name_of fault.now }
+    ensures name { (shown_of fault.now).0 ≡ result.now ++ detail_of fault.now }
     ensures short { length result.now ≤ 25 }
 {
     match fault {
@@ -59,7 +58,7 @@ pub fn line_of(fault: &OpenFault) -> ArrayString<LONGEST>
 
 /// The exit status if a store can't be opened.
 pub fn status_of(fault: &OpenFault) -> u8
-    ensures { result ≡ opening_status fault.now }
+    ensures { result ≡ (shown_of fault.now).1 }
 {
     match fault {
         OpenFault::BadHeader

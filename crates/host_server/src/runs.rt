@@ -1,7 +1,7 @@
 //! How a run of the program ends: its exit status, and what it says on standard error.
-ghost use Rattle.std.specs.Prelude.{◌≡◌};
+ghost use Rattle.std.specs.Prelude.{◌≡◌, MatchResult, if◌then◌else◌, is_ok};
 ghost use Rattle.host_server.specs.Asks.{IsAnswer};
-ghost use Rattle.host_server.specs.Solo.{IsSaid, IsServed, SaysEnd, status_of};
+ghost use Rattle.host_server.specs.Solo.{IsSaid, IsServed, fault_line};
 
 use crate::servers::Server;
 use blob_store::Shelf;
@@ -29,8 +29,9 @@ pub fn fail<E: Sink>(errors: &mut E, status: u8, why: &str) -> u8
 
 /// The exit status after a connection that ended this way. A fault is written to `errors`.
 fn status_after<E: Sink>(errors: &mut E, ended: Result<(), ConnectionFault>) -> u8
-    ensures status { result ≡ status_of ended }
-    ensures said { SaysEnd E.may_fail ended (E.held errors.old) (E.held errors.new) }
+    ensures status { result ≡ (if is_ok ended then 0 else 2) }
+    ensures said { MatchResult ended (λ done. E.held errors.new ≡ E.held errors.old) (λ why.
+        IsSaid E.may_fail (fault_line why) (E.held errors.old) (E.held errors.new)) }
 {
     match ended {
         Ok(()) => DONE,

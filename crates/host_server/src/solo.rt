@@ -1,7 +1,7 @@
 //! The program's run: its words are read, and one connection is served.
-ghost use Rattle.std.specs.Prelude.{ℕ, Err, List, map};
+ghost use Rattle.std.specs.Prelude.{◌⊎◌, ℕ, Err, List, map};
 ghost use Rattle.command_line.specs.CommandLine.{Reads};
-ghost use Rattle.host_server.specs.Solo.{IsEmptyServed, IsNotServed, RunsSolo};
+ghost use Rattle.host_server.specs.Solo.{IsEmptyServed, IsOutOfMemory, IsRefused, RunsSolo};
 
 use crate::runs::{FAILED, OUT_OF_MEMORY, fail, serve_server};
 use crate::servers::Server;
@@ -22,7 +22,8 @@ const NOT_TAKEN: u8 = 1;
 /// Writes that the words ask for nothing that the program does, or that memory ran out, and answers the exit status.
 fn refuse<E: Sink>(errors: &mut E, refusal: Refusal) -> u8
     ensures { (words : List (List ℕ)) → Reads words (Err refusal)
-        → IsNotServed E.may_fail words result (E.held errors.old) (E.held errors.new) }
+        → IsRefused E.may_fail words result (E.held errors.old) (E.held errors.new)
+        ⊎ IsOutOfMemory E.may_fail result (E.held errors.old) (E.held errors.new) }
 {
     match refusal {
         Refusal::Shown(text) => fail(errors, NOT_TAKEN, text.as_str()),

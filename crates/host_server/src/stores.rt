@@ -1,7 +1,7 @@
 //! A run over a store: it is opened, and one connection is served.
-ghost use Rattle.std.specs.Prelude.{◌≡◌, ◌≢◌, [], IfErr, OnOk};
-ghost use Rattle.host_server.specs.Solo.{IsFolderFault, RunsFolder, RunsStore, SaysFault};
-ghost use Rattle.found_host.specs.declared.faults.OpenFault.TheVariants.{JournalDevice};
+ghost use Rattle.std.specs.Prelude.{◌≡◌, ◌≢◌, ◌⊎◌, [], IfErr, OnOk};
+ghost use Rattle.host_server.specs.Solo.{RunsFolder, RunsStore, SaysFault};
+ghost use Rattle.found_host.specs.declared.faults.OpenFault.TheVariants.{JournalDevice, OutOfMemory};
 
 use crate::opening_lines::{line_of, status_of};
 use crate::runs::{fail, serve_server};
@@ -51,7 +51,7 @@ pub fn open_folder<'a, R: Files<File = File>>(
     folder: &str,
 ) -> Result<(FileDisk, DirShelf<'a, R>), OpenFault>
     ensures named { OnOk result (folder.now ≢ []) }
-    ensures fault { IfErr result IsFolderFault }
+    ensures fault { IfErr result (λ why. (why ≡ JournalDevice) ⊎ (why ≡ OutOfMemory)) }
 {
     if folder.is_empty() {
         return Err(OpenFault::JournalDevice);

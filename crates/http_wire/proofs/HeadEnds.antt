@@ -6,9 +6,10 @@ use Rattle.std.specs.List.{flat_map}
 use Rattle.std.proofs.lemmas.Bool.{ne_eqb, cases_eq, cases_Bool, eq-eqb, false≢true, true≢false}
 use Rattle.std.proofs.lemmas.List.{flat_map_more}
 use Rattle.std.proofs.lemmas.List.Elements.{All-head, All-tail, All-push, All-nil}
+use Rattle.httparse.specs.Ascii.{line_feed, carriage_return}
 use Rattle.http_wire.specs.declared.scans.State.{State}
 use Rattle.http_wire.specs.declared.scans.State.TheVariants.{Before, BeforeReturn, Text, Between, BetweenReturn, Done}
-use Rattle.http_wire.specs.HeadText.{line_feed, carriage_return, ended, IsEmptyLine, IsTextLine, IsHeadText, HasHead}
+use Rattle.http_wire.specs.HeadText.{ended, IsEmptyLine, IsTextLine, IsHeadText, HasHead}
 use Rattle.http_wire.specs.Scanning.{step_of, is_done, rest_from}
 
 -- ---- a head is run through to its end

@@ -4,9 +4,10 @@ use Rattle.std.specs.List.{flat_map}
 use Rattle.std.proofs.lemmas.List.{append_cancel_right}
 use Rattle.httparse.specs.Grammar.{LineEnd, crlf, lf, print_end, print_blank, print_version, print_field, print_section, RequestHead, print_request, IsRequestHead, ReadsRequest}
 use Rattle.httparse.specs.Pieces.{RequestStart}
+use Rattle.httparse.specs.Spans.{RequestExceeds}
 use Rattle.httparse.proofs.GrammarLemmas.{print_request-append}
 use Rattle.httparse.proofs.PieceLemmas.{RequestStart_deterministic, Section_skip, Stops_token}
-use Rattle.http_wire.specs.Requests.{RequestParts, Says, HasManyFields}
+use Rattle.http_wire.specs.Requests.{RequestParts, Says, field_limit}
 
 -- the first line of a head and the empty lines before it, and then these bytes
 abbrev after_start : RequestHead → List ℕ → List ℕ
@@ -59,7 +60,7 @@ has_fields h k front rest lawful text_is reads =
     let skipped = Section_skip h.fields k.fields k.last (lines ++ tail) tail [] (reads.0.fields, refl) (lawful.fields, same.1) in
     omega (arith, ap length skipped.1, length-append h.fields skipped.0)
 
-pub has_few_fields : (text : List ℕ) (parts : RequestParts) → Says text parts → ¬ (HasManyFields text)
+pub has_few_fields : (text : List ℕ) (parts : RequestParts) → Says text parts → ¬ (RequestExceeds field_limit text)
 has_few_fields text parts says many =
     let fewer = has_fields many.3 says.head many.0 many.1 says.served.lawful (sym says.text_is ∙ many.2) many.4 in
     let room = says.served.room in

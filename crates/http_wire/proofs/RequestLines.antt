@@ -4,9 +4,9 @@ use Rattle.std.specs.Prelude.{All, codes, IsTrue}
 use Rattle.std.specs.List.{flat_map, list_all}
 use Rattle.std.proofs.lemmas.Bool.{false≢true, and_parts, eqb-false, not-true}
 use Rattle.std.proofs.lemmas.List.Elements.{All-append, All-cons, All-nil, All-weaker, All-map}
-use Rattle.httparse.specs.Ascii.{space, colon}
+use Rattle.httparse.specs.Ascii.{line_feed, carriage_return, space, colon}
 use Rattle.httparse.specs.Grammar.{is_token_byte, is_uri_byte, is_value_byte, AllPass, LineEnd, crlf, lf, print_end, print_blank, print_version, Field, print_field, IsField, RequestHead, print_request, IsRequestHead}
-use Rattle.http_wire.specs.HeadText.{line_feed, carriage_return, ended, IsEmptyLine, IsTextLine, IsHeadText}
+use Rattle.http_wire.specs.HeadText.{ended, IsEmptyLine, IsTextLine, IsHeadText}
 
 abbrev IsOneLine : List ℕ → Type 0
 IsOneLine line = All (λ b. b ≢ line_feed) line

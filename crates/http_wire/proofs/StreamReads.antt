@@ -8,15 +8,16 @@ use Rattle.http_wire.specs.declared.faults.BodyFault.TheVariants as body_fault
 use Rattle.http_wire.specs.declared.faults.HeadFault.{HeadFault}
 use Rattle.http_wire.specs.declared.faults.HeadFault.TheVariants as head_fault
 use Rattle.http_wire.specs.HeadText.{CutShort}
-use Rattle.http_wire.specs.Requests.{RequestParts}
+use Rattle.http_wire.specs.Requests.{RequestParts, IsBadHead}
 use Rattle.http_wire.specs.Timing.{Event, ReadFails, IsLatest}
-use Rattle.http_wire.specs.Wires.{ServesHead, RefusesHead, RefusesLargeHead, HasWholeHead, HeadIsOf, HeadEnds, BodyIsOf, BodyEnds}
+use Rattle.http_wire.specs.Wires.{TakesHead, ServesHead, RefusesLargeHead, HasWholeHead, HeadIsOf, HeadEnds, BodyIsOf, BodyEnds}
 
 pub head_ok : (result : Result RequestParts HeadFault) (old new : Option (List ℕ)) → HeadIsOf result old new → IfOk result (ServesHead old new)
 head_ok (Ok parts) old new is = is
 head_ok (Err fault) old new is = tt
 
-pub head_bad : (result : Result RequestParts HeadFault) (old new : Option (List ℕ)) → HeadIsOf result old new → IsErrOf result head_fault.BadHead → RefusesHead old new
+pub head_bad : (result : Result RequestParts HeadFault) (old new : Option (List ℕ)) → HeadIsOf result old new → IsErrOf result head_fault.BadHead
+    → (text : List ℕ) × TakesHead old new text × IsBadHead text
 head_bad result old new is err = subst (λ r. HeadIsOf r old new) err is
 
 pub head_large : (result : Result RequestParts HeadFault) (old new : Option (List ℕ)) → HeadIsOf result old new → IsErrOf result head_fault.HeadTooLarge

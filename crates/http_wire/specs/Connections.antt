@@ -1,23 +1,13 @@
 -- Whether a request asks for its connection to end (RFC 9110, sections 5.6.1 and 7.6.1; RFC 9112, section 9.6).
-use Rattle.std.specs.Prelude.{ℕ, Bool, List, [], ◌∷◌, ◌==◌, ◌||◌, if◌then◌else◌, reverse, codes}
+use Rattle.std.specs.Prelude.{ℕ, Bool, List, ◌==◌, codes}
 use Rattle.std.specs.List.{list_any, slice_split}
 use Rattle.std.specs.Str.{byte, str_eq_ignore_ascii_case}
+use Rattle.httparse.specs.Grammar.{trim_ows}
 use Rattle.http_wire.specs.Fields.{values_of}
 
--- a space or a tab
-abbrev pub is_blank : ℕ → Bool
-is_blank c = c == 32 || c == 9
-
-abbrev pub trim_front : List ℕ → List ℕ
-trim_front [] = []
-trim_front (c ∷ text) = if is_blank c then trim_front text else c ∷ text
-
--- the text without the blanks before and after it
-abbrev pub trim_blanks : List ℕ → List ℕ
-trim_blanks text = reverse (trim_front (reverse (trim_front text)))
-
+-- the element is close, ASCII case ignored, with or without white space around it
 abbrev pub is_close : List ℕ → Bool
-is_close element = str_eq_ignore_ascii_case (trim_blanks element) (codes "close")
+is_close element = str_eq_ignore_ascii_case (trim_ows element) (codes "close")
 
 -- one of the value's elements, which commas part, is close
 abbrev pub lists_close : List ℕ → Bool

@@ -2,16 +2,11 @@
 -- with the first empty line after a line that is not empty.
 use Rattle.std.specs.Prelude.{◌≡◌, ◌≢◌, ℕ, ◌<◌, ◌≤◌, ◌⊎◌, List, [], ◌∷◌, ◌++◌, length, All}
 use Rattle.std.specs.List.{flat_map}
+use Rattle.httparse.specs.Ascii.{line_feed, carriage_return}
 
 -- how many bytes a head has at most, the empty lines before it included
 abbrev pub head_limit : ℕ
 head_limit = 16384
-
-abbrev pub line_feed : ℕ
-line_feed = 10
-
-abbrev pub carriage_return : ℕ
-carriage_return = 13
 
 -- a line as it is in the stream: a CR before the LF belongs to its end
 abbrev pub ended : List ℕ → List ℕ

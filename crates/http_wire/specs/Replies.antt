@@ -4,16 +4,13 @@ use Rattle.std.specs.List.{concat, flat_map, list_all}
 use Rattle.std.specs.Option.{option_map}
 use Rattle.std.specs.Bool.{then_some}
 use Rattle.http.specs.StatusCode.{code_digits, reason_phrase}
+use Rattle.httparse.specs.Ascii.{crlf_bytes}
 use Rattle.http_wire.specs.declared.replies.ContentRange.{ContentRange}
 use Rattle.http_wire.specs.declared.replies.ContentRange.TheVariants.{Of, Unsatisfied}
 use Rattle.http_wire.specs.declared.reply_heads.Line.{Line}
 use Rattle.http_wire.specs.declared.replies.ReplyBody.{ReplyBody}
 use Rattle.http_wire.specs.declared.replies.ReplyBody.TheVariants.{Sent, Withheld}
 use Rattle.http_wire.specs.declared.replies.ReplyHead.{ReplyHead}
-
--- the end of a line
-abbrev pub crlf : List ℕ
-crlf = 13 ∷ 10 ∷ []
 
 -- the version, the code and its phrase
 unfoldable pub status_line : ℕ → List ℕ
@@ -79,11 +76,11 @@ head_lines h =
 
 -- a line with its end
 abbrev pub ended_line : List ℕ → List ℕ
-ended_line line = line ++ crlf
+ended_line line = line ++ crlf_bytes
 
 -- these lines, and the empty one
 abbrev pub head_text : HeadFields → List ℕ
-head_text h = flat_map ended_line (head_lines h) ++ crlf
+head_text h = flat_map ended_line (head_lines h) ++ crlf_bytes
 
 -- a head and the body after it
 abbrev pub reply_text : HeadFields → List ℕ → List ℕ
@@ -104,7 +101,7 @@ pub record IsLine (line : List ℕ) : Type 0 where
 
 -- the text is these lines, each with its end, and the empty one
 pub record HasLines (text : List ℕ) (lines : List (List ℕ)) : Type 0 where
-  pub text_is : text ≡ flat_map ended_line lines ++ crlf
+  pub text_is : text ≡ flat_map ended_line lines ++ crlf_bytes
   pub each : All IsLine lines
 
 -- ---- what private functions say

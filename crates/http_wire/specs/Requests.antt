@@ -47,10 +47,6 @@ abbrev pub IsBadHead : List ℕ → Type 0
 IsBadHead text = (head : RequestHead) → IsRequestHead head → text ≡ print_request head
     → (length head.fields ≤ field_limit) × (slice_get head.target 0 ≢ Some 47)
 
--- the text begins with the first line of a head and more fields than fit, whatever comes after these
-abbrev pub HasManyFields : List ℕ → Type 0
-HasManyFields text = RequestExceeds field_limit text
-
 -- ---- what private functions say
 
 -- what the reading of a whole head gives, where there is memory for it
@@ -58,6 +54,6 @@ abbrev pub IsParsedAs : Result RequestParts HeadFault → List ℕ → Type 0
 IsParsedAs (Ok parts) text = Says text parts
 IsParsedAs (Err head_fault.Ended) text = ⊥
 IsParsedAs (Err head_fault.ReadFault) text = ⊥
-IsParsedAs (Err head_fault.HeadTooLarge) text = HasManyFields text
+IsParsedAs (Err head_fault.HeadTooLarge) text = RequestExceeds field_limit text
 IsParsedAs (Err head_fault.BadHead) text = IsBadHead text
 IsParsedAs (Err head_fault.OutOfMemory) text = ⊥

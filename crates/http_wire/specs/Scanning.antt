@@ -1,8 +1,8 @@
 -- How the end of a head is found, byte by byte.
 use Rattle.std.specs.Prelude.{◌≡◌, ℕ, ◌-◌, ◌≤◌, Bool, true, false, List, [], ◌∷◌, ◌++◌, length, drop, Option, Some, None, ◌==◌, if◌then◌else◌}
+use Rattle.httparse.specs.Ascii.{line_feed, carriage_return}
 use Rattle.http_wire.specs.declared.scans.State.{State}
 use Rattle.http_wire.specs.declared.scans.State.TheVariants.{Before, BeforeReturn, Text, Between, BetweenReturn, Done}
-use Rattle.http_wire.specs.HeadText.{line_feed, carriage_return}
 
 -- the state after one more byte
 abbrev pub step_of : State → ℕ → State

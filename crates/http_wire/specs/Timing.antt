@@ -19,19 +19,13 @@ read_of (b ∷ bytes) = Got (b ∷ bytes)
 abbrev pub all_got : List Event → List ℕ
 all_got [] = []
 all_got (Got bytes ∷ past) = all_got past ++ bytes
-all_got (AtEnd ∷ past) = all_got past
-all_got (ReadFails ∷ past) = all_got past
-all_got (Put bytes ∷ past) = all_got past
-all_got (WriteFails ∷ past) = all_got past
+all_got (event ∷ past) = all_got past
 
 -- all bytes that its writes took, the earliest first
 abbrev pub all_put : List Event → List ℕ
 all_put [] = []
-all_put (Got bytes ∷ past) = all_put past
-all_put (AtEnd ∷ past) = all_put past
-all_put (ReadFails ∷ past) = all_put past
 all_put (Put bytes ∷ past) = all_put past ++ bytes
-all_put (WriteFails ∷ past) = all_put past
+all_put (event ∷ past) = all_put past
 
 -- how many of the events are reads
 abbrev pub count_reads : List Event → ℕ
@@ -51,10 +45,8 @@ IsLatest event (latest ∷ past) = latest ≡ event
 abbrev pub GoesOn : List Event → Type 0
 GoesOn [] = Unit {0}
 GoesOn (Got bytes ∷ past) = Unit {0}
-GoesOn (AtEnd ∷ past) = ⊥
-GoesOn (ReadFails ∷ past) = ⊥
 GoesOn (Put bytes ∷ past) = Unit {0}
-GoesOn (WriteFails ∷ past) = ⊥
+GoesOn (event ∷ past) = ⊥
 
 -- a read comes only where it may, after the bytes that were got and put before it, and a write at any time; one that
 -- goes well moves a byte at least, but for a read that finds the end

@@ -2,12 +2,13 @@
 use Rattle.std.specs.Prelude.{◌≡◌, ℕ, ◌<◌, ◌≤◌, ◌⊎◌, List, [], ◌++◌, Option, Result, Ok, Err, IfSome, length, take, vec_len}
 use Rattle.std.specs.Io.KnownBytes.{Consumes, Keeps, IsAtEnd, prepend_known}
 use Rattle.std.specs.declared.vec.Vec.{Vec}
+use Rattle.httparse.specs.Spans.{RequestExceeds}
 use Rattle.http_wire.specs.declared.faults.BodyFault.{BodyFault}
 use Rattle.http_wire.specs.declared.faults.BodyFault.TheVariants as body_fault
 use Rattle.http_wire.specs.declared.faults.HeadFault.{HeadFault}
 use Rattle.http_wire.specs.declared.faults.HeadFault.TheVariants as head_fault
 use Rattle.http_wire.specs.HeadText.{IsHeadText, CutShort, Overlong, head_limit}
-use Rattle.http_wire.specs.Requests.{RequestParts, Says, IsBadHead, HasManyFields}
+use Rattle.http_wire.specs.Requests.{RequestParts, Says, IsBadHead, field_limit}
 use Rattle.http_wire.specs.Timing.{Event, AtEnd, ReadFails, all_got, all_put, IsLatest, GoesOn, Gives}
 
 -- the text is a head of at most `head_limit` bytes at the front of what was left, and is gone
@@ -24,14 +25,10 @@ ServesHead old new parts = (text : List ℕ) × TakesHead old new text × Says t
 abbrev pub HasWholeHead : Option (List ℕ) → Type 0
 HasWholeHead left = (new : Option (List ℕ)) × (parts : RequestParts) × ServesHead left new parts
 
--- the head at the front of what was left is bad, and is gone
-abbrev pub RefusesHead : Option (List ℕ) → Option (List ℕ) → Type 0
-RefusesHead old new = (text : List ℕ) × TakesHead old new text × IsBadHead text
-
--- the head at the front of what was left has too many fields, and is gone; or it is too long, and nothing is gone
+-- the head at the front of what was left has more fields than fit, and is gone; or it is too long, and nothing is gone
 abbrev pub RefusesLargeHead : Option (List ℕ) → Option (List ℕ) → Type 0
 RefusesLargeHead old new =
-    ((text : List ℕ) × TakesHead old new text × HasManyFields text) ⊎ (IfSome old Overlong × Keeps old new)
+    ((text : List ℕ) × TakesHead old new text × RequestExceeds field_limit text) ⊎ (IfSome old Overlong × Keeps old new)
 
 -- ---- what is read, and when
 
@@ -43,13 +40,13 @@ AwaitsHead buffer got put = CutShort (buffer ++ got) × (put ≡ [])
 abbrev pub AwaitsBody : (buffer : List ℕ) → (size : ℕ) → (got put : List ℕ) → Type 0
 AwaitsBody buffer size got put = (length (buffer ++ got) < size) × (put ≡ [])
 
--- what each answer to the reading of a head says of the stream
+-- what each answer to the reading of a head says of the stream: one that is served or bad is gone
 abbrev pub HeadIsOf : Result RequestParts HeadFault → (old new : Option (List ℕ)) → Type 0
 HeadIsOf (Ok parts) old new = ServesHead old new parts
 HeadIsOf (Err head_fault.Ended) old new = IfSome old CutShort × Keeps old new
 HeadIsOf (Err head_fault.ReadFault) old new = Keeps old new
 HeadIsOf (Err head_fault.HeadTooLarge) old new = RefusesLargeHead old new
-HeadIsOf (Err head_fault.BadHead) old new = RefusesHead old new
+HeadIsOf (Err head_fault.BadHead) old new = (text : List ℕ) × TakesHead old new text × IsBadHead text
 HeadIsOf (Err head_fault.OutOfMemory) old new = HasWholeHead old × Keeps old new
 
 -- how the reads end with each answer

@@ -1,19 +1,20 @@
 //! Checks whether a request asks to close its connection.
 ghost use Rattle.std.specs.Prelude.{◌≡◌, reverse};
+ghost use Rattle.httparse.specs.Grammar.{is_ows, skip_ows};
 ghost use Rattle.http_wire.specs.Connections as connections;
 
 use crate::heads::Head;
 
 // Whether a byte is a space or a tab.
 fn is_blank(byte: u8) -> bool
-    ensures { result ≡ connections.is_blank byte }
+    ensures { result ≡ is_ows byte }
 {
     matches!(byte, b' ' | b'\t')
 }
 
 // Returns a text without its leading blanks.
 fn trim_front(text: &[u8]) -> &[u8]
-    ensures { result.now ≡ connections.trim_front text.now }
+    ensures { result.now ≡ skip_ows text.now }
 {
     let mut rest = text;
     while let Some((first, others)) = rest.split_first() {
@@ -27,7 +28,7 @@ fn trim_front(text: &[u8]) -> &[u8]
 
 // Returns a text without its trailing blanks.
 fn trim_back(text: &[u8]) -> &[u8]
-    ensures { result.now ≡ reverse (connections.trim_front (reverse text.now)) }
+    ensures { result.now ≡ reverse (skip_ows (reverse text.now)) }
 {
     let mut rest = text;
     while let Some((last, others)) = rest.split_last() {

@@ -1,7 +1,7 @@
 //! Checks whether a request waits for an interim reply.
-ghost use Rattle.std.specs.Prelude.{◌≡◌, ◌↔◌, IsTrue};
+ghost use Rattle.std.specs.Prelude.{◌≡◌, ◌≢◌, ◌↔◌, IsTrue, ℕ, []};
 ghost use Rattle.http_wire.specs.Expectations as spec;
-ghost use Rattle.http_wire.specs.Expectations.{SaysLength};
+ghost use Rattle.http_wire.specs.Fields.{SayLength};
 
 use crate::fields::Values;
 use crate::heads::Head;
@@ -21,7 +21,7 @@ fn asks_continue(values: Values<'_>) -> bool
 
 // Whether there is exactly one value and it is a valid length.
 fn says_length(values: Values<'_>) -> bool
-    ensures { IsTrue result ↔ SaysLength values.entry }
+    ensures { IsTrue result ↔ ((values.entry ≢ []) × ((n : ℕ) × SayLength values.entry n)) }
 {
     let mut values = values;
     match (values.next(), values.next()) {

@@ -135,6 +135,7 @@ impl Head {
     pub fn target(&self) -> &str
         ensures { result.now ≡ self.now.target }
     {
+        // SAFETY: a head is made only if its target is UTF-8, and never changes.
         unsafe { str::from_utf8_unchecked(self.target.of(&self.text)) }
     }
 

@@ -1,5 +1,6 @@
 //! Laws of the definitions. Each law is the contract of a function that does nothing.
 ghost use Rattle.std.specs.Prelude.{◌≡◌, ◌≤◌, ◌-◌, ℕ, List, [], ◌∷◌, Option, Some, Result, Ok, Err, length, codes};
+ghost use Rattle.httparse.specs.Spans.{RequestExceeds};
 ghost use Rattle.http_wire.specs.declared.answers.AnswerFault.{AnswerFault};
 ghost use Rattle.std.specs.declared.vec.Vec.{Vec};
 ghost use Rattle.http_wire.specs.declared.faults.BodyFault.{BodyFault};
@@ -14,10 +15,10 @@ ghost use Rattle.http_wire.specs.AnswerReads.{AwaitsAnswer};
 ghost use Rattle.http_wire.specs.Fields.{IsBodyLength};
 ghost use Rattle.http_wire.specs.HeadText.{CutShort, HasHead, head_limit};
 ghost use Rattle.http_wire.specs.Replies.{HasLines, fields_of, head_lines, head_text, status_line};
-ghost use Rattle.http_wire.specs.Requests.{RequestParts, Says, IsBadHead, HasManyFields};
+ghost use Rattle.http_wire.specs.Requests.{RequestParts, Says, IsBadHead, field_limit};
 ghost use Rattle.http_wire.specs.Sending.{AppendsFront, SentFront, WritesText};
 ghost use Rattle.http_wire.specs.Timing.{AtEnd, Event, IsLatest, Moves, NoRead, Ran, ReadFails, Timely, count_reads};
-ghost use Rattle.http_wire.specs.Wires.{AwaitsBody, AwaitsHead, HasWholeHead, ReadsBody, ReadsHead, RefusesHead, RefusesLargeHead, ServesHead};
+ghost use Rattle.http_wire.specs.Wires.{AwaitsBody, AwaitsHead, HasWholeHead, ReadsBody, ReadsHead, RefusesLargeHead, ServesHead, TakesHead};
 
 use crate::duplexes::Duplex;
 use crate::replies::ReplyHead;
@@ -29,7 +30,7 @@ pub fn one_head()
         → (text ≡ other) × (rest ≡ others) }
     ensures says { (text : List ℕ) (parts others : RequestParts) → Says text parts → Says text others → parts ≡ others }
     ensures good { (text : List ℕ) (parts : RequestParts) → Says text parts → ¬ (IsBadHead text) }
-    ensures fits { (text : List ℕ) (parts : RequestParts) → Says text parts → ¬ (HasManyFields text) }
+    ensures fits { (text : List ℕ) (parts : RequestParts) → Says text parts → ¬ (RequestExceeds field_limit text) }
     ensures announces { (fields : List (List ℕ × List ℕ)) (limit : ℕ) (one another : Result ℕ LengthFault)
         → IsBodyLength one fields limit → IsBodyLength another fields limit → one ≡ another }
 {}
@@ -91,7 +92,7 @@ pub fn wrong_answers_are_refused<D: Duplex>()
     ensures cut_head { (stream text rest : List ℕ) → HasHead stream text rest → ¬ (CutShort stream) }
     ensures serves { (new : Option (List ℕ)) (parts : RequestParts) → ¬ (ServesHead (Some []) new parts) }
     ensures whole { ¬ (HasWholeHead (Some [])) }
-    ensures refuses { (new : Option (List ℕ)) → ¬ (RefusesHead (Some []) new) }
+    ensures refuses { (new : Option (List ℕ)) → ¬ ((text : List ℕ) × TakesHead (Some []) new text × IsBadHead text) }
     ensures large { (new : Option (List ℕ)) → ¬ (RefusesLargeHead (Some []) new) }
     ensures lines { ¬ (HasLines [] []) }
     ensures front { (start held : Option (List ℕ)) (count : ℕ) → ¬ (SentFront start held [] count) }

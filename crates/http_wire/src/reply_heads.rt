@@ -2,7 +2,8 @@
 ghost use Rattle.std.specs.Prelude.{◌≡◌, ℕ, ◌++◌, decimal, IsErrOf};
 ghost use Rattle.std.specs.Option.{option_map};
 ghost use Rattle.std.specs.List.{flat_map};
-ghost use Rattle.http_wire.specs.Replies.{crlf, ended_line, fields_of, head_text, line_of, range_text, status_line, text_of_line};
+ghost use Rattle.httparse.specs.Ascii.{crlf_bytes};
+ghost use Rattle.http_wire.specs.Replies.{ended_line, fields_of, head_text, line_of, range_text, status_line, text_of_line};
 ghost use Rattle.http_wire.specs.Gathering.{Puts};
 ghost use Rattle.http_wire.specs.Timing.{NoRead, Ran};
 
@@ -41,7 +42,7 @@ fn field_lines<'a>(
 ) -> [Line<'a>; 7]
     requires { option_map (λ v. v.now) range ≡ option_map range_text head.now.content_range }
     ensures { (size : ℕ) → digits.now ≡ decimal size
-        → ended_line (status_line head.now.status) ++ (flat_map text_of_line result ++ crlf)
+        → ended_line (status_line head.now.status) ++ (flat_map text_of_line result ++ crlf_bytes)
         ≡ head_text (fields_of head.now size) }
 {
     let content_type = head.content_type.map(|text| text.as_str());

@@ -3,9 +3,10 @@ ghost use Rattle.std.specs.Prelude.{◌≡◌, ◌≢◌, ◌<◌, List, [], ◌
 ghost use Rattle.std.specs.Io.KnownBytes.{Consumes, Keeps, IsAtEnd, prepend_known};
 ghost use Rattle.http_wire.specs.Halting.{TriesBody, TriesHead, TriesToFind};
 ghost use Rattle.http_wire.specs.HeadText.{CutShort};
+ghost use Rattle.http_wire.specs.Requests.{IsBadHead};
 ghost use Rattle.http_wire.specs.Scanning.{HasSearched};
 ghost use Rattle.http_wire.specs.Timing.{Ran};
-ghost use Rattle.http_wire.specs.Wires.{HasWholeHead, ServesHead, RefusesHead, RefusesLargeHead, AwaitsHead, AwaitsBody, ReadsHead, ReadsBody};
+ghost use Rattle.http_wire.specs.Wires.{HasWholeHead, ServesHead, TakesHead, RefusesLargeHead, AwaitsHead, AwaitsBody, ReadsHead, ReadsBody};
 
 use crate::bodies::{fill_body, read_body};
 use crate::buffers::{Buffer, HEAD_LIMIT};
@@ -94,7 +95,7 @@ impl Wire {
             IfOk result (ServesHead old new) }
         ensures bad { let old = prepend_known self.old (D.left duplex.old) in
             let new = prepend_known self.new (D.left duplex.new) in
-            IsErrOf result HeadFault.BadHead → RefusesHead old new }
+            IsErrOf result HeadFault.BadHead → (text : List ℕ) × TakesHead old new text × IsBadHead text }
         ensures large { let old = prepend_known self.old (D.left duplex.old) in
             let new = prepend_known self.new (D.left duplex.new) in
             IsErrOf result HeadFault.HeadTooLarge → RefusesLargeHead old new }

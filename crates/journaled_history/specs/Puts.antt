@@ -1,11 +1,9 @@
 -- What becomes of a journal where an entry is put.
-use Rattle.std.specs.Prelude.{◌≡◌, true, false, IsTrue}
+use Rattle.std.specs.Prelude.{◌≡◌, ◌+◌, ◌-◌, ◌^◌, min, true, false, IsTrue}
 use Rattle.change_journal.specs.entries.Held.{Keeps}
 use Rattle.change_journal.specs.entries.Texts.{AllStored, MayHoldNext}
 use Rattle.host_disk.specs.Crashes.{LeavesOnly}
 use Rattle.host_disk.specs.declared.disks.Disk.{Ghosts}
-use Rattle.change_journal.specs.file.Settled.{TellsBreak}
-use Rattle.change_journal.specs.declared.file.records.PutFault.TheVariants as put_fault
 use Rattle.change_undo.specs.Logs as logs
 use Rattle.change_undo.specs.declared.entries.Entry.{Entry}
 
@@ -25,4 +23,4 @@ pub record IsPutInVain {D : Type 0} (disk : Ghosts D) (old : Keeps D) (entry : E
   pub entries : new.entries ≡ old.entries
   pub broken : new.broken ≡ true
   pub moments : IsTrue disk.is_modelled → LeavesOnly disk.moment disk.left_since old.disk new.disk (MayHoldNext old.entries entry)
-  pub cause : TellsBreak put_fault.Device (disk.faults old.disk) (disk.faults new.disk)
+  pub cause : disk.faults new.disk ≡ min (disk.faults old.disk + 1) (2 ^ 64 - 1)

@@ -2,15 +2,16 @@
 use Rattle.std.proofs.Common.{◌≡◌, inl, inr, ℕ, List, [], ◌∷◌, ◌++◌, map, refl, sym, ap, subst, ◌∙◌}
 use Rattle.std.proofs.lemmas.List.{append-nil, append_assoc, map-append}
 use Rattle.std.proofs.lemmas.List.Elements.{All-append, All-cons, All-nil}
+use Rattle.std.specs.List.{FoldsTo}
 use Rattle.byte_view.specs.Holds.{Held, IsHeld}
 use Rattle.chunk_reads.specs.declared.faults.ReadFault.{ReadFault}
 use Rattle.chunk_reads.specs.declared.faults.ReadFault.TheVariants.{OutOfMemory}
 use Rattle.range_reply.specs.Bodies.{stretch_of}
-use Rattle.range_reply.specs.Holding.{AreHeld, AreNotHeld, GivesHolds, IsHoldOf, IsNextFault, IsNextHold, IsNoHold}
+use Rattle.range_reply.specs.Holding.{AreHeld, AreNotHeld, IsHoldOf, IsNextFault, IsNextHold, IsNoHold}
 
 module _ {H : Type 0} (gave : H → Held → H → Type 0) where
-  gives_all : (old mid new : H) (xs ys : List Held) → GivesHolds gave old xs mid → GivesHolds gave mid ys new → GivesHolds gave old (xs ++ ys) new
-  gives_all old mid new [] ys first more = subst (λ h. GivesHolds gave h ys new) first more
+  gives_all : (old mid new : H) (xs ys : List Held) → FoldsTo gave old xs mid → FoldsTo gave mid ys new → FoldsTo gave old (xs ++ ys) new
+  gives_all old mid new [] ys first more = subst (λ h. FoldsTo gave h ys new) (sym first) more
   gives_all old mid new (x ∷ xs) ys first more = (first.0, first.1, gives_all first.0 mid new xs ys first.2 more)
 
   pub held_more : (file : List ℕ) (old mid new : H) (before after : List (ℕ × ℕ)) (xs ys : List Held) → AreHeld gave old file before xs mid

@@ -1,17 +1,18 @@
 -- Where a holder is honest at the end, each hold before was honest.
 use Rattle.std.specs.Prelude.{IsTrue}
-use Rattle.std.proofs.Common.{inl, inr, Bool, ℕ, List, [], ◌∷◌, subst}
+use Rattle.std.proofs.Common.{inl, inr, Bool, ℕ, List, [], ◌∷◌, sym, subst}
+use Rattle.std.specs.List.{FoldsTo}
 use Rattle.byte_view.specs.Holds.{Held}
 use Rattle.chunk_reads.specs.declared.faults.ReadFault.{ReadFault}
 use Rattle.range_spec.specs.declared.selection.Choice.{Choice}
-use Rattle.range_reply.specs.Holding.{AreHeld, AreNotHeld, GivesHolds}
+use Rattle.range_reply.specs.Holding.{AreHeld, AreNotHeld}
 use Rattle.range_reply.specs.Sending.{IsNotRead, IsRead, more_of}
 use Rattle.range_reply.specs.Sending.{SentFile}
 
 module _ {H : Type 0} (honest : H → Bool) (gave well : H → Held → H → Type 0)
     (one : (old new : H) (h : Held) → IsTrue (honest new) → gave old h new → IsTrue (honest old) × well old h new) where
-  holds_given : (old new : H) (holds : List Held) → IsTrue (honest new) → GivesHolds gave old holds new → IsTrue (honest old) × GivesHolds well old holds new
-  holds_given old new [] so is = (subst (λ h. IsTrue (honest h)) is so, is)
+  holds_given : (old new : H) (holds : List Held) → IsTrue (honest new) → FoldsTo gave old holds new → IsTrue (honest old) × FoldsTo well old holds new
+  holds_given old new [] so is = (subst (λ h. IsTrue (honest h)) (sym is) so, is)
   holds_given old new (h ∷ holds) so is =
       let rest = holds_given is.0 new holds so is.2 in
       let first = one old is.0 h rest.0 is.1 in

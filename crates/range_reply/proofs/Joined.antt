@@ -7,12 +7,12 @@ use Rattle.byte_view.specs.Cuts.{IsPure, slice}
 use Rattle.byte_view.specs.Holds.{Held, IsHeld}
 use Rattle.range_spec.specs.declared.selection.Choice.{Choice}
 use Rattle.range_spec.specs.declared.selection.Choice.TheVariants.{Whole, One, Many, None416}
-use Rattle.range_spec.specs.Chosen.{intervals_in}
 use Rattle.range_reply.specs.declared.boundaries.Boundary.{Boundary}
 use Rattle.range_reply.specs.Bodies.{HasBoundary, stretch_of, stretches}
 use Rattle.range_reply.specs.Boundaries.{HasNoBoundary}
 use Rattle.range_reply.specs.Slices.{ArePure, all_meant}
-use Rattle.range_reply.specs.Sending.{IsSent, more_of, sent_holds, slices_of}
+use Rattle.range_reply.specs.Sending.{IsSent, more_of, sent_holds}
+use Rattle.range_reply.proofs.Sent.{slices-of_file}
 
 -- chunks of one file that differ from none of its pieces
 pub are_pure : (file : List ℕ) (holds : List Held) → All (λ h. h.file ≡ file) holds → All IsHeld holds → All (λ h. All (IsPure file) h.chunks) holds → ArePure holds
@@ -24,21 +24,12 @@ are_pure file (h ∷ hs) same lawful pure =
     All-cons (λ (g : Held). IsHeld g × All (IsPure g.file) g.chunks) h hs (All-head IsHeld h hs lawful, here)
     (are_pure file hs (All-tail F h hs same) (All-tail IsHeld h hs lawful) (All-tail P h hs pure))
 
-slices-of_file : (file : List ℕ) (holds : List Held) → All (λ h. h.file ≡ file) holds → all_meant holds ≡ slices_of file (map stretch_of holds)
-slices-of_file file [] same = refl
-slices-of_file file (h ∷ hs) same =
-    let F = λ (g : Held). g.file ≡ file in
-    ap (λ f. slice f h.first h.last ∷ all_meant hs) (All-head F h hs same)
-    ∙ ap (λ l. slice file h.first h.last ∷ l) (slices-of_file file hs (All-tail F h hs same))
-
--- what is sent goes by the bytes of the intervals that are asked for
+-- what is sent goes by the bytes of the stretches that are asked for
 pub is_sent : (file : List ℕ) (size : ℕ) (holds : List Held) (digest : Digest) (plan : Choice) (boundary : Option Boundary) (sent : Choice) → All (λ h. h.file ≡ file) holds
-    → map stretch_of holds ≡ stretches size plan → IsSent (all_meant holds) digest plan boundary sent → IsSent (slices_of file (intervals_in plan)) digest plan boundary sent
-is_sent file size holds digest Whole boundary sent same order is = is
-is_sent file size holds digest (One first last) boundary sent same order is = is
-is_sent file size holds digest (Many intervals) boundary sent same order is =
-    subst (λ texts. IsSent texts digest (Many intervals) boundary sent) (slices-of_file file holds same ∙ ap (slices_of file) order) is
-is_sent file size holds digest None416 boundary sent same order is = is
+    → map stretch_of holds ≡ stretches size plan → IsSent (all_meant holds) digest plan boundary sent
+    → IsSent (map (λ i. slice file i.0 i.1) (stretches size plan)) digest plan boundary sent
+is_sent file size holds digest plan boundary sent same order is =
+    subst (λ texts. IsSent texts digest plan boundary sent) (slices-of_file file holds same ∙ ap (map (λ i. slice file i.0 i.1)) order) is
 
 -- what a result is under a premise
 pub ok_when : {T E : Type 0} (r : Result T E) (A : Type 0) (P : T → Type 0) → (A → IfOk r P) → IfOk r (λ v. A → P v)
@@ -53,7 +44,7 @@ ok_both (Err e) P Q R f p q = tt
 -- what separates parts, over the slices that holds show, goes by the file itself
 pub sent_of : (file : List ℕ) (size : ℕ) (holds seen : List Held) (digest : Digest) (plan : Choice) (boundary : Option Boundary) (sent : Choice) → seen ≡ holds
     → digest ≡ digest_of file → All (λ h. h.file ≡ file) holds → map stretch_of holds ≡ stretches size plan → (ArePure seen → IsSent (all_meant seen) digest plan boundary sent)
-    → ArePure holds → IsSent (slices_of file (intervals_in plan)) (digest_of file) plan boundary sent
+    → ArePure holds → IsSent (map (λ i. slice file i.0 i.1) (stretches size plan)) (digest_of file) plan boundary sent
 sent_of file size holds seen digest plan boundary sent same is of_file order separated pure =
     let here : IsSent (all_meant holds) digest plan boundary sent = subst (λ hs. ArePure hs → IsSent (all_meant hs) digest plan boundary sent) same separated pure in
     is_sent file size holds (digest_of file) plan boundary sent of_file order (subst (λ d. IsSent (all_meant holds) d plan boundary sent) is here)

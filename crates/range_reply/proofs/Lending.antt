@@ -18,7 +18,7 @@ use Rattle.range_reply.specs.Sending.{IsForm}
 use Rattle.range_reply.specs.declared.boundaries.Boundary.{Boundary}
 use Rattle.range_reply.specs.declared.file_bodies.FileForm.{FileForm}
 use Rattle.range_reply.specs.declared.file_bodies.FileForm.TheVariants as form
-use Rattle.range_reply.specs.Slices.{all_shown, shown}
+use Rattle.range_reply.specs.Slices.{shown}
 
 -- a head in three texts, and what comes behind it
 regroup : (a boundary b content_type c range d bytes : List ℕ) → (a ++ (boundary ++ b)) ++ (content_type ++ ((c ++ (range ++ d)) ++ bytes))
@@ -62,7 +62,7 @@ few_stretches : (size : ℕ) → length (whole_of size) ≤ 1
 few_stretches zero = omega arith
 few_stretches (suc last) = omega arith
 
-first_shown : (first : Option Held) (holds : List Held) → length holds ≤ 1 → All IsHeld holds → first ≡ slice_get holds 0 → concat (stretch_texts first) ≡ concat (all_shown holds)
+first_shown : (first : Option Held) (holds : List Held) → length holds ≤ 1 → All IsHeld holds → first ≡ slice_get holds 0 → concat (stretch_texts first) ≡ concat (map shown holds)
 first_shown first [] few held is = ap (λ f. concat (stretch_texts f)) is
 first_shown first (h ∷ []) few held is = ap (λ f. concat (stretch_texts f)) is ∙ whole-joined h (All-head IsHeld h [] held) ∙ sym (append-nil (shown h))
 first_shown first (h ∷ g ∷ hs) few held is = absurd (omega (arith, few))
@@ -78,7 +78,7 @@ few_holds holds file (Many intervals) are alone = absurd (alone intervals refl)
 few_holds holds file None416 are alone = count-holds holds [] are.in_order (omega arith)
 
 pub single_shown : (boundary content_type : List ℕ) (holds : List Held) (file : List ℕ) (plan : Choice) → AreFor holds file plan → ((intervals : List (ℕ × ℕ)) → plan ≡ Many intervals → ⊥)
-    → shown_text boundary content_type holds plan ≡ concat (all_shown holds)
+    → shown_text boundary content_type holds plan ≡ concat (map shown holds)
 single_shown boundary content_type holds file Whole are alone = refl
 single_shown boundary content_type holds file (One first last) are alone = refl
 single_shown boundary content_type holds file (Many intervals) are alone = absurd (alone intervals refl)
@@ -104,12 +104,12 @@ not_several form.Nothing plan boundary is other intervals many = absurd (cc (sym
 -- ---- how long a stretch is
 
 pub single_long : (holds : List Held) (h d : Held) → length holds ≤ 1 → 1 ≤ length holds → h ≡ get_or holds 0 d → IsHeld h
-    → h.last - h.first + 1 ≡ length (concat (all_shown holds))
+    → h.last - h.first + 1 ≡ length (concat (map shown holds))
 single_long [] h d few some is held = absurd (omega (arith, some))
 single_long (x ∷ []) h d few some is held =
     let after = length-drop h.first h.file in
     let taken = length-take (h.last + 1 - h.first) (drop h.first h.file) in
     let long : length (shown h) ≡ length (slice h.file h.first h.last) = whole-long h held in
-    let joined : length (concat (all_shown (x ∷ []))) ≡ length (shown h) = ap length (append-nil (shown x)) ∙ ap (λ g. length (shown g)) (sym is) in
+    let joined : length (concat (map shown (x ∷ []))) ≡ length (shown h) = ap length (append-nil (shown x)) ∙ ap (λ g. length (shown g)) (sym is) in
     omega (arith, after, taken, long, joined, held.ordered, held.within)
 single_long (x ∷ y ∷ ys) h d few some is held = absurd (omega (arith, few))

@@ -7,7 +7,11 @@ use Rattle.std.proofs.Common.{Option, Some, None, Bool, IsTrue, is_some, subst}
 use Rattle.memchr.specs.Find.{FindsNeedle}
 use Rattle.memchr.proofs.lemmas.MatchLemmas.{OccursAt-part, OccursAt-from_part}
 use Rattle.range_reply.specs.Searches.{ending}
-use Rattle.range_reply.specs.Slices.{OccursIn}
+use Rattle.std.specs.Str.Iter.{HasSubslice}
+
+-- the text has these bytes, one after another
+abbrev pub OccursIn : List ℕ → List ℕ → Type 0
+OccursIn bytes text = HasSubslice text bytes
 
 -- ---- places
 

@@ -1,14 +1,14 @@
 -- What holds of a holder before a file is read, and is kept by each hold, holds after it.
 use Rattle.std.proofs.Common.{◌≡◌, inl, inr, ℕ, List, [], ◌∷◌, All, sym, subst}
 use Rattle.std.proofs.lemmas.List.Elements.{All-append, All-from_recursion, recursion_from_All}
-use Rattle.std.specs.List.{AllByRecursion}
+use Rattle.std.specs.List.{AllByRecursion, FoldsTo}
 use Rattle.byte_view.specs.Cuts.{IsPure}
 use Rattle.byte_view.specs.Holds.{Held, IsHeld}
 use Rattle.chunk_reads.specs.declared.faults.ReadFault.{ReadFault}
 use Rattle.chunk_reads.specs.declared.faults.ReadFault.TheVariants.{OutOfMemory}
 use Rattle.range_spec.specs.declared.selection.Choice.{Choice}
 use Rattle.range_reply.specs.Sending.{SentFile}
-use Rattle.range_reply.specs.Holding.{AreHeld, AreNotHeld, GivesHolds}
+use Rattle.range_reply.specs.Holding.{AreHeld, AreNotHeld}
 use Rattle.range_reply.specs.Sending.{IsExact, IsNotRead, IsRead}
 
 module _ {H : Type 0} (gave : H → Held → H → Type 0) (file : List ℕ) (Inv : H → Type 0)
@@ -20,8 +20,8 @@ module _ {H : Type 0} (gave : H → Held → H → Type 0) (file : List ℕ) (In
   of_file : (old new : H) (stretches : List (ℕ × ℕ)) (holds : List Held) → AreHeld gave old file stretches holds new → AreOfFile holds
   of_file old new stretches holds are = (recursion_from_All (λ (h : Held). h.file ≡ file) holds are.same_file, recursion_from_All IsHeld holds are.lawful)
 
-  holds_pass : (old new : H) (holds : List Held) → AreOfFile holds → Inv old → GivesHolds gave old holds new → Inv new
-  holds_pass old new [] of inv gives = subst Inv (sym gives) inv
+  holds_pass : (old new : H) (holds : List Held) → AreOfFile holds → Inv old → FoldsTo gave old holds new → Inv new
+  holds_pass old new [] of inv gives = subst Inv gives inv
   holds_pass old new (h ∷ holds) of inv gives = holds_pass gives.0 new holds (of.0.1, of.1.1) (of_gave old gives.0 h of.0.0 of.1.0 inv gives.1) gives.2
 
   held_passes : (old new : H) (stretches : List (ℕ × ℕ)) (holds : List Held) → Inv old → AreHeld gave old file stretches holds new → Inv new
@@ -51,7 +51,7 @@ module _ {H : Type 0} (gave : H → Held → H → Type 0) (file : List ℕ) (In
     abbrev ArePure : List Held → Type 0
     ArePure holds = AllByRecursion (λ (h : Held). All (IsPure file) h.chunks) holds
 
-    each_pure : (old new : H) (holds : List Held) → AreOfFile holds → Inv old → GivesHolds gave old holds new → ArePure holds
+    each_pure : (old new : H) (holds : List Held) → AreOfFile holds → Inv old → FoldsTo gave old holds new → ArePure holds
     each_pure old new [] of inv gives = tt
     each_pure old new (h ∷ holds) of inv gives = (
       of_pure old gives.0 h of.0.0 of.1.0 inv gives.1,

@@ -1,12 +1,12 @@
 -- What holds show where their chunks are those of the file.
-use Rattle.std.proofs.Common.{◌≡◌, List, [], ◌∷◌, refl, All}
+use Rattle.std.proofs.Common.{◌≡◌, List, [], ◌∷◌, refl, All, map}
 use Rattle.std.proofs.lemmas.List.Elements.{All-head, All-tail}
 use Rattle.byte_view.specs.Cuts.{IsPure}
 use Rattle.byte_view.specs.Holds.{Held, IsHeld}
 use Rattle.byte_view.proofs.Wholes.{whole-pure}
-use Rattle.range_reply.specs.Slices.{ArePure, all_meant, all_shown}
+use Rattle.range_reply.specs.Slices.{ArePure, all_meant, shown}
 
-pub shown-pure : (holds : List Held) → ArePure holds → all_shown holds ≡ all_meant holds
+pub shown-pure : (holds : List Held) → ArePure holds → map shown holds ≡ all_meant holds
 shown-pure [] pure = refl
 shown-pure (h ∷ hs) pure =
     let P = λ (g : Held). IsHeld g × All (IsPure g.file) g.chunks in

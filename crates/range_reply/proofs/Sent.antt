@@ -10,7 +10,7 @@ use Rattle.range_spec.specs.declared.selection.Choice.{Choice}
 use Rattle.range_spec.specs.declared.selection.Choice.TheVariants.{Whole, One, Many, None416}
 use Rattle.range_reply.specs.Bodies.{AreFor, body_text, shown_part, shown_text, stretch_of, whole_of}
 use Rattle.range_reply.specs.Multipart.{last_line, part_head, part_text}
-use Rattle.range_reply.specs.Slices.{ArePure, all_meant, all_shown, shown}
+use Rattle.range_reply.specs.Slices.{ArePure, all_meant, shown}
 use Rattle.range_reply.proofs.Purity.{shown-pure}
 
 -- the part for the stretch of a hold, with the bytes of its file
@@ -29,10 +29,10 @@ meant_text boundary content_type holds None416 = []
 both-long : (a b c d : List ℕ) → length a ≡ length c → length b ≡ length d → length (a ++ b) ≡ length (c ++ d)
 both-long a b c d e f = length-append a b ∙ ap (λ n. n + length b) e ∙ ap (λ n. length c + n) f ∙ sym (length-append c d)
 
-joined-long : (holds : List Held) → All IsHeld holds → length (concat (all_shown holds)) ≡ length (concat (all_meant holds))
+joined-long : (holds : List Held) → All IsHeld holds → length (concat (map shown holds)) ≡ length (concat (all_meant holds))
 joined-long [] held = refl
 joined-long (h ∷ hs) held =
-    both-long (shown h) (concat (all_shown hs)) (slice h.file h.first h.last) (concat (all_meant hs))
+    both-long (shown h) (concat (map shown hs)) (slice h.file h.first h.last) (concat (all_meant hs))
     (whole-long h (All-head IsHeld h hs held)) (joined-long hs (All-tail IsHeld h hs held))
 
 parts-long : (boundary content_type : List ℕ) (holds : List Held) → All IsHeld holds
@@ -77,7 +77,7 @@ text-pure boundary content_type holds None416 pure = refl
 
 -- ---- of one file
 
-slices-of_file : (file : List ℕ) (holds : List Held) → All (λ h. h.file ≡ file) holds → all_meant holds ≡ map (λ s. slice file s.0 s.1) (map stretch_of holds)
+pub slices-of_file : (file : List ℕ) (holds : List Held) → All (λ h. h.file ≡ file) holds → all_meant holds ≡ map (λ s. slice file s.0 s.1) (map stretch_of holds)
 slices-of_file file [] same = refl
 slices-of_file file (h ∷ hs) same =
     let P = λ (g : Held). g.file ≡ file in

@@ -6,7 +6,7 @@ use Rattle.byte_view.specs.Holds.{Held}
 use Rattle.range_spec.specs.declared.selection.Choice.{Choice}
 use Rattle.range_spec.specs.declared.selection.Choice.TheVariants.{Whole, One, Many, None416}
 use Rattle.range_reply.specs.Multipart.{last_line, multipart_text, part_head, text_of}
-use Rattle.range_reply.specs.Slices.{all_shown, shown}
+use Rattle.range_reply.specs.Slices.{shown}
 use Rattle.range_reply.specs.declared.boundaries.Boundary.{Boundary}
 
 -- the text of a boundary, if there is one
@@ -28,8 +28,8 @@ shown_part boundary content_type h =
 
 -- the same body, with the bytes that the chunks of these holds show
 abbrev pub shown_text : List ℕ → List ℕ → List Held → Choice → List ℕ
-shown_text boundary content_type holds Whole = concat (all_shown holds)
-shown_text boundary content_type holds (One first last) = concat (all_shown holds)
+shown_text boundary content_type holds Whole = concat (map shown holds)
+shown_text boundary content_type holds (One first last) = concat (map shown holds)
 shown_text boundary content_type holds (Many intervals) = flat_map (shown_part boundary content_type) holds ++ last_line boundary
 shown_text boundary content_type holds None416 = []
 

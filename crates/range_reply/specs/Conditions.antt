@@ -1,5 +1,5 @@
 -- What an If-Range field says of a file (RFC 9110, section 13.1.5).
-use Rattle.std.specs.Prelude.{ℕ, List, [], ◌∷◌, ◌++◌, codes, if◌then◌else◌}
+use Rattle.std.specs.Prelude.{ℕ, Bool, true, false, List, [], ◌∷◌, ◌++◌, codes, if◌then◌else◌}
 use Rattle.std.specs.Str.{bytes_eq}
 use Rattle.hex.specs.Hex.{encode_lower}
 use Rattle.host_names.specs.declared.digests.Digest.{Digest}
@@ -10,8 +10,14 @@ use Rattle.range_reply.specs.declared.conditions.IfRange.TheVariants.{Absent, Tr
 abbrev pub strong_tag : Digest → List ℕ
 strong_tag digest = codes "\"" ++ (encode_lower digest.0 ++ codes "\"")
 
--- what the values of all If-Range fields of a request say: one that is exactly the strong tag holds; a weak tag, a date, any
--- other text and several fields don't
+-- the values of all If-Range fields of a request let a range be sent: there is none, or one that is exactly the strong tag; a weak
+-- tag, a date, any other text and several fields don't
+abbrev pub allows_range : Digest → List (List ℕ) → Bool
+allows_range digest [] = true
+allows_range digest (value ∷ []) = bytes_eq value (strong_tag digest)
+allows_range digest (value ∷ other ∷ more) = false
+
+-- what they say as a value of the code: nothing where there is none, or whether a range is let
 abbrev pub condition_of : Digest → List (List ℕ) → IfRange
 condition_of digest [] = Absent
 condition_of digest (value ∷ []) = if bytes_eq value (strong_tag digest) then True else False

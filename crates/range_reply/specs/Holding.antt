@@ -1,5 +1,6 @@
 -- Stretches of a file that are held one after another.
 use Rattle.std.specs.Prelude.{◌≡◌, ◌⊎◌, ℕ, List, [], ◌∷◌, ◌++◌, All, map}
+use Rattle.std.specs.List.{FoldsTo}
 use Rattle.byte_view.specs.Holds.{Held, IsHeld}
 use Rattle.chunk_reads.specs.declared.faults.ReadFault.{ReadFault}
 use Rattle.chunk_reads.specs.declared.faults.ReadFault.TheVariants.{OutOfMemory}
@@ -12,17 +13,12 @@ abbrev pub held_in : Holds → List Held
 held_in (Alone hold) = hold ∷ []
 held_in (Listed holds) = holds.items
 
--- a holder gives these holds one after another, and nothing else is done with it
-abbrev pub GivesHolds : {H : Type 0} → (gave : H → Held → H → Type 0) → H → List Held → H → Type 0
-GivesHolds gave old [] new = new ≡ old
-GivesHolds {H} gave old (hold ∷ holds) new = (mid : H) × gave old hold mid × GivesHolds gave mid holds new
-
--- it gives those of these stretches of a file, in order
+-- a holder gives holds of these stretches of a file, one after another, and nothing else is done with it
 pub record AreHeld {H : Type 0} (gave : H → Held → H → Type 0) (old : H) (file : List ℕ) (stretches : List (ℕ × ℕ)) (holds : List Held) (new : H) : Type 0 where
   pub same_file : All (λ h. h.file ≡ file) holds
-  pub in_order : map stretch_of holds ≡ stretches
+  pub in_order : map (λ h. (h.first, h.last)) holds ≡ stretches
   pub lawful : All IsHeld holds
-  pub given : GivesHolds gave old holds new
+  pub given : FoldsTo gave old holds new
 
 -- why these stretches of a file can't be held: the next one can't, after those before it; or there was no memory to keep some of them
 abbrev pub AreNotHeld : {H : Type 0} → (gave : H → Held → H → Type 0) → (failed : H → List ℕ → ℕ → ℕ → ReadFault → H → Type 0) → H → List ℕ → List (ℕ × ℕ) → ReadFault → H

@@ -16,16 +16,12 @@ text_of boundary = boundary.text.bytes
 abbrev pub candidate : Digest → ℕ → List ℕ
 candidate digest i = codes "fh" ++ (decimal i ++ (codes "-" ++ encode_lower digest.0))
 
--- what comes before the bytes of a part, where this is the value of its `Content-Range` field: the boundary's line, two fields
--- and an empty line
-abbrev pub head_with : List ℕ → List ℕ → List ℕ → List ℕ
-head_with boundary content_type range =
-    codes "--" ++ (boundary ++ (codes "\r\nContent-Type: " ++ (content_type ++ (codes "\r\nContent-Range: "
-    ++ (range ++ codes "\r\n\r\n")))))
-
--- the same of an interval of a file of this many bytes
+-- what comes before the bytes of a part, for an interval of a file of this many bytes: the boundary's line, two fields and
+-- an empty line
 abbrev pub part_head : List ℕ → List ℕ → ℕ → ℕ × ℕ → List ℕ
-part_head boundary content_type size interval = head_with boundary content_type (range_text (Of interval.0 interval.1 size))
+part_head boundary content_type size interval =
+    codes "--" ++ (boundary ++ (codes "\r\nContent-Type: " ++ (content_type ++ (codes "\r\nContent-Range: "
+    ++ (range_text (Of interval.0 interval.1 size) ++ codes "\r\n\r\n")))))
 
 -- a part: its head, the bytes of its interval, and the end of a line, which belongs to the next boundary
 abbrev pub part_text : List ℕ → List ℕ → List ℕ → ℕ × ℕ → List ℕ

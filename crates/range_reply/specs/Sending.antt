@@ -6,7 +6,6 @@ use Rattle.byte_view.specs.Cuts.{IsPure, slice}
 use Rattle.byte_view.specs.Holds.{Held, IsHeld}
 use Rattle.range_spec.specs.declared.selection.Choice.{Choice}
 use Rattle.range_spec.specs.declared.selection.Choice.TheVariants.{Whole, One, Many, None416}
-use Rattle.range_spec.specs.Chosen.{intervals_in}
 use Rattle.range_reply.specs.declared.boundaries.Boundary.{Boundary}
 use Rattle.range_reply.specs.declared.file_bodies.FileForm.{FileForm}
 use Rattle.range_reply.specs.declared.file_bodies.FileForm.TheVariants as form
@@ -15,7 +14,7 @@ use Rattle.range_reply.specs.declared.file_bodies.Sends.TheVariants as sends
 use Rattle.range_reply.specs.Bodies.{AreFor, HasBoundary, body_text, shown_text, stretch_of, stretches, text_in, whole_of}
 use Rattle.range_reply.specs.Boundaries.{HasNoBoundary, IsBoundaryFor}
 use Rattle.range_reply.specs.Multipart.{text_of}
-use Rattle.range_reply.specs.Slices.{all_shown}
+use Rattle.range_reply.specs.Slices.{shown}
 use Rattle.chunk_reads.specs.declared.faults.ReadFault.{ReadFault}
 use Rattle.range_reply.specs.Holding.{AreHeld, AreNotHeld}
 
@@ -25,10 +24,6 @@ abbrev pub IsSent : List (List ℕ) → Digest → Choice → Option Boundary �
 IsSent texts digest (Many intervals) (Some boundary) sent = IsBoundaryFor texts digest (text_of boundary) × (sent ≡ Many intervals)
 IsSent texts digest (Many intervals) None sent = HasNoBoundary texts digest × (sent ≡ Whole)
 IsSent texts digest plan boundary sent = (boundary ≡ None) × (sent ≡ plan)
-
--- the bytes of these stretches of a file, each from its first to its last byte
-abbrev pub slices_of : List ℕ → List (ℕ × ℕ) → List (List ℕ)
-slices_of file intervals = map (λ interval. slice file interval.0 interval.1) intervals
 
 -- what is sent: the plan that is carried out, what separates its parts, and the bytes of the body
 pub record SentFile : Type 0 where
@@ -49,7 +44,8 @@ IsForm form.Nothing plan boundary = plan ≡ None416
 
 -- the body is that of the file itself
 pub record IsExact (file : List ℕ) (plan : Choice) (content_type : List ℕ) (body : SentFile) : Type 0 where
-  pub sent : IsSent (slices_of file (intervals_in plan)) (digest_of file) plan body.boundary body.plan
+  pub sent : IsSent (map (λ i. slice file i.0 i.1) (stretches (length file) plan)) (digest_of file) plan
+      body.boundary body.plan
   pub bytes : body.bytes ≡ body_text (text_in body.boundary) content_type file body.plan
 
 -- the stretches that are held after those of a plan: all of the file, where it has several parts and no boundary
@@ -68,7 +64,7 @@ pub record IsRead {H : Type 0} (gave : H → Held → H → Type 0) (old : H) (f
   pub holds : List Held
   pub mid : H
   pub held : AreHeld gave old file (stretches (length file) plan) holds mid
-  pub sent : IsSent (all_shown holds) (digest_of file) plan body.boundary body.plan
+  pub sent : IsSent (map shown holds) (digest_of file) plan body.boundary body.plan
   pub more : List Held
   pub more_held : AreHeld gave mid file (more_of (length file) plan body.boundary) more new
   pub bytes : body.bytes ≡ shown_text (text_in body.boundary) content_type (sent_holds holds more plan body.boundary) body.plan
@@ -79,7 +75,7 @@ abbrev pub IsNotRead : {H : Type 0} → (gave : H → Held → H → Type 0) →
 IsNotRead {H} gave failed old file plan why new =
     AreNotHeld gave failed old file (stretches (length file) plan) why new
     ⊎ ((intervals : List (ℕ × ℕ)) × (holds : List Held) × (mid : H) × (plan ≡ Many intervals) × AreHeld gave old file intervals holds mid
-    × HasNoBoundary (all_shown holds) (digest_of file) × AreNotHeld gave failed mid file (whole_of (length file)) why new)
+    × HasNoBoundary (map shown holds) (digest_of file) × AreNotHeld gave failed mid file (whole_of (length file)) why new)
 
 -- whether a plan sends a byte of a file of this many bytes
 abbrev pub sends_bytes : ℕ → Choice → Bool

@@ -1,8 +1,8 @@
 //! Chooses the boundary for a body of several ranges.
-ghost use Rattle.std.specs.Prelude.{IfNone, IfSome, MatchOption};
+ghost use Rattle.std.specs.Prelude.{IfNone, IfSome, MatchOption, map};
 ghost use Rattle.range_reply.specs.Boundaries.{HasNoBoundary, IsBoundaryFor};
 ghost use Rattle.range_reply.specs.Multipart.{text_of};
-ghost use Rattle.range_reply.specs.Slices.{ArePure, all_meant, all_shown};
+ghost use Rattle.range_reply.specs.Slices.{ArePure, all_meant, shown};
 
 use crate::boundaries::Boundary;
 use crate::searches::occurs_in_one;
@@ -14,8 +14,8 @@ use host_names::Digest;
 /// Allocates nothing.
 #[inline(never)]
 pub fn boundary(holds: &[Hold], digest: Digest) -> Option<Boundary>
-    ensures first { IfSome result (λ found. IsBoundaryFor (all_shown holds.now) digest (text_of found)) }
-    ensures none { IfNone result (HasNoBoundary (all_shown holds.now) digest) }
+    ensures first { IfSome result (λ found. IsBoundaryFor (map shown holds.now) digest (text_of found)) }
+    ensures none { IfNone result (HasNoBoundary (map shown holds.now) digest) }
     ensures pure { ArePure holds.now → MatchOption result (HasNoBoundary (all_meant holds.now) digest) (λ found. IsBoundaryFor (all_meant holds.now) digest (text_of found)) }
 {
     for number in 0..8 {

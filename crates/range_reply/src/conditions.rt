@@ -1,7 +1,7 @@
 //! The condition under which ranges are served.
 ghost use Rattle.std.specs.Prelude.{◌≡◌, ◌↔◌, IsTrue, map};
 ghost use Rattle.range_reply.specs.Conditions as spec;
-ghost use Rattle.range_reply.specs.Conditions.{condition_of};
+ghost use Rattle.range_reply.specs.Conditions.{allows_range, condition_of};
 ghost use Rattle.range_reply.specs.Plans.{lets_ranges};
 
 use arrayvec::ArrayString;
@@ -34,7 +34,8 @@ impl IfRange {
     /// if there is one value and it is exactly the strong entity tag, and `False` otherwise. A weak tag never counts as the
     /// strong one.
     pub fn of(values: &[&[u8]], digest: Digest) -> IfRange
-        ensures { result ≡ condition_of digest (map (λ value. value.now) values.now) }
+        ensures condition { result ≡ condition_of digest (map (λ value. value.now) values.now) }
+        ensures lets { lets_ranges result ≡ allows_range digest (map (λ value. value.now) values.now) }
     {
         match values {
             [] => IfRange::Absent,

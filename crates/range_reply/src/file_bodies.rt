@@ -1,5 +1,5 @@
 //! The body that sends bytes of a file. It lends what is held of the file in parts.
-ghost use Rattle.std.specs.Prelude.{◌≡◌, ◌<◌, ◌≤◌, ℕ, List, All, IfErr, IfNone, IfOk, IsTrue, MatchResult, None, length};
+ghost use Rattle.std.specs.Prelude.{◌≡◌, ◌<◌, ◌≤◌, ℕ, List, All, IfErr, IfNone, IfOk, IsTrue, MatchResult, None, length, map};
 ghost use Rattle.std.specs.List.{concat};
 ghost use Rattle.byte_view.specs.Holds.{Held, IsHeld};
 ghost use Rattle.chunk_reads.specs.declared.faults.ReadFault.TheVariants.{OutOfMemory};
@@ -9,7 +9,7 @@ ghost use Rattle.range_reply.specs.Bodies.{AreFor, HasBoundary, shown_text, text
 ghost use Rattle.range_reply.specs.Holding.{held_in};
 ghost use Rattle.range_reply.specs.Multipart.{IsCount};
 ghost use Rattle.range_reply.specs.Sending.{HasParts, IsForm, IsNotRead, IsRead, IsSent, plan_sent, sends_bytes};
-ghost use Rattle.range_reply.specs.Slices.{ArePure, all_meant, all_shown};
+ghost use Rattle.range_reply.specs.Slices.{ArePure, all_meant, shown};
 
 use crate::boundaries::Boundary;
 use crate::choices::boundary;
@@ -95,7 +95,7 @@ impl Model for FileBody {
 fn single_length(holds: &[Hold]) -> u64
     requires { length holds.now ≤ 1 }
     ensures held { All IsHeld holds.now }
-    ensures long { result ≡ length (concat (all_shown holds.now)) }
+    ensures long { result ≡ length (concat (map shown holds.now)) }
 {
     let [hold] = holds else {
         return 0;
@@ -204,8 +204,8 @@ fn boundary_for(
 ) -> Result<Option<Boundary>, NoBoundary>
     ensures separated { IfOk result (λ found. HasBoundary found plan.now) }
     ensures several { IfErr result (λ _. HasParts plan.now) }
-    ensures shown { MatchResult result (λ found. IsSent (all_shown holds.now) digest plan.now found plan.now)
-        (λ _. IsSent (all_shown holds.now) digest plan.now None choice.Whole) }
+    ensures shown { MatchResult result (λ found. IsSent (map shown holds.now) digest plan.now found plan.now)
+        (λ _. IsSent (map shown holds.now) digest plan.now None choice.Whole) }
     ensures pure { ArePure holds.now → MatchResult result
         (λ found. IsSent (all_meant holds.now) digest plan.now found plan.now)
         (λ _. IsSent (all_meant holds.now) digest plan.now None choice.Whole) }
@@ -229,7 +229,8 @@ pub fn read_body<H: Holder>(
     requires { All (LiesWithin (length info.now.value)) (intervals_in plan.now) }
     ensures read { IfOk result
         (λ body. IsRead H.gave holder.old info.now.value plan.now content_type.entry.text.now body holder.new) }
-    ensures fault { IfErr result (λ fault. IsNotRead H.gave H.failed holder.old info.now.value plan.now fault holder.new) }
+    ensures fault { IfErr result
+        (λ fault. IsNotRead H.gave H.failed holder.old info.now.value plan.now fault holder.new) }
     ensures some { IfErr result (λ _. IsTrue (sends_bytes (length info.now.value) plan.now)) }
 {
     let holds = hold_for(alloc, holder, info, plan)?;

@@ -1,14 +1,14 @@
 //! Laws about texts, boundaries and bodies. Each law is the contract of a function that does nothing.
 ghost use Rattle.std.specs.Prelude.{◌≡◌, ◌+◌, ◌≤◌, ◌↔◌, ℕ, List, [], length, slice_range};
+ghost use Rattle.std.specs.Str.Iter.{HasSubslice};
 ghost use Rattle.host_names.specs.declared.digests.Digest.{Digest};
 ghost use Rattle.range_reply.specs.Boundaries.{HasNoBoundary, IsBoundaryFor};
 ghost use Rattle.range_reply.specs.Sending.{IsExact, SentFile};
-ghost use Rattle.range_reply.specs.Slices.{OccursIn};
 ghost use Rattle.range_spec.specs.declared.selection.Choice.TheVariants.{Whole};
 
 /// Bytes occur in a text if and only if the text has these bytes from some place on.
 pub fn texts_are_found_where_they_stand()
-    ensures { (bytes text : List ℕ) → OccursIn bytes text ↔ ((place : ℕ) × (place + length bytes ≤ length text) × (slice_range text place (place + length bytes) ≡ bytes)) }
+    ensures { (bytes text : List ℕ) → HasSubslice text bytes ↔ ((place : ℕ) × (place + length bytes ≤ length text) × (slice_range text place (place + length bytes) ≡ bytes)) }
 {}
 
 /// Some texts and a digest have at most one boundary.

@@ -1,8 +1,9 @@
 //! Searches what is held of a file for bytes, in the chunks and across their edges. No call allocates.
-ghost use Rattle.std.specs.Prelude.{◌≡◌, ◌↔◌, ◌<◌, ◌≤◌, ◌++◌, List, ℕ, IsTrue, length, take};
+ghost use Rattle.std.specs.Prelude.{◌≡◌, ◌↔◌, ◌<◌, ◌≤◌, ◌++◌, List, ℕ, IsTrue, length, map, take};
 ghost use Rattle.std.specs.List.{concat};
+ghost use Rattle.std.specs.Str.Iter.{HasSubslice};
 ghost use Rattle.range_reply.specs.Searches.{ending};
-ghost use Rattle.range_reply.specs.Slices.{OccursIn, OccursInOne, all_shown, shown};
+ghost use Rattle.range_reply.specs.Slices.{OccursInOne, shown};
 
 use arrayvec::ArrayVec;
 use byte_view::{Hold, Pieces};
@@ -13,7 +14,7 @@ const SIDE: usize = 64;
 
 /// Whether bytes occur in a text.
 fn occurs(bytes: &[u8], text: &[u8]) -> bool
-    ensures { IsTrue result ↔ OccursIn bytes.now text.now }
+    ensures { IsTrue result ↔ HasSubslice text.now bytes.now }
 {
     memmem::find(text, bytes).is_some()
 }
@@ -50,7 +51,7 @@ fn last_bytes_after(edge: &[u8], piece: &[u8]) -> ArrayVec<u8, 64>
 fn occurs_in_pieces(bytes: &[u8], pieces: Pieces<'_>) -> bool
     requires some { 0 < length bytes.now }
     requires few { length bytes.now ≤ 64 }
-    ensures { IsTrue result ↔ OccursIn bytes.now (concat pieces.entry) }
+    ensures { IsTrue result ↔ HasSubslice (concat pieces.entry) bytes.now }
 {
     let mut last = ArrayVec::new();
     for piece in pieces {
@@ -67,7 +68,7 @@ fn occurs_in_pieces(bytes: &[u8], pieces: Pieces<'_>) -> bool
 fn occurs_in_hold(bytes: &[u8], hold: &Hold) -> bool
     requires some { 0 < length bytes.now }
     requires few { length bytes.now ≤ 64 }
-    ensures { IsTrue result ↔ OccursIn bytes.now (shown hold.now) }
+    ensures { IsTrue result ↔ HasSubslice (shown hold.now) bytes.now }
 {
     let (first, last) = hold.stretch();
     occurs_in_pieces(bytes, hold.pieces(first, last))
@@ -77,7 +78,7 @@ fn occurs_in_hold(bytes: &[u8], hold: &Hold) -> bool
 pub(crate) fn occurs_in_one(bytes: &[u8], holds: &[Hold]) -> bool
     requires some { 0 < length bytes.now }
     requires few { length bytes.now ≤ 64 }
-    ensures { IsTrue result ↔ OccursInOne bytes.now (all_shown holds.now) }
+    ensures { IsTrue result ↔ OccursInOne bytes.now (map shown holds.now) }
 {
     for hold in holds {
         if occurs_in_hold(bytes, hold) {

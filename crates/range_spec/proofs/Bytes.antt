@@ -3,8 +3,7 @@ use Rattle.std.proofs.Common.{◌≡◌, ℕ, ◌<◌, List, [], ◌∷◌, subs
 use Rattle.std.specs.List.{AllByRecursion}
 use Rattle.std.specs.Char.{digit_value}
 use Rattle.std.specs.Str.Parse.{AllDigits}
-use Rattle.range_spec.specs.Asks.{IsBlankByte}
-use Rattle.range_spec.specs.Reading.{IsDigit, IsSeparator}
+use Rattle.range_spec.specs.Reading.{IsBlankByte, IsDigit, IsSeparator}
 
 abbrev pub IsNoComma : ℕ → Type 0
 IsNoComma byte = byte ≡ 44 → ⊥

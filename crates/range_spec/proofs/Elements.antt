@@ -3,8 +3,8 @@ use Rattle.std.proofs.Common.{◌≡◌, ℕ, List, [], ◌∷◌, ◌++◌, ref
 use Rattle.std.specs.List.{AllByRecursion, join_with_byte}
 use Rattle.std.proofs.lemmas.List.{append-nil}
 use Rattle.range_spec.specs.declared.grammar.Spec.{Spec}
-use Rattle.range_spec.specs.Asks.{IsSpecText, IsBlank, IsBlankByte, IsElement, AreElements}
-use Rattle.range_spec.specs.Reading.{BeginsNo, BeginsOther, IsDigit, IsSeparator, SetAsksFor}
+use Rattle.range_spec.specs.Asks.{IsSpecText, IsBlank, IsElement, AreElements}
+use Rattle.range_spec.specs.Reading.{BeginsNo, BeginsOther, IsBlankByte, IsDigit, IsSeparator, SetAsksFor}
 use Rattle.range_spec.proofs.Bytes.{IsNoComma, blank_no_comma, digit_no_separator}
 use Rattle.range_spec.proofs.Fronts.{all_append, all_weaker}
 use Rattle.range_spec.proofs.SpecTexts.{spec_no_comma}

@@ -4,8 +4,8 @@ use Rattle.std.specs.Prelude.{◌↔◌, IsSome, IfSome}
 use Rattle.std.specs.List.{join_with_byte}
 use Rattle.std.proofs.lemmas.List.{append-nil}
 use Rattle.range_spec.specs.declared.grammar.Spec.{Spec}
-use Rattle.range_spec.specs.Asks.{IsBlank, IsBlankByte, IsElement, AreElements, AsksRanges, IsAskable}
-use Rattle.range_spec.specs.Reading.{BeginsNo, BeginsOther, IsDigit, IsReadTo, IsSeparator, IsValueOf, SetAsksFor}
+use Rattle.range_spec.specs.Asks.{IsBlank, IsElement, AreElements, AsksRanges, IsAskable}
+use Rattle.range_spec.specs.Reading.{BeginsNo, BeginsOther, IsBlankByte, IsDigit, IsReadTo, IsSeparator, IsValueOf, SetAsksFor}
 use Rattle.range_spec.specs.Understood.{IsUnderstoodAs}
 use Rattle.range_spec.specs.declared.grammar.Asked.{Asked}
 use Rattle.range_spec.specs.declared.grammar.Asked.TheVariants.{Ignore, Specs}

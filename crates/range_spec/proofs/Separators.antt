@@ -3,8 +3,8 @@ use Rattle.std.proofs.Common.{◌≡◌, ℕ, List, [], ◌∷◌, ◌++◌, ref
 use Rattle.std.specs.Prelude.{is_ok, OnErr, OnOk}
 use Rattle.std.proofs.lemmas.List.{append-nil}
 use Rattle.range_spec.specs.declared.grammar.Spec.{Spec}
-use Rattle.range_spec.specs.Asks.{IsSpecText, IsBlank, IsBlankByte, IsElement, AreElements}
-use Rattle.range_spec.specs.Reading.{AreBlanksBefore, BeginsOther, IsReadTo, IsSeparator, SetAsksFor}
+use Rattle.range_spec.specs.Asks.{IsSpecText, IsBlank, IsElement, AreElements}
+use Rattle.range_spec.specs.Reading.{AreBlanksBefore, BeginsOther, IsBlankByte, IsReadTo, IsSeparator, SetAsksFor}
 use Rattle.range_spec.proofs.Bytes.{blank_no_comma}
 use Rattle.range_spec.proofs.Fronts.{all_append}
 use Rattle.range_spec.proofs.Elements.{after_element, element_no_comma, join-cons}

@@ -1,8 +1,8 @@
 -- The reading of one element with a spec.
 use Rattle.std.proofs.Common.{◌≡◌, ℕ, List, [], ◌∷◌, ◌++◌, refl, ap, append_assoc, ◌∙◌, sym, subst}
 use Rattle.range_spec.specs.declared.grammar.Spec.{Spec}
-use Rattle.range_spec.specs.Asks.{IsBlankByte, AreElements}
-use Rattle.range_spec.specs.Reading.{AreBlanksBefore, BeginsNo, BeginsOther, EndsElement, IsDigit, IsReadTo, IsSeparator, IsSpecBefore, SetAsksFor}
+use Rattle.range_spec.specs.Asks.{AreElements}
+use Rattle.range_spec.specs.Reading.{AreBlanksBefore, BeginsNo, BeginsOther, EndsElement, IsBlankByte, IsDigit, IsReadTo, IsSeparator, IsSpecBefore, SetAsksFor}
 use Rattle.range_spec.proofs.Elements.{IsFrontElement, after_element, front_element, join-cons, tail_no_blank, tail_no_digit}
 use Rattle.range_spec.proofs.Fronts.{fronts_agree}
 use Rattle.range_spec.proofs.Separators.{comma_more, comma_only, nothing_asked, nothing_asks}

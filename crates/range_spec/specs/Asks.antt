@@ -34,12 +34,9 @@ IsSpecText text (From first (Some last)) =
     (a : List ℕ) × (b : List ℕ) × IsPosition a first × IsPosition b last × (text ≡ a ++ codes "-" ++ b)
 IsSpecText text (Suffix n) = (a : List ℕ) × IsPosition a n × (text ≡ codes "-" ++ a)
 
--- a space or a tab
-abbrev pub IsBlankByte : ℕ → Type 0
-IsBlankByte byte = (byte ≡ 32) ⊎ (byte ≡ 9)
-
+-- the text is spaces and tabs
 abbrev pub IsBlank : List ℕ → Type 0
-IsBlank text = AllByRecursion IsBlankByte text
+IsBlank text = AllByRecursion (λ (byte : ℕ). (byte ≡ 32) ⊎ (byte ≡ 9)) text
 
 -- an element is blanks around nothing or around one spec, and this is what it asks for
 abbrev pub IsElement : List ℕ → List Spec → Type 0

@@ -5,12 +5,16 @@ use Rattle.std.specs.Char.{digit_value}
 use Rattle.std.specs.Str.{str_to_ascii_lowercase}
 use Rattle.std.specs.Str.Parse.{AllDigits, digits_value}
 use Rattle.range_spec.specs.declared.grammar.Spec.{Spec}
-use Rattle.range_spec.specs.Asks.{AreElements, IsBlank, IsBlankByte, IsPosition, IsSpecText}
+use Rattle.range_spec.specs.Asks.{AreElements, IsBlank, IsPosition, IsSpecText}
 
 -- ---- bytes
 
 abbrev pub IsDigit : ℕ → Type 0
 IsDigit byte = digit_value byte < 10
+
+-- a space or a tab, as blank texts have them
+abbrev pub IsBlankByte : ℕ → Type 0
+IsBlankByte byte = (byte ≡ 32) ⊎ (byte ≡ 9)
 
 -- what may stand between two specs: a comma, a space or a tab
 abbrev pub IsSeparator : ℕ → Type 0

@@ -1,7 +1,6 @@
 //! Reads a value from its front, in one pass: each function gives what it read and what is left to be read.
 ghost use Rattle.std.specs.Prelude.{◌≡◌, ◌+◌, ◌-◌, ◌*◌, ◌^◌, ◌<◌, ℕ, min, List, [], ◌∷◌, IfSome, IfNone, IsTrue, ◌↔◌, length};
-ghost use Rattle.range_spec.specs.Asks.{IsBlankByte};
-ghost use Rattle.range_spec.specs.Reading.{AreBlanksBefore, BeginsNo, BeginsOther, EndsElement, IsDigit, IsDigitBefore, IsPositionBefore, IsReadTo, IsSeparator, IsSpecBefore, IsValueOf, SetAsksFor};
+ghost use Rattle.range_spec.specs.Reading.{AreBlanksBefore, BeginsNo, BeginsOther, EndsElement, IsBlankByte, IsDigit, IsDigitBefore, IsPositionBefore, IsReadTo, IsSeparator, IsSpecBefore, IsValueOf, SetAsksFor};
 
 use crate::Spec;
 use crate::blocks::{after_sixteen_separators, eight_digits, with_eight_digits};

@@ -1,12 +1,13 @@
 -- What running nodes answer.
 use Rattle.std.proofs.Common.{◌≡◌, inl, inr, ℕ, List, true, false, Some, None, Result, Ok, Err, cond, sym, subst}
+use Rattle.std.specs.FinMap as map
 use Rattle.std.specs.Prelude.{nat_le}
 use Rattle.byte_view.specs.Contents.{Contents}
 use Rattle.host_names.specs.declared.names.SiteName.{SiteName}
 use Rattle.site_change.specs.Changes.{run_from}
 use Rattle.site_change.specs.declared.refusals.ChangeRefusal.TheVariants.{HistoryFull}
 use Rattle.change_undo.specs.Histories.{change_refusal, undo_refusal}
-use Rattle.change_undo.specs.Logs.{BeginsWith, Log, base_cells, last_number}
+use Rattle.change_undo.specs.Logs.{BeginsWith, Log, last_number}
 use Rattle.change_undo.specs.declared.entries.Entry.TheVariants.{Change, Undo}
 use Rattle.change_undo.proofs.Live.{live_changes-undo}
 use Rattle.change_undo.proofs.Runs.{undo-leaves}
@@ -82,7 +83,7 @@ leaves_out site k before judged =
       state = left.0;
       legal = left.2;
       now = left.1;
-      without_it = subst (λ (cs : _). run_from judged.uploads (base_cells before) cs ≡ Some left.0) (live_changes-undo before site k) left.1;
+      without_it = subst (λ (cs : _). run_from judged.uploads map.empty cs ≡ Some left.0) (live_changes-undo before site k) left.1;
     }
 
 undoes : (site : SiteName) (k : ℕ) (old : Log) (done : Result ℕ Stop) (answer : Answer) (new : Log) → UndoesAs by_front old site k done new → Tells (told_entry done) answer

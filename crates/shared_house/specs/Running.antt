@@ -1,5 +1,6 @@
 -- What a connection to running nodes is told, in terms of what it saw and of what it sees then.
 use Rattle.std.specs.Prelude.{◌≡◌, ◌⊎◌, ℕ, List, Some}
+use Rattle.std.specs.FinMap as map
 use Rattle.byte_view.specs.Contents.{Contents}
 use Rattle.host_names.specs.declared.names.SiteName.{SiteName}
 use Rattle.site_state.specs.States.{State}
@@ -7,7 +8,7 @@ use Rattle.site_change.specs.Changes.{run_from}
 use Rattle.site_change.specs.declared.refusals.ChangeRefusal.{ChangeRefusal}
 use Rattle.change_undo.specs.Histories.{IsLegal, live_changes, run}
 use Rattle.change_undo.specs.Live.{without}
-use Rattle.change_undo.specs.Logs.{BeginsWith, Log, base_cells, next_number, with_entry}
+use Rattle.change_undo.specs.Logs.{BeginsWith, Log, next_number, with_entry}
 use Rattle.change_undo.specs.declared.entries.Entry.TheVariants.{Undo}
 use Rattle.http_wire.specs.Requests.{RequestParts}
 use Rattle.host_api.specs.declared.refusals.Refusal.TheVariants.{Broken, Change, Device, OutOfMemory}
@@ -28,7 +29,7 @@ pub record LeavesOut (site : SiteName) (k : ℕ) (before : Log) : Type 0 where
   pub state : State
   pub legal : IsLegal uploads (with_entry before (Undo site k))
   pub now : run uploads (with_entry before (Undo site k)) ≡ Some state
-  pub without_it : run_from uploads (base_cells before) (without k (live_changes before)) ≡ Some state
+  pub without_it : run_from uploads map.empty (without k (live_changes before)) ≡ Some state
 
 -- it is told so, with the undo's number, and the connection has seen that log then
 abbrev pub IsUndone : SiteName → ℕ → Answer → (new : Log) → Type 0

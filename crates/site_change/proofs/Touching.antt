@@ -1,6 +1,7 @@
 -- What a command touches and what it changes, cell by cell.
 use Rattle.std.proofs.Common.{◌≡◌, ◌≢◌, ◌↔◌, ◌⊎◌, inl, inr, ℕ, zero, suc, Bool, true, false, not, cond, ◌||◌, List, [], ◌∷◌, map, Contains, Option, Some, None, option_map, unwrap_or, refl, sym, ap, ◌∙◌, arith}
 use Rattle.std.specs.FinMap as map
+use Rattle.std.specs.Option.{option_eq}
 use Rattle.byte_view.specs.Contents.{Contents}
 use Rattle.host_names.specs.Cells.{text_of}
 use Rattle.host_names.specs.declared.names.SiteName.{SiteName}
@@ -10,7 +11,7 @@ use Rattle.host_names.specs.declared.names.AliasName.{AliasName}
 use Rattle.site_state.specs.Files.{Paths}
 use Rattle.site_state.specs.Listings.{Listed}
 use Rattle.site_state.specs.States.{State, kept_at, draft_at, is_live_of, is_alias_of}
-use Rattle.site_state.specs.Values.{same_value}
+use Rattle.site_state.specs.Values.{value_eq}
 use Rattle.site_state.specs.declared.values.Draft.{Draft}
 use Rattle.site_state.specs.declared.values.Value.{Value}
 use Rattle.site_change.specs.declared.commands.Command.{Command}
@@ -25,10 +26,10 @@ use Rattle.std.proofs.lemmas.Slice.Eq.{bytes_eq-Decides}
 
 -- ---- what changes
 
-differs : (v w : Option Value) → (not (same_value v w) ≡ true) ↔ (v ≢ w)
+differs : (v w : Option Value) → (not (option_eq value_eq v w) ≡ true) ↔ (v ≢ w)
 differs v w = (
-  λ h same. let is : not (same_value v w) ≡ false = ap not (ap (same_value v) (sym same) ∙ same_value-itself v) in cc (sym h ∙ is),
-  λ other. elim (same_value v w) as (λ t. same_value v w ≡ t → not t ≡ true) [
+  λ h same. let is : not (option_eq value_eq v w) ≡ false = ap not (ap (option_eq value_eq v) (sym same) ∙ same_value-itself v) in cc (sym h ∙ is),
+  λ other. elim (option_eq value_eq v w) as (λ t. option_eq value_eq v w ≡ t → not t ≡ true) [
     | true ↦ λ e. absurd (other (same_value-same v w e))
     | false ↦ λ e. refl
   ] refl,

@@ -2,6 +2,7 @@
 use Rattle.std.specs.Prelude.{◌≡◌, ℕ, ◌≤◌, List, [], ◌∷◌, Bool, true, false, not, ◌||◌, nat_lt, Option, Some, None, unwrap_or, option_map, map, filter_map, length, if◌then◌else◌}
 use Rattle.std.specs.FinMap as map
 use Rattle.std.specs.List.{list_any}
+use Rattle.std.specs.Option.{option_eq}
 use Rattle.std.specs.Ordering.{eq_by_cmp}
 use Rattle.std.specs.Str.{bytes_eq}
 use Rattle.byte_view.specs.Contents.{Contents}
@@ -15,7 +16,7 @@ use Rattle.site_state.specs.Aliases.{alias_for}
 use Rattle.site_state.specs.Files.{Paths}
 use Rattle.site_state.specs.Missing.{least_missing_of}
 use Rattle.site_state.specs.States.{State, with_cell, live_at, kept_at, alias_at, draft_at, is_live_of, is_alias_of}
-use Rattle.site_state.specs.Values.{same_value}
+use Rattle.site_state.specs.Values.{value_eq}
 use Rattle.site_state.specs.declared.values.Draft.{Draft}
 use Rattle.site_state.specs.declared.values.Value.TheVariants as value
 use Rattle.site_change.specs.declared.commands.Command.{Command}
@@ -239,7 +240,7 @@ touches command n state c = (meaning command n state).touches c
 
 -- whether it changes what is in the cell; that nothing is there counts as a value
 abbrev pub changes : Command → ℕ → State → Contents → Cell → Bool
-changes command n state uploads c = not (same_value (map.get state c) (map.get (applied command n state uploads) c))
+changes command n state uploads c = not (option_eq value_eq (map.get state c) (map.get (applied command n state uploads) c))
 
 -- ---- commands in a row, each under its number
 

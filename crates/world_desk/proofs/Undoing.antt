@@ -16,7 +16,7 @@ use Rattle.change_undo.specs.declared.entries.Entry.{Entry}
 use Rattle.change_undo.specs.declared.entries.Entry.TheVariants as entry
 use Rattle.change_undo.specs.Histories.{IsLegal, change_refusal, entry_at, is_among, live_changes, refusal_at, run, same_site, undo_refusal, undone as undone_in}
 use Rattle.change_undo.specs.Live.{without}
-use Rattle.change_undo.specs.Logs.{Log, base_cells, last_number, with_entry}
+use Rattle.change_undo.specs.Logs.{Log, last_number, with_entry}
 use Rattle.change_undo.proofs.Live.{live_changes-undo, live_from-rising}
 use Rattle.change_undo.proofs.LiveEntries.{entry-lives, no_clash-none, not_refused}
 use Rattle.change_undo.proofs.Places.{no_clash, placed}
@@ -59,7 +59,7 @@ undone allowed d site k lawful published None is =
     subst (LeavesOut site k d) (sym (does d site k true published (ap is_none is))) (record {
       state = it.0;
       now = it.1;
-      without_it = ap (run_from d.uploads (base_cells d.log)) (sym (live_changes-undo d.log site k)) ∙ it.1;
+      without_it = ap (run_from d.uploads map.empty) (sym (live_changes-undo d.log site k)) ∙ it.1;
       others = live_changes-undo d.log site k;
       same = refl;
     })

@@ -1,11 +1,10 @@
 -- What is held was there to be taken, so answers are right.
 use Rattle.std.proofs.Common.{ℕ, List, [], ◌∷◌, All, Option, Some, None, Result, Ok, Err, sym, ◌∙◌, subst}
-use Rattle.std.specs.List.{AllByRecursion}
+use Rattle.std.specs.List.{AllByRecursion, FoldsTo}
 use Rattle.std.proofs.lemmas.List.Elements.{All-append, All-from_recursion, recursion_from_All}
 use Rattle.byte_view.specs.Cuts.{IsPure}
 use Rattle.byte_view.specs.Holds.{Held}
 use Rattle.range_spec.specs.declared.selection.Choice.{Choice}
-use Rattle.range_reply.specs.Holding.{GivesHolds}
 use Rattle.range_reply.specs.Sending.{IsExact, IsRead, SentFile}
 use Rattle.chunk_reads.specs.Reading.{ReadsInTurn}
 use Rattle.host_api.specs.Types.{type_of}
@@ -26,8 +25,8 @@ module _ (P : List ℕ → Type 0) where
       ((here.0, more.0), more.1)
 
   -- so were those of holds that are given
-  pub held : (old new : Taking) (holds : List Held) → GivesHolds Gives old holds new → AllByRecursion P old.left → AllByRecursion (λ h. All P h.chunks) holds × AllByRecursion P new.left
-  held old new [] given all = (tt, subst (λ (t : Taking). AllByRecursion P t.left) (sym given) all)
+  pub held : (old new : Taking) (holds : List Held) → FoldsTo Gives old holds new → AllByRecursion P old.left → AllByRecursion (λ h. All P h.chunks) holds × AllByRecursion P new.left
+  held old new [] given all = (tt, subst (λ (t : Taking). AllByRecursion P t.left) given all)
   held old new (hold ∷ holds) given all =
       let first = taken old given.0 hold.chunks given.1 all in
       let more = held given.0 new holds given.2 first.1 in

@@ -4,11 +4,11 @@ use Rattle.std.proofs.lemmas.List.{map-append, length-map}
 use Rattle.std.proofs.lemmas.List.Elements.{All-cons, All-map}
 use Rattle.change_undo.specs.declared.entries.Entry.{Entry}
 use Rattle.change_journal.specs.file.Frames.{Holds}
-use Rattle.change_journal.specs.file.Openings.{MayBePut}
+use Rattle.change_journal.specs.file.Openings.{IsForeign, IsFound, MayBePut}
 use Rattle.change_journal.specs.texts.Spells.{IsWritable, entry_text}
 use Rattle.change_journal.specs.entries.Texts.{HoldsEntries, IsText, MayHoldNext, texts}
-use Rattle.change_journal.specs.file.Walks.{AreLawful, IsShort}
-use Rattle.change_journal.specs.entries.Files.{header, IsNoJournal, IsBadRecord, IsFound}
+use Rattle.change_journal.specs.file.Walks.{AreLawful, IsBadRecord, IsShort}
+use Rattle.change_journal.specs.entries.Files.{header}
 use Rattle.change_journal.proofs.texts.Entries.{entry_length, one_entry}
 use Rattle.change_journal.proofs.file.OneAnswer.{found_is, holds_one, holds_no_other, holds_no_bad, left_holds}
 use Rattle.change_journal.proofs.file.OpenSteps.{are_short}
@@ -41,15 +41,15 @@ holds_one_list file a b one other =
     same_entries a b one.writable other.writable (holds_one header (texts a) (texts b) file (are_short (λ before. IsText) (texts a) (texts_lawful a one.writable)) (are_short (λ before. IsText) (texts b) (texts_lawful b other.writable)) one.holds other.holds)
 
 -- what was found is what the file holds
-pub found_entries : (found had : List Entry) (file : List ℕ) → All IsWritable found → IsFound (texts found) file → HoldsEntries had file → found ≡ had
+pub found_entries : (found had : List Entry) (file : List ℕ) → All IsWritable found → IsFound header (texts found) file → HoldsEntries had file → found ≡ had
 found_entries found had file writable is held =
     same_entries found had writable held.writable (found_is header (texts found) (texts had) file (are_short (λ before. IsText) (texts found) (texts_lawful found writable)) (are_short (λ before. IsText) (texts had) (texts_lawful had held.writable)) is held.holds)
 
 -- a file that holds few enough entries is a journal's, and each of its records is one
-pub held_no_other : (had : List Entry) (file : List ℕ) → HoldsEntries had file → IsNoJournal file → ⊥
+pub held_no_other : (had : List Entry) (file : List ℕ) → HoldsEntries had file → IsForeign header file → ⊥
 held_no_other had file held none = holds_no_other header (texts had) file none held.holds
 
-pub held_no_bad : (had : List Entry) (number : ℕ) (file : List ℕ) → length had ≤ 1000000 → HoldsEntries had file → IsBadRecord IsText number file → ⊥
+pub held_no_bad : (had : List Entry) (number : ℕ) (file : List ℕ) → length had ≤ 1000000 → HoldsEntries had file → IsBadRecord header (λ before. IsText) number file → ⊥
 held_no_bad had number file few held bad =
     holds_no_bad header (λ before. IsText) number (texts had) file bad (texts_lawful had held.writable) (omega (arith, few, length-texts had)) held.holds
 

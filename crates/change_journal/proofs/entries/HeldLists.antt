@@ -4,10 +4,10 @@ use Rattle.std.proofs.lemmas.List.{drop_at, get_or_append_left}
 use Rattle.host_disk.specs.Crashes.{Torn}
 use Rattle.change_undo.specs.declared.entries.Entry.{Entry}
 use Rattle.change_journal.specs.file.Frames.{Holds, framed, half_open, shut, before, between, after}
-use Rattle.change_journal.specs.file.Openings.{MayFind}
+use Rattle.change_journal.specs.file.Openings.{IsFound, MayFind}
 use Rattle.change_journal.specs.texts.Spells.{IsWritable, entry_text}
 use Rattle.change_journal.specs.entries.Texts.{HoldsEntries, IsText, MayHoldNext, texts}
-use Rattle.change_journal.specs.entries.Files.{header, opened, IsFound}
+use Rattle.change_journal.specs.entries.Files.{header, opened}
 use Rattle.change_journal.proofs.entries.Entrywise.{same_entries, texts-push, texts_lawful}
 use Rattle.change_journal.proofs.file.OneWalk.{new_or_opened, one_opened, same_head}
 use Rattle.change_journal.proofs.file.OpenSteps.{are_short}
@@ -30,7 +30,7 @@ gate_not_open entries entry (suc (suc gate)) rest writable other = record {
 }
 
 -- what is found stands before the first gate that isn't open
-pub finds_before : (found entries : List Entry) (gate : ℕ) (rest : List ℕ) → All IsWritable found → All IsWritable entries → gate ≢ 1 → IsFound (texts found) (opened (texts entries) ++ gate ∷ rest) → found ≡ entries
+pub finds_before : (found entries : List Entry) (gate : ℕ) (rest : List ℕ) → All IsWritable found → All IsWritable entries → gate ≢ 1 → IsFound header (texts found) (opened (texts entries) ++ gate ∷ rest) → found ≡ entries
 finds_before found entries gate rest writable lawful closed (inl is) =
     same_entries found entries writable lawful
     (one_opened header (texts found) (texts entries) is.0 gate is.1.rest rest (are_short (λ before. IsText) (texts found) (texts_lawful found writable)) (are_short (λ before. IsText) (texts entries) (texts_lawful entries lawful)) is.1.closed closed (sym is.1.is)).0

@@ -8,11 +8,11 @@ use Rattle.change_journal.specs.declared.file.faults.OpenFault.TheVariants.{BadH
 use Rattle.change_journal.specs.declared.file.positions.Position.{Position}
 use Rattle.change_journal.specs.declared.file.records.Records.{Records}
 use Rattle.change_journal.specs.entries.Held.{IsSound}
-use Rattle.change_journal.specs.file.Openings.{HasOpened, MayBePut, MayFind}
+use Rattle.change_journal.specs.file.Openings.{HasOpened, IsForeign, IsFound, IsRefused, MayBePut, MayFind}
 use Rattle.change_journal.specs.texts.Spells.{IsWritable, entry_text}
 use Rattle.change_journal.specs.entries.Texts.{HoldsEntries, IsText, MayHoldNext, texts}
-use Rattle.change_journal.specs.file.Walks.{HasCounted}
-use Rattle.change_journal.specs.entries.Files.{header, opened, IsNoJournal, HasRecord, IsBadRecord, IsRefused, IsFound}
+use Rattle.change_journal.specs.file.Walks.{HasCounted, IsBadRecord}
+use Rattle.change_journal.specs.entries.Files.{header, opened, HasRecord}
 use Rattle.change_journal.proofs.entries.Entrywise.{found_entries, held_no_bad, held_no_other, length-texts, may_be_put}
 use Rattle.change_journal.proofs.file.OneAnswer.{found_no_refusal, opens_so}
 use Rattle.change_journal.proofs.file.Steps.{weaker}
@@ -45,17 +45,17 @@ opened_sound {D} modelled may_leave file disk position held log old seen held_is
 }
 
 module _ (Images : List ℕ → Type 0) (log : List Entry) (gate count : ℕ) (old seen : List ℕ) (o : HasOpened header (AreOf log) (λ before. IsText) gate count old seen Images) where
-  pub found_texts : IsFound (texts log) old
-  found_texts = subst (λ (bs : List (List ℕ)). IsFound bs old) o.has.0 o.found
+  pub found_texts : IsFound header (texts log) old
+  found_texts = subst (λ (bs : List (List ℕ)). IsFound header bs old) o.has.0 o.found
 
-  pub not_refused : count ≤ 1000000 → IsRefused IsText old → ⊥
+  pub not_refused : count ≤ 1000000 → IsRefused header (λ before. IsText) old → ⊥
   not_refused few refused = found_no_refusal header (λ before. IsText) o.bodies old o.lawful (omega (arith, o.count_is, few)) o.found refused
 
   pub found_had : (had : List Entry) → HoldsEntries had old → log ≡ had
   found_had had held = found_entries log had old o.has.1 found_texts held
 
 -- a file that holds entries is refused for the device and for want of memory alone
-pub stops_only : (fault : OpenFault) (had : List Entry) (file : List ℕ) → length had ≤ 1000000 → HoldsEntries had file → (fault ≡ BadHeader → IsNoJournal file) → ((i : ℕ) → fault ≡ BadRecord i → IsBadRecord IsText i file)
+pub stops_only : (fault : OpenFault) (had : List Entry) (file : List ℕ) → length had ≤ 1000000 → HoldsEntries had file → (fault ≡ BadHeader → IsForeign header file) → ((i : ℕ) → fault ≡ BadRecord i → IsBadRecord header (λ before. IsText) i file)
     → (fault ≡ Device) ⊎ (fault ≡ OutOfMemory)
 stops_only BadHeader had file few held foreign bad = absurd (held_no_other had file held (foreign refl))
 stops_only (BadRecord i) had file few held foreign bad = absurd (held_no_bad had i file few held (bad i refl))
@@ -63,7 +63,7 @@ stops_only Device had file few held foreign bad = inl refl
 stops_only OutOfMemory had file few held foreign bad = inr refl
 
 -- a file that is no journal has no record that may lack memory
-pub judged : (fault : OpenFault) (file : List ℕ) → IsNoJournal file → (fault ≡ OutOfMemory → HasRecord file) → ((i : ℕ) → fault ≡ BadRecord i → IsBadRecord IsText i file)
+pub judged : (fault : OpenFault) (file : List ℕ) → IsForeign header file → (fault ≡ OutOfMemory → HasRecord file) → ((i : ℕ) → fault ≡ BadRecord i → IsBadRecord header (λ before. IsText) i file)
     → (fault ≡ BadHeader) ⊎ (fault ≡ Device)
 judged BadHeader file none memory bad = inl refl
 judged (BadRecord i) file none memory bad =

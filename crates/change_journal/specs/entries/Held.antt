@@ -1,12 +1,12 @@
 -- Which entries a journal holds.
 use Rattle.std.specs.Prelude.{◌≡◌, ℕ, Bool, false, true, List, All, IsTrue}
-use Rattle.change_undo.specs.Logs.{Log, own_entries, with_entry}
+use Rattle.change_undo.specs.Logs.{Log, last_number, with_entry}
 use Rattle.change_journal.specs.declared.entries.held.Held.{Held, Found, Put'}
 use Rattle.change_journal.specs.declared.file.records.Records.{Records}
 use Rattle.change_journal.specs.file.Settled.{IsSettled}
 use Rattle.change_journal.specs.texts.Spells.{IsWritable}
 use Rattle.change_journal.specs.entries.Files.{header}
-use Rattle.change_journal.specs.entries.Texts.{MayHoldMore, record_count, texts}
+use Rattle.change_journal.specs.entries.Texts.{MayHoldMore, texts}
 
 -- A journal: the entries that it holds, whether the device failed while one was put, and its disk.
 pub record Keeps (D : Type 0) : Type 0 where
@@ -22,7 +22,7 @@ entries_of (Put' shape before entry) = with_entry (entries_of before) entry.valu
 -- Each entry has a text, and there are as many records. Unless the device has failed, a modelled disk holds these texts, and the
 -- next record goes after them; else it holds them, or them and one more.
 pub record IsSound {D : Type 0} (is_modelled : Bool) (may_leave : D → List ℕ → Type 0) (file : Records D) (log : Log) : Type 0 where
-  pub writable : All IsWritable (own_entries log)
-  pub count : file.position.count ≡ record_count log
+  pub writable : All IsWritable log
+  pub count : file.position.count ≡ last_number log
   pub settled : IsTrue is_modelled → file.broken ≡ false → IsSettled header may_leave file (texts log)
   pub torn : IsTrue is_modelled → file.broken ≡ true → MayHoldMore (may_leave file.disk) log

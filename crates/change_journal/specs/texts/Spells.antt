@@ -1,5 +1,5 @@
 -- The text of an entry in a journal. Each number in it has its highest byte first.
-use Rattle.std.specs.Prelude.{◌≡◌, ℕ, ◌≤◌, List, [], ◌∷◌, ◌++◌, length, Bool, true, false, Option, Some, None, IfSome, IsTrue, ◌⊎◌}
+use Rattle.std.specs.Prelude.{◌≡◌, ℕ, ◌+◌, ◌≤◌, List, [], ◌∷◌, ◌++◌, length, Bool, Option, Some, None, IfSome, IsTrue, ◌⊎◌, if◌then◌else◌}
 use Rattle.std.specs.List.{flat_map, AllByRecursion}
 use Rattle.std.specs.Int.{w16, w32, w64, to_be_bytes}
 use Rattle.std.specs.Str.{is_utf8}
@@ -39,10 +39,7 @@ listed_text listed = path_text listed.0 ++ digest_text listed.1
 
 -- the sum of 1 for a patch and of 2 for a deploy that is published by itself
 abbrev pub flags : Bool → Bool → ℕ
-flags false false = 0
-flags true false = 1
-flags false true = 2
-flags true true = 3
+flags is_patch auto = (if is_patch then 1 else 0) + (if auto then 2 else 0)
 
 -- the kind of the listing, how many paths it has in four bytes, and the paths
 abbrev pub listing_text : Listed → Bool → List ℕ

@@ -2,17 +2,17 @@
 ghost use Rattle.std.specs.Prelude.{◌≡◌, ◌⊎◌, ◌<◌, ◌≤◌, ◌++◌, ◌∷◌, [], ℕ, All, Err, IfErr, IfOk, IsErrOf, IsTrue, List, MatchResult, OnErr, OnOk, false, true};
 ghost use Rattle.host_disk.specs.Crashes.{LeavesOnly};
 ghost use Rattle.change_undo.specs.Logs;
-ghost use Rattle.change_undo.specs.Logs.{last_number, own_entries, with_entry};
+ghost use Rattle.change_undo.specs.Logs.{last_number, with_entry};
 ghost use Rattle.change_undo.specs.declared.entries.Entry as entries;
 ghost use Rattle.change_journal.specs.declared.file.faults.OpenFault.TheVariants.{BadHeader, BadRecord, Device, OutOfMemory};
 ghost use Rattle.change_journal.specs.declared.file.records.PutFault.TheVariants as put_fault;
 ghost use Rattle.change_journal.specs.file.Failures.{MayFailReading};
-ghost use Rattle.change_journal.specs.file.Openings.{IsExactly};
+ghost use Rattle.change_journal.specs.file.Openings.{IsExactly, IsForeign, IsFound, IsRefused};
 ghost use Rattle.change_journal.specs.texts.Spells.{IsWritable};
 ghost use Rattle.change_journal.specs.entries.Texts.{AllStored, HoldsEntries, IsText, MayHoldMore, MayHoldNext, texts};
 ghost use Rattle.change_journal.specs.file.Settled.{TellsBreak};
-ghost use Rattle.change_journal.specs.file.Walks.{IsOnlyRead, TellsStop};
-ghost use Rattle.change_journal.specs.entries.Files.{HasRecord, IsBadRecord, IsFound, IsNoJournal, IsRefused, opened};
+ghost use Rattle.change_journal.specs.file.Walks.{IsBadRecord, IsOnlyRead, TellsStop};
+ghost use Rattle.change_journal.specs.entries.Files.{HasRecord, header, opened};
 
 use super::collecting::Collected;
 use super::held::Held;
@@ -59,20 +59,20 @@ impl<D: Disk> Journal<D> {
     /// journal, or if a malformed record or the 1,000,001st follows an open gate.
     pub fn open(alloc: Global, disk: D) -> Result<(Journal<D>, Log), NotOpened<D>>
         ensures entries { IfOk result (λ answer. (answer.0.entries ≡ answer.1) × (answer.0.broken ≡ false)) }
-        ensures writable { IfOk result (λ answer. All IsWritable (own_entries answer.1)) }
+        ensures writable { IfOk result (λ answer. All IsWritable answer.1) }
         ensures few { IfOk result (λ answer. last_number answer.1 ≤ 1000000) }
-        ensures found { IsTrue D.is_modelled → IfOk result (λ answer. IsFound (texts answer.1) (D.seen disk)) }
+        ensures found { IsTrue D.is_modelled → IfOk result (λ answer. IsFound header (texts answer.1) (D.seen disk)) }
         ensures exactly { IsTrue D.is_modelled → IfOk result (λ answer. IsExactly (opened (texts answer.1) ++ 0 ∷ []) (D.seen answer.0.disk) (D.may_leave answer.0.disk)) }
         ensures stored { IsTrue D.is_modelled → IfOk result (λ answer. AllStored (D.may_leave answer.0.disk) answer.1) }
-        ensures bad_header { IsTrue D.is_modelled → IfErr result (λ stop. stop.fault ≡ BadHeader → IsNoJournal (D.seen disk)) }
-        ensures bad_record { IsTrue D.is_modelled → IfErr result (λ stop. (i : ℕ) → stop.fault ≡ BadRecord i → IsBadRecord IsText i (D.seen disk)) }
+        ensures bad_header { IsTrue D.is_modelled → IfErr result (λ stop. stop.fault ≡ BadHeader → IsForeign header (D.seen disk)) }
+        ensures bad_record { IsTrue D.is_modelled → IfErr result (λ stop. (i : ℕ) → stop.fault ≡ BadRecord i → IsBadRecord header (λ before. IsText) i (D.seen disk)) }
         ensures unwritten { IsTrue D.is_modelled → IfErr result (λ stop. (stop.fault ≡ Device → ⊥) → IsOnlyRead D.seen D.may_leave D.moment D.left_since disk stop.disk) }
-        ensures refused { IsTrue D.is_modelled → IsRefused IsText (D.seen disk) → MatchResult result (λ _. ⊥) (λ stop. IsOnlyRead D.seen D.may_leave D.moment D.left_since disk stop.disk) }
+        ensures refused { IsTrue D.is_modelled → IsRefused header (λ before. IsText) (D.seen disk) → MatchResult result (λ _. ⊥) (λ stop. IsOnlyRead D.seen D.may_leave D.moment D.left_since disk stop.disk) }
         ensures kept { IsTrue D.is_modelled → (had : Logs.Log) → last_number had ≤ 1000000 → HoldsEntries had (D.seen disk) → MatchResult result (λ answer. answer.1 ≡ had) (λ stop. (stop.fault ≡ Device) ⊎ (stop.fault ≡ OutOfMemory)) }
         ensures any_moment { IsTrue D.is_modelled → (had : Logs.Log) (next : entries.Entry) → ((c : List ℕ) → D.may_leave disk c → MayHoldNext had next c) → MatchResult result (λ answer. LeavesOnly D.moment D.left_since disk answer.0.disk (MayHoldNext had next)) (λ stop. LeavesOnly D.moment D.left_since disk stop.disk (MayHoldNext had next)) }
         ensures memory { IsTrue D.is_modelled → IfErr result (λ stop. stop.fault ≡ OutOfMemory → HasRecord (D.seen disk)) }
-        ensures no_journal { IsTrue D.is_modelled → IsNoJournal (D.seen disk) → MatchResult result (λ _. ⊥) (λ stop. (stop.fault ≡ BadHeader) ⊎ (stop.fault ≡ Device)) }
-        ensures reason { IsTrue D.is_modelled → IsRefused IsText (D.seen disk) → IfErr result (λ stop. stop.fault ≡ Device → MayFailReading D.seen D.may_fail (D.seen disk)) }
+        ensures no_journal { IsTrue D.is_modelled → IsForeign header (D.seen disk) → MatchResult result (λ _. ⊥) (λ stop. (stop.fault ≡ BadHeader) ⊎ (stop.fault ≡ Device)) }
+        ensures reason { IsTrue D.is_modelled → IsRefused header (λ before. IsText) (D.seen disk) → IfErr result (λ stop. stop.fault ≡ Device → MayFailReading D.seen D.may_fail (D.seen disk)) }
         ensures cause { MatchResult result (λ answer. D.faults answer.0.disk ≡ D.faults disk) (λ stop. TellsStop stop.fault (D.faults disk) (D.faults stop.disk)) }
     {
         let mut collected = Collected::new(alloc);
@@ -92,7 +92,7 @@ impl<D: Disk> Journal<D> {
     /// Whether the device failed during a put. A broken journal puts nothing more, and has to be opened again.
     pub fn is_broken(&self) -> bool
         ensures value { result ≡ self.now.broken }
-        ensures writable { All IsWritable (own_entries self.now.entries) }
+        ensures writable { All IsWritable self.now.entries }
         ensures stored { IsTrue D.is_modelled → result ≡ false → AllStored (D.may_leave self.now.disk) self.now.entries }
         ensures torn { IsTrue D.is_modelled → result ≡ true → MayHoldMore (D.may_leave self.now.disk) self.now.entries }
     {

@@ -101,6 +101,7 @@ impl Connection {
     {
         match self.wire.try_read_head(duplex) {
             Ok(head) => {
+                // As `enter` does, without moving the phase on the way.
                 self.out.begin();
                 self.phase = after_head(alloc, head);
                 let size = self.phase.size();
@@ -209,6 +210,7 @@ impl Connection {
     {
         let head_only = is_head_only(&request.head);
         let close = request.closes();
+        // As `enter` does, without moving the reply on the way.
         self.out.begin();
         self.phase = Phase::Reply(Sending {
             reply: service.answer(alloc, request),

@@ -9,7 +9,8 @@ ghost use Rattle.blob_store.specs.Keeping.{HasFile, Keeps};
 ghost use Rattle.range_spec.specs.declared.selection.Choice.{Choice};
 ghost use Rattle.range_reply.specs.Sending.{SentFile};
 ghost use Rattle.range_reply.specs.Sending.{IsExact, IsNotRead, IsRead};
-ghost use Rattle.chunk_group.specs.Cached.{AllCached, CachedShelf, FailedOfNode, GaveOfNode, HasCached, IsCached};
+ghost use Rattle.chunk_reads.specs.Reading.{IsNotHeld};
+ghost use Rattle.chunk_group.specs.Cached.{AllCached, CachedShelf, GaveOfNode, HasCached, IsCached, ReadsChunk};
 
 use blob_store::Shelf;
 
@@ -19,10 +20,10 @@ pub fn cached_reads_count_failures<S: Shelf>()
         → IsRead (GaveOfNode S.did S.failures) old file plan content_type body new
         → S.failures old.shelf ≤ S.failures new.shelf }
     ensures fault { (old new : CachedShelf S) (file : List ℕ) (plan : Choice) (fault : ReadFault)
-        → IsNotRead (GaveOfNode S.did S.failures) (FailedOfNode S.did S.failures) old file plan fault new
+        → IsNotRead (GaveOfNode S.did S.failures) (IsNotHeld (ReadsChunk S.did S.failures)) old file plan fault new
         → S.failures old.shelf ≤ S.failures new.shelf }
     ensures device { (old new : CachedShelf S) (file : List ℕ) (plan : Choice)
-        → IsNotRead (GaveOfNode S.did S.failures) (FailedOfNode S.did S.failures) old file plan Device new
+        → IsNotRead (GaveOfNode S.did S.failures) (IsNotHeld (ReadsChunk S.did S.failures)) old file plan Device new
         → S.failures old.shelf < S.failures new.shelf }
 {}
 
@@ -38,7 +39,7 @@ pub fn cached_files_are_sent<S: Shelf>()
     ensures fault { (honest : S → Bool) (has : S → ShelfName → Option (List ℕ)) (old new : CachedShelf S)
         (file : List ℕ) (plan : Choice) (fault : ReadFault) → Keeps S.did honest has → IsTrue (honest new.shelf)
         → HasFile has old.shelf file → HasCached has old
-        → IsNotRead (GaveOfNode S.did S.failures) (FailedOfNode S.did S.failures) old file plan fault new
+        → IsNotRead (GaveOfNode S.did S.failures) (IsNotHeld (ReadsChunk S.did S.failures)) old file plan fault new
         → (fault ≡ Device) ⊎ (fault ≡ OutOfMemory) }
     ensures stays { (honest : S → Bool) (has : S → ShelfName → Option (List ℕ)) (old new : CachedShelf S)
         (file content_type : List ℕ) (plan : Choice) (body : SentFile) (name : ShelfName) → Keeps S.did honest has
@@ -48,7 +49,7 @@ pub fn cached_files_are_sent<S: Shelf>()
         (old new : CachedShelf S) (file : List ℕ) (plan : Choice) (fault : ReadFault) (name : ShelfName)
         → Keeps S.did honest has
         → IsTrue (honest new.shelf)
-        → IsNotRead (GaveOfNode S.did S.failures) (FailedOfNode S.did S.failures) old file plan fault new
+        → IsNotRead (GaveOfNode S.did S.failures) (IsNotHeld (ReadsChunk S.did S.failures)) old file plan fault new
         → has new.shelf name ≡ has old.shelf name }
     ensures cached { (honest : S → Bool) (has : S → ShelfName → Option (List ℕ)) (old new : CachedShelf S)
         (file content_type : List ℕ) (plan : Choice) (body : SentFile) → Keeps S.did honest has
@@ -58,7 +59,7 @@ pub fn cached_files_are_sent<S: Shelf>()
         (old new : CachedShelf S) (file : List ℕ) (plan : Choice) (fault : ReadFault) → Keeps S.did honest has
         → IsTrue (honest new.shelf)
         → HasFile has old.shelf file → HasCached has old
-        → IsNotRead (GaveOfNode S.did S.failures) (FailedOfNode S.did S.failures) old file plan fault new
+        → IsNotRead (GaveOfNode S.did S.failures) (IsNotHeld (ReadsChunk S.did S.failures)) old file plan fault new
         → HasCached has new }
 {}
 
@@ -73,6 +74,6 @@ pub fn caches_have_pieces_of_files_read<S: Shelf>()
     ensures fault { (honest : S → Bool) (has : S → ShelfName → Option (List ℕ)) (old new : CachedShelf S)
         (file : List ℕ) (plan : Choice) (fault : ReadFault) → Keeps S.did honest has → IsTrue (honest new.shelf)
         → HasFile has old.shelf file → HasCached has old
-        → IsNotRead (GaveOfNode S.did S.failures) (FailedOfNode S.did S.failures) old file plan fault new
+        → IsNotRead (GaveOfNode S.did S.failures) (IsNotHeld (ReadsChunk S.did S.failures)) old file plan fault new
         → AllCached (λ chunk. IsCached old.cache chunk ⊎ Contains (cut file) chunk) new.cache }
 {}

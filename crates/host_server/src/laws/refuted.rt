@@ -18,28 +18,27 @@ ghost use Rattle.change_journal.specs.entries.Texts.{AllStored};
 ghost use Rattle.found_host.specs.Openings.{IsNoRecordFault, IsOpenFault};
 ghost use Rattle.found_host.specs.declared.faults.OpenFault.TheVariants as open_fault;
 ghost use Rattle.host_api.specs.declared.bodies.Ask.TheVariants as ask;
-ghost use Rattle.host_api.specs.declared.refusals.HeadRefusal.TheVariants.{CodingRefused};
 ghost use Rattle.host_api.specs.declared.refusals.Refusal.{Refusal};
 ghost use Rattle.host_api.specs.declared.refusals.Refusal.TheVariants as reason;
 ghost use Rattle.host_api.specs.declared.texts.DeployState.TheVariants.{Kept};
 ghost use Rattle.host_api.specs.declared.texts.Told.{Told};
-ghost use Rattle.host_api.specs.declared.texts.Told.TheVariants.{Refused};
+ghost use Rattle.host_api.specs.declared.texts.Told.TheVariants.{Deploy, Refused};
 ghost use Rattle.host_answers.specs.Asking.{asked_for};
 ghost use Rattle.host_answers.specs.declared.uploads.Uploaded.{Uploaded};
-ghost use Rattle.host_server.specs.Asks.{HostStops, IsAnswer};
+ghost use Rattle.host_server.specs.Asks.{Comes, HostStops, IsAnswer};
 ghost use Rattle.host_replies.specs.FileAsks.{AsksRange};
 ghost use Rattle.host_server.specs.Hosts.{Grows, Host};
 ghost use Rattle.host_server.specs.Journals.{IsJournaled, IsStopped, is_broken};
 ghost use Rattle.journaled_history.specs.Puts.{IsPut, IsPutInVain};
-ghost use Rattle.host_server.specs.Memory.{CommandRunsOut, DeployRunsOut, TextRunsOut, UndoRunsOut};
+ghost use Rattle.host_server.specs.Memory.{CommandRunsOut, DeployRunsOut};
 ghost use Rattle.host_server.specs.Openings.{IsOpened};
-ghost use Rattle.host_server.specs.Outcomes.{refused};
+ghost use Rattle.host_server.specs.Outcomes.{Outcome};
 ghost use Rattle.host_server.specs.ReadBack.{IsReadBack};
-ghost use Rattle.host_replies.specs.Replies.{Answer, refused_answer};
-ghost use Rattle.host_connection.specs.Serving.{IsHeadBad, IsInterim, Serves, Stream};
-ghost use Rattle.host_server.specs.Shown.{ShowsDeploy, Stands};
+ghost use Rattle.host_replies.specs.Replies.{Answer, Tells, refused_answer};
+ghost use Rattle.host_connection.specs.Serving.{IsInterim, Serves, Stream};
+ghost use Rattle.host_server.specs.Shown.{Shows, ShowsDeploy};
 ghost use Rattle.host_server.specs.ServerHouses.{CommitsAt, EntersAt, LooksAt, MissesAt, UndoesAt, UploadsAt};
-ghost use Rattle.host_server.specs.Solo.{IsFolderFault, IsServed, Runs, RunsStore};
+ghost use Rattle.host_server.specs.Solo.{IsServed, Runs, RunsStore};
 ghost use Rattle.host_server.specs.Storing.{DoesUpload, IsNotStored, IsStored};
 ghost use Rattle.host_connection.specs.Timing.{Connects, IsCaughtUp};
 ghost use Rattle.host_connection.specs.declared.connections.ConnectionFault.TheVariants as fault;
@@ -112,13 +111,16 @@ pub fn wrong_changes_are_refused<D: Disk>()
     ensures command { (command : Command) (next : Host)
         → ¬ (CommandRunsOut (record { limit = 0; entries = []; uploads = map.empty }) command next) }
     ensures undo { (site : SiteName) (k : ℕ) (next : Host)
-        → ¬ (UndoRunsOut (record { limit = 0; entries = []; uploads = map.empty }) site k next) }
-    ensures text { (host : Host) → ¬ (TextRunsOut (refused host reason.BadName) host) }
+        → ¬ (HostStops (record { limit = 0; entries = []; uploads = map.empty }) (Ok (ask.Undo site k)) next) }
+    ensures text { ¬ (Tells (Refused reason.BadName) (refused_answer reason.OutOfMemory)) }
+    ensures comes { (host : Host) (site : SiteName) (out : Outcome) → Comes host (Ok (ask.Changes site)) out
+        → out.host ≡ host }
     ensures deploy { (command : SiteName → Command) (next : Host)
         → ¬ (DeployRunsOut (record { limit = 0; entries = []; uploads = map.empty }) 1 command next) }
     ensures shown { (told : Told) → ShowsDeploy (record { limit = 0; entries = []; uploads = map.empty }) 1 told
         → told ≡ Refused (reason.Change NoSuchDeploy) }
-    ensures stands { (uploads : Contents) → ¬ (Stands uploads None None (Ok Kept)) }
+    ensures shows { (uploads : Contents) (site : SiteName) (n : ℕ)
+        → ¬ (Shows uploads site n None None (Deploy n site Kept)) }
 {}
 
 /// The same of what a connection does, of openings, and of runs of the program.
@@ -131,7 +133,6 @@ pub fn wrong_runs_are_refused<S: Shelf, D: Disk, X: Duplex>()
         → ¬ (Connects (IsAnswer S.did S.failures) (Err fault.OutOfMemory) host next (AtEnd ∷ [])) }
     ensures caught_up { (host : Server S D D.Disk)
         → ¬ (IsCaughtUp (IsAnswer S.did S.failures) host [] (0 ∷ [])) }
-    ensures head { (stream : Stream) → ¬ (IsHeadBad CodingRefused stream) }
     ensures interim { (parts : RequestParts) → ¬ (IsInterim parts (0 ∷ [])) }
     ensures opened { (old : D) (shelf : S) (limit : ℕ) (server : Server S D D.Disk) → server.journal ≡ None
         → ¬ (IsOpened S.did old shelf limit server) }
@@ -139,7 +140,6 @@ pub fn wrong_runs_are_refused<S: Shelf, D: Disk, X: Duplex>()
         → IsOpenFault D.Disk S.did old shelf limit open_fault.JournalDevice new new_shelf
         → D.faults new ≡ min (D.faults old + 1) (2 ^ 64 - 1) }
     ensures record_fault { ¬ (IsNoRecordFault open_fault.BadHeader) }
-    ensures folder_fault { ¬ (IsFolderFault open_fault.BadHeader) }
     ensures store { (first : D) (shelf : S) (old new : X) (said new_said : Stream)
         → ¬ (RunsStore D.Disk S.did S.failures X.Duplex ⊥ first shelf 1 old new said new_said) }
     ensures run { (words : List (List ℕ)) (old new : X) (said new_said : Stream)

@@ -1,8 +1,7 @@
 use Rattle.std.proofs.Common.{rules, ◌<◌, inl, inr, ◌-◌, Vec, Global, length, sym, ap, subst, ◌∙◌}
 use Rattle.change_undo.specs.Logs.{last_number}
 use Rattle.host_api.specs.declared.change_lines.ChangeLine.{ChangeLine}
-use Rattle.host_answers.specs.ChangeLists.{most_lines}
-use Rattle.host_answers.proofs.Lines.{AreFound, none_found, line_found, no_line_found, all_shown}
+use Rattle.host_answers.proofs.Lines.{AreFound, most_lines, none_found, line_found, no_line_found, all_shown}
 use Rattle.host_answers.proofs.change_lists.list_changes.Goals.{in-Some+in_ok-push, in_default, then-entries-test+else-len-lt-MOST_LINES, else-entries-test}
 use Rattle.host_answers.proofs.change_lists.list_changes.Goals as goal
 

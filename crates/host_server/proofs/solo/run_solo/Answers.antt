@@ -8,7 +8,7 @@ returns-in-Ok-Solo-Some g c =
     let words = map g.S.AsStr.text c.args.words.now in
     let named : c.as_str.result.now ≡ string_bytes c.in-Ok-Solo-Some.folder = search rules in
     let asked : AskForSolo words (Some (string_bytes c.in-Ok-Solo-Some.folder)) = search rules in
-    inr (Some c.as_str.result.now, subst (AskForSolo words) (ap Some (sym named)) asked, c.run_folder.ensures)
+    inr (inr (c.as_str.result.now, subst (AskForSolo words) (ap Some (sym named)) asked, c.run_folder.ensures))
 
 pub returns-in-Err : goal.returns-in-Err
 returns-in-Err g c = inl (c.refuse.ensures (map g.S.AsStr.text c.args.words.now) c.in-Err.ensures, refl)

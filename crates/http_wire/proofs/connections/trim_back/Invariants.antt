@@ -1,9 +1,9 @@
 use Rattle.std.proofs.Common.{◌≡◌, length, reverse}
-use Rattle.http_wire.specs.Connections.{trim_front}
+use Rattle.httparse.specs.Grammar.{skip_ows}
 use Rattle.http_wire.proofs.connections.trim_back.Given as goal
 
 abbrev pub invariant-loop-last : goal.invariant-loop-last
-invariant-loop-last l = trim_front (reverse l.rest) ≡ trim_front (reverse l.fn.text)
+invariant-loop-last l = skip_ows (reverse l.rest) ≡ skip_ows (reverse l.fn.text)
 
 abbrev pub decreases-loop-last : goal.decreases-loop-last
 decreases-loop-last l = length l.rest

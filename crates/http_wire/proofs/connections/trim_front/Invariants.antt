@@ -1,9 +1,9 @@
 use Rattle.std.proofs.Common.{◌≡◌, length}
-use Rattle.http_wire.specs.Connections.{trim_front}
+use Rattle.httparse.specs.Grammar.{skip_ows}
 use Rattle.http_wire.proofs.connections.trim_front.Given as goal
 
 abbrev pub invariant-loop-first : goal.invariant-loop-first
-invariant-loop-first l = trim_front l.rest ≡ trim_front l.fn.text
+invariant-loop-first l = skip_ows l.rest ≡ skip_ows l.fn.text
 
 abbrev pub decreases-loop-first : goal.decreases-loop-first
 decreases-loop-first l = length l.rest

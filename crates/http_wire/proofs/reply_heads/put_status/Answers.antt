@@ -1,7 +1,7 @@
 use Rattle.std.proofs.Common.{◌≡◌, [], ◌++◌, ◌∙◌, List, ℕ, Bor, refl, rules, ap, subst, append-nil}
 use Rattle.std.specs.Prelude.{codes}
+use Rattle.httparse.specs.Ascii.{crlf_bytes}
 use Rattle.http_wire.specs.Gathering.{Puts}
-use Rattle.http_wire.specs.Replies.{crlf}
 use Rattle.http_wire.specs.Timing.{NoRead, Ran}
 use Rattle.http_wire.proofs.ReplyPieces.{ok_is, partial_is, phrase_is, status_is}
 use Rattle.http_wire.proofs.reply_heads.put_status.Goals as goal
@@ -23,6 +23,6 @@ returns-clause-ran g c =
     let code : List ℕ = c.as_bytes.result.now in
     let said : List ℕ = c.as_bytes-2.result.now in
     let P : List ℕ → Type 0 = λ t. Ran g.D.Duplex.saw NoRead c.args.duplex.now c.put_pieces.new.duplex (Puts c.put_pieces.result t c.args.out.now c.put_pieces.new.out) in
-    let ended : codes "HTTP/1.1 " ++ (code ++ (codes " " ++ (said ++ (crlf ++ [])))) ≡ codes "HTTP/1.1 " ++ (code ++ (codes " " ++ (said ++ crlf))) =
-    ap (λ u. codes "HTTP/1.1 " ++ (code ++ (codes " " ++ (said ++ u)))) (append-nil crlf) in
+    let ended : codes "HTTP/1.1 " ++ (code ++ (codes " " ++ (said ++ (crlf_bytes ++ [])))) ≡ codes "HTTP/1.1 " ++ (code ++ (codes " " ++ (said ++ crlf_bytes))) =
+    ap (λ u. codes "HTTP/1.1 " ++ (code ++ (codes " " ++ (said ++ u)))) (append-nil crlf_bytes) in
     subst P (ended ∙ status_is c.args.status _ _ (c.as_bytes.ensures.value ∙ c.as_str-code.ensures) phrase) c.put_pieces.ensures.ran

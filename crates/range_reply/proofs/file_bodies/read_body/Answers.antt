@@ -1,4 +1,4 @@
-use Rattle.std.proofs.Common.{rules, ◌≡◌, [], inl, inr, Err, None, length, refl, sym, ap, subst}
+use Rattle.std.proofs.Common.{rules, ◌≡◌, [], inl, inr, Err, None, length, refl, sym, ap, subst, map}
 use Rattle.std.proofs.lemmas.Result.{IfErr-weaker, IfOk-weaker}
 use Rattle.host_names.specs.Digests.{digest_of}
 use Rattle.range_spec.specs.declared.selection.Choice.{Choice}
@@ -6,7 +6,7 @@ use Rattle.range_spec.specs.declared.selection.Choice.TheVariants.{Whole}
 use Rattle.range_reply.specs.Bodies.{AreFor, HasBoundary, shown_text, stretches, text_in}
 use Rattle.range_reply.specs.Holding.{AreHeld, held_in}
 use Rattle.range_reply.specs.Sending.{IsNotRead, IsRead, IsSent, SentFile, more_of, sent_holds}
-use Rattle.range_reply.specs.Slices.{all_shown}
+use Rattle.range_reply.specs.Slices.{shown}
 use Rattle.range_reply.proofs.HeldInTurn.{no_room, nothing_held}
 use Rattle.range_reply.proofs.Joined.{are_pure, first-sent, no_boundary, none-more, pure-first, pure-rest, sent_of}
 use Rattle.range_reply.proofs.Sent.{sent-pure}
@@ -37,8 +37,8 @@ returns-in-Ok-clause-read g c =
       holds = holds;
       mid = c.hold_for.new.holder;
       held = held;
-      sent = subst (λ d. IsSent (all_shown holds) d plan boundary plan) digest
-          (subst (λ hs. IsSent (all_shown hs) c.digest.result plan boundary plan) seen c.in-Ok.ensures.shown);
+      sent = subst (λ d. IsSent (map shown holds) d plan boundary plan) digest
+          (subst (λ hs. IsSent (map shown hs) c.digest.result plan boundary plan) seen c.in-Ok.ensures.shown);
       more = [];
       more_held = nothing_held gave file c.hold_for.new.holder (more_of (length file) plan boundary) (none-more (length file) plan boundary has);
       bytes = ap (λ hs. shown_text (text_in boundary) content_type hs plan) (sym (first-sent holds [] plan boundary has));
@@ -60,11 +60,11 @@ returns-in_err-whole-in-Err-clause-fault g c =
     let parts = c.in-Err.ensures.several in
     let digest : c.digest.result ≡ digest_of file = search rules in
     let seen : c.as_slice.result.now ≡ xs = search rules in
-    let sent = subst (λ d. IsSent (all_shown xs) d plan None Whole) digest (subst (λ hs. IsSent (all_shown hs) c.digest.result plan None Whole) seen c.in-Err.ensures.shown) in
+    let sent = subst (λ d. IsSent (map shown xs) d plan None Whole) digest (subst (λ hs. IsSent (map shown hs) c.digest.result plan None Whole) seen c.in-Err.ensures.shown) in
     let held = subst (λ p. AreHeld gave c.args.holder.now file (stretches (length file) p) xs c.hold_for.new.holder) parts.1 c.in_ok-holds.ensures.held in
     let is : c.from_residual-in_err-whole-in-Err.result ≡ Err why = search rules in
     let fault : IsNotRead gave g.H.Holder.failed c.args.holder.now file plan why c.hold_whole.new.holder =
-    inr (parts.0, xs, c.hold_for.new.holder, parts.1, held, no_boundary (all_shown xs) (digest_of file) plan Whole parts.0 parts.1 sent, c.in_err-whole-in-Err.ensures.fault) in
+    inr (parts.0, xs, c.hold_for.new.holder, parts.1, held, no_boundary (map shown xs) (digest_of file) plan Whole parts.0 parts.1 sent, c.in_err-whole-in-Err.ensures.fault) in
     search (rules, fault)
 
 pub returns-in_ok-whole-in-Err-clause-read : goal.returns-in_ok-whole-in-Err-clause-read
@@ -87,7 +87,7 @@ returns-in_ok-whole-in-Err-clause-read g c =
       holds = xs;
       mid = c.hold_for.new.holder;
       held = held;
-      sent = subst (λ d. IsSent (all_shown xs) d plan None Whole) digest (subst (λ hs. IsSent (all_shown hs) c.digest.result plan None Whole) seen c.in-Err.ensures.shown);
+      sent = subst (λ d. IsSent (map shown xs) d plan None Whole) digest (subst (λ hs. IsSent (map shown hs) c.digest.result plan None Whole) seen c.in-Err.ensures.shown);
       more = ys;
       more_held = subst (λ p. AreHeld gave c.hold_for.new.holder file (more_of (length file) p None) ys c.hold_whole.new.holder) (sym parts.1) rest;
       bytes = subst B (sym parts.1) refl;

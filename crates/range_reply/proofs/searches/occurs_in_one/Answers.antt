@@ -1,13 +1,14 @@
-use Rattle.std.proofs.Common.{◌≡◌, ◌∙◌, [], ap, arith, below_more, get_or, refl, subst, sym}
+use Rattle.std.proofs.Common.{◌≡◌, ◌∙◌, [], ap, arith, below_more, get_or, refl, subst, sym, map}
 use Rattle.std.proofs.lemmas.Bool.{false≢true}
 use Rattle.std.proofs.lemmas.List.{get_or-map, length-map}
-use Rattle.range_reply.specs.Slices.{OccursIn, all_shown, shown}
+use Rattle.range_reply.specs.Slices.{shown}
+use Rattle.range_reply.proofs.Occurrences.{OccursIn}
 use Rattle.range_reply.proofs.OneOfMany.{none_has, one_has}
 use Rattle.range_reply.proofs.searches.occurs_in_one.Goals as goal
 
 pub returns-then-occurs_in_hold : goal.returns-then-occurs_in_hold
 returns-then-occurs_in_hold c =
-    let bytes = c.args.bytes.now in let texts = all_shown c.args.holds.now in let i = c.loop-hold.hold-index in
+    let bytes = c.args.bytes.now in let texts = map shown c.args.holds.now in let i = c.loop-hold.hold-index in
     let count = length-map c.args.holds.now shown in
     let here : get_or texts i [] ≡ shown c.hold-item.result =
     get_or-map shown c.args.holds.now i c.hold-item.result [] c.loop-hold-test.true ∙ ap shown (sym c.hold-item.is) in
@@ -15,7 +16,7 @@ returns-then-occurs_in_hold c =
 
 pub loop-hold-preserved : goal.loop-hold-preserved
 loop-hold-preserved c =
-    let bytes = c.args.bytes.now in let texts = all_shown c.args.holds.now in let i = c.loop-hold.hold-index in
+    let bytes = c.args.bytes.now in let texts = map shown c.args.holds.now in let i = c.loop-hold.hold-index in
     let here : get_or texts i [] ≡ shown c.hold-item.result =
     get_or-map shown c.args.holds.now i c.hold-item.result [] c.loop-hold-test.true ∙ ap shown (sym c.hold-item.is) in
     below_more _ _ c.loop-hold.invariant
@@ -23,7 +24,7 @@ loop-hold-preserved c =
 
 pub returns : goal.returns
 returns c =
-    let bytes = c.args.bytes.now in let texts = all_shown c.args.holds.now in
+    let bytes = c.args.bytes.now in let texts = map shown c.args.holds.now in
     let count = length-map c.args.holds.now shown in
     let none = none_has bytes texts c.loop-hold.hold-index (omega (arith, count, c.loop-hold-test.false, c.loop-hold.auto.hold-index-end)) c.loop-hold.invariant in
     (λ no. absurd (false≢true no), λ o. absurd (none o))

@@ -1,8 +1,7 @@
 use Rattle.std.proofs.Common.{◌≡◌, ◌++◌, ◌∙◌, ap, refl, sym, take}
 use Rattle.std.proofs.lemmas.Bool.{false≢true}
 use Rattle.std.specs.List.{concat}
-use Rattle.range_reply.specs.Slices.{OccursIn}
-use Rattle.range_reply.proofs.Occurrences.{edge_of_seen, found_at_edge, found_in_piece, searched_more, searched_nothing}
+use Rattle.range_reply.proofs.Occurrences.{OccursIn, edge_of_seen, found_at_edge, found_in_piece, searched_more, searched_nothing}
 use Rattle.range_reply.proofs.searches.occurs_in_pieces.Goals.{then-occurs-via-then-occurs, then-occurs-via-else-occurs+then-occurs-2}
 use Rattle.range_reply.proofs.searches.occurs_in_pieces.Goals as goal
 

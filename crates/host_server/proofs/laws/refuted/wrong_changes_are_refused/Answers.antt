@@ -1,8 +1,10 @@
-use Rattle.std.proofs.Common.{◌≡◌, inl, inr, List, [], ◌∷◌, Option, Some, None, true, false, sym, ◌∙◌}
+use Rattle.std.proofs.Common.{◌≡◌, inl, inr, List, [], ◌∷◌, Option, Some, None, true, false, ap, sym, ◌∙◌, arith}
 use Rattle.change_journal.specs.entries.Held.{Keeps}
 use Rattle.change_undo.specs.declared.entries.Entry.{Entry}
 use Rattle.host_disk.specs.declared.disks.Disk.{Ghosts}
+use Rattle.host_replies.specs.Replies.{Answer}
 use Rattle.host_server.specs.Journals.{Puts}
+use Rattle.host_server.specs.Outcomes.{Outcome}
 use Rattle.host_server.proofs.laws.refuted.wrong_changes_are_refused.Goals as goal
 
 pub returns-clause-grows : goal.returns-clause-grows
@@ -33,19 +35,23 @@ pub returns-clause-command : goal.returns-clause-command
 returns-clause-command g c command next is = absurd (cc is.0)
 
 pub returns-clause-deploy : goal.returns-clause-deploy
-returns-clause-deploy g c command next is = absurd (cc is.1)
+returns-clause-deploy g c command next is = absurd (cc is.2)
 
 pub returns-clause-undo : goal.returns-clause-undo
 returns-clause-undo g c site k next is = absurd (cc is.1)
 
 pub returns-clause-text : goal.returns-clause-text
-returns-clause-text g c host is = absurd (cc is.1)
+returns-clause-text g c (inl is) = let wrong : 503 ≡ 400 = ap (λ (a : Answer). a.status) is in omega (arith, wrong)
+returns-clause-text g c (inr is) = absurd (cc is.1)
+
+pub returns-clause-comes : goal.returns-clause-comes
+returns-clause-comes g c host site out is = ap (λ (o : Outcome). o.host) is
 
 pub returns-clause-shown : goal.returns-clause-shown
 returns-clause-shown g c told is = is
 
-pub returns-clause-stands : goal.returns-clause-stands
-returns-clause-stands g c uploads is = absurd (cc is)
+pub returns-clause-shows : goal.returns-clause-shows
+returns-clause-shows g c uploads site n is = absurd (cc is)
 
 pub returns-clause-kept : goal.returns-clause-kept
 returns-clause-kept g c old new entry modelled lost is = lost (is.stored modelled)

@@ -1,6 +1,5 @@
-use Rattle.std.proofs.Common.{◌≡◌, inl, inr, Some, None, Result, Ok, Err, sym, ◌∙◌}
-use Rattle.host_server.specs.OpeningLines.{opening_status}
-use Rattle.host_server.specs.Solo.{status_of}
+use Rattle.std.proofs.Common.{ℕ, ◌≡◌, inl, inr, Result, Ok, Err, if◌then◌else◌, is_ok, refl, sym, ◌∙◌}
+use Rattle.host_server.specs.OpeningLines.{shown_of}
 use Rattle.host_connection.specs.declared.connections.ConnectionFault.{ConnectionFault}
 use Rattle.found_host.specs.declared.faults.OpenFault.{OpenFault}
 use Rattle.found_host.specs.declared.faults.OpenFault.TheVariants as fault
@@ -14,7 +13,7 @@ pub returns-clause-output : goal.returns-clause-output
 returns-clause-output g c host next stream held new_held is = is.ends.0
 
 pub returns-clause-idle : goal.returns-clause-idle
-returns-clause-idle g c host next is = absurd (cc is.idle)
+returns-clause-idle g c host next is = absurd (cc (is.idle refl))
 
 pub returns-clause-caught_up : goal.returns-clause-caught_up
 returns-clause-caught_up g c host is = not_caught_up _ host is
@@ -30,11 +29,11 @@ pub returns-clause-open_fault : goal.returns-clause-open_fault
 returns-clause-open_fault g c old new shelf new_shelf limit (inl (is, same)) = is.0
 returns-clause-open_fault g c old new shelf new_shelf limit (inr (journal, has, new_is, is)) = absurd is
 
-ended_so : (ended : Result (Unit {0}) ConnectionFault) → (1 ≡ status_of ended → ⊥) × (5 ≡ status_of ended → ⊥)
+ended_so : (ended : Result (Unit {0}) ConnectionFault) → (◌≡◌ {A = ℕ} 1 (if is_ok ended then 0 else 2) → ⊥) × (◌≡◌ {A = ℕ} 5 (if is_ok ended then 0 else 2) → ⊥)
 ended_so (Ok done) = ((λ e. absurd (cc e)), (λ e. absurd (cc e)))
 ended_so (Err why) = ((λ e. absurd (cc e)), (λ e. absurd (cc e)))
 
-not_opened_so : (why : OpenFault) → (1 ≡ opening_status why → ⊥) × (5 ≡ opening_status why → ⊥)
+not_opened_so : (why : OpenFault) → (1 ≡ (shown_of why).1 → ⊥) × (5 ≡ (shown_of why).1 → ⊥)
 not_opened_so fault.BadHeader = ((λ e. absurd (cc e)), (λ e. absurd (cc e)))
 not_opened_so (fault.BadRecord n) = ((λ e. absurd (cc e)), (λ e. absurd (cc e)))
 not_opened_so (fault.NotLegal n) = ((λ e. absurd (cc e)), (λ e. absurd (cc e)))
@@ -51,11 +50,11 @@ returns-clause-store g c first shelf old new said new_said (inr (why, last, last
 pub returns-clause-run : goal.returns-clause-run
 returns-clause-run g c words old new said new_said (inl (inl (none, status, text), same)) = absurd (cc status)
 returns-clause-run g c words old new said new_said (inl (inr (status, text), same)) = absurd (cc status)
-returns-clause-run g c words old new said new_said (inr (None, asks, inl (start, empty, served))) = (ended_so served.ended).1 served.says
-returns-clause-run g c words old new said new_said (inr (None, asks, inr ((status, text), same))) = absurd (cc status)
-returns-clause-run g c words old new said new_said (inr (Some folder, asks, inl (name, (first, there, inl (start, opened, served))))) = (ended_so served.ended).1 served.says
-returns-clause-run g c words old new said new_said (inr (Some folder, asks, inl (name, (first, there, inr (why, last, last_shelf, is, says, same))))) = (not_opened_so why).1 says.0
-returns-clause-run g c words old new said new_said (inr (Some folder, asks, inr (why, is, says, same))) = (not_opened_so why).1 says.0
+returns-clause-run g c words old new said new_said (inr (inl (asks, inl (start, empty, served)))) = (ended_so served.ended).1 served.says
+returns-clause-run g c words old new said new_said (inr (inl (asks, inr ((status, text), same)))) = absurd (cc status)
+returns-clause-run g c words old new said new_said (inr (inr (folder, asks, inl (name, (first, there, inl (start, opened, served)))))) = (ended_so served.ended).1 served.says
+returns-clause-run g c words old new said new_said (inr (inr (folder, asks, inl (name, (first, there, inr (why, last, last_shelf, is, says, same)))))) = (not_opened_so why).1 says.0
+returns-clause-run g c words old new said new_said (inr (inr (folder, asks, inr (why, is, says, same)))) = (not_opened_so why).1 says.0
 
 pub returns-clause-held_back : goal.returns-clause-held_back
 returns-clause-held_back g c host old new said new_said served = (served.timely.events, served.timely.steps, served.timely.timely)
