@@ -1,4 +1,5 @@
 pub mod Unasked
+pub mod Answering
 pub mod Lines
 pub mod Reading
 pub mod FileReplies

@@ -1,13 +1,18 @@
 -- What is read of a file is answered.
-use Rattle.std.proofs.Common.{◌≡◌, ◌≢◌, ◌⊎◌, inl, inr, Bool, true, false, ℕ, List, Option, Some, None, Result, Ok, Err, length, refl, sym, ap, subst, ◌∙◌}
+use Rattle.std.proofs.Common.{◌≡◌, ◌≢◌, ◌⊎◌, inr, Bool, true, false, ℕ, List, Option, Some, None, Result, Ok, Err, length, codes, if◌then◌else◌, refl, sym, subst, ◌∙◌}
+use Rattle.host_names.specs.Digests.{digest_of}
 use Rattle.host_names.specs.declared.digests.Digest.{Digest}
 use Rattle.chunk_reads.specs.declared.faults.ReadFault.{ReadFault}
 use Rattle.range_spec.specs.declared.grammar.Asked.{Asked}
+use Rattle.range_spec.specs.declared.grammar.Asked.TheVariants.{Ignore}
 use Rattle.range_spec.specs.declared.selection.Choice.{Choice}
 use Rattle.range_spec.specs.declared.selection.Choice.TheVariants.{Whole, One, Many, None416}
 use Rattle.range_reply.specs.Bodies.{text_in}
+use Rattle.range_reply.specs.Conditions.{allows_range}
+use Rattle.range_reply.specs.Plans.{choice_in}
 use Rattle.range_reply.specs.declared.boundaries.Boundary.{Boundary}
 use Rattle.range_reply.specs.Sending.{IsNotRead, IsRead, IsSent, SentFile}
+use Rattle.http_wire.specs.Fields.{values_of}
 use Rattle.http_wire.specs.Requests.{RequestParts}
 use Rattle.host_api.specs.Types.{type_of}
 use Rattle.host_api.specs.declared.refusals.Refusal.{Refusal}
@@ -37,6 +42,15 @@ sends_parts texts digest plan body is intervals several = parts_of texts digest 
 -- what a request asks for of a file
 abbrev pub IsAsked : RequestParts → List ℕ → Choice → Type 0
 IsAsked parts file plan = (range : Asked) × AsksRange parts range × (plan ≡ plan_of parts range file)
+
+-- all of it, where no range is asked for
+whole_of_none : (allowed : Bool) (size : ℕ) → Whole ≡ (if allowed then choice_in Ignore size else Whole)
+whole_of_none true size = refl
+whole_of_none false size = refl
+
+pub whole_asked : (parts : RequestParts) (file : List ℕ) → AsksRange parts Ignore → IsAsked parts file Whole
+whole_asked parts file asks =
+    (Ignore, asks, whole_of_none (allows_range (digest_of file) (values_of (codes "if-range") parts.fields)) (length file))
 
 module _ {H : Type 0} (gave : Gave H) (failed : Failed H) (house next : H) where
   -- what comes of a plan by which something is sent
@@ -72,12 +86,7 @@ module _ {H : Type 0} (gave : Gave H) (failed : Failed H) (house next : H) where
       gives_by parts path file found false answer is head
       (range, asks, subst (λ (p : Choice). SendsBy gave failed house path file p answer next) planned sends)
 
-  pub not_wanted : (parts : RequestParts) (path file : List ℕ) (found : Result (List ℕ) Refusal) (plan : Choice) (why : Refusal) (answer : Answer) → found ≡ Ok file
-      → is_head parts ≡ false → IsAsked parts file plan
-      → ((plan ≡ None416) × (why ≡ reason.NotSatisfiable (length file))) ⊎ ((plan ≢ None416) × (why ≡ reason.OutOfMemory))
-      → answer ≡ refused_answer why → next ≡ house → ReadsBy gave failed house parts path found answer next
-  not_wanted parts path file found plan why answer is head asked (inl (none, told)) says same =
-      file_sent parts path file found plan answer is head asked
-      (subst (λ (p : Choice). SendsBy gave failed house path file p answer next) (sym none) (says ∙ ap refused_answer told, same))
-  not_wanted parts path file found plan why answer is head asked (inr (some, told)) says same =
-      file_sent parts path file found plan answer is head asked (sends_by path file plan answer some (inr (inr (says ∙ ap refused_answer told, same))))
+  pub no_memory : (parts : RequestParts) (path file : List ℕ) (found : Result (List ℕ) Refusal) (plan : Choice) (answer : Answer) → found ≡ Ok file → is_head parts ≡ false
+      → IsAsked parts file plan → plan ≢ None416 → answer ≡ refused_answer reason.OutOfMemory → next ≡ house → ReadsBy gave failed house parts path found answer next
+  no_memory parts path file found plan answer is head asked some told same =
+      file_sent parts path file found plan answer is head asked (sends_by path file plan answer some (inr (inr (told, same))))

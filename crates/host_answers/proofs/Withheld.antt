@@ -23,7 +23,7 @@ use Rattle.host_api.specs.declared.texts.Told.{Told}
 use Rattle.host_api.specs.declared.texts.Told.TheVariants as told
 use Rattle.host_replies.specs.Replies.{Answer, Tells, is_head}
 use Rattle.host_replies.specs.SentFiles.{sent_as}
-use Rattle.host_answers.specs.Answers.{AnswersBy, CarriesOut, ChangesBy, DoesBy, FollowsBy, InSite, LacksBy, PublishesBy, ShowsBy, told_entry, told_open, told_publishing, told_stop, told_upload}
+use Rattle.host_answers.specs.Answers.{AnswersBy, CarriesOut, ChangesBy, DoesBy, FollowsBy, InSite, LacksBy, PublishesBy, ShowsBy, told_entry, told_open, told_publishing, told_upload}
 use Rattle.host_answers.specs.ChangeLists.{shown_lines}
 use Rattle.host_answers.specs.Asking.{asked_for}
 use Rattle.host_answers.specs.Deploys.{Opening, opened_by, site_of_deploy}

@@ -15,40 +15,6 @@ use host_replies::Reply;
 use http_wire::Head;
 use std::alloc::Global;
 
-/// The reply to what a request asks for, over what the last look shows.
-fn carry_out<H: House>(alloc: Global, house: &mut H, head: &Head, body: &[u8], ask: Ask) -> Reply
-    ensures { DoesBy H.calls H.gave H.failed house.old head.now body.now ask (answer_of result) house.new }
-{
-    match ask {
-        Ask::Read {
-            site,
-            version,
-            path,
-        } => read(alloc, house, head, &site, &version, &path),
-        Ask::Command(command) => change(alloc, house, command),
-        Ask::Undo { site, change } => undo(alloc, house, &site, change),
-        Ask::Changes { site } => show_changes(alloc, house, &site),
-        Ask::Deploy { deploy } => show(alloc, house, deploy),
-        Ask::RemoveDeploy { deploy } => remove_deploy(alloc, house, deploy),
-        Ask::Cancel { deploy } => cancel(alloc, house, deploy),
-        Ask::Upload { deploy, path } => upload(alloc, house, deploy, &path, body),
-    }
-}
-
-/// The calls that are made for a request, and the reply that they give: a look, and then what it asks for.
-fn answer_by<H: House>(alloc: Global, house: &mut H, head: &Head, body: &[u8]) -> Reply
-    ensures { AnswersBy H.calls H.gave H.failed house.old head.now body.now (answer_of result) house.new }
-{
-    let ask = match asked_for(alloc, head, body) {
-        Ok(ask) => ask,
-        Err(why) => return refuse(alloc, why),
-    };
-    if house.look().is_err() {
-        return Reply::out_of_memory();
-    }
-    carry_out(alloc, house, head, body, ask)
-}
-
 /// The reply to a request, and what calls of the house do for it: one look, and then what the request asks for, over what the look shows. A
 /// request that asks for nothing is told why, and no call is made. If memory runs out the reply says so; what was done before remains: an
 /// entry, an opening without its publish, an upload. Each reason against a request is found before memory is taken for it.
@@ -57,5 +23,26 @@ pub fn answer<H: House>(alloc: Global, house: &mut H, head: &Head, body: &[u8]) 
     ensures replied { H.answers house.old head.now body.now (answer_of result) house.new }
     ensures grows { H.grows house.old house.new }
 {
-    answer_by(alloc, house, head, body)
+    let ask = match asked_for(alloc, head, body) {
+        Ok(ask) => ask,
+        Err(why) => return refuse(alloc, why),
+    };
+    if house.look().is_err() {
+        return Reply::out_of_memory();
+    }
+    match ask {
+        // Most requests ask for a read. Its reply is returned at once, and not moved once more with those of the others.
+        Ask::Read {
+            site,
+            version,
+            path,
+        } => return read(alloc, house, head, &site, &version, &path),
+        Ask::Command(command) => change(alloc, house, command),
+        Ask::Undo { site, change } => undo(alloc, house, &site, change),
+        Ask::Changes { site } => show_changes(alloc, house, &site),
+        Ask::Deploy { deploy } => show(alloc, house, deploy),
+        Ask::RemoveDeploy { deploy } => remove_deploy(alloc, house, deploy),
+        Ask::Cancel { deploy } => cancel(alloc, house, deploy),
+        Ask::Upload { deploy, path } => upload(alloc, house, deploy, &path, body),
+    }
 }

@@ -1,5 +1,5 @@
 //! Reads of files.
-ghost use Rattle.std.specs.Prelude.{◌≡◌, ◌≢◌, ◌⊎◌, All, MatchOption, codes, IfErr, IfOk, OnOk, length};
+ghost use Rattle.std.specs.Prelude.{◌≡◌, ◌≢◌, ◌⊎◌, All, MatchOption, OnSome, codes, false, length};
 ghost use Rattle.range_spec.specs.Chosen.{LiesWithin, intervals_in};
 ghost use Rattle.range_spec.specs.Understood.{IsUnderstoodAs};
 ghost use Rattle.range_spec.specs.declared.grammar.Asked.{Asked as Range};
@@ -9,9 +9,9 @@ ghost use Rattle.range_reply.specs.Conditions.{allows_range};
 ghost use Rattle.range_reply.specs.Plans.{lets_ranges};
 ghost use Rattle.http_wire.specs.Fields.{values_of};
 ghost use Rattle.host_api.specs.Types.{type_of};
-ghost use Rattle.host_api.specs.declared.refusals.Refusal.TheVariants.{NotSatisfiable, OutOfMemory};
+ghost use Rattle.host_api.specs.declared.refusals.Refusal.TheVariants.{OutOfMemory};
 ghost use Rattle.host_replies.specs.Bodies.{answer_of};
-ghost use Rattle.host_replies.specs.Replies.{refused_answer, unread_answer};
+ghost use Rattle.host_replies.specs.Replies.{is_head, refused_answer, unread_answer};
 ghost use Rattle.host_replies.specs.FileAsks as spec;
 ghost use Rattle.host_answers.specs.Reads.{ReadsBy, SendsBy};
 ghost use Rattle.host_replies.specs.FileAsks.{AsksRange, plan_of};
@@ -24,15 +24,16 @@ use host_api::{Refusal, Version};
 use host_names::{Digest, FilePath, SiteName};
 use host_replies::{Reply, file_of, file_type, is_head_only};
 use http_wire::Head;
-use range_reply::{IfRange, ReplyPlan, plan, read_body};
+use range_reply::{IfRange, ReplyPlan, plan, read_body, read_whole};
 use range_spec::{Choice, parse};
 use std::alloc::Global;
 use std::sync::Arc;
 
 /// The value of a request's Range field, if it is a GET with one such field (RFC 9110, section 14.2).
 fn range_value(head: &Head) -> Option<&[u8]>
-    ensures { MatchOption result (AsksRange head.now Ignore)
+    ensures asks { MatchOption result (AsksRange head.now Ignore)
         (λ value. (range : Range) → IsUnderstoodAs value.now range → AsksRange head.now range) }
+    ensures get { OnSome result (is_head head.now ≡ false) }
 {
     if head.method().as_str() != "GET" {
         return None;
@@ -65,31 +66,6 @@ fn plan_of_range(head: &Head, value: &[u8], info: &BlobInfo) -> ReplyPlan
     plan(info, &parse(value), condition(head, info.digest()))
 }
 
-/// What is to be sent of a file to a request. Most have no Range field: they take no room for what one may ask for.
-fn plan_asked(head: &Head, info: &BlobInfo) -> ReplyPlan
-    ensures asked { (range : Range) × AsksRange head.now range × (result ≡ plan_of head.now range info.now) }
-    ensures within { All (LiesWithin (length info.now)) (intervals_in result) }
-{
-    match range_value(head) {
-        Some(value) => plan_of_range(head, value, info),
-        None => Choice::Whole,
-    }
-}
-
-/// What is kept of a file, if something of it is to be sent.
-fn wanted(info: &Arc<BlobInfo>, plan: &ReplyPlan) -> Result<Arc<BlobInfo>, Refusal>
-    ensures ok { IfOk result (λ wanted. wanted.value ≡ info.now.value) }
-    ensures some { OnOk result (plan.now ≢ None416) }
-    ensures refused { IfErr result (λ why.
-        ((plan.now ≡ None416) × (why ≡ NotSatisfiable (length info.now.value)))
-        ⊎ ((plan.now ≢ None416) × (why ≡ OutOfMemory))) }
-{
-    match plan {
-        Choice::None416 => Err(Refusal::NotSatisfiable(info.len() as u64)),
-        _ => Ok(Arc::try_clone(info)?),
-    }
-}
-
 /// The refusal of a read that failed this way.
 fn refusal_of_read(why: ReadFault) -> Refusal
     ensures { result ≡ spec.refusal_of_read why }
@@ -114,11 +90,12 @@ fn send<H: Holder>(
     requires some { plan.now ≢ None416 }
     ensures { SendsBy H.gave H.failed holder.old path.now info.now.value plan.now (answer_of result) holder.new }
 {
-    let body = match read_body(alloc, holder, info, plan, file_type(path)) {
+    let content_type = file_type(path);
+    let body = match read_body(alloc, holder, info, plan, content_type) {
         Ok(body) => body,
         Err(why) => return Reply::plain(refusal_of_read(why)),
     };
-    Reply::of_file(path, info, body)
+    Reply::of_file(content_type, info, body)
 }
 
 /// The reply to HEAD. Nothing of the file is held and no plan is made for it: what needs no memory is judged first.
@@ -132,8 +109,38 @@ fn unread(path: &FilePath, info: &Arc<BlobInfo>) -> Reply
     }
 }
 
+/// The reply to a read with a Range field of this value.
+#[inline(never)]
+fn read_range<H: House>(
+    alloc: Global,
+    house: &mut H,
+    head: &Head,
+    value: &[u8],
+    site: &SiteName,
+    version: &Version,
+    path: &FilePath,
+) -> Reply
+    requires get { is_head head.now ≡ false }
+    requires asks { (range : Range) → IsUnderstoodAs value.now range → AsksRange head.now range }
+    ensures { let found = versions.file_of (H.calls.seen house.old).state site.now version.now path.now in
+        ReadsBy H.gave H.failed house.old head.now path.now found (answer_of result) house.new }
+{
+    let file = match file_of(house.state(), site, version, path) {
+        Ok(file) => file,
+        Err(why) => return Reply::plain(why),
+    };
+    let plan = plan_of_range(head, value, file.info());
+    if matches!(plan, Choice::None416) {
+        return Reply::plain(Refusal::NotSatisfiable(file.info().len() as u64));
+    }
+    let Ok(info) = Arc::try_clone(file.info()) else {
+        return Reply::out_of_memory();
+    };
+    send(alloc, house, &info, &plan, path)
+}
+
 /// The reply to a read: the file that a version of the site has at a path, as the request's Range asks for it, or the refusal if there is
-/// none.
+/// none. Most have no Range field: they take no room for what one may ask for.
 pub(crate) fn read<H: House>(
     alloc: Global,
     house: &mut H,
@@ -145,6 +152,9 @@ pub(crate) fn read<H: House>(
     ensures { let found = versions.file_of (H.calls.seen house.old).state site.now version.now path.now in
         ReadsBy H.gave H.failed house.old head.now path.now found (answer_of result) house.new }
 {
+    if let Some(value) = range_value(head) {
+        return read_range(alloc, house, head, value, site, version, path);
+    }
     let file = match file_of(house.state(), site, version, path) {
         Ok(file) => file,
         Err(why) => return Reply::plain(why),
@@ -152,10 +162,13 @@ pub(crate) fn read<H: House>(
     if is_head_only(head) {
         return unread(path, file.info());
     }
-    let plan = plan_asked(head, file.info());
-    let info = match wanted(file.info(), &plan) {
-        Ok(info) => info,
-        Err(why) => return Reply::plain(why),
+    let Ok(info) = Arc::try_clone(file.info()) else {
+        return Reply::out_of_memory();
     };
-    send(alloc, house, &info, &plan, path)
+    let content_type = file_type(path);
+    let body = match read_whole(alloc, house, &info, content_type) {
+        Ok(body) => body,
+        Err(why) => return Reply::plain(refusal_of_read(why)),
+    };
+    Reply::of_file(content_type, &info, body)
 }

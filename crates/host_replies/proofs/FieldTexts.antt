@@ -1,5 +1,5 @@
 -- The hex digits of a digest, and the type of several parts, can be the value of a field.
-use Rattle.std.proofs.Common.{◌≡◌, ◌∙◌, ℕ, zero, suc, ◌+◌, ◌==◌, ◌<◌, ◌&&◌, ◌||◌, Bool, not, nat_le, true, List, [], ◌∷◌, ◌++◌, codes, decimal, length, Ok, refl, sym, ap, subst, arith}
+use Rattle.std.proofs.Common.{◌≡◌, ◌∙◌, ℕ, zero, suc, ◌+◌, ◌==◌, ◌<◌, ◌&&◌, ◌||◌, Bool, not, nat_le, true, List, [], ◌∷◌, ◌++◌, codes, decimal, Ok, refl, sym, subst, arith}
 use Rattle.std.specs.Prelude.{IsTrue}
 use Rattle.std.specs.List.{list_all}
 use Rattle.std.proofs.lemmas.Bool.{and_from, and_parts}
@@ -61,10 +61,3 @@ parts_type_is_valid digest text hex (number, small, is) digits undone =
     let rest = joined_is_valid (decimal number) (codes "-" ++ encode_lower digest.0) (number_is_valid number small) (joined_is_valid (codes "-") (encode_lower digest.0) refl tag) in
     subst (λ t. IsTrue (is_field_text (parts_type t))) (sym is)
     (joined_is_valid (codes "multipart/byteranges; boundary=") (codes "fh" ++ (decimal number ++ (codes "-" ++ encode_lower digest.0))) refl (joined_is_valid (codes "fh") (decimal number ++ (codes "-" ++ encode_lower digest.0)) refl rest))
-
-pub boundary_is_short : (digest : Digest) (text hex : List ℕ) → IsOfEight digest text → hex ≡ encode_lower digest.0 → decode_sized hex 20 ≡ Ok digest.0 → length text ≡ 44
-boundary_is_short digest text hex (number, small, is) digits undone =
-    let tag : length (encode_lower digest.0) ≡ 40 = sym (ap length digits) ∙ decode_sized-ok hex 20 digest.0 undone in
-    let parts : length text ≡ suc (suc (suc (suc (length (encode_lower digest.0))))) =
-    ap length is ∙ ap (λ (d : List ℕ). length (codes "fh" ++ (d ++ (codes "-" ++ encode_lower digest.0)))) (decimal_digit number (omega (arith, small))) in
-    omega (arith, tag, parts)

@@ -31,7 +31,7 @@ is_withheld body = false
 -- the text of a media type
 abbrev pub media_text : MediaType → List ℕ
 media_text (media.Fixed fixed) = fixed.text.now
-media_text (media.Parts parts) = parts.text.bytes
+media_text (media.Parts parts) = parts
 
 -- what a reply says: its answer
 abbrev pub answer_of : Reply → Answer

@@ -1,7 +1,6 @@
 //! The media types of replies.
 ghost use Rattle.std.specs.Prelude.{◌≡◌};
 ghost use Rattle.host_api.specs.Types.{type_of};
-ghost use Rattle.host_replies.specs.Bodies.{media_text};
 
 use crate::parts_types::PartsType;
 use host_api::content_type;
@@ -9,7 +8,7 @@ use host_names::FilePath;
 use http_wire::FieldText;
 
 /// The type of what a reply has.
-#[derive(Clone, Copy)]
+#[derive(Drop)]
 pub enum MediaType {
     /// One that the program has.
     Fixed(FieldText<'static>),
@@ -22,16 +21,4 @@ pub fn file_type(path: &FilePath) -> FieldText<'static>
     ensures { result.text.now ≡ type_of path.now }
 {
     FieldText::new(content_type(path))
-}
-
-impl MediaType {
-    /// Its text.
-    pub(crate) fn as_field(&self) -> FieldText<'_>
-        ensures { result.text.now ≡ media_text self.now }
-    {
-        match self {
-            MediaType::Fixed(text) => *text,
-            MediaType::Parts(parts) => parts.as_field(),
-        }
-    }
 }

@@ -1,5 +1,5 @@
 //! Replies, before they are written.
-ghost use Rattle.std.specs.Prelude.{ℕ, ◌≡◌, ◌≢◌, All, length, true, false, Some, None, IsTrue, IfOk, IfErr, OnErr, Err, IsErrOf, MatchOption, option_map};
+ghost use Rattle.std.specs.Prelude.{ℕ, List, ◌≡◌, ◌≢◌, All, length, true, false, Some, None, IsTrue, IfOk, IfErr, OnErr, Err, IsErrOf, MatchOption, option_map};
 ghost use Rattle.std.specs.List.{concat};
 ghost use Rattle.http_wire.specs.Replies.{fields_of};
 ghost use Rattle.host_api.specs.Texts.{has_cell, told_text};
@@ -160,31 +160,11 @@ impl Reply {
         Reply::plain(Refusal::Head(why))
     }
 
-    /// The reply with some bytes of the file at a path. Its entity tag is the digest of the whole (RFC 9110, section 8.8.3).
-    fn of_part(
-        status: StatusCode,
-        path: &FilePath,
-        info: &BlobInfo,
-        range: Option<ContentRange>,
-        body: FileBody,
-    ) -> Reply
-        ensures { answer_of result ≡ part_answer status (type_of path.now) info.now range body.bytes }
-    {
-        Reply {
-            status,
-            content_type: MediaType::Fixed(file_type(path)),
-            etag: Some(info.digest()),
-            content_range: range,
-            allow: None,
-            body: Body::File(body),
-        }
-    }
-
     /// The reply with several parts of a file.
     #[inline(never)]
-    fn of_parts(info: &BlobInfo, boundary: &Boundary, body: FileBody) -> Reply
-        requires { IsOfEight (digest_of info.now) (text_of boundary.now) }
-        ensures { answer_of result ≡ part_answer 206 (parts_type (text_of boundary.now)) info.now None body.bytes }
+    fn of_parts(info: &BlobInfo, boundary: Boundary, body: FileBody) -> Reply
+        requires { IsOfEight (digest_of info.now) (text_of boundary) }
+        ensures { answer_of result ≡ part_answer 206 (parts_type (text_of boundary)) info.now None body.bytes }
     {
         let digest = info.digest();
         Reply {
@@ -197,13 +177,15 @@ impl Reply {
         }
     }
 
-    /// The reply with what is sent of the file at a path (RFC 9110, sections 15.3.1, 15.3.7 and 15.5.17).
-    pub fn of_file(path: &FilePath, info: &BlobInfo, body: FileBody) -> Reply
+    /// The reply with what is sent of a file of this type (RFC 9110, sections 15.3.1, 15.3.7 and 15.5.17). Its entity tag is the digest of the
+    /// whole (RFC 9110, section 8.8.3).
+    pub fn of_file(content_type: FieldText<'static>, info: &BlobInfo, body: FileBody) -> Reply
         requires { SendsParts (digest_of info.now) body }
-        ensures { answer_of result ≡ sent_answer path.now info.now body }
+        ensures { (path : List ℕ) → content_type.entry.text.now ≡ type_of path
+            → answer_of result ≡ sent_answer path info.now body }
     {
         let length = info.len() as u64;
-        let (status, range) = match body.form() {
+        let (status, content_range) = match body.form() {
             FileForm::Whole => (StatusCode::OK, None),
             FileForm::One(first, last) => {
                 let range = ContentRange::Of {
@@ -213,10 +195,17 @@ impl Reply {
                 };
                 (StatusCode::PARTIAL_CONTENT, Some(range))
             }
-            FileForm::Several(boundary) => return Reply::of_parts(info, &boundary, body),
+            FileForm::Several(boundary) => return Reply::of_parts(info, boundary, body),
             FileForm::Nothing => return Reply::plain(Refusal::NotSatisfiable(length)),
         };
-        Reply::of_part(status, path, info, range, body)
+        Reply {
+            status,
+            content_type: MediaType::Fixed(content_type),
+            etag: Some(info.digest()),
+            content_range,
+            allow: None,
+            body: Body::File(body),
+        }
     }
 
     /// The reply that tells of the file at a path without a byte of it (RFC 9110, section 9.3.2).
@@ -233,14 +222,20 @@ impl Reply {
         }
     }
 
-    /// Its head, with this entity tag.
-    fn head<'a>(&'a self, etag: Option<EntityTag<'a>>, close: bool) -> ReplyHead<'a>
-        requires { option_map (λ t. t.text.now) etag ≡ (answer_of self.now).etag }
+    /// Its head, with this type and this entity tag.
+    fn head<'a>(
+        &'a self,
+        content_type: FieldText<'a>,
+        etag: Option<EntityTag<'a>>,
+        close: bool,
+    ) -> ReplyHead<'a>
+        requires typed { content_type.text.now ≡ (answer_of self.now).content_type }
+        requires tag { option_map (λ t. t.text.now) etag ≡ (answer_of self.now).etag }
         ensures { fields_of result (length (answer_of self.now).body) ≡ fields_for close (answer_of self.now) }
     {
         ReplyHead {
             status: self.status,
-            content_type: Some(self.content_type.as_field()),
+            content_type: Some(content_type),
             etag,
             accept_ranges: self.etag.is_some(),
             content_range: self.content_range,

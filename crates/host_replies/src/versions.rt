@@ -24,8 +24,10 @@ fn kept_file<'a>(
     let Some(tree) = state.kept(site, deploy) else {
         return Err(Refusal::Change(ChangeRefusal::NoSuchDeploy));
     };
-    tree.get(path)
-        .ok_or(Refusal::Change(ChangeRefusal::NoSuchFile))
+    match tree.get(path) {
+        Some(file) => Ok(file),
+        None => Err(Refusal::Change(ChangeRefusal::NoSuchFile)),
+    }
 }
 
 /// The file that a version of the site has at a path, or the first reason why it has none.
@@ -40,9 +42,10 @@ pub fn file_of<'a>(
     ensures plain { IfErr result (λ why. has_cell why ≡ false) }
 {
     match version {
-        Version::Live => state
-            .file(site, path)
-            .ok_or(Refusal::Change(ChangeRefusal::NoSuchFile)),
+        Version::Live => match state.file(site, path) {
+            Some(file) => Ok(file),
+            None => Err(Refusal::Change(ChangeRefusal::NoSuchFile)),
+        },
         Version::Alias(name) => {
             let Some(deploy) = state.alias(site, name) else {
                 return Err(Refusal::Change(ChangeRefusal::NoSuchAlias));

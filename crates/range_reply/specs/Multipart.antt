@@ -8,13 +8,13 @@ use Rattle.http_wire.specs.Replies.{range_text}
 use Rattle.http_wire.specs.declared.replies.ContentRange.TheVariants.{Of}
 use Rattle.range_reply.specs.declared.boundaries.Boundary.{Boundary}
 
--- the text of a boundary
-abbrev pub text_of : Boundary → List ℕ
-text_of boundary = boundary.text.bytes
-
 -- the candidate with this number for the boundary of ranges of the file with this digest; those from 0 to 7 are tried
 abbrev pub candidate : Digest → ℕ → List ℕ
 candidate digest i = codes "fh" ++ (decimal i ++ (codes "-" ++ encode_lower digest.0))
+
+-- the text of a boundary
+abbrev pub text_of : Boundary → List ℕ
+text_of boundary = candidate boundary.digest boundary.number
 
 -- what comes before the bytes of a part, for an interval of a file of this many bytes: the boundary's line, two fields and
 -- an empty line

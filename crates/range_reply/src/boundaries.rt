@@ -7,9 +7,11 @@ use host_names::Digest;
 use http_wire::decimal_text;
 
 /// A text that may be the boundary of a `multipart/byteranges` body (RFC 2046, section 5.1.1). It may occur in the parts.
+/// It has what its text is made from, so it is small and cheap to move.
 #[derive(Clone, Copy, Debug)]
 pub struct Boundary {
-    text: ArrayString<64>,
+    digest: Digest,
+    number: u8,
 }
 
 impl Boundary {
@@ -17,19 +19,19 @@ impl Boundary {
     pub fn candidate(digest: Digest, number: u8) -> Boundary
         ensures { text_of result ≡ candidate digest number }
     {
-        let mut text = ArrayString::new();
-        text.push_str("fh");
-        text.push_str(decimal_text(u64::from(number)).as_str());
-        text.push_str("-");
-        text.push_str(digest.to_hex().as_str());
-        Boundary { text }
+        Boundary { digest, number }
     }
 
-    /// Returns the text of the boundary.
-    pub fn as_str(&self) -> &str
-        ensures text { result.now ≡ text_of self.now }
-        ensures short { length result.now ≤ 64 }
+    /// Makes the text of the boundary.
+    pub fn text(&self) -> ArrayString<64>
+        ensures text { result.bytes ≡ text_of self.now }
+        ensures short { length result.bytes ≤ 64 }
     {
-        self.text.as_str()
+        let mut text = ArrayString::new();
+        text.push_str("fh");
+        text.push_str(decimal_text(u64::from(self.number)).as_str());
+        text.push_str("-");
+        text.push_str(self.digest.to_hex().as_str());
+        text
     }
 }

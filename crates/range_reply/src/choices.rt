@@ -20,7 +20,7 @@ pub fn boundary(holds: &[Hold], digest: Digest) -> Option<Boundary>
 {
     for number in 0..8 {
         let candidate = Boundary::candidate(digest, number);
-        if !occurs_in_one(candidate.as_str().as_bytes(), holds) {
+        if !occurs_in_one(candidate.text().as_bytes(), holds) {
             return Some(candidate);
         }
     }

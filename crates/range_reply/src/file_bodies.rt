@@ -163,6 +163,27 @@ impl FileBody {
         })
     }
 
+    /// Makes the body of a whole file, of its hold.
+    fn whole(holds: Holds, content_type: FieldText<'static>, info: &BlobInfo) -> FileBody
+        requires held { AreFor (held_in holds) info.now choice.Whole }
+        requires lawful { All IsHeld (held_in holds) }
+        ensures { result ≡ record {
+          plan = choice.Whole;
+          boundary = None;
+          bytes = concat (map shown (held_in holds));
+        } }
+    {
+        let length = single_length(holds.as_slice());
+        FileBody {
+            sends: Sends::Whole,
+            boundary: None,
+            content_type,
+            holds,
+            size: info.len() as u64,
+            length,
+        }
+    }
+
     /// Returns what is sent.
     pub fn form(&self) -> FileForm
         ensures { IsForm result self.now.plan self.now.boundary }
@@ -241,4 +262,21 @@ pub fn read_body<H: Holder>(
             FileBody::new(whole, &Choice::Whole, None, content_type, info)
         }
     }
+}
+
+/// Reads a whole file and returns the body that sends it, as `read_body` does where that is the plan.
+pub fn read_whole<H: Holder>(
+    alloc: Global,
+    holder: &mut H,
+    info: &Arc<BlobInfo>,
+    content_type: FieldText<'static>,
+) -> Result<FileBody, ReadFault>
+    ensures read { IfOk result
+        (λ body. IsRead H.gave holder.old info.now.value choice.Whole content_type.entry.text.now body holder.new) }
+    ensures fault { IfErr result
+        (λ fault. IsNotRead H.gave H.failed holder.old info.now.value choice.Whole fault holder.new) }
+    ensures some { IfErr result (λ _. IsTrue (sends_bytes (length info.now.value) choice.Whole)) }
+{
+    let holds = hold_whole(alloc, holder, info)?;
+    Ok(FileBody::whole(holds, content_type, info))
 }

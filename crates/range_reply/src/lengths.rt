@@ -33,7 +33,7 @@ fn with_part(
         (total + length (part_text (text_of boundary.now) content_type.entry.text.now info.now interval)) }
 {
     let (first, last) = interval;
-    let before = line_before_type(boundary.as_str());
+    let before = line_before_type(boundary.text().as_str());
     let behind = line_behind_type(first, last, info.len() as u64);
     let total = with_texts(
         total,
@@ -74,5 +74,5 @@ pub(crate) fn multipart_length(
         (length (multipart_text (text_of boundary.now) content_type.entry.text.now info.now intervals.now)) }
 {
     let parts = with_parts(0, info, boundary, content_type, intervals.as_slice())?;
-    with_texts(parts, &[last_line(boundary.as_str()).as_str()])
+    with_texts(parts, &[last_line(boundary.text().as_str()).as_str()])
 }

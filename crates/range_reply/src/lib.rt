@@ -18,6 +18,6 @@ mod texts;
 pub use boundaries::Boundary;
 pub use choices::boundary;
 pub use conditions::IfRange;
-pub use file_bodies::{FileBody, FileForm, read_body};
+pub use file_bodies::{FileBody, FileForm, read_body, read_whole};
 pub use parts::Parts;
 pub use plans::{ReplyPlan, plan};

@@ -131,7 +131,7 @@ impl<'a> Opened<'a> {
         match self.heading {
             Heading::Whole => {
                 self.heading = Heading::FromType;
-                Some(Part::Text(line_before_type(text_in(&heads.boundary))))
+                Some(Part::Text(line_before_type(text_in(&heads.boundary).as_str())))
             }
             Heading::FromType => {
                 self.heading = Heading::FromRange;

@@ -60,7 +60,7 @@ impl<'a> Queue<'a> {
             return None;
         }
         self.ends = false;
-        Some(Part::Text(last_line(text_in(&self.heads.boundary))))
+        Some(Part::Text(last_line(text_in(&self.heads.boundary).as_str())))
     }
 
     /// Takes the first part that is left.

@@ -9,13 +9,13 @@ use arrayvec::ArrayString;
 use http_wire::{ContentRange, range_value};
 
 /// Returns the text of a boundary, or an empty text if there is no boundary.
-pub(crate) fn text_in(boundary: &Option<Boundary>) -> &str
-    ensures text { result.now ≡ spec.text_in boundary.now }
-    ensures short { length result.now ≤ 64 }
+pub(crate) fn text_in(boundary: &Option<Boundary>) -> ArrayString<64>
+    ensures text { result.bytes ≡ spec.text_in boundary.now }
+    ensures short { length result.bytes ≤ 64 }
 {
     match boundary {
-        Some(boundary) => boundary.as_str(),
-        None => "",
+        Some(boundary) => boundary.text(),
+        None => ArrayString::new(),
     }
 }
 

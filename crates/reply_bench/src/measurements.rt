@@ -84,7 +84,7 @@ fn searched(rt: &HostRuntime, file: &[u8]) -> Result<u128> {
     let begun = Instant::now(rt)?;
     let found = boundary(&holds, digest);
     let took = begun.elapsed(rt)?;
-    let is_first = found.is_some_and(|found| found.as_str().starts_with("fh0-"));
+    let is_first = found.is_some_and(|found| found.text().as_str().starts_with("fh0-"));
     if !is_first {
         return Err(anyhow!("a candidate occurs in the file"));
     }

@@ -83,8 +83,9 @@ fn stage_with(
         missed: None,
     };
     let plan = request.plan(info);
-    match read_body(alloc, &mut gathered, info, &plan, file_type(&request.path)) {
-        Ok(body) => Ok(Stage::Answered(Reply::of_file(&request.path, info, body))),
+    let content_type = file_type(&request.path);
+    match read_body(alloc, &mut gathered, info, &plan, content_type) {
+        Ok(body) => Ok(Stage::Answered(Reply::of_file(content_type, info, body))),
         Err(ReadFault::OutOfMemory) => Err(AllocError),
         Err(_) => match gathered.missed {
             Some(name) => Ok(Stage::Waits(name)),

@@ -16,7 +16,7 @@ fn file_with_candidates(alloc: Global, zeros: usize, candidates: u8) -> Result<C
     let digest = Digest::of_hex(EMPTY)?;
     let mut file = Vec::from_elem(alloc, 0u8, zeros)?;
     for number in 0..candidates {
-        file.extend_from_slice(Boundary::candidate(digest, number).as_str().as_bytes())?;
+        file.extend_from_slice(Boundary::candidate(digest, number).text().as_bytes())?;
     }
     cut(alloc, file.as_slice())
 }
@@ -36,7 +36,7 @@ fn told_boundary(alloc: Global, file: &CutFile, words: &str) -> Result<String, F
     let stretches = stretches(alloc, words)?;
     let held = holds(alloc, file, stretches.as_slice())?;
     match boundary(held.as_slice(), Digest::of_hex(EMPTY)?) {
-        Some(found) => Ok(format!(in alloc; "{}", found.as_str())?),
+        Some(found) => Ok(format!(in alloc; "{}", found.text().as_str())?),
         None => Ok(format!(in alloc; "none")?),
     }
 }

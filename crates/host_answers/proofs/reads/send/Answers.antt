@@ -9,8 +9,8 @@ pub returns : goal.returns
 returns g c =
     sends_by g.H.Holder.gave g.H.Holder.failed c.args.holder.now c.read_body.new.holder c.args.path.now c.args.info.now.value c.args.plan.now _ c.requires.some (inl (
       c.in-Ok.body,
-      subst (λ (t : List ℕ). IsRead g.H.Holder.gave c.args.holder.now c.args.info.now.value c.args.plan.now t c.in-Ok.body c.read_body.new.holder) c.file_type.ensures c.in-Ok.ensures.read,
-      c.of_file.ensures ∙ ap (λ (f : List ℕ). sent_answer c.args.path.now f c.in-Ok.body) c.deref.ensures,
+      subst (λ (t : List ℕ). IsRead g.H.Holder.gave c.args.holder.now c.args.info.now.value c.args.plan.now t c.in-Ok.body c.read_body.new.holder) c.file_type-content_type.ensures c.in-Ok.ensures.read,
+      c.of_file.ensures c.args.path.now c.file_type-content_type.ensures ∙ ap (λ (f : List ℕ). sent_answer c.args.path.now f c.in-Ok.body) c.deref.ensures,
     ))
 
 pub returns-in-Err : goal.returns-in-Err

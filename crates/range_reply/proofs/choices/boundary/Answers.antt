@@ -9,7 +9,7 @@ pub loop-number-preserved : goal.loop-number-preserved
 loop-number-preserved c =
     let occurs : IsTrue c.occurs_in_one.result = search rules in
     below_more _ _ c.loop-number.invariant
-    (subst (λ bytes. OccursInOne bytes (map shown c.args.holds.now)) (c.as_bytes.ensures.value ∙ c.as_str.ensures.text ∙ c.candidate-candidate.ensures)
+    (subst (λ bytes. OccursInOne bytes (map shown c.args.holds.now)) (c.as_bytes.ensures.value ∙ c.deref.ensures.0 ∙ c.text.ensures.text ∙ c.candidate-candidate.ensures)
     (c.occurs_in_one.ensures.0 occurs))
 
 pub returns-then-not-occurs_in_one-clause-pure : goal.returns-then-not-occurs_in_one-clause-pure

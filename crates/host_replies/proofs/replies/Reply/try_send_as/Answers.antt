@@ -1,7 +1,7 @@
 use Rattle.std.proofs.Common.{ap, ◌∙◌}
 use Rattle.hex.specs.Hex.{decode_sized}
 use Rattle.host_replies.proofs.EntityTags.{digest_is_tag}
-use Rattle.host_replies.proofs.replies.Reply.try_send.Goals as goal
+use Rattle.host_replies.proofs.replies.Reply.try_send_as.Goals as goal
 
 pub new-requires : goal.new-requires
 new-requires g c =
