@@ -12,6 +12,7 @@
 #include <string.h>
 #include <sys/file.h>
 #include <sys/stat.h>
+#include <sys/uio.h>
 #include <unistd.h>
 
 #define NEXT(name) ((typeof(&name))dlsym(RTLD_NEXT, #name))
@@ -79,6 +80,12 @@ ssize_t write(int fd, const void *bytes, size_t size) {
     if (!is_refused(fd)) return NEXT(write)(fd, bytes, size);
     if (NEXT(write)(fd, bytes, is_late() ? size : size / 2) < 0) return -1;
     return fail();
+}
+
+ssize_t writev(int fd, const struct iovec *slices, int number) {
+    if (!is_refused(fd)) return NEXT(writev)(fd, slices, number);
+    ssize_t put = is_late() ? NEXT(writev)(fd, slices, number) : NEXT(write)(fd, slices->iov_base, slices->iov_len / 2);
+    return put < 0 ? -1 : fail();
 }
 
 ssize_t pwrite(int fd, const void *bytes, size_t size, off_t at) {

@@ -61,8 +61,7 @@ impl Duplex for StandardStreams {
         let parts = [slices.first, slices.second, slices.third, slices.fourth];
         match usize::try_from(os::writev(self.output.as_raw_fd(), parts)) {
             Ok(count) if count > 0 => Ok(count.min(most)),
-            // This call finds out whether writes fail.
-            _ => self.write_some(front),
+            _ => Err(Halt::Failed(WriteFailed)),
         }
     }
 
