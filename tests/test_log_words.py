@@ -1,5 +1,5 @@
 """What is above change_undo speaks of a log in the words of that crate's Logs.antt: no clause and no definition counts the entries of a log, puts
-some after them, or numbers them from 1, but for four definitions that say of a log that it is the list of its entries."""
+some after them, or numbers them from 1."""
 
 import pathlib
 import re
@@ -13,13 +13,6 @@ SPELT_OUT = {
     "puts entries after those of a log": rf"{LOG} *\+\+",
     "puts the entries of a log after others": rf"\+\+ *(?:\w+\.)*entries\b",
     "numbers entries from 1": r"\benumerate_from 1\b",
-}
-# These are to be written anew if a log ever begins after its first entry.
-LISTS = {
-    "crates/host_opening/specs/Replays.antt": "puts entries after those of a log",
-    "crates/host_answers/specs/ChangeLists.antt": "numbers entries from 1",
-    "crates/host_server/specs/Hosts.antt": "puts entries after those of a log",
-    "crates/host_server/specs/Journals.antt": "puts entries after those of a log",
 }
 
 
@@ -51,10 +44,8 @@ class WordsOfLogs(unittest.TestCase):
         self.assertIn("host_server", above)
         for file in (file for crate in above for file in files(crate)):
             for what, pattern in SPELT_OUT.items():
-                name = str(file.relative_to(TOP))
-                with self.subTest(f"{name} {what}"):
-                    spelt_out = [found[0] for found in re.finditer(pattern, clauses(file))]
-                    self.assertEqual(bool(spelt_out), LISTS.get(name) == what, spelt_out)
+                with self.subTest(f"{file.relative_to(TOP)} {what}"):
+                    self.assertEqual([found[0] for found in re.finditer(pattern, clauses(file))], [])
 
     def test_each_way_to_spell_a_log_out_would_be_found(self):
         spelt_out = [

@@ -1,7 +1,7 @@
 -- What a shelf answers where a file is read from it.
 use Rattle.std.proofs.Common.{◌≡◌, ◌≢◌, inl, inr, ℕ, ◌+◌, ◌≤◌, List, [], ◌∷◌, ◌++◌, Option, Some, None, length, map, refl, sym, ap, subst, ◌∙◌, arith}
 use Rattle.std.specs.List.{AllByRecursion, concat}
-use Rattle.std.proofs.lemmas.List.{append-nil, append_assoc, length-append, length-map, map-append}
+use Rattle.std.proofs.lemmas.List.{append-nil, append_assoc, length-append, length-map, map-append, nil_from_length}
 use Rattle.std.proofs.lemmas.List.Elements.{All-from_recursion}
 use Rattle.host_names.specs.declared.digests.Digest.{Digest}
 use Rattle.host_names.specs.Digests.{digest_of}
@@ -124,13 +124,10 @@ one_asked names rest file name answer named =
           ∙ ap (λ l. l ++ map Part rest) (sym (map-append (λ (a : ShelfName × Option (List ℕ)). a.0) (pieces_given file) ((Part name, answer) ∷ []))),
     )
 
-some_pieces : (before : List (List ℕ)) (piece : List ℕ) → before ++ piece ∷ [] ≢ []
-some_pieces [] piece none = absurd (cc none)
-some_pieces (b ∷ before) piece none = absurd (cc none)
-
--- a file with a piece more isn't empty
-longer_file : (before piece : List ℕ) → Follows before piece → before ++ piece ≢ []
-longer_file before piece follows none = some_pieces (cut before) piece (sym follows.0 ∙ ap cut none)
+-- where one is named after others, some are
+some_names : (before : List Digest) (name : Digest) (rest : List Digest) → before ++ name ∷ rest ≢ []
+some_names [] name rest none = absurd (cc none)
+some_names (b ∷ before) name rest none = absurd (cc none)
 
 -- ---- a piece is read
 
@@ -170,7 +167,8 @@ module _ {S : Type 0} (did : S → Call → S → Type 0) (old now new : S) (joi
   no_more read_fault.OutOfMemory rest more so (inr fault) =
       let piece = fault.0 in
       let after = one_more (joined ++ piece) rest more so (piece, fault.1, refl, fault.2, fault.3) in
-      inr (joined ++ piece, rest, longer_file joined piece fault.2, after.named, after.gives)
+      let named : names_of joined ++ name ∷ rest ≡ names = ap (λ l. names_of joined ++ l) (sym more) ∙ so.named in
+      inr ((λ none. some_names (names_of joined) name rest (named ∙ none)), (joined ++ piece, rest, after.named, after.gives))
 
 -- ---- a table is read
 
@@ -187,6 +185,10 @@ pub no_table : (text : List ℕ) → (¬ (IsTable text)) → (file : List ℕ) �
 no_table text none file small e =
     none (subst IsTable e (is_table (length file) (names_of file) small (length-names_of file) (All-from_recursion (λ (name : Digest). length name.0 ≡ 20) (names_of file) (all_named (cut file)))))
 
+-- the empty file has no pieces
+no_names : (names : List Digest) → names_of [] ++ names ≡ names
+no_names names = refl
+
 pub table_fails : {S : Type 0} (did : S → Call → S → Type 0) (old new : S) (digest : Digest) (why : ReadFault) → IsTableFault did old digest why new → IsFileFault did old digest why new
 table_fails did old new digest read_fault.Missing fault = fault
 table_fails did old new digest read_fault.Damaged fault = (
@@ -201,7 +203,8 @@ table_fails did old new digest read_fault.Damaged fault = (
 )
 table_fails did old new digest read_fault.Device fault = inl fault
 table_fails did old new digest read_fault.OutOfMemory (inl fault) = inl (inl fault)
-table_fails did old new digest read_fault.OutOfMemory (inr fault) = inr (inl (fault.0, fault.2, fault.3, fault.1))
+table_fails did old new digest read_fault.OutOfMemory (inr fault) =
+    inr (fault.0, fault.1, fault.2, new, fault.3, fault.4, fault.5, ([], fault.2, no_names fault.2, refl))
 
 pub pieces_fail : {S : Type 0} (did : S → Call → S → Type 0) (old mid new : S) (digest : Digest) (text : List ℕ) (size : ℕ) (names : List Digest) (why : ReadFault)
     → Spells text size names → did old (Got (Table digest) (Some text)) mid → ArePiecesFault did mid names why new → IsFileFault did old digest why new
@@ -218,7 +221,8 @@ pieces_fail did old mid new digest text size names read_fault.Damaged spells got
 )
 pieces_fail did old mid new digest text size names read_fault.Device spells got fault = inr (text, size, names, mid, spells, got, fault)
 pieces_fail did old mid new digest text size names read_fault.OutOfMemory spells got (inl fault) = inl (inr (text, size, names, mid, spells, got, fault))
-pieces_fail did old mid new digest text size names read_fault.OutOfMemory spells got (inr fault) = inr (inr (text, size, names, mid, spells, got, fault))
+pieces_fail did old mid new digest text size names read_fault.OutOfMemory spells got (inr fault) =
+    inr (text, size, names, mid, spells, (λ none. fault.0 (nil_from_length names (omega (arith, none, spells.count)))), got, fault.1)
 
 -- ---- a file is read
 

@@ -16,7 +16,7 @@ use Rattle.blob_store.specs.declared.openings.Wanted.{Wanted}
 use Rattle.blob_store.specs.Calls.{Call, Got, GetFails, Put, PutFails, PutsFile, PutsInTurn}
 use Rattle.blob_store.specs.Faults.{HasPutPart, HasPutSome, IsChunkFault}
 use Rattle.blob_store.specs.Keeping.{Keeps, Thing, Where}
-use Rattle.blob_store.specs.Openings.{AreTaken, IsOpenFault, IsOpened, IsTaken, IsTakeFault, Need, Taken}
+use Rattle.blob_store.specs.Openings.{AreTaken, IsOpenFault, IsOpened, IsTaken, IsTakeFault, Taken}
 use Rattle.blob_store.specs.Reads.{Answers, FailsAtFile, FailsAtPiece, GivesFirst, GivesInTurn, IsFileFault, IsFileRead, answers_of, pieces_given}
 use Rattle.blob_store.specs.declared.shelves.ShelfName.{ShelfName}
 
@@ -88,8 +88,8 @@ module _ {S : Type 0} (did : S → Call → S → Type 0) (honest : S → Bool) 
 
   first_given : (old new : S) (names : List Digest) → IsTrue (honest new) → GivesFirst did old names new → IsTrue (honest old) × GivesFirst Well old names new
   first_given old new names so is =
-      let all = gives old new (pieces_given is.0) so is.4 in
-      (all.0, (is.0, is.1, is.2, is.3, all.1))
+      let all = gives old new (pieces_given is.0) so is.3 in
+      (all.0, (is.0, is.1, is.2, all.1))
 
   pub file_fault : (old new : S) (digest : Digest) (why : ReadFault) → IsTrue (honest new) → IsFileFault did old digest why new → IsTrue (honest old) × IsFileFault Well old digest why new
   file_fault old new digest read_fault.Missing so is = (keeps.before old new (Got (Table digest) None) is so, (is, so))
@@ -100,52 +100,48 @@ module _ {S : Type 0} (did : S → Call → S → Type 0) (honest : S → Bool) 
   file_fault old new digest read_fault.OutOfMemory so (inl is) =
       let all = file_fails old new digest shelf_fault.OutOfMemory so is in
       (all.0, inl all.1)
-  file_fault old new digest read_fault.OutOfMemory so (inr (inl is)) =
-      (keeps.before old new (Got (Table digest) (Some is.0)) is.3 so, inr (inl (is.0, is.1, is.2, (is.3, so))))
-  file_fault old new digest read_fault.OutOfMemory so (inr (inr is)) =
-      let rest = first_given is.3 new is.2 so is.6 in
-      (keeps.before old is.3 (Got (Table digest) (Some is.0)) is.5 rest.0, inr (inr (is.0, is.1, is.2, is.3, is.4, (is.5, rest.0), rest.1)))
+  file_fault old new digest read_fault.OutOfMemory so (inr is) =
+      let rest = first_given is.3 new is.2 so is.7 in
+      (keeps.before old is.3 (Got (Table digest) (Some is.0)) is.6 rest.0, inr (is.0, is.1, is.2, is.3, is.4, is.5, (is.6, rest.0), rest.1))
 
   -- ---- openings
 
-  taken : (old new : S) (need : Need) (file : Option (List ℕ)) → IsTrue (honest new) → IsTaken did old need file new → IsTrue (honest old) × IsTaken Well old need file new
-  taken old new need (Some file) so is = file_read old new need.0 file so is
-  taken old new need None so (free, inl is) =
-      let all = file_fault old new need.0 read_fault.Missing so is in
+  taken : (old new : S) (next : Wanted) (file : Option (List ℕ)) → IsTrue (honest new) → IsTaken did old next file new → IsTrue (honest old) × IsTaken Well old next file new
+  taken old new next (Some file) so is = file_read old new next.digest file so is
+  taken old new next None so (free, inl is) =
+      let all = file_fault old new next.digest read_fault.Missing so is in
       (all.0, (free, inl all.1))
-  taken old new need None so (free, inr is) =
-      let all = file_fault old new need.0 read_fault.Damaged so is in
+  taken old new next None so (free, inr is) =
+      let all = file_fault old new next.digest read_fault.Damaged so is in
       (all.0, (free, inr all.1))
 
   all_taken : (old new : S) (each : List Taken) → IsTrue (honest new) → AreTaken did old each new → IsTrue (honest old) × AreTaken Well old each new
   all_taken old new [] so is = (subst (λ s. IsTrue (honest s)) is so, is)
   all_taken old new (one ∷ more) so is =
       let rest = all_taken is.0 new more so is.2 in
-      let first = taken old is.0 one.need one.file rest.0 is.1 in
+      let first = taken old is.0 one.wanted one.file rest.0 is.1 in
       (first.0, (is.0, first.1, rest.1))
 
   pub opened : (old new : S) (wanted : List Wanted) (known : _) → IsTrue (honest new) → IsOpened did old wanted known new → IsOpened Well old wanted known new
   opened old new wanted known so is = (is.0, is.1, (all_taken old new is.0 so is.2).1, is.3)
 
-  take_fault : (old new : S) (need : Need) (why : OpenFault) → IsTrue (honest new) → IsTakeFault did old need why new → IsTrue (honest old) × IsTakeFault Well old need why new
-  take_fault old new need (open_fault.MissingBlob digest) so is =
+  take_fault : (old new : S) (next : Wanted) (why : OpenFault) → IsTrue (honest new) → IsTakeFault did old next why new → IsTrue (honest old) × IsTakeFault Well old next why new
+  take_fault old new next (open_fault.MissingBlob digest) so is =
       let all = file_fault old new digest read_fault.Missing so is.1 in
       (all.0, (is.0, all.1))
-  take_fault old new need (open_fault.DamagedBlob digest) so is =
+  take_fault old new next (open_fault.DamagedBlob digest) so is =
       let all = file_fault old new digest read_fault.Damaged so is.1 in
       (all.0, (is.0, all.1))
-  take_fault old new need open_fault.Device so is = file_fault old new need.0 read_fault.Device so is
-  take_fault old new need open_fault.OutOfMemory so (inl is) =
-      let all = file_fault old new need.0 read_fault.OutOfMemory so is in
+  take_fault old new next open_fault.Device so is = file_fault old new next.digest read_fault.Device so is
+  take_fault old new next open_fault.OutOfMemory so (inl is) =
+      let all = file_fault old new next.digest read_fault.OutOfMemory so is in
       (all.0, inl all.1)
-  take_fault old new need open_fault.OutOfMemory so (inr is) =
-      let all = file_read old new need.0 is.0 so is.1 in
+  take_fault old new next open_fault.OutOfMemory so (inr is) =
+      let all = file_read old new next.digest is.0 so is.1 in
       (all.0, inr (is.0, all.1))
 
   pub open_stops : (old new : S) (wanted : List Wanted) (why : OpenFault) → IsTrue (honest new) → IsOpenFault did old wanted why new → IsOpenFault Well old wanted why new
-  open_stops old new wanted why so (inl is) =
-      let stop = is.2 in
-      let last = take_fault stop.3 new stop.1 why so stop.6 in
-      let before = all_taken old stop.3 stop.0 last.0 stop.5 in
-      inl (is.0, is.1, (stop.0, stop.1, stop.2, stop.3, stop.4, before.1, last.1))
-  open_stops old new wanted why so (inr none) = inr none
+  open_stops old new wanted why so is =
+      let last = take_fault is.3 new is.1 why so is.6 in
+      let before = all_taken old is.3 is.0 last.0 is.5 in
+      (is.0, is.1, is.2, is.3, is.4, before.1, last.1)

@@ -6,7 +6,7 @@ mod Once
 mod StoredNames
 mod Turns
 mod FileReads
-mod WantedOrder
+mod TakenFiles
 pub mod Kept
 pub mod KeptOpen
 pub mod Honest

@@ -1,14 +1,15 @@
 -- Pieces of which each name is put once.
-use Rattle.std.proofs.Common.{◌≡◌, ◌≢◌, ◌⊎◌, inl, inr, ℕ, Bool, true, false, cond, ◌||◌, List, [], ◌∷◌, ◌++◌, Contains, map, refl, sym, ap, subst, ◌∙◌, arith}
+use Rattle.std.proofs.Common.{◌≡◌, ◌≢◌, ◌⊎◌, inl, inr, ℕ, Bool, true, false, cond, ◌||◌, List, [], ◌∷◌, ◌++◌, AllPairs, Contains, map, refl, sym, ap, subst, ◌∙◌, arith}
 use Rattle.std.proofs.lemmas.Cmp.{eq_by_cmp_equiv}
-use Rattle.std.proofs.lemmas.List.Elements.{Contains-append_cases, Contains-append_left, Contains-append_right, Contains-push, Contains-push_cases}
+use Rattle.std.proofs.lemmas.List.Elements.{All-from_recursion, Contains-append_cases, Contains-append_left, Contains-append_right, Contains-push, Contains-push_cases}
+use Rattle.std.proofs.lemmas.List.Kept.{AllPairs-cons}
 use Rattle.std.specs.List.{AllByRecursion, list_any}
 use Rattle.std.specs.Ordering.{eq_by_cmp, is_eq}
 use Rattle.std.specs.declared.cmp.Ordering.{Ordering}
 use Rattle.std.specs.declared.cmp.Ordering.TheVariants.{Less, Equal, Greater}
 use Rattle.host_names.specs.declared.digests.Digest.{Digest}
 use Rattle.host_names.specs.Digests.{digest_cmp, digest_cmp_total, digest_cmp-IsAntisymmetric, digest_of}
-use Rattle.blob_store.specs.Calls.{AreApart, AreOnceEach}
+use Rattle.blob_store.specs.Calls.{AreOnceEach}
 
 pub is_eq-true : (o : Ordering) → is_eq o ≡ true → o ≡ Equal
 is_eq-true Less e = cc e
@@ -119,9 +120,13 @@ once_met seen (piece ∷ pieces) =
           (λ p. met_more seen piece some (digest_of p)) pieces (once_met seen_now pieces),
     )
 
+-- no two of these names are one
+abbrev AreApart : List Digest → Type 0
+AreApart names = AllPairs (λ name other. name ≢ other) names
+
 once_apart : (seen : List Digest) (pieces : List (List ℕ))
     → AreApart (map digest_of (once seen pieces)) × AllByRecursion (λ name. ¬ (Contains seen name)) (map digest_of (once seen pieces))
-once_apart seen [] = (tt, tt)
+once_apart seen [] = ((λ i j d below within. absurd (omega (arith, within))), tt)
 once_apart seen (piece ∷ pieces) =
     let one = digest_of piece in
     let rest = once_apart (seen ++ one ∷ []) pieces in
@@ -134,7 +139,7 @@ once_apart seen (piece ∷ pieces) =
     × AllByRecursion (λ name. ¬ (Contains seen name)) (map digest_of (cond b [] (piece ∷ []) ++ once (seen ++ one ∷ []) pieces))) [
       | true ↦ λ e. (rest.0, later)
       | false ↦ λ e. (
-        (others, rest.0),
+        AllPairs-cons (λ name other. name ≢ other) one names (All-from_recursion (λ name. one ≢ name) names others) rest.0,
         ((λ was. let wrong : true ≡ false = sym (among_of seen one was) ∙ e in absurd (cc wrong)), later),
       )
     ] refl

@@ -1,5 +1,5 @@
 -- The text of a table, and what it is read as.
-use Rattle.std.proofs.Common.{◌≡◌, ◌≢◌, ℕ, ◌+◌, ◌*◌, ◌≤◌, List, [], ◌∷◌, ◌++◌, length, map, take, drop, zero, suc, refl, sym, ap, subst, ◌∙◌, arith, All}
+use Rattle.std.proofs.Common.{◌≡◌, ℕ, ◌+◌, ◌*◌, ◌≤◌, List, [], ◌∷◌, ◌++◌, length, map, take, drop, zero, suc, refl, sym, ap, subst, ◌∙◌, arith, All}
 use Rattle.std.proofs.lemmas.List.{take-append-drop, length-drop, length-append, length-take, nil_from_length}
 use Rattle.std.proofs.lemmas.List.{drop_at, take_at}
 use Rattle.std.proofs.lemmas.List.Elements.{All-from_recursion, recursion_from_All}
@@ -67,14 +67,37 @@ all_sized k bytes names size are =
     let P : List (List ℕ) → Type 0 = AllByRecursion (λ (b : List ℕ). length b ≡ 20) in
     All-from_recursion (λ (name : Digest). length name.0 ≡ 20) names (names_sized names (subst P (sym are) (chunks_sized k bytes size)))
 
--- what spells a table is one, and where it has names its file isn't empty
-pub spelled_table : (text : List ℕ) (size : ℕ) (names : List Digest) → Spells text size names → IsTable text
-spelled_table text size names spells = subst IsTable (sym spells.spelled) (is_table size names spells.small spells.count spells.named)
+-- bytes as names
+abbrev as_names : List (List ℕ) → List Digest
+as_names parts = map (λ (bytes : List ℕ). record { 0 = bytes }) parts
 
-pub not_empty : (text : List ℕ) (size : ℕ) (names : List Digest) → Spells text size names → names ≢ [] → size_of text ≢ 0
-not_empty text size names spells some e =
-    let told : size ≡ size_of text = sym (size_told size names spells.small) ∙ ap size_of (sym spells.spelled) in
-    some (nil_from_length names (omega (arith, told, e, spells.count)))
+names_back : (parts : List (List ℕ)) → map (λ (name : Digest). name.0) (as_names parts) ≡ parts
+names_back [] = refl
+names_back (part ∷ parts) = ap (λ l. part ∷ l) (names_back parts)
+
+length-as_names : (k : ℕ) (bytes : List ℕ) → length (as_names (first_chunks 20 k bytes)) ≡ k
+length-as_names zero bytes = refl
+length-as_names (suc k) bytes =
+    let rest = length-as_names k (drop 20 bytes) in
+    omega (arith, rest)
+
+-- a table names what follows its size
+pub names_behind : (text : List ℕ) (size : ℕ) → IsTable text → size ≡ size_of text → to_be_bytes w64 size ≡ take 8 text → (names : List Digest) × Spells text size names
+names_behind text size table told front =
+    let k = pieces_of size in
+    let bytes = drop 8 text in
+    let names = as_names (first_chunks 20 k bytes) in
+    let back = names_back (first_chunks 20 k bytes) in
+    let left = length-drop 8 text in
+    let room : length bytes ≡ k * 20 = omega (arith, left, table.room, table.long, ap pieces_of told) in (
+      names,
+      record {
+        small = omega (arith, told, table.small);
+        count = length-as_names k bytes;
+        named = all_sized k bytes names room back;
+        spelled = text_with text size names front (ap concat back ∙ concat-first_chunks k bytes room);
+      },
+    )
 
 -- the names are read back
 concat_told : (names others : List Digest) → AllByRecursion (λ (name : Digest). length name.0 ≡ 20) names → AllByRecursion (λ (name : Digest). length name.0 ≡ 20) others

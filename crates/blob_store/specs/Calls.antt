@@ -1,5 +1,5 @@
 -- Calls of a shelf: what it was given, and what it answered.
-use Rattle.std.specs.Prelude.{◌≡◌, ◌≢◌, ◌⊎◌, ℕ, List, [], ◌∷◌, ◌++◌, Option, Some, None, Result, MatchResult, ⊤, Contains, length, map}
+use Rattle.std.specs.Prelude.{◌≡◌, ◌≢◌, ◌⊎◌, ℕ, List, [], ◌∷◌, ◌++◌, Option, Some, None, Result, MatchResult, ⊤, AllPairs, Contains, length, map}
 use Rattle.std.specs.FinMap.{get}
 use Rattle.std.specs.List.{AllByRecursion}
 use Rattle.host_names.specs.declared.digests.Digest.{Digest}
@@ -35,16 +35,11 @@ PutsInTurn {S} did old (thing ∷ things) fault new =
     ((why : ShelfFault) × (fault ≡ Some why) × did old (PutFails thing.0 thing.1 why) new)
     ⊎ ((mid : S) × did old (Put thing.0 thing.1) mid × PutsInTurn did mid things fault new)
 
--- no two of these names are one
-abbrev pub AreApart : List Digest → Type 0
-AreApart [] = ⊤
-AreApart (name ∷ names) = AllByRecursion (λ other. name ≢ other) names × AreApart names
-
 -- some of these pieces: of each name that isn't stored one, and of the others none
 pub record AreOnceEach (stored : List Digest) (pieces some : List (List ℕ)) : Type 0 where
   pub among : AllByRecursion (Contains pieces) some
   pub each : AllByRecursion (λ piece. Contains stored (digest_of piece) ⊎ Contains (map digest_of some) (digest_of piece)) pieces
-  pub apart : AreApart (map digest_of some)
+  pub apart : AllPairs (λ name other. name ≢ other) (map digest_of some)
   pub fresh : AllByRecursion (λ name. ¬ (Contains stored name)) (map digest_of some)
 
 -- of the pieces of a file one is put of each name that isn't stored, and of the others none, and then its table, and no other call is made; all of it,

@@ -10,7 +10,7 @@ use Rattle.blob_store.specs.declared.shelves.ShelfFault.TheVariants as shelf_fau
 use Rattle.chunk_reads.specs.declared.faults.ReadFault.{ReadFault}
 use Rattle.chunk_reads.specs.declared.faults.ReadFault.TheVariants as read_fault
 use Rattle.blob_store.specs.Calls.{Call, Got, GetFails}
-use Rattle.blob_store.specs.Tables.{IsTable, Spells, size_of, text_of}
+use Rattle.blob_store.specs.Tables.{Spells, text_of}
 
 -- names that a shelf is asked for, and what it answers to each
 abbrev pub Answers : Type 0
@@ -56,13 +56,12 @@ FailsAtFile {S} did old digest fault new =
 abbrev pub AreNamedBy : List ℕ → Answers → Type 0
 AreNamedBy text answers = (answers ≡ []) ⊎ ((size : ℕ) × (names : List Digest) × Spells text size names × AreAsked names answers)
 
--- it gave each piece of a file that isn't empty, whose names are the first of these, and was asked for nothing else
+-- it gave each piece of a file, whose names are the first of these, and was asked for nothing else
 abbrev pub GivesFirst : {S : Type 0} → (did : S → Call → S → Type 0) → S → List Digest → S → Type 0
-GivesFirst did old names new = (file : List ℕ) × (later : List Digest) × (file ≢ []) × (names_of file ++ later ≡ names) × GivesInTurn did old (pieces_given file) new
+GivesFirst did old names new = (file : List ℕ) × (later : List Digest) × (names_of file ++ later ≡ names) × GivesInTurn did old (pieces_given file) new
 
 -- why a file of this digest and of at most 16,777,216 bytes can't be read: the shelf has no table of it, or its answers are of no such file, or
--- it failed; or there was no memory for the names in a table, of which an empty file's has none, or for that of the last of the pieces that were
--- read, each what a file has there
+-- it failed; or it gave a table that names pieces, and of these the first ones or none, and then there was no memory
 abbrev pub IsFileFault : {S : Type 0} → (did : S → Call → S → Type 0) → S → Digest → ReadFault → S → Type 0
 IsFileFault did old digest read_fault.Missing new = did old (Got (Table digest) None) new
 IsFileFault did old digest read_fault.Damaged new =
@@ -71,9 +70,8 @@ IsFileFault did old digest read_fault.Damaged new =
 IsFileFault did old digest read_fault.Device new = FailsAtFile did old digest shelf_fault.Device new
 IsFileFault {S} did old digest read_fault.OutOfMemory new =
     FailsAtFile did old digest shelf_fault.OutOfMemory new
-    ⊎ ((text : List ℕ) × IsTable text × (size_of text ≢ 0) × did old (Got (Table digest) (Some text)) new)
-    ⊎ ((text : List ℕ) × (size : ℕ) × (names : List Digest) × (mid : S) × Spells text size names × did old (Got (Table digest) (Some text)) mid
-    × GivesFirst did mid names new)
+    ⊎ ((text : List ℕ) × (size : ℕ) × (names : List Digest) × (mid : S) × Spells text size names × (size ≢ 0)
+    × did old (Got (Table digest) (Some text)) mid × GivesFirst did mid names new)
 
 -- a file of this digest is read whole, and isn't too large
 abbrev pub IsFileRead : {S : Type 0} → (did : S → Call → S → Type 0) → S → Digest → List ℕ → S → Type 0
@@ -89,7 +87,7 @@ IsTableFault did old digest read_fault.Damaged new =
 IsTableFault did old digest read_fault.Device new = did old (GetFails (Table digest) shelf_fault.Device) new
 IsTableFault did old digest read_fault.OutOfMemory new =
     did old (GetFails (Table digest) shelf_fault.OutOfMemory) new
-    ⊎ ((text : List ℕ) × did old (Got (Table digest) (Some text)) new × IsTable text × (size_of text ≢ 0))
+    ⊎ ((text : List ℕ) × (size : ℕ) × (names : List Digest) × Spells text size names × (size ≢ 0) × did old (Got (Table digest) (Some text)) new)
 
 -- a shelf gives the next piece of a file, which has this name
 abbrev pub IsNextRead : {S : Type 0} → (did : S → Call → S → Type 0) → S → Digest → (before after : List ℕ) → S → Type 0
@@ -121,4 +119,4 @@ ArePiecesFault did old names read_fault.Missing new = ⊥
 ArePiecesFault did old names read_fault.Damaged new = (answers : Answers) × AreAsked names answers × GivesInTurn did old answers new × AreNoPieces answers
 ArePiecesFault did old names read_fault.Device new = FailsAtPiece did old names shelf_fault.Device new
 ArePiecesFault did old names read_fault.OutOfMemory new =
-    FailsAtPiece did old names shelf_fault.OutOfMemory new ⊎ GivesFirst did old names new
+    FailsAtPiece did old names shelf_fault.OutOfMemory new ⊎ ((names ≢ []) × GivesFirst did old names new)

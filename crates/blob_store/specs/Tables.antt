@@ -19,6 +19,8 @@ pub record Spells (text : List ℕ) (size : ℕ) (names : List Digest) : Type 0 
   pub named : All (λ (name : Digest). length name.0 ≡ 20) names
   pub spelled : text ≡ text_of size names
 
+-- ---- what private functions say, and the laws of tables
+
 -- the size that a text begins with
 abbrev pub size_of : List ℕ → ℕ
 size_of text = from_be_bytes w64 (take 8 text)

@@ -86,10 +86,10 @@ impl<S: Shelf> Blobs<S> {
         }
     }
 
-    /// A store over a shelf that may have files. It reads each wanted file whole, in the order of the digests, and knows those that the
-    /// shelf gives whole. A missing or damaged file isn't known; the first one that must be there is a fault. If a digest is wanted twice,
-    /// its file must be there if either asks for that. A failure of the device is a fault at any file, and so is a lack of memory. After a
-    /// fault the store asks for nothing more, and the shelf is handed back.
+    /// A store over a shelf that may have files. It reads each wanted file whole, in turn, and knows those that the shelf gives whole. A
+    /// missing or damaged file isn't known; the first one that must be there is a fault. A digest that is wanted twice is read twice. A
+    /// failure of the device is a fault at any file, and so is a lack of memory. After a fault the store asks for nothing more, and the
+    /// shelf is handed back.
     pub fn open(alloc: Global, shelf: S, wanted: &[Wanted]) -> Result<Blobs<S>, NotOpened<S>>
         ensures opened { IfOk result (λ blobs. IsOpened S.did shelf wanted.now blobs.known blobs.shelf) }
         ensures fault { IfErr result (λ stop. IsOpenFault S.did shelf wanted.now stop.fault stop.shelf) }

@@ -4,7 +4,7 @@ ghost use Rattle.std.specs.FinMap as map;
 ghost use Rattle.std.specs.Prelude.{◌≡◌, Bool, true, IsTrue, ℕ, ◌≤◌, List, [], ◌∷◌, All, None, Option, Some, ⊤, length};
 ghost use Rattle.std.specs.List.{Contains};
 ghost use Rattle.host_names.specs.Digests.{digest_of};
-ghost use Rattle.byte_view.specs.Contents.{Contents};
+ghost use Rattle.byte_view.specs.Contents.{Contents, with_file};
 ghost use Rattle.host_names.specs.declared.digests.Digest.{Digest};
 ghost use Rattle.byte_view.specs.Cuts.{cut};
 ghost use Rattle.chunk_reads.specs.declared.faults.ReadFault.TheVariants as read_fault;
@@ -19,7 +19,7 @@ ghost use Rattle.blob_store.specs.Keeping.{Agree, AgreeWithKnown, AlwaysKeeps, H
 ghost use Rattle.blob_store.specs.declared.openings.OpenFault.{OpenFault};
 ghost use Rattle.blob_store.specs.declared.openings.OpenFault.TheVariants as open_fault;
 ghost use Rattle.blob_store.specs.declared.openings.Wanted.{Wanted};
-ghost use Rattle.blob_store.specs.Openings.{IsOpenFault, IsOpened, IsOrderOf, need_of};
+ghost use Rattle.blob_store.specs.Openings.{IsOpenFault, IsOpened};
 ghost use Rattle.blob_store.specs.Reads.{AreOfNone, IsFileFault, IsFileRead, answers_of};
 ghost use Rattle.blob_store.specs.Shelves.{Does, found_in};
 ghost use Rattle.blob_store.specs.Folders.{are_true, calls_of, there_after};
@@ -71,8 +71,10 @@ pub fn kept_files_are_read<S: Shelf>()
 /// A store that is opened over such a shelf knows each wanted file that the shelf has, and none of these files stops the opening. The shelf
 /// has each file that the store knows. An opening, even one that fails, changes nothing on the shelf.
 pub fn kept_files_are_known<S: Shelf>()
-    ensures known { (honest : S → Bool) (has : S → ShelfName → Option (List ℕ)) (old new : S) (wanted : List Wanted) (known : Contents) (file : List ℕ) (must : Bool) → Keeps S.did honest has → IsTrue (honest new)
-        → HasFile has old file → length file ≤ 16777216 → need_of wanted (digest_of file) ≡ Some must
+    ensures known { (honest : S → Bool) (has : S → ShelfName → Option (List ℕ)) (old new : S)
+        (wanted : List Wanted) (one : Wanted) (known : Contents) (file : List ℕ) → Keeps S.did honest has
+        → IsTrue (honest new) → HasFile has old file → length file ≤ 16777216
+        → Contains wanted one → one.digest ≡ digest_of file
         → IsOpened S.did old wanted known new → map.get known (digest_of file) ≡ Some file }
     ensures there { (honest : S → Bool) (has : S → ShelfName → Option (List ℕ)) (old new : S) (wanted : List Wanted) (file : List ℕ) → Keeps S.did honest has → IsTrue (honest new) → HasFile has old file
         → length file ≤ 16777216 → ¬ (IsOpenFault S.did old wanted (open_fault.MissingBlob (digest_of file)) new) }
@@ -117,7 +119,8 @@ pub fn wrong_answers_are_refused<S: Shelf>()
     ensures chunk { (old new : MemShelf) (name : Digest) → ¬ (IsChunkFault Does old name read_fault.Device new) }
     ensures file { (old new : MemShelf) (digest : Digest) → ¬ (IsFileFault Does old digest read_fault.Device new) }
     ensures of_none { (file : List ℕ) → length file ≤ 16777216 → ¬ (AreOfNone (digest_of file) (answers_of file)) }
-    ensures order { (digest : Digest) (must : Bool) → ¬ (IsOrderOf [] ((digest, must) ∷ [])) }
+    ensures opened { (old new : S) (file : List ℕ) → ¬ (IsOpened S.did old [] (with_file map.empty file) new) }
+    ensures stopped { (old new : S) (fault : OpenFault) → ¬ (IsOpenFault S.did old [] fault new) }
     ensures agree { (name : ShelfName) → ¬ (Agree ((name, []) ∷ []) ((name, 0 ∷ []) ∷ [])) }
     ensures agrees { Agree (things_of []) (things_of []) }
     ensures keeps { (has : S → ShelfName → Option (List ℕ)) (shelf : S) (name : ShelfName) → ¬ (Keeps (λ old call new. ⊤) (λ shelf. true) has) }

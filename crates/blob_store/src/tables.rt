@@ -82,7 +82,8 @@ impl Table {
     pub(crate) fn read(alloc: Global, text: &[u8]) -> Result<Table, TableFault>
         ensures read { IfOk result (λ table. Spells text.now table.size table.names.items) }
         ensures judged { IfErr result (λ fault. (fault ≡ OutOfMemory) ↔ IsTable text.now) }
-        ensures memory { IfErr result (λ fault. fault ≡ OutOfMemory → size_of text.now ≢ 0) }
+        ensures memory { IfErr result (λ fault. fault ≡ OutOfMemory
+            → (size : _) × (names : _) × Spells text.now size names × (size ≢ 0)) }
     {
         let size = size_in(text).ok_or(TableFault::Damaged)?;
         let names = names_in(alloc, &text[8..]).map_err(|_| TableFault::OutOfMemory)?;

@@ -11,13 +11,13 @@ use Rattle.touch_index.specs.Keys.{covering, touched_keys}
 use Rattle.touch_index.specs.Next.{IsNext}
 use Rattle.touch_index.specs.Postings.{Postings, is_posted, may_touch_any}
 use Rattle.touch_index.proofs.Covered.{meet, touched-covered}
-use Rattle.change_undo.specs.Clashes.{in_cell}
 use Rattle.change_undo.specs.Histories.{same_site}
 use Rattle.change_undo.specs.Indexed.{IsIndexOf, has_key}
 use Rattle.change_undo.specs.Kept.{first_touched, kept_touch, plan_of}
 use Rattle.change_undo.specs.PlannedEntries.{PlannedEntry}
 use Rattle.change_undo.proofs.Indexed.{plan_of-beyond}
 use Rattle.change_undo.proofs.KeptClash.{kept_touch-at}
+use Rattle.change_undo.proofs.WithoutClash.{in_cell}
 
 or_none : (a b : Bool) → (a || b) ≡ false → (a ≡ false) × (b ≡ false)
 or_none true b e = cc e

@@ -94,7 +94,8 @@ impl<S: Shelf> NodeFiles<S> {
         requires within { last < length info.value }
         ensures stretch { IfOk result (λ hold. (hold.file ≡ info.value) × (hold.first ≡ first) × (hold.last ≡ last)) }
         ensures read { IfOk result (λ hold. GaveOfNode S.did S.failures self.old hold self.new) }
-        ensures fault { IfErr result (λ fault. IsNotHeld (ReadsChunk S.did S.failures) self.old info.value first last fault self.new) }
+        ensures fault { IfErr result (λ fault.
+            IsNotHeld (ReadsChunk S.did S.failures) self.old info.value first last fault self.new) }
     {
         self.group.hold(info, first, last)
     }

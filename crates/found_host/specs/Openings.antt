@@ -59,13 +59,16 @@ IsUnwritten disk old new = IsTrue disk.is_modelled → IsOnlyRead disk.seen disk
 -- of a modelled disk: nothing was written to a file that is refused
 abbrev pub IsSpared : {D : Type 0} → Ghosts D → D → D → Type 0
 IsSpared disk old new =
-    IsTrue disk.is_modelled → IsRefused header (λ before. IsText) (disk.seen old) → IsOnlyRead disk.seen disk.may_leave disk.moment disk.left_since old new
+    IsTrue disk.is_modelled → IsRefused header (λ before. IsText) (disk.seen old)
+    → IsOnlyRead disk.seen disk.may_leave disk.moment disk.left_since old new
 
 -- the journal can't be opened: the file is none, or has a bad record, or there was no memory, and nothing was written; or the device failed, which
 -- is counted, and nothing was written to a file that is refused
 abbrev pub IsJournalFault : {D : Type 0} → Ghosts D → D → OpenFault → D → Type 0
-IsJournalFault disk old fault.BadHeader new = (IsTrue disk.is_modelled → IsForeign header (disk.seen old)) × IsUnwritten disk old new
-IsJournalFault disk old (fault.BadRecord n) new = (IsTrue disk.is_modelled → IsBadRecord header (λ before. IsText) n (disk.seen old)) × IsUnwritten disk old new
+IsJournalFault disk old fault.BadHeader new =
+    (IsTrue disk.is_modelled → IsForeign header (disk.seen old)) × IsUnwritten disk old new
+IsJournalFault disk old (fault.BadRecord n) new =
+    (IsTrue disk.is_modelled → IsBadRecord header (λ before. IsText) n (disk.seen old)) × IsUnwritten disk old new
 IsJournalFault disk old fault.JournalDevice new = (disk.faults new ≡ min (disk.faults old + 1) (2 ^ 64 - 1)) × IsSpared disk old new
 IsJournalFault disk old fault.OutOfMemory new = IsUnwritten disk old new
 IsJournalFault disk old why new = ⊥

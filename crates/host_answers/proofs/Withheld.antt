@@ -14,6 +14,7 @@ use Rattle.range_reply.specs.declared.boundaries.Boundary.{Boundary}
 use Rattle.range_spec.specs.declared.selection.Choice.{Choice}
 use Rattle.range_spec.specs.declared.selection.Choice.TheVariants.{Whole, One, Many, None416}
 use Rattle.http_wire.specs.Requests.{RequestParts}
+use Rattle.host_api.specs.Types.{type_of}
 use Rattle.host_api.specs.declared.bodies.Ask.{Ask}
 use Rattle.host_api.specs.declared.bodies.Ask.TheVariants as ask
 use Rattle.host_api.specs.declared.refusals.Refusal.{Refusal}
@@ -41,17 +42,17 @@ module _ (answer : Answer) (withheld : answer.withheld ≡ true) where
   tells told (inl is) = whole _ is refl
   tells told (inr (is, takes)) = whole _ is refl
 
-  sent_whole : (path file : List ℕ) (plan : Choice) (boundary : Option Boundary) (bytes : List ℕ) → answer ≡ sent_as path file plan boundary bytes → ⊥
-  sent_whole path file Whole boundary bytes is = whole _ is refl
-  sent_whole path file (One first last) boundary bytes is = whole _ is refl
-  sent_whole path file (Many intervals) boundary bytes is = whole _ is refl
-  sent_whole path file None416 boundary bytes is = whole _ is refl
+  sent_whole : (content_type file : List ℕ) (plan : Choice) (boundary : Option Boundary) (bytes : List ℕ) → answer ≡ sent_as content_type file plan boundary bytes → ⊥
+  sent_whole content_type file Whole boundary bytes is = whole _ is refl
+  sent_whole content_type file (One first last) boundary bytes is = whole _ is refl
+  sent_whole content_type file (Many intervals) boundary bytes is = whole _ is refl
+  sent_whole content_type file None416 boundary bytes is = whole _ is refl
 
   -- ---- a read
 
   module _ {H : Type 0} (gave : Gave H) (failed : Failed H) (house next : H) where
     sends : (path file : List ℕ) (plan : Choice) → Sends gave failed house next path file plan answer → ⊥
-    sends path file plan (inl (body, read, is)) = sent_whole path file body.plan body.boundary body.bytes is
+    sends path file plan (inl (body, read, is)) = sent_whole (type_of path) file body.plan body.boundary body.bytes is
     sends path file plan (inr (inl (why, read, is))) = whole _ is refl
     sends path file plan (inr (inr (is, same))) = whole _ is refl
 

@@ -1,11 +1,11 @@
 -- The list of the changes of a site.
 use Rattle.std.specs.Prelude.{ℕ, ◌-◌, List, length, drop, not, Option, Some, None, option_and_then, if◌then◌else◌}
-use Rattle.std.specs.List.{enumerate_from, filter_map}
+use Rattle.std.specs.List.{filter_map}
 use Rattle.host_names.specs.declared.names.SiteName.{SiteName}
 use Rattle.change_undo.specs.declared.entries.Entry.{Entry}
 use Rattle.change_undo.specs.declared.entries.Entry.TheVariants as entry
 use Rattle.change_undo.specs.Histories.{entry_at, is_among, same_site, site_of_entry, undone}
-use Rattle.change_undo.specs.Logs.{Log}
+use Rattle.change_undo.specs.Logs.{Log, numbered}
 use Rattle.host_api.specs.ChangeLines.{word_of}
 use Rattle.host_api.specs.declared.change_lines.ChangeLine.{ChangeLine}
 use Rattle.host_api.specs.declared.change_lines.ChangeLine.TheVariants as line
@@ -21,7 +21,7 @@ line_in site gone e = if same_site (site_of_entry e.1) site then Some (line_of g
 
 -- the lines of a site, the oldest first
 abbrev pub lines_of : Log → SiteName → List ChangeLine
-lines_of entries site = filter_map (line_in site (undone entries)) (enumerate_from 1 entries)
+lines_of entries site = filter_map (line_in site (undone entries)) (numbered entries)
 
 -- the last 1,000 lines of a site, the oldest first
 abbrev pub shown_lines : Log → SiteName → List ChangeLine

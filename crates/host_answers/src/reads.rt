@@ -140,7 +140,7 @@ fn read_range<H: House>(
 }
 
 /// The reply to a read: the file that a version of the site has at a path, as the request's Range asks for it, or the refusal if there is
-/// none. Most have no Range field: they take no room for what one may ask for.
+/// none. Most requests have no Range field: they take no room for what one may ask for.
 pub(crate) fn read<H: House>(
     alloc: Global,
     house: &mut H,

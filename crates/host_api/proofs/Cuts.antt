@@ -4,8 +4,8 @@ use Rattle.std.proofs.lemmas.Bool.{eqb-true}
 use Rattle.std.proofs.lemmas.Bool.Decides.{nat_tests}
 use Rattle.std.proofs.lemmas.Grind.{common_steps}
 use Rattle.std.proofs.lemmas.List.Sums.{prefix_len_is}
-use Rattle.std.specs.List.{prefix_len}
-use Rattle.host_api.specs.Targets.{before, from_first}
+use Rattle.std.specs.List.{prefix_len, before_first}
+use Rattle.host_api.specs.Targets.{from_first}
 use Rattle.host_api.specs.Patterns.{next_segment}
 
 other : (b c : ℕ) → c ≢ b → not (eqb c b) ≡ true
@@ -31,12 +31,12 @@ from_first-drop b (c ∷ text) = rw (from_first-drop b text) (from_first-cons b 
 
 -- what is cut at the first place of a byte
 pub cut : (b : ℕ) (text : List ℕ) (n : ℕ) → prefix_len (λ c. not (eqb c b)) text ≡ n
-    → (take n text ≡ before b text) × (drop n text ≡ from_first b text)
+    → (take n text ≡ before_first (λ c. eqb c b) text) × (drop n text ≡ from_first b text)
 cut b text n e = (ap (λ k. take k text) (sym e), ap (λ k. drop k text) (sym e) ∙ sym (from_first-drop b text))
 
 -- a text without the byte
 pub uncut : (b : ℕ) (text : List ℕ) → prefix_len (λ c. not (eqb c b)) text ≡ length text
-    → (text ≡ before b text) × ([] ≡ from_first b text)
+    → (text ≡ before_first (λ c. eqb c b) text) × ([] ≡ from_first b text)
 uncut b text e =
     let parts = cut b text (length text) e in
     let whole : take (length text) text ≡ text = grind (arith, common_steps) in

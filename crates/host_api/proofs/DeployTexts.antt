@@ -1,7 +1,7 @@
 -- The text of a deploy, by what its state says.
 use Rattle.std.proofs.Common.{◌≡◌, ℕ, refl}
 use Rattle.host_names.specs.declared.names.SiteName.{SiteName}
-use Rattle.host_api.specs.States.{state_name, required_of}
+use Rattle.host_api.specs.DeployStates.{state_name, required_of}
 use Rattle.host_api.specs.Texts.{deploy_text, told_text}
 use Rattle.host_api.specs.declared.texts.DeployState.{DeployState}
 use Rattle.host_api.specs.declared.texts.DeployState.TheVariants.{Open, Kept}

@@ -4,16 +4,20 @@ use Rattle.std.proofs.lemmas.Grind.{common_steps}
 use Rattle.std.proofs.lemmas.Bool.{and_parts, eqb-true}
 use Rattle.std.proofs.lemmas.List.{take-append-drop}
 use Rattle.std.proofs.lemmas.Slice.Eq.{bytes_eq-Decides}
-use Rattle.std.specs.List.{list_all, prefix_len}
+use Rattle.std.specs.List.{list_all, prefix_len, before_first}
 use Rattle.std.specs.Str.{bytes_eq}
 use Rattle.host_api.specs.Fits.{slashed, HasNoSlash, IsFor, AreFor, MayFollow, said, Fits}
 use Rattle.host_api.specs.Patterns.{is_rest}
-use Rattle.host_api.specs.Targets.{Part, word, site, alias, number, Bindings, rest_alone, with_part, bound, before, from_first, fit}
+use Rattle.host_api.specs.Targets.{Part, word, site, alias, number, Bindings, rest_alone, with_part, bound, from_first, fit}
 use Rattle.host_api.proofs.Cuts.{cut}
 
 -- ---- cuts
 
-whole : (text : List ℕ) → before 47 text ++ from_first 47 text ≡ text
+-- the text before the first slash
+abbrev segment_of : List ℕ → List ℕ
+segment_of text = before_first (λ c. eqb c 47) text
+
+whole : (text : List ℕ) → segment_of text ++ from_first 47 text ≡ text
 whole text =
     let n = prefix_len (λ c. not (eqb c 47)) text in
     let parts = cut 47 text n refl in
@@ -27,13 +31,13 @@ free_front : (c : ℕ) (text : List ℕ) (n : ℕ) (t : Bool) → not (eqb c 47)
 free_front c text n true is more = ap (list_all (λ b. not (eqb b 47))) (taken c text n) ∙ ap (λ t. t && list_all (λ b. not (eqb b 47)) (take n text)) is ∙ more
 free_front c text n false is more = refl
 
-before_free : (text : List ℕ) → HasNoSlash (before 47 text)
-before_free [] = refl
-before_free (c ∷ text) = free_front c text _ (not (eqb c 47)) refl (before_free text)
+segment_of-free : (text : List ℕ) → HasNoSlash (segment_of text)
+segment_of-free [] = refl
+segment_of-free (c ∷ text) = free_front c text _ (not (eqb c 47)) refl (segment_of-free text)
 
 -- a segment is what is before the next slash
 segment_cut : (segment back : List ℕ) → HasNoSlash segment → is_rest back ≡ true
-    → (before 47 (segment ++ back) ≡ segment) × (from_first 47 (segment ++ back) ≡ back)
+    → (segment_of (segment ++ back) ≡ segment) × (from_first 47 (segment ++ back) ≡ back)
 segment_cut [] [] free led = (refl, refl)
 segment_cut [] (c ∷ back) free led = (rw led refl, rw led refl)
 segment_cut (c ∷ segment) back free led =
@@ -82,15 +86,15 @@ fits [] true (c ∷ path) b e =
     ([], c ∷ path, refl, tt, (path, ap (λ d. d ∷ path) (eqb-true c 47 both.0)), cc (both.1))
 fits (part ∷ parts) has_rest [] b e = absurd (cc e)
 fits (part ∷ parts) has_rest (c ∷ path) b e =
-    let both = if_some (eqb c 47) (bound part (before 47 path) (fit parts has_rest (from_first 47 path))) b e in
-    let found = put_in part (before 47 path) (fit parts has_rest (from_first 47 path)) b both.1 in
+    let both = if_some (eqb c 47) (bound part (segment_of path) (fit parts has_rest (from_first 47 path))) b e in
+    let found = put_in part (segment_of path) (fit parts has_rest (from_first 47 path)) b both.1 in
     let more = fits parts has_rest (from_first 47 path) found.0 found.1 in
     let segments = more.0 in
     let rest = more.1 in
-    let is : c ∷ path ≡ slashed (before 47 path ∷ segments) ++ rest =
+    let is : c ∷ path ≡ slashed (segment_of path ∷ segments) ++ rest =
     ap (λ d. d ∷ path) (eqb-true c 47 both.0) ∙ ap (λ t. 47 ∷ t) (sym (whole path))
-    ∙ ap (λ t. 47 ∷ (before 47 path ++ t)) more.2 ∙ ap (λ t. 47 ∷ t) (sym (append_assoc (before 47 path) (slashed segments) rest)) in
-    (before 47 path ∷ segments, rest, is, (before_free path, found.2, more.3), more.4, found.3 ∙ ap (with_part part (before 47 path)) more.5)
+    ∙ ap (λ t. 47 ∷ (segment_of path ++ t)) more.2 ∙ ap (λ t. 47 ∷ t) (sym (append_assoc (segment_of path) (slashed segments) rest)) in
+    (segment_of path ∷ segments, rest, is, (segment_of-free path, found.2, more.3), more.4, found.3 ∙ ap (with_part part (segment_of path)) more.5)
 
 led_rest : (has_rest : Bool) (segments : List (List ℕ)) (rest : List ℕ) → MayFollow has_rest rest → is_rest (slashed segments ++ rest) ≡ true
 led_rest false [] rest may = ap is_rest may

@@ -1,17 +1,18 @@
 -- What `parse` answers for the text of a number.
 use Rattle.std.proofs.Common.{◌≡◌, ℕ, ◌<◌, Bool, true, false, List, [], ◌∷◌, get_or, Result, Ok, Err, refl, arith, rules}
 use Rattle.std.specs.Prelude.{nat_le, not, ◌&&◌, if◌then◌else◌}
+use Rattle.std.specs.Char.{is_digit}
 use Rattle.std.specs.List.{list_all}
 use Rattle.std.specs.Result.{result_unwrap_or}
 use Rattle.std.specs.Str.Parse.{ParsesUnsigned, digits_value}
 use Rattle.std.proofs.lemmas.Bool.{ne_eqb, leb-true, false≢true, true≢false}
 use Rattle.std.proofs.lemmas.Str.Parse.{IsDigitsTest, IsNumeralModel, numerals_by_value, parse_plain}
-use Rattle.host_api.specs.Numbers.{greatest_number, is_digit, number_of}
+use Rattle.host_api.specs.Numbers.{greatest_number, number_of}
 
-tells : IsDigitsTest (λ ds. list_all is_digit ds ≡ true)
+tells : IsDigitsTest (λ ds. list_all (λ c. is_digit c 10) ds ≡ true)
 tells = search rules
 
-own : IsNumeralModel (λ ds. list_all is_digit ds ≡ true) (digits_value 10)
+own : IsNumeralModel (λ ds. list_all (λ c. is_digit c 10) ds ≡ true) (digits_value 10)
 own = numerals_by_value _ tells
 
 -- digits after a first one that is not 0 write their value, if it is not too great

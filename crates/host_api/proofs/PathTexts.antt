@@ -1,12 +1,13 @@
 -- The texts of paths.
 use Rattle.std.proofs.Common.{◌≡◌, ◌≢◌, ℕ, ◌-◌, Bool, true, false, cond, ◌&&◌, ◌||◌, eqb, eq-eqb, ltb, inl, inr, ◌<◌, length-append, List, [], ◌∷◌, ◌++◌, Option, Some, None, Result, Ok, Err, IsTrue, codes, length, take, drop, refl, sym, ap, subst, ◌∙◌, arith}
 use Rattle.std.proofs.lemmas.Bool.{and_parts, eqb-true, ltb-true}
-use Rattle.std.proofs.lemmas.Bool.Decides.{nat_tests}
+use Rattle.std.proofs.lemmas.Bool.Decides.{nat_tests, Decides-eqb}
 use Rattle.std.proofs.lemmas.List.{take_at}
 use Rattle.std.proofs.lemmas.Str.{IsUtf8-append, IsUtf8-from_ascii, IsUtf8-take, IsUtf8-past_char, IsUtf8-from_is_utf8, is_utf8-from_IsUtf8, IsCharBoundary-at_seam, encode_ascii}
+use Rattle.std.proofs.lemmas.Slice.Eq.{ends_is}
 use Rattle.std.proofs.lemmas.Str.Ascii.{IsAscii-nil, IsAscii-cons}
 use Rattle.std.specs.Borrow.{Bor}
-use Rattle.std.specs.List.{list_all}
+use Rattle.std.specs.List.{list_all, ends_with}
 use Rattle.std.specs.Option.{MatchOption, unwrap_or}
 use Rattle.std.specs.Result.{IfOk, IsErrOf}
 use Rattle.std.specs.Str.{IsUtf8, IsAscii, is_utf8}
@@ -15,22 +16,19 @@ use Rattle.percent_encoding.proofs.PercentLemmas.{percent_decode-nil, percent_de
 use Rattle.host_names.specs.Path.{is_path, with_slash}
 use Rattle.host_names.specs.declared.paths.PathError.{PathError}
 use Rattle.host_names.specs.declared.paths.PathError.TheVariants as path_error
-use Rattle.host_api.specs.Targets.{if_path, ends_with_slash, with_index}
+use Rattle.host_api.specs.Targets.{if_path, with_index}
 use Rattle.host_api.specs.Patterns.{is_rest, has_percent, KeepsPath}
 
 -- ---- ends in a slash
 
-slash_behind : (front : List ℕ) → ends_with_slash (front ++ (47 ∷ [])) ≡ true
-slash_behind [] = refl
-slash_behind (b ∷ []) = refl
-slash_behind (b ∷ c ∷ front) = slash_behind (c ∷ front)
+abbrev ends_with_slash : List ℕ → Bool
+ends_with_slash text = ends_with eqb text (47 ∷ [])
 
-before_slash : (text : List ℕ) → ends_with_slash text ≡ true → (front : List ℕ) × (text ≡ front ++ (47 ∷ []))
-before_slash [] h = absurd (cc h)
-before_slash (b ∷ []) h = ([], ap (λ x. x ∷ []) (eqb-true b 47 h))
-before_slash (b ∷ c ∷ text) h =
-    let p = before_slash (c ∷ text) h in
-    (b ∷ p.0, ap (λ t. b ∷ t) p.1)
+slash_behind : (text front : List ℕ) → text ≡ front ++ (47 ∷ []) → ends_with_slash text ≡ true
+slash_behind text = (ends_is Decides-eqb text (47 ∷ []) (ends_with_slash text) refl).1
+
+before_slash : (text : List ℕ) → ends_with_slash text ≡ true → text ≡ take (length text - 1) text ++ (47 ∷ [])
+before_slash text = (ends_is Decides-eqb text (47 ∷ []) (ends_with_slash text) refl).0
 
 not_true : (t : Bool) → (t ≡ true → ⊥) → false ≡ t
 not_true true h = absurd (h refl)
@@ -39,8 +37,8 @@ not_true false h = refl
 -- a test of whether a text ends in a slash
 pub ends : (text : List ℕ) (r : Bool) → (r ≡ true → text ≡ take (length text - 1) text ++ (47 ∷ []))
     → ((front : List ℕ) → text ≡ front ++ (47 ∷ []) → r ≡ true) → r ≡ ends_with_slash text
-ends text true told found = sym (ap ends_with_slash (told refl) ∙ slash_behind (take (length text - 1) text))
-ends text false told found = not_true _ (λ h. let p = before_slash text h in absurd (cc (found p.0 p.1)))
+ends text true told found = sym (slash_behind text (take (length text - 1) text) (told refl))
+ends text false told found = not_true _ (λ h. absurd (cc (found (take (length text - 1) text) (before_slash text h))))
 
 -- ---- UTF-8
 

@@ -12,4 +12,4 @@ pub mod Types
 pub mod Limits
 -- what only private functions need
 pub mod Patterns
-pub mod States
+pub mod DeployStates

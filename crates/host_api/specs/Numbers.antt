@@ -1,6 +1,6 @@
 -- The numbers of deploys and changes, as a target or a body writes them.
-use Rattle.std.specs.Prelude.{ℕ, Bool, false, List, [], ◌∷◌, nat_le, nat_lt, not, ◌==◌, ◌&&◌, if◌then◌else◌}
-use Rattle.std.specs.Char.{digit_value}
+use Rattle.std.specs.Prelude.{ℕ, Bool, false, List, [], ◌∷◌, nat_le, not, ◌==◌, ◌&&◌, if◌then◌else◌}
+use Rattle.std.specs.Char.{is_digit}
 use Rattle.std.specs.List.{list_all}
 use Rattle.std.specs.Str.{byte}
 use Rattle.std.specs.Str.Parse.{digits_value}
@@ -9,14 +9,12 @@ use Rattle.std.specs.Str.Parse.{digits_value}
 abbrev pub greatest_number : ℕ
 greatest_number = 1000000
 
-abbrev pub is_digit : ℕ → Bool
-is_digit b = nat_lt (digit_value b) 10
-
 -- decimal digits, the first of them not 0, of a value that an entry can have
 abbrev pub is_number : List ℕ → Bool
 is_number [] = false
 is_number (b ∷ text) =
-    not (b == byte "0") && list_all is_digit (b ∷ text) && nat_le (digits_value 10 (b ∷ text)) greatest_number
+    not (b == byte "0") && list_all (λ c. is_digit c 10) (b ∷ text)
+    && nat_le (digits_value 10 (b ∷ text)) greatest_number
 
 -- the number that the text writes, or 0, which no entry has
 abbrev pub number_of : List ℕ → ℕ

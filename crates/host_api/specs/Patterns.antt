@@ -1,10 +1,10 @@
 -- What the patterns of the program mean, and what it finds by them.
 use Rattle.std.specs.Prelude.{◌≡◌, ◌≢◌, ◌⊎◌, ℕ, Bool, true, List, [], ◌∷◌, Option, Some, None, Result, Ok, Err, IsTrue, map, ◌==◌, if◌then◌else◌}
 use Rattle.std.specs.Str.{byte, bytes_eq}
-use Rattle.host_api.specs.Targets.{Part, word, site, alias, number, Bindings, before, from_first}
+use Rattle.host_api.specs.Targets.{Part, word, site, alias, number, Bindings, from_first}
 use Rattle.host_names.specs.declared.paths.PathError.{PathError}
 use Rattle.host_names.specs.declared.paths.PathError.TheVariants as path_error
-use Rattle.std.specs.List.{list_any}
+use Rattle.std.specs.List.{list_any, before_first}
 use Rattle.host_api.specs.Routes.{Row, misnames, site_in, alias_in, site_route, alias_route, deploy_route, has_path}
 use Rattle.host_api.specs.declared.refusals.Refusal.{Refusal}
 use Rattle.host_api.specs.declared.refusals.Refusal.TheVariants.{BadName, OutOfMemory}
@@ -45,7 +45,8 @@ may_bind number segment = true
 -- the segment after the leading slash, and what follows it
 abbrev pub next_segment : List ℕ → Option (List ℕ × List ℕ)
 next_segment [] = None
-next_segment (b ∷ text) = if b == byte "/" then Some (before (byte "/") text, from_first (byte "/") text) else None
+next_segment (b ∷ text) =
+    if b == byte "/" then Some (before_first (λ c. c == byte "/") text, from_first (byte "/") text) else None
 
 -- nothing, or a text that begins with a slash
 abbrev pub is_rest : List ℕ → Bool

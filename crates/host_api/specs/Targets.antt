@@ -1,13 +1,9 @@
 -- The target of a request, in its parts (RFC 9112, section 3.2; RFC 3986, sections 3.3 to 3.5).
-use Rattle.std.specs.Prelude.{ℕ, Bool, true, false, List, [], ◌∷◌, ◌++◌, Option, Some, None, option_map, drop, not, ◌==◌, ◌&&◌, if◌then◌else◌, codes}
-use Rattle.std.specs.List.{list_any, take_while}
+use Rattle.std.specs.Prelude.{ℕ, Bool, true, false, List, [], ◌∷◌, ◌++◌, Option, Some, None, option_map, drop, nat_eq, ◌==◌, ◌&&◌, if◌then◌else◌, codes}
+use Rattle.std.specs.List.{list_any, before_first, ends_with}
 use Rattle.std.specs.Str.{byte, bytes_eq, is_utf8}
 use Rattle.percent_encoding.specs.Percent.{percent_decode}
 use Rattle.host_names.specs.Path.{is_path, with_slash}
-
--- the text before the first such byte
-abbrev pub before : ℕ → List ℕ → List ℕ
-before b text = take_while (λ c. not (c == b)) text
 
 -- the text from the first such byte on
 abbrev pub from_first : ℕ → List ℕ → List ℕ
@@ -16,7 +12,7 @@ from_first b (c ∷ text) = if c == b then c ∷ text else from_first b text
 
 -- the target without its query (RFC 3986, section 3.4)
 abbrev pub path_of : List ℕ → List ℕ
-path_of target = before (byte "?") target
+path_of target = before_first (λ b. b == byte "?") target
 
 -- whether there is a `#`: a target has no fragment (RFC 3986, section 3.5)
 abbrev pub has_hash : List ℕ → Bool
@@ -65,7 +61,7 @@ fit [] true (b ∷ text) = if b == byte "/" then Some (rest_alone (b ∷ text)) 
 fit (part ∷ parts) has_rest [] = None
 fit (part ∷ parts) has_rest (b ∷ text) =
     if b == byte "/"
-    then bound part (before (byte "/") text) (fit parts has_rest (from_first (byte "/") text))
+    then bound part (before_first (λ c. c == byte "/") text) (fit parts has_rest (from_first (byte "/") text))
     else None
 
 -- ---- paths
@@ -74,15 +70,9 @@ fit (part ∷ parts) has_rest (b ∷ text) =
 abbrev pub if_path : List ℕ → Option (List ℕ)
 if_path text = if is_utf8 text && is_path text then Some text else None
 
--- whether the last byte is a slash
-abbrev pub ends_with_slash : List ℕ → Bool
-ends_with_slash [] = false
-ends_with_slash (b ∷ []) = b == byte "/"
-ends_with_slash (b ∷ c ∷ text) = ends_with_slash (c ∷ text)
-
 -- a path that ends in a slash names the page index.html in it
 abbrev pub with_index : List ℕ → List ℕ
-with_index text = if ends_with_slash text then text ++ codes "index.html" else text
+with_index text = if ends_with nat_eq text (codes "/") then text ++ codes "index.html" else text
 
 -- the path of a file that is read: the rest, its escapes decoded once (RFC 3986, section 2.1)
 abbrev pub read_path : List ℕ → Option (List ℕ)

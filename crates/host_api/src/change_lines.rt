@@ -107,7 +107,8 @@ fn push_others(text: &mut String, lines: &[ChangeLine]) -> Result<(), AllocError
 
 // Appends lines, with a comma between each two.
 fn push_lines(text: &mut String, lines: &[ChangeLine]) -> Result<(), AllocError>
-    ensures { OnOk result (string_bytes text.new ≡ string_bytes text.old ++ join_with_byte (byte ",") (map spec.line_text lines.now)) }
+    ensures { OnOk result (string_bytes text.new
+        ≡ string_bytes text.old ++ join_with_byte (byte ",") (map spec.line_text lines.now)) }
 {
     let Some((first, others)) = lines.split_first() else {
         return Ok(());

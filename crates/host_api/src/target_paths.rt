@@ -1,6 +1,7 @@
 //! The paths of files that targets write (RFC 3986, section 3.3). They are decoded and judged without the heap, so that
 //! memory is taken for a path alone.
-ghost use Rattle.std.specs.Prelude.{◌≡◌, ◌<◌, ◌++◌, IsTrue, MatchOption, codes, drop, length};
+ghost use Rattle.std.specs.Prelude.{◌≡◌, ◌<◌, ◌++◌, IsTrue, MatchOption, codes, drop, length, nat_eq};
+ghost use Rattle.std.specs.List.{ends_with};
 ghost use Rattle.percent_encoding.specs.Percent as percent;
 ghost use Rattle.host_names.specs.Path.{with_slash};
 ghost use Rattle.host_api.specs.Targets as spec;
@@ -37,7 +38,7 @@ fn decode(text: &str) -> Option<ArrayVec<u8, LONGEST>>
 
 // Whether the text ends in a slash.
 fn ends_with_slash(text: &str) -> bool
-    ensures { result ≡ spec.ends_with_slash text.now }
+    ensures { result ≡ ends_with nat_eq text.now (codes "/") }
 {
     text.ends_with('/')
 }

@@ -1,5 +1,6 @@
 //! The target of a request, in its parts (RFC 9112, section 3.2; RFC 3986, sections 3.3 to 3.5).
-ghost use Rattle.std.specs.Prelude.{◌≡◌, ◌<◌, [], IsTrue, IfSome, map, option_map};
+ghost use Rattle.std.specs.Prelude.{◌≡◌, ◌<◌, ◌==◌, [], IsTrue, IfSome, map, option_map};
+ghost use Rattle.std.specs.List.{before_first};
 ghost use Rattle.host_api.specs.Targets as spec;
 ghost use Rattle.host_api.specs.Patterns.{part_of, bindings_of, may_bind, next_segment, is_rest};
 
@@ -29,7 +30,7 @@ pub struct Bindings<'t> {
 // The text before the first such character, and the text from it on.
 fn cut_at(text: &str, mark: char) -> (&str, &str)
     requires { mark < 128 }
-    ensures front { result.0.now ≡ spec.before mark text.now }
+    ensures front { result.0.now ≡ before_first (λ c. c == mark) text.now }
     ensures back { result.1.now ≡ spec.from_first mark text.now }
 {
     match text.find(mark) {

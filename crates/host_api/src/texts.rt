@@ -1,7 +1,7 @@
 //! The texts of replies, as JSON (RFC 8259).
 ghost use Rattle.std.specs.Prelude.{◌≡◌, ◌++◌, [], IfOk, OnOk};
 ghost use Rattle.std.specs.String.{string_bytes};
-ghost use Rattle.host_api.specs.States.{state_name, required_of};
+ghost use Rattle.host_api.specs.DeployStates.{state_name, required_of};
 ghost use Rattle.host_api.specs.Texts.{number_or_null, opened_text, uploaded_text, deploy_text, told_text};
 
 use crate::change_lines::{ChangeLine, list_text};

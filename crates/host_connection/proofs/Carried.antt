@@ -12,7 +12,7 @@ use Rattle.http_wire.specs.declared.halts.Halt.TheVariants.{Failed, WouldWait}
 use Rattle.http_wire.specs.declared.sinks.WriteFailed.{WriteFailed}
 use Rattle.http_wire.specs.Expectations.{continue_text}
 use Rattle.http_wire.specs.Fields.{AnnouncesBody}
-use Rattle.http_wire.specs.Gathering.{Gathered, nothing, GoesOnFrom, IsAmid, IsCounted}
+use Rattle.http_wire.specs.Gathering.{Gathered, nothing, GoesOnFrom, IsAmid, IsCounted, SendsOn}
 use Rattle.http_wire.specs.Halting.{TriesBody, TriesHead, WritesFrom}
 use Rattle.http_wire.specs.Requests.{RequestParts}
 use Rattle.http_wire.specs.Timing.{Event, NoRead, Ran}
@@ -277,10 +277,6 @@ answered {A = A} answers saw waits start now new first host next n buffer rest o
 pub at_reply : {S H : Type 0} (answers : Answering H) (saw : S → Event → S → Type 0) (waits : Type 0) (start now : S) (first host : H) (c : Connection) (s : Sending) → c.phase ≡ phase.Reply s
     → Carries answers saw waits start first now host c → Carried answers saw waits start first now host c.wire c.out c.number (phase.Reply s)
 at_reply answers saw waits start now first host c s is carries = subst (λ (p : Phase). Carried answers saw waits start first now host c.wire c.out c.number p) is carries
-
--- it goes on as a text does, wherever it was left
-abbrev pub SendsOn : {S : Type 0} → (saw : S → Event → S → Type 0) → (now new : S) → Result (Unit {0}) (Halt WriteFailed) → (text : List ℕ) → (out new_out : Gathered) → Type 0
-SendsOn saw now new result text out new_out = (at : ℕ) → IsAmid text at out → Ran saw NoRead now new (GoesOnFrom result text at new_out)
 
 -- the writes alone
 writes_of : {S : Type 0} (saw : S → Event → S → Type 0) (now new : S) (result : Result (Unit {0}) (Halt WriteFailed)) (text : List ℕ) (at : ℕ) (out : Gathered) (ran : Ran saw NoRead now new (GoesOnFrom result text at out))

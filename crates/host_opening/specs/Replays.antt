@@ -1,5 +1,5 @@
 -- Entries taken in turn.
-use Rattle.std.specs.Prelude.{◌≡◌, ℕ, ◌≤◌, List, ◌∷◌, ◌++◌, Some}
+use Rattle.std.specs.Prelude.{◌≡◌, ℕ, ◌≤◌, List, ◌∷◌, Some}
 use Rattle.byte_view.specs.Contents.{Contents}
 use Rattle.site_change.specs.declared.refusals.ChangeRefusal.{ChangeRefusal}
 use Rattle.site_change.specs.declared.refusals.ChangeError.{ChangeError}
@@ -8,7 +8,7 @@ use Rattle.site_state.specs.States.{State}
 use Rattle.change_undo.specs.declared.entries.Entry.{Entry}
 use Rattle.change_undo.specs.declared.entries.Entry.TheVariants.{Change, Undo}
 use Rattle.change_undo.specs.Histories.{IsLegal, Past, commit_refusal, run, undo_refusal}
-use Rattle.change_undo.specs.Logs.{Log, last_number, next_number}
+use Rattle.change_undo.specs.Logs.{Log, last_number, next_number, with_entries}
 use Rattle.change_undo.specs.Plans.{IsHistoryOver}
 use Rattle.host_opening.specs.declared.replays.ReplayFault.{ReplayFault}
 use Rattle.host_opening.specs.declared.replays.ReplayFault.TheVariants as fault
@@ -36,7 +36,7 @@ pub record StopsAt (uploads : Contents) (limit : ℕ) (log : Log) (stop : Replay
   pub before : Log
   pub entry : Entry
   pub after : List Entry
-  pub parts : log ≡ before ++ entry ∷ after
+  pub parts : log ≡ with_entries before (entry ∷ after)
   pub legal : IsLegal uploads before
   pub within : last_number before ≤ limit
   pub stopped : IsStoppedBy uploads limit before entry stop

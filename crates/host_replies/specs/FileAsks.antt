@@ -25,7 +25,8 @@ AskedBy is_get values range = range ≡ Ignore
 abbrev pub AsksRange : RequestParts → Asked → Type 0
 AsksRange parts range = AskedBy (bytes_eq parts.method (codes "GET")) (values_of (codes "range") parts.fields) range
 
--- what is to be sent of a file where a request of these parts asks for that: its If-Range may let the range be ignored (section 13.1.5)
+-- what is to be sent of a file where a request of these parts asks for that: a range is ignored where the If-Range fields don't
+-- allow it (section 13.1.5); without a Range field they change nothing
 abbrev pub plan_of : RequestParts → Asked → List ℕ → Choice
 plan_of parts range file =
     if allows_range (digest_of file) (values_of (codes "if-range") parts.fields) then choice_in range (length file) else Whole

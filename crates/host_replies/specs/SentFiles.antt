@@ -12,16 +12,16 @@ use Rattle.host_api.specs.declared.refusals.Refusal.TheVariants as reason
 use Rattle.host_replies.specs.PartsTypes.{IsOfEight, parts_type}
 use Rattle.host_replies.specs.Replies.{Answer, part_answer, refused_answer}
 
--- what is sent of the file at a path, with these bytes (RFC 9110, sections 15.3.1, 15.3.7 and 15.5.17)
+-- what is answered where these bytes of a file of this type are sent (RFC 9110, sections 15.3.1, 15.3.7 and 15.5.17)
 abbrev pub sent_as : List ℕ → List ℕ → Choice → Option Boundary → List ℕ → Answer
-sent_as path file Whole boundary bytes = part_answer 200 (type_of path) file None bytes
-sent_as path file (One first last) boundary bytes = part_answer 206 (type_of path) file (Some (Of first last (length file))) bytes
-sent_as path file (Many intervals) boundary bytes = part_answer 206 (parts_type (text_in boundary)) file None bytes
-sent_as path file None416 boundary bytes = refused_answer (reason.NotSatisfiable (length file))
+sent_as content_type file Whole boundary bytes = part_answer 200 content_type file None bytes
+sent_as content_type file (One first last) boundary bytes = part_answer 206 content_type file (Some (Of first last (length file))) bytes
+sent_as content_type file (Many intervals) boundary bytes = part_answer 206 (parts_type (text_in boundary)) file None bytes
+sent_as content_type file None416 boundary bytes = refused_answer (reason.NotSatisfiable (length file))
 
--- the same of what was read
+-- what is answered where this was read of the file at a path
 abbrev pub sent_answer : List ℕ → List ℕ → SentFile → Answer
-sent_answer path file body = sent_as path file body.plan body.boundary body.bytes
+sent_answer path file body = sent_as (type_of path) file body.plan body.boundary body.bytes
 
 -- ---- what private functions say
 

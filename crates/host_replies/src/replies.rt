@@ -1,5 +1,5 @@
 //! Replies, before they are written.
-ghost use Rattle.std.specs.Prelude.{ℕ, List, ◌≡◌, ◌≢◌, All, length, true, false, Some, None, IsTrue, IfOk, IfErr, OnErr, Err, IsErrOf, MatchOption, option_map};
+ghost use Rattle.std.specs.Prelude.{◌≡◌, ◌≢◌, All, length, true, false, Some, None, IsTrue, IfOk, IfErr, OnErr, Err, IsErrOf, MatchOption, option_map};
 ghost use Rattle.std.specs.List.{concat};
 ghost use Rattle.http_wire.specs.Replies.{fields_of};
 ghost use Rattle.host_api.specs.Texts.{has_cell, told_text};
@@ -12,7 +12,7 @@ ghost use Rattle.host_replies.specs.Replies.{takes_text};
 ghost use Rattle.host_names.specs.Digests.{digest_of};
 ghost use Rattle.range_reply.specs.Multipart.{text_of};
 ghost use Rattle.host_api.specs.Types.{type_of};
-ghost use Rattle.host_replies.specs.SentFiles.{SendsParts, sent_answer};
+ghost use Rattle.host_replies.specs.SentFiles.{SendsParts, sent_as};
 ghost use Rattle.host_replies.specs.PartsTypes.{IsOfEight, parts_type};
 ghost use Rattle.host_replies.specs.Replies.{told_answer, refused_answer, part_answer, fields_for, is_head, sent_text, unread_answer};
 
@@ -181,8 +181,8 @@ impl Reply {
     /// whole (RFC 9110, section 8.8.3).
     pub fn of_file(content_type: FieldText<'static>, info: &BlobInfo, body: FileBody) -> Reply
         requires { SendsParts (digest_of info.now) body }
-        ensures { (path : List ℕ) → content_type.entry.text.now ≡ type_of path
-            → answer_of result ≡ sent_answer path info.now body }
+        ensures { answer_of result
+            ≡ sent_as content_type.entry.text.now info.now body.plan body.boundary body.bytes }
     {
         let length = info.len() as u64;
         let (status, content_range) = match body.form() {

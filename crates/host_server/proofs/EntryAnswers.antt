@@ -1,6 +1,5 @@
 -- What is answered where a call makes an entry, or doesn't.
-use Rattle.std.proofs.Common.{◌≡◌, ◌⊎◌, inl, inr, ℕ, List, [], Bool, true, false, ◌&&◌, Option, Some, None, Result, Ok, Err, IsTrue, is_some, refl, sym, ap, subst, ◌∙◌}
-use Rattle.host_names.specs.declared.digests.Digest.{Digest}
+use Rattle.std.proofs.Common.{◌≡◌, ◌⊎◌, inl, inr, ℕ, List, Bool, true, false, ◌&&◌, MatchOption, Option, Some, None, Result, Ok, Err, IsTrue, is_some, refl, sym, ap, subst, ◌∙◌}
 use Rattle.host_names.specs.declared.names.SiteName.{SiteName}
 use Rattle.blob_store.specs.Calls.{Call}
 use Rattle.site_change.specs.declared.commands.Command.{Command}
@@ -23,16 +22,21 @@ use Rattle.host_answers.specs.Answers.{ChangesBy, FollowsBy, InSite, UndoesBy, t
 use Rattle.host_answers.specs.Deploys.{Opening, opened_by, site_of_deploy}
 use Rattle.host_answers.specs.declared.stops.Stop.{Stop}
 use Rattle.host_answers.specs.declared.stops.Stop.TheVariants as stop
-use Rattle.host_server.specs.Asks.{AskStops, IsReplyToAsk}
+use Rattle.host_server.specs.Asks.{AskStops, ComesOf, HostStops, IsReplyToAsk}
 use Rattle.host_server.specs.HeldUp.{holds_up}
+use Rattle.host_server.specs.Hosts.{Host}
 use Rattle.host_server.specs.Journals.{is_broken}
-use Rattle.host_server.specs.Memory.{CommandRunsOut, DeployRunsOut}
-use Rattle.host_server.specs.Outcomes.{AreRequired, Outcome, commit_outcome, deploy_outcome, enter_outcome, entering, outcome_on, refused, undone}
+use Rattle.host_server.specs.Memory.{DeployStops}
+use Rattle.host_server.specs.Outcomes.{IsCommitted, Outcome, deploy_outcome, entering, outcome_on, refused, unless_refused}
 use Rattle.host_server.specs.Reasons.{commit_refusal, undo_refusal}
 use Rattle.host_server.specs.ServerHouses.{CommitsAt, EntersAt, UnlessBroken, calls_of}
 use Rattle.host_server.specs.ServerJournals.{Breaks, GoesOn}
 use Rattle.host_server.specs.declared.servers.Server.{Server}
 use Rattle.host_server.proofs.Journaling.{breaks_at, entered_ok, keeps_same}
+
+-- an entry alone, where this is the first reason against it
+abbrev pub enter_outcome : Host → Entry → Option ChangeRefusal → Outcome
+enter_outcome host entry refusal = unless_refused host refusal (entering host entry)
 
 -- ---- what is told
 
@@ -163,7 +167,7 @@ module _ {S D : Type 0} {disk : Ghosts D} (did : S → Call → S → Type 0) (f
       let refusal = undo_refusal server.house site k in
       let may = IsTrue (may_take_memory refusal) in
       let B : Type 0 = (next.house ≡ server.house) × (refusal ≡ None) in
-      let out = undone server.house site k refusal in
+      let out = enter_outcome server.house (Undo site k) refusal in
       held (Ok (ask.Undo site k)) (and_true (is_broken server.journal))
       (map_done (carried_out (Ok (ask.Undo site k)) B out (λ says house files. (out, refl, says, house, files)) (λ left files. (left, files)))
       (unless_told server next answer (EntersAt (Undo site k) refusal may) result undoes says (λ is.
@@ -171,16 +175,15 @@ module _ {S D : Type 0} {disk : Ghosts D} (did : S → Call → S → Type 0) (f
 
   -- ---- a command that opens nothing
 
-  -- what is required after it is known, whatever is told of it
+  -- what comes of it, whatever is told of what is lacking
   abbrev pub CommandDone : Command → Type 0
   CommandDone change =
-      (required : List Digest) × AreRequired server.house.uploads change (commit_refusal server.house change) required
-      × IsDone server next answer (CommandRunsOut server.house change next.house) (commit_outcome server.house change required (commit_refusal server.house change))
+      (out : Outcome) × ComesOf server.house (Ok (ask.Command change)) out
+      × IsDone server next answer (HostStops server.house (Ok (ask.Command change)) next.house) out
 
   pub command_done : (change : Command) → CommandDone change → CarriesOut (Ok (ask.Command change))
-  command_done change (required, are, is) =
-      let out = commit_outcome server.house change required (commit_refusal server.house change) in
-      carried_out (Ok (ask.Command change)) (CommandRunsOut server.house change next.house) out (λ says house files. (out, (required, are, refl), says, house, files))
+  command_done change (out, comes, is) =
+      carried_out (Ok (ask.Command change)) (HostStops server.house (Ok (ask.Command change)) next.house) out (λ says house files. (out, comes, says, house, files))
       (λ left files. (left, files)) is
 
   -- nothing follows
@@ -204,22 +207,19 @@ module _ {S D : Type 0} {disk : Ghosts D} (did : S → Call → S → Type 0) (f
       unless_told server next answer (EntersAt (Change change) refusal (refusal ≡ None)) result told_so.0 told_so.1 (λ is.
       entered_told server next answer B (Change change) refusal (refusal ≡ None) result (λ free_of house. inl (stops free_of house)) stops is told_so.1)
 
-  none_required : (change : Command) (refusal : Option ChangeRefusal) → opened_by change ≡ None → AreRequired server.house.uploads change refusal []
-  none_required (command.Open site files auto) refusal none = absurd (cc none)
-  none_required change refusal none = refl
-
-  same_outcome : (change : Command) (refusal : Option ChangeRefusal) → opened_by change ≡ None
-      → enter_outcome server.house (Change change) refusal ≡ commit_outcome server.house change [] refusal
-  same_outcome change (Some why) none = refl
-  same_outcome (command.Open site files auto) None none = absurd (cc none)
-  same_outcome change None none = refl
+  comes_alone : (change : Command) (refusal : Option ChangeRefusal) → opened_by change ≡ None
+      → MatchOption refusal (IsCommitted server.house change (enter_outcome server.house (Change change) refusal)) (λ why.
+      enter_outcome server.house (Change change) refusal ≡ refused server.house (reason.Change why))
+  comes_alone change (Some why) none = refl
+  comes_alone (command.Open site files auto) None none = absurd (cc none)
+  comes_alone change None none = refl
 
   pub commit_told : (change : Command) → opened_by change ≡ None → ChangesBy (calls_of did failures) server change answer next → AnswersAsk (Ok (ask.Command change))
   commit_told change none changes =
-      let B = CommandRunsOut server.house change next.house in
+      let B = HostStops server.house (Ok (ask.Command change)) next.house in
       let refusal = commit_refusal server.house change in
       held (Ok (ask.Command change)) (and_true (is_broken server.journal))
-      (map_done (λ is. command_done change ([], none_required change refusal none, subst (IsDone server next answer B) (same_outcome change refusal none) is))
+      (map_done (λ is. command_done change (enter_outcome server.house (Change change) refusal, comes_alone change refusal none, is))
       (alone B change none changes (λ is house. (is, inl house))))
 
   -- ---- a command on a deploy
@@ -236,13 +236,13 @@ module _ {S D : Type 0} {disk : Ghosts D} (did : S → Call → S → Type 0) (f
   pub deploy_told : (n : ℕ) (asking : Ask) (change : SiteName → Command) (site : Option SiteName) → site_of_deploy (entry_at server.house.entries n) ≡ site
       → (holds_up server (Ok asking) ≡ (is_broken server.journal && is_some (site_of_deploy (entry_at server.house.entries n))))
       → ((owner : SiteName) → opened_by (change owner) ≡ None)
-      → (IsDone server next answer (DeployRunsOut server.house n change next.house) (deploy_outcome server.house n change) → CarriesOut (Ok asking))
+      → (IsDone server next answer (DeployStops server.house n change next.house) (deploy_outcome server.house n change) → CarriesOut (Ok asking))
       → InSite (calls_of did failures) server site (λ owner. ChangesBy (calls_of did failures) server (change owner)) answer next → AnswersAsk (Ok asking)
   deploy_told n asking change None is holds none carried (says, same) =
       free (Ok asking) (holds ∙ ap (λ (s : Option SiteName). is_broken server.journal && is_some s) is ∙ and_false (is_broken server.journal))
-      (carried (no_deploy (DeployRunsOut server.house n change next.house) change (site_of_deploy (entry_at server.house.entries n)) is says same))
+      (carried (no_deploy (DeployStops server.house n change next.house) change (site_of_deploy (entry_at server.house.entries n)) is says same))
   deploy_told n asking change (Some owner) is holds none carried changes =
-      let B = DeployRunsOut server.house n change next.house in
+      let B = DeployStops server.house n change next.house in
       let refuses : deploy_outcome server.house n change ≡ enter_outcome server.house (Change (change owner)) (commit_refusal server.house (change owner)) =
       ap (outcome_on server.house change) is in
       held (Ok asking) (holds ∙ ap (λ (s : Option SiteName). is_broken server.journal && is_some s) is ∙ and_true (is_broken server.journal))

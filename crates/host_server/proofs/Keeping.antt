@@ -1,20 +1,26 @@
 -- The bytes of an upload are stored, known and published.
-use Rattle.std.proofs.Common.{◌≡◌, ◌≢◌, ◌⊎◌, inl, inr, ℕ, List, Option, Some, Result, Ok, Err, IsTrue, OnErr, refl, sym, ap, subst, ◌∙◌}
+use Rattle.std.proofs.Common.{◌≡◌, ◌≢◌, ◌⊎◌, inl, inr, ℕ, List, true, false, cond, Option, Some, None, Result, Ok, Err, IsTrue, OnErr, refl, sym, ap, subst, ◌∙◌}
 use Rattle.host_names.specs.declared.digests.Digest.{Digest}
 use Rattle.host_names.specs.declared.names.SiteName.{SiteName}
 use Rattle.blob_store.specs.Calls.{Call}
 use Rattle.site_state.specs.Deploys.{listed_at}
 use Rattle.site_state.specs.States.{State, draft_at, kept_at}
+use Rattle.site_change.specs.declared.commands.Command.TheVariants.{Publish}
+use Rattle.site_change.specs.declared.refusals.ChangeRefusal.{ChangeRefusal}
+use Rattle.change_undo.specs.declared.entries.Entry.TheVariants.{Change}
+use Rattle.host_api.specs.Bodies.{then_with}
 use Rattle.host_api.specs.declared.refusals.Refusal.{Refusal}
 use Rattle.host_api.specs.declared.refusals.Refusal.TheVariants as reason
+use Rattle.host_api.specs.declared.texts.Told.{Told}
 use Rattle.host_api.specs.declared.texts.Told.TheVariants as told
 use Rattle.host_answers.specs.Answers.{told_upload}
 use Rattle.host_answers.specs.declared.uploads.Uploaded.{Uploaded}
 use Rattle.host_disk.specs.declared.disks.Disk.{Ghosts}
-use Rattle.host_server.specs.Hosts.{Host, state_of, with_upload}
+use Rattle.host_server.specs.Hosts.{Host, next_number, state_of, with_entry, with_upload}
 use Rattle.host_server.specs.Journals.{IsJournaled, IsStopped, KeepsUp}
 use Rattle.host_server.specs.Memory.{is_published}
-use Rattle.host_server.specs.Outcomes.{Publishes, judge_at, judge_listed, published_if_ready, told_of, uploaded, with_site}
+use Rattle.host_server.specs.Outcomes.{Outcome, Publishes, Publishing, is_ready, judge_in, judge_listed, published_if_ready, publishing, publishing_if_ready, unless_refused, uploaded}
+use Rattle.host_server.specs.Reasons.{commit_refusal}
 use Rattle.host_server.specs.ServerJournals.{Breaks, GoesOn}
 use Rattle.host_server.specs.Storing.{DoesUpload, IsStored, IsUnpublished}
 use Rattle.host_server.specs.declared.servers.Server.{Server}
@@ -31,11 +37,43 @@ left_at L (Err e) why is left = left
 abbrev Judged : Type 0
 Judged = Result (SiteName × Digest) Refusal
 
+abbrev with_site : SiteName → Result Digest Refusal → Judged
+with_site site found = then_with found (λ digest. Ok (site, digest))
+
 -- the state that a host lends is its own
 pub judged_by : (host : Host) (lent : State) (site : SiteName) (n : ℕ) (path bytes : List ℕ) (digest : Digest) → lent ≡ state_of host
-    → judge_listed (listed_at (draft_at lent site n) (kept_at lent site n) path) bytes ≡ Ok digest → judge_at host (Some site) n path bytes ≡ Ok (site, digest)
+    → judge_listed (listed_at (draft_at lent site n) (kept_at lent site n) path) bytes ≡ Ok digest → judge_in host site n path bytes ≡ Ok (site, digest)
 judged_by host lent site n path bytes digest same is =
     ap (with_site site) (subst (λ (s : State). judge_listed (listed_at (draft_at s site n) (kept_at s site n) path) bytes ≡ Ok digest) same is)
+
+-- ---- what is told of a publishing
+
+-- of the entry that published, or of the reason against it
+abbrev pub told_of : Result (Option ℕ) Refusal → (Option ℕ → Told) → Told
+told_of (Ok published) tell = tell published
+told_of (Err why) tell = told.Refused why
+
+abbrev then_published : Publishing → (Option ℕ → Told) → Outcome
+then_published p tell = record { told = told_of p.entry tell; host = p.host }
+
+-- the deploy is published
+abbrev published_now : Host → SiteName → ℕ → (Option ℕ → Told) → Outcome
+published_now host site n tell = record { told = tell (Some (next_number host)); host = with_entry host (Change (Publish site n)) }
+
+unless_as : (host : Host) (site : SiteName) (n : ℕ) (tell : Option ℕ → Told) (refusal : Option ChangeRefusal)
+    → unless_refused host refusal (published_now host site n tell) ≡ then_published (publishing host (Publish site n) refusal) tell
+unless_as host site n tell None = refl
+unless_as host site n tell (Some why) = refl
+
+-- the outcome is what is told of the publishing
+published_as : (host : Host) (site : SiteName) (n : ℕ) (tell : Option ℕ → Told)
+    → published_if_ready host site n tell ≡ then_published (publishing_if_ready host site n) tell
+published_as host site n tell =
+    elim (is_ready host site n) as (λ b. cond b (unless_refused host (commit_refusal host (Publish site n)) (published_now host site n tell)) (record { told = tell None; host = host })
+    ≡ then_published (cond b (publishing host (Publish site n) (commit_refusal host (Publish site n))) (record { entry = Ok None; host = host })) tell) [
+      | true ↦ unless_as host site n tell (commit_refusal host (Publish site n))
+      | false ↦ refl
+    ]
 
 module _ {S D : Type 0} {disk : Ghosts D} (did : S → Call → S → Type 0) (failures : S → ℕ) where
   pub not_judged : (server : Server S D disk) (judged : Judged) (n : ℕ) (bytes : List ℕ) (why : Refusal) → judged ≡ Err why
@@ -68,7 +106,7 @@ module _ {S D : Type 0} {disk : Ghosts D} (did : S → Call → S → Type 0) (f
   done_so : (server next : Server S D disk) (mid : Host) (judged : Judged) (n : ℕ) (bytes : List ℕ) (at : SiteName × Digest) (entry : Result (Option ℕ) Refusal) (result : Result Uploaded Refusal)
       → judged ≡ Ok at → mid ≡ with_upload server.house bytes
       → IsStored did server.house.uploads server.files.shelf bytes next.files.shelf → next.files.cache ≡ server.files.cache
-      → Publishes entry next.house (published_if_ready mid at.0 n) → (IsStopped entry → IsTrue (is_published mid at.0 n)) → OnErr entry (next.house ≡ mid)
+      → Publishes entry next.house (publishing_if_ready mid at.0 n) → (IsStopped entry → IsTrue (is_published mid at.0 n)) → OnErr entry (next.house ≡ mid)
       → ((entry ≡ Err reason.Device) × Breaks server next) ⊎ ((entry ≢ Err reason.Device) × GoesOn server next)
       → told_upload result ≡ told_of entry (λ published. told.Uploaded published at.1) → ((why : Refusal) → entry ≡ Err why → result ≡ Err why)
       → DoesUpload did failures server judged n bytes result next
@@ -77,22 +115,25 @@ module _ {S D : Type 0} {disk : Ghosts D} (did : S → Call → S → Type 0) (f
   done_so server next mid judged n bytes at entry result allowed known stored cache (inl (inl none)) stops left (inr (other, kept)) says fails =
       inr (inr (unpublished server next mid judged n bytes at entry reason.OutOfMemory allowed known stored cache (stops (inl none)) left none, inl (fails reason.OutOfMemory none, kept)))
   done_so server next mid judged n bytes at entry result allowed known stored cache (inl (inr is)) stops left (inr (other, kept)) says fails = absurd (other is)
-  done_so server next mid judged n bytes at entry result allowed known stored cache (inr done) stops left (inr (other, kept)) says fails = inl (
-    record {
-      stored = subst (λ j. IsStoredIf did j server.house.uploads server.files.shelf bytes next.files.shelf) (sym allowed) stored;
-      cache = cache;
-      told_is = says ∙ ap (λ e. told_of e (λ published. told.Uploaded published at.1)) done.0
-          ∙ ap (λ h. told_of (published_if_ready h at.0 n).entry (λ published. told.Uploaded published at.1)) known
-          ∙ ap (λ j. (uploaded server.house n bytes j).told) (sym allowed);
-      host_is = done.1 ∙ ap (λ h. (published_if_ready h at.0 n).host) known ∙ ap (λ j. (uploaded server.house n bytes j).host) (sym allowed);
-    },
-    kept,
-  )
+  done_so server next mid judged n bytes at entry result allowed known stored cache (inr done) stops left (inr (other, kept)) says fails =
+      let tell : Option ℕ → Told = λ published. told.Uploaded published at.1 in
+      let told_so = published_as (with_upload server.house bytes) at.0 n tell in
+      inl (
+        record {
+          stored = subst (λ j. IsStoredIf did j server.house.uploads server.files.shelf bytes next.files.shelf) (sym allowed) stored;
+          cache = cache;
+          told_is = says ∙ ap (λ e. told_of e tell) done.0 ∙ ap (λ h. told_of (publishing_if_ready h at.0 n).entry tell) known
+              ∙ sym (ap (λ (o : Outcome). o.told) told_so) ∙ ap (λ j. (uploaded server.house n bytes j).told) (sym allowed);
+          host_is = done.1 ∙ ap (λ h. (publishing_if_ready h at.0 n).host) known
+              ∙ sym (ap (λ (o : Outcome). o.host) told_so) ∙ ap (λ j. (uploaded server.house n bytes j).host) (sym allowed);
+        },
+        kept,
+      )
 
   pub upload_done : (server next : Server S D disk) (mid : Host) (judged : Judged) (n : ℕ) (bytes : List ℕ) (at : SiteName × Digest) (entry : Result (Option ℕ) Refusal) (result : Result Uploaded Refusal)
       → judged ≡ Ok at → mid ≡ with_upload server.house bytes
       → IsStored did server.house.uploads server.files.shelf bytes next.files.shelf → next.files.cache ≡ server.files.cache
-      → Publishes entry next.house (published_if_ready mid at.0 n) → (IsStopped entry → IsTrue (is_published mid at.0 n)) → OnErr entry (next.house ≡ mid)
+      → Publishes entry next.house (publishing_if_ready mid at.0 n) → (IsStopped entry → IsTrue (is_published mid at.0 n)) → OnErr entry (next.house ≡ mid)
       → IsJournaled disk entry mid server.journal next.house next.journal
       → told_upload result ≡ told_of entry (λ published. told.Uploaded published at.1) → ((why : Refusal) → entry ≡ Err why → result ≡ Err why)
       → DoesUpload did failures server judged n bytes result next

@@ -25,10 +25,11 @@ use Rattle.host_api.specs.Types.{type_of}
 use Rattle.host_api.specs.declared.bodies.Ask.{Ask}
 use Rattle.host_api.specs.declared.bodies.Ask.TheVariants as ask
 use Rattle.host_api.specs.declared.refusals.Refusal.{Refusal}
+use Rattle.host_api.specs.declared.texts.Told.TheVariants.{Uploaded}
 use Rattle.host_disk.specs.declared.disks.Disk.{Ghosts}
 use Rattle.host_server.specs.Asks.{AskStops, IsAnswer, IsReplyToAsk}
 use Rattle.host_answers.specs.Asking.{asked_for}
-use Rattle.host_server.specs.Files.{IsFileSent, IsFileTold, IsKnown, IsReadReply}
+use Rattle.host_server.specs.Files.{IsFileSent, IsFileTold, IsReadReply}
 use Rattle.host_replies.specs.FileAsks.{plan_of}
 use Rattle.host_server.specs.Hosts.{Host, state_of, with_upload}
 use Rattle.host_server.specs.Outcomes.{judge_upload, uploaded}
@@ -167,7 +168,7 @@ module _ {S D : Type 0} {disk : Ghosts D} (did : S → Call → S → Type 0) (f
       → IsStoredIf did judged server.house.uploads server.files.shelf bytes next.files.shelf → next.files.cache ≡ server.files.cache
       → next.house ≡ (uploaded server.house n bytes judged).host → HasKnown has next
   uploaded_known server next n bytes (Ok at) agrees known stored cache is =
-      stored_over server next bytes agrees known stored cache (uploads_of next.house _ is ∙ published_same (with_upload server.house bytes) at.0 n)
+      stored_over server next bytes agrees known stored cache (uploads_of next.house _ is ∙ published_same (with_upload server.house bytes) at.0 n (λ published. Uploaded published at.1))
   uploaded_known server next n bytes (Err why) agrees known stored cache is =
       goes_over server next (uploads_of next.house server.house is) (λ name. ap (λ (s : S). has s name) stored) cache known
 
@@ -190,7 +191,7 @@ module _ {S D : Type 0} {disk : Ghosts D} (did : S → Call → S → Type 0) (f
   -- ---- a read
 
   -- a reading of a known file was made of these files
-  module _ (server next : Server S D disk) (file : List ℕ) (known : HasKnown has server) (uploaded : IsKnown server file) (same : next.house ≡ server.house) where
+  module _ (server next : Server S D disk) (file : List ℕ) (known : HasKnown has server) (uploaded : map.get server.house.uploads (digest_of file) ≡ Some file) (same : next.house ≡ server.house) where
     there : HasFile has server.files.shelf file
     there = known.on_shelf (digest_of file) file uploaded
 

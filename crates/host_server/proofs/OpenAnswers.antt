@@ -1,5 +1,5 @@
 -- What is answered to an opening: it becomes an entry, and the deploy is published if it is ready then.
-use Rattle.std.proofs.Common.{◌≡◌, inl, inr, ℕ, List, [], ◌∷◌, Bool, true, false, cond, ◌&&◌, is_none, is_some, unwrap_or, Option, Some, None, IsSome, Result, Ok, Err, IsTrue, refl, sym, ap, subst, ◌∙◌}
+use Rattle.std.proofs.Common.{◌≡◌, inl, inr, ℕ, List, [], ◌∷◌, Bool, true, false, cond, ◌&&◌, is_none, is_some, unwrap_or, MatchOption, Option, Some, None, IsSome, Result, Ok, Err, IsTrue, refl, sym, ap, subst, ◌∙◌}
 use Rattle.std.specs.FinMap as map
 use Rattle.std.specs.declared.alloc.AllocError.{AllocError}
 use Rattle.host_names.specs.declared.cells.Cell.TheVariants as cell
@@ -24,15 +24,17 @@ use Rattle.http_wire.specs.Requests.{RequestParts}
 use Rattle.host_disk.specs.declared.disks.Disk.{Ghosts}
 use Rattle.host_api.specs.declared.bodies.Ask.TheVariants as ask
 use Rattle.host_api.specs.declared.refusals.Refusal.TheVariants as reason
+use Rattle.host_api.specs.declared.texts.Told.{Told}
 use Rattle.host_api.specs.declared.texts.Told.TheVariants as told
 use Rattle.host_replies.specs.Replies.{Answer, Tells, refused_answer}
 use Rattle.host_answers.specs.Answers.{ChangesBy, FollowsBy, LacksBy, OnlyTells, PublishesBy, told_entry, told_publishing}
 use Rattle.host_answers.specs.declared.stops.Stop.{Stop}
 use Rattle.host_answers.specs.declared.stops.Stop.TheVariants as stop
+use Rattle.host_server.specs.Asks.{HostStops}
 use Rattle.host_server.specs.Hosts.{Host, IsLawful, next_number, state_of, with_entry}
 use Rattle.host_server.specs.Journals.{Puts, is_broken}
-use Rattle.host_server.specs.Memory.{CommandRunsOut, is_published, opens_published}
-use Rattle.host_server.specs.Outcomes.{AreRequired, Outcome, Publishing, commit_outcome, is_ready, published_if_ready, publishing, refused, then_published}
+use Rattle.host_server.specs.Memory.{is_published, opens_published}
+use Rattle.host_server.specs.Outcomes.{IsCommitted, Outcome, is_ready, published_if_ready, refused, unless_refused}
 use Rattle.host_server.specs.Reasons.{commit_refusal}
 use Rattle.host_server.specs.ServerHouses.{CommitsAt, EntersAt, MissesAt, calls_of}
 use Rattle.host_server.specs.ServerJournals.{GoesOn}
@@ -65,14 +67,18 @@ unready_where auto None some = absurd (cc some)
 
 -- ---- what comes of its publishing
 
-publishing_when : (host : Host) (site : SiteName) (n : ℕ) (ready : Bool) → is_ready host site n ≡ ready
-    → published_if_ready host site n ≡ cond ready (publishing host (Publish site n) (commit_refusal host (Publish site n))) (record { entry = Ok None; host = host })
-publishing_when host site n ready is =
-    ap (λ b. cond b (publishing host (Publish site n) (commit_refusal host (Publish site n))) (record { entry = Ok None; host = host })) is
+-- the deploy is published, unless there is this reason against it
+abbrev published : Host → SiteName → ℕ → (Option ℕ → Told) → Option ChangeRefusal → Outcome
+published host site n tell why = unless_refused host why (record { told = tell (Some (next_number host)); host = with_entry host (Change (Publish site n)) })
 
--- what is told of an opening after which this comes of the publishing
-abbrev opened : ℕ → List Digest → Publishing → Outcome
-opened id required p = then_published p (λ published. told.Opened id published required)
+publishing_when : (host : Host) (site : SiteName) (n : ℕ) (tell : Option ℕ → Told) (ready : Bool) → is_ready host site n ≡ ready
+    → published_if_ready host site n tell ≡ cond ready (published host site n tell (commit_refusal host (Publish site n))) (record { told = tell None; host = host })
+publishing_when host site n tell ready is =
+    ap (λ b. cond b (published host site n tell (commit_refusal host (Publish site n))) (record { told = tell None; host = host })) is
+
+-- what is told of an opening, by the entry that published its deploy
+abbrev opened : ℕ → List Digest → Option ℕ → Told
+opened id required = λ entry. told.Opened id entry required
 
 module _ {S D : Type 0} {disk : Ghosts D} (did : S → Call → S → Type 0) (failures : S → ℕ) (server mid next : Server S D disk) (parts : RequestParts) (body : List ℕ) (answer : Answer)
     (site : SiteName) (files : Listed) (auto : Bool) (lawful : IsLawful server.house) where
@@ -83,28 +89,35 @@ module _ {S D : Type 0} {disk : Ghosts D} (did : S → Call → S → Type 0) (f
   refusal = commit_refusal server.house opening
 
   abbrev RunsOut : Type 0
-  RunsOut = CommandRunsOut server.house opening next.house
+  RunsOut = HostStops server.house (Ok (ask.Command opening)) next.house
 
-  -- whichever list is right
-  required_for : (why : Option ChangeRefusal) → (required : List Digest) × AreRequired server.house.uploads opening why required
-  required_for None = missing_list server.house.uploads files.1
-  required_for (Some why) = ([], refl)
+  -- what comes of it, where this list is told
+  abbrev outcome : List Digest → Option ChangeRefusal → Outcome
+  outcome required why =
+      unless_refused server.house why
+      (published_if_ready (with_entry server.house (Change opening)) site (next_number server.house) (opened (next_number server.house) required))
+
+  comes : (required : List Digest) → AreMissing server.house.uploads files.1 required → (why : Option ChangeRefusal)
+      → MatchOption why (IsCommitted server.house opening (outcome required why)) (λ w. outcome required why ≡ refused server.house (reason.Change w))
+  comes required missing None = (required, missing, refl)
+  comes required missing (Some why) = refl
+
+  comes_to : (required : List Digest) → AreMissing server.house.uploads files.1 required → IsDone server next answer RunsOut (outcome required refusal)
+      → CommandDone did failures server next parts body answer opening
+  comes_to required missing is = (outcome required refusal, comes required missing refusal, is)
 
   -- ---- the entry isn't made
 
-  refused_as : (required : List Digest) (why : ChangeRefusal) → refusal ≡ Some why
-      → commit_outcome server.house opening required refusal ≡ refused server.house (reason.Change why)
-  refused_as required why is = ap (commit_outcome server.house opening required) is
+  refused_as : (required : List Digest) (why : ChangeRefusal) → refusal ≡ Some why → outcome required refusal ≡ refused server.house (reason.Change why)
+  refused_as required why is = ap (outcome required) is
 
   not_opened : (why : Stop) → EntersAt (Change opening) refusal (refusal ≡ None) server (Err why) next → Tells (told_entry (Err why)) answer
       → CommandDone did failures server next parts body answer opening
   not_opened why is says =
-      let required = required_for refusal in (
-        required.0,
-        required.1,
-        not_entered server next answer RunsOut (commit_outcome server.house opening required.0 refusal) (Change opening) refusal (refusal ≡ None) why
-            (refused_as required.0) (λ none house. inl (none, inl house)) (λ none house. (none, inl house)) is says,
-      )
+      let (required, missing) = missing_list server.house.uploads files.1 in
+      comes_to required missing
+      (not_entered server next answer RunsOut (outcome required refusal) (Change opening) refusal (refusal ≡ None) why
+      (refused_as required) (λ none house. inl (none, inl house)) (λ none house. (none, inl house)) is says)
 
   -- ---- the entry is made
 
@@ -117,14 +130,15 @@ module _ {S D : Type 0} {disk : Ghosts D} (did : S → Call → S → Type 0) (f
     ready b now =
         ap (λ (h : Host). is_ready h site id) made ∙ ap (is_ready (with_entry server.house (Change opening)) site) is ∙ ready_by server.house site files auto lawful none ∙ now
 
-    outcome_is : (required : List Digest) → commit_outcome server.house opening required refusal ≡ opened id required (published_if_ready mid.house site id)
+    outcome_is : (required : List Digest) → outcome required refusal ≡ published_if_ready mid.house site id (opened id required)
     outcome_is required =
-        ap (commit_outcome server.house opening required) none
-        ∙ sym (ap (λ (h : Host). opened id required (published_if_ready h site id)) made
-        ∙ ap (λ i. opened i required (published_if_ready (with_entry server.house (Change opening)) site i)) is)
+        ap (outcome required) none
+        ∙ sym (ap (λ (h : Host). published_if_ready h site id (opened id required)) made
+        ∙ ap (λ i. published_if_ready (with_entry server.house (Change opening)) site i (opened i required)) is)
 
-    are_required : (required : List Digest) → AreMissing server.house.uploads files.1 required → AreRequired server.house.uploads opening refusal required
-    are_required required missing = subst (λ (r : Option ChangeRefusal). AreRequired server.house.uploads opening r required) (sym none) missing
+    -- no entry publishes it
+    abbrev left_open : List Digest → Outcome
+    left_open required = record { told = told.Opened id None required; host = mid.house }
 
     at_mid : next ≡ mid → GoesOn server next
     at_mid stays = subst (GoesOn server) (sym stays) goes_on
@@ -137,14 +151,10 @@ module _ {S D : Type 0} {disk : Ghosts D} (did : S → Call → S → Type 0) (f
 
     -- it isn't ready
     unpublished : (required : List Digest) → AreMissing server.house.uploads files.1 required → (auto && is_none (least_missing_of server.house.uploads files.1)) ≡ false
-        → IsDone server next answer RunsOut (opened id required (record { entry = Ok None; host = mid.house }))
-        → CommandDone did failures server next parts body answer opening
-    unpublished required missing unready is_done = (
-      required,
-      are_required required missing,
-      subst (IsDone server next answer RunsOut)
-          (ap (opened id required) (sym (publishing_when mid.house site id false (ready false unready))) ∙ sym (outcome_is required)) is_done,
-    )
+        → IsDone server next answer RunsOut (left_open required) → CommandDone did failures server next parts body answer opening
+    unpublished required missing unready is_done =
+        let open_is : published_if_ready mid.house site id (opened id required) ≡ left_open required = publishing_when mid.house site id (opened id required) false (ready false unready) in
+        comes_to required missing (subst (IsDone server next answer RunsOut) (sym open_is ∙ sym (outcome_is required)) is_done)
 
     -- there is no memory to tell what it lacks
     not_listed : IsSome (least_missing_of server.house.uploads files.1) → answer ≡ refused_answer reason.OutOfMemory → next ≡ mid
@@ -158,7 +168,7 @@ module _ {S D : Type 0} {disk : Ghosts D} (did : S → Call → S → Type 0) (f
         → OnlyTells mid (told.Opened id None required) answer next → CommandDone did failures server next parts body answer opening
     lacked required missing unready (says, stays) =
         unpublished required missing unready
-        (done server next answer RunsOut (opened id required (record { entry = Ok None; host = mid.house })) (told.Opened id None required) refl (house_at_mid stays)
+        (done server next answer RunsOut (left_open required) (told.Opened id None required) refl (house_at_mid stays)
         (files_at_mid stays) (at_mid stays) says)
 
     -- it is ready
@@ -182,21 +192,24 @@ module _ {S D : Type 0} {disk : Ghosts D} (did : S → Call → S → Type 0) (f
       runs_out : against ≡ None → next.house ≡ mid.house → RunsOut
       runs_out free house = (none, inr (house ∙ made, opens free))
 
+      abbrev comes_then : Outcome
+      comes_then = published mid.house site id (opened id []) against
+
       tried : (result : Result ℕ Stop) → EntersAt (Change publish) against (against ≡ None) mid result next → Tells (told_publishing id result) answer
-          → IsDone server next answer RunsOut (opened id [] (publishing mid.house publish against))
+          → IsDone server next answer RunsOut comes_then
       tried (Ok number) (free, number_is, house, put_then, files_same) says =
-          let there : publishing mid.house publish against ≡ record { entry = Ok (Some (next_number mid.house)); host = with_entry mid.house (Change publish) } =
-          ap (publishing mid.house publish) free in
-          done server next answer RunsOut (opened id [] (publishing mid.house publish against)) (told.Opened id (Some number) [])
-          (ap (λ n. told.Opened id (Some n) []) number_is ∙ sym (ap (λ (p : Publishing). (opened id [] p).told) there)) (house ∙ sym (ap (λ (p : Publishing). p.host) there))
+          let there : comes_then ≡ record { told = told.Opened id (Some (next_number mid.house)) []; host = with_entry mid.house (Change publish) } =
+          ap (published mid.house site id (opened id [])) free in
+          done server next answer RunsOut comes_then (told.Opened id (Some number) [])
+          (ap (λ n. told.Opened id (Some n) []) number_is ∙ sym (ap (λ (o : Outcome). o.told) there)) (house ∙ sym (ap (λ (o : Outcome). o.host) there))
           (files_same ∙ same)
           (keeps_then disk server.house mid.house next.house server.journal mid.journal next.journal goes_on
           (entered_ok disk (Change publish) mid.house next.house mid.journal next.journal put_then house)) says
       tried (Err stop.Broken) never says = absurd never
       tried (Err (stop.Refused why)) (because, (house, journal, files_same)) says =
-          let there : publishing mid.house publish against ≡ record { entry = Err (reason.Change why); host = mid.house } = ap (publishing mid.house publish) because in
-          done server next answer RunsOut (opened id [] (publishing mid.house publish against)) (told.Refused (reason.Change why))
-          (sym (ap (λ (p : Publishing). (opened id [] p).told) there)) (house ∙ sym (ap (λ (p : Publishing). p.host) there)) (files_same ∙ same)
+          let there : comes_then ≡ refused mid.house (reason.Change why) = ap (published mid.house site id (opened id [])) because in
+          done server next answer RunsOut comes_then (told.Refused (reason.Change why))
+          (sym (ap (λ (o : Outcome). o.told) there)) (house ∙ sym (ap (λ (o : Outcome). o.host) there)) (files_same ∙ same)
           (keeps_then disk server.house mid.house next.house server.journal mid.journal next.journal goes_on
           (keeps_same disk mid.house next.house mid.journal next.journal house journal)) says
       tried (Err stop.OutOfMemory) (free, (house, journal, files_same)) says =
@@ -220,13 +233,9 @@ module _ {S D : Type 0} {disk : Ghosts D} (did : S → Call → S → Type 0) (f
           → CommandDone did failures server next parts body answer opening
       published_by result (inl (broken, is_broken_told, stays)) says =
           absurd (cc (sym (puts_whole disk server.journal (Change opening ∷ []) mid.journal whole put) ∙ broken))
-      published_by result (inr (still, enters)) says = (
-        [],
-        are_required [] missing,
-        subst (IsDone server next answer RunsOut)
-            (ap (opened id []) (sym (publishing_when mid.house site id true now)) ∙ sym (outcome_is []))
-            (tried result enters says),
-      )
+      published_by result (inr (still, enters)) says =
+          let then_is : published_if_ready mid.house site id (opened id []) ≡ comes_then = publishing_when mid.house site id (opened id []) true now in
+          comes_to [] missing (subst (IsDone server next answer RunsOut) (sym then_is ∙ sym (outcome_is [])) (tried result enters says))
 
     -- ---- what follows
 

@@ -1,11 +1,13 @@
 -- What is answered to the reading of a file, by what is held of it.
-use Rattle.std.proofs.Common.{◌≡◌, ◌≢◌, inl, inr, Bool, true, false, ℕ, List, [], Result, Ok, Err, length, refl, sym, ap, subst, ◌∙◌}
+use Rattle.std.proofs.Common.{◌≡◌, ◌≢◌, inl, inr, Bool, true, false, ℕ, List, [], Some, Result, Ok, Err, length, refl, sym, ap, subst, ◌∙◌}
 use Rattle.std.proofs.lemmas.List.Elements.{All-nil}
 use Rattle.std.proofs.lemmas.Slice.Eq.{bytes_eq-Decides}
 use Rattle.std.specs.Prelude.{codes}
+use Rattle.std.specs.FinMap as map
 use Rattle.std.specs.Str.{bytes_eq}
 use Rattle.byte_view.specs.Contents.{AreDigested}
 use Rattle.byte_view.specs.Holds.{Held, IsHeld}
+use Rattle.host_names.specs.Digests.{digest_of}
 use Rattle.host_names.specs.declared.names.SiteName.{SiteName}
 use Rattle.blob_store.specs.Calls.{Call}
 use Rattle.chunk_reads.specs.Reading.{IsNotHeld}
@@ -33,7 +35,7 @@ use Rattle.host_answers.proofs.Reading.{Sends}
 use Rattle.host_answers.proofs.Seen.{reads_as}
 use Rattle.host_answers.specs.Houses.{Calls}
 use Rattle.host_answers.specs.Reads.{GivesBy, ReadsBy, SendsBy}
-use Rattle.host_server.specs.Files.{IsFileSent, IsFileTold, IsKnown, IsReadReply}
+use Rattle.host_server.specs.Files.{IsFileSent, IsFileTold, IsReadReply}
 use Rattle.host_server.specs.Hosts.{IsLawful, state_of}
 use Rattle.host_server.specs.Journals.{is_broken}
 use Rattle.host_server.specs.ServerHouses.{KeepsHost, calls_of, failed_at, gave_at}
@@ -100,7 +102,11 @@ module _ {S : Type 0} (did : S → Call → S → Type 0) (failures : S → ℕ)
   sent_by None416 (is, same) = inl (refl, is, same)
 
 module _ {S D : Type 0} {disk : Ghosts D} (did : S → Call → S → Type 0) (failures : S → ℕ) (server next : Server S D disk) (parts : RequestParts) (path : List ℕ) (answer : Answer) where
-  module _ (file : List ℕ) (known : IsKnown server file) (same : next.house ≡ server.house) where
+  -- the file was uploaded
+  abbrev IsKnown : List ℕ → Type 0
+  IsKnown file = map.get server.house.uploads (digest_of file) ≡ Some file
+
+  module _ (file : List ℕ) (known : IsKnown file) (same : next.house ≡ server.house) where
     told_by : (range : Asked) (by_head : Bool) → is_head parts ≡ by_head → AsksRange parts range
         → IsFileTold did failures by_head server.files path file (plan_of parts range file) answer next.files
         → IsReadReply did failures server parts path (Ok file) answer next
@@ -114,7 +120,7 @@ module _ {S D : Type 0} {disk : Ghosts D} (did : S → Call → S → Type 0) (f
     gives_by false head (range, asks, sends) =
         told_by range false head asks (sent_by did failures server.files next.files path file answer (plan_of parts range file) sends)
 
-  of_files : (found : Result (List ℕ) Refusal) → ((file : List ℕ) → found ≡ Ok file → IsKnown server file)
+  of_files : (found : Result (List ℕ) Refusal) → ((file : List ℕ) → found ≡ Ok file → IsKnown file)
       → ReadsBy (gave_at did failures) (failed_at did failures) server parts path found answer next → KeepsHost server next
       → IsReadReply did failures server parts path found answer next
   of_files (Err why) known is kept = is

@@ -8,6 +8,7 @@ use Rattle.range_spec.specs.declared.selection.Choice.{Choice}
 use Rattle.range_spec.specs.declared.selection.Choice.TheVariants.{Whole, One, Many, None416}
 use Rattle.range_reply.specs.declared.boundaries.Boundary.{Boundary}
 use Rattle.http_wire.specs.Requests.{RequestParts}
+use Rattle.host_api.specs.Types.{type_of}
 use Rattle.host_api.specs.declared.bodies.Ask.{Ask}
 use Rattle.host_api.specs.declared.refusals.Refusal.{Refusal}
 use Rattle.host_api.specs.declared.refusals.Refusal.TheVariants as reason
@@ -26,11 +27,11 @@ use Rattle.host_server.specs.declared.servers.Server.{Server}
 use Rattle.host_server.proofs.StoredIf.{IsStoredIf}
 
 -- what is sent of a file has another status than 503
-other_status : (path file : List ℕ) (plan : Choice) (boundary : Option Boundary) (bytes : List ℕ) → (sent_as path file plan boundary bytes).status ≡ 503 → ⊥
-other_status path file Whole boundary bytes e = let wrong : 200 ≡ 503 = e in omega (arith, wrong)
-other_status path file (One first last) boundary bytes e = let wrong : 206 ≡ 503 = e in omega (arith, wrong)
-other_status path file (Many intervals) boundary bytes e = let wrong : 206 ≡ 503 = e in omega (arith, wrong)
-other_status path file None416 boundary bytes e = let wrong : 416 ≡ 503 = e in omega (arith, wrong)
+other_status : (content_type file : List ℕ) (plan : Choice) (boundary : Option Boundary) (bytes : List ℕ) → (sent_as content_type file plan boundary bytes).status ≡ 503 → ⊥
+other_status content_type file Whole boundary bytes e = let wrong : 200 ≡ 503 = e in omega (arith, wrong)
+other_status content_type file (One first last) boundary bytes e = let wrong : 206 ≡ 503 = e in omega (arith, wrong)
+other_status content_type file (Many intervals) boundary bytes e = let wrong : 206 ≡ 503 = e in omega (arith, wrong)
+other_status content_type file None416 boundary bytes e = let wrong : 416 ≡ 503 = e in omega (arith, wrong)
 
 -- a reply of that status whose body has another length than those for the device and for want of memory is none to the reading of a file
 not_read_back : (parts : RequestParts) (path file : List ℕ) (answer : Answer) → answer.status ≡ 503
@@ -41,7 +42,7 @@ not_read_back parts path file answer status memory disk (inr (inl is)) = disk (a
 not_read_back parts path file answer status memory disk (inr (inr (inl (range, asks, inl (none, is))))) =
     let wrong : 503 ≡ 416 = sym status ∙ ap (λ (a : Answer). a.status) is in omega (arith, wrong)
 not_read_back parts path file answer status memory disk (inr (inr (inl (range, asks, inr (body, exact, is))))) =
-    other_status path file body.plan body.boundary body.bytes (sym (ap (λ (a : Answer). a.status) is) ∙ status)
+    other_status (type_of path) file body.plan body.boundary body.bytes (sym (ap (λ (a : Answer). a.status) is) ∙ status)
 not_read_back parts path file answer status memory disk (inr (inr (inr (head, is)))) =
     let wrong : 503 ≡ 200 = sym status ∙ ap (λ (a : Answer). a.status) is in omega (arith, wrong)
 

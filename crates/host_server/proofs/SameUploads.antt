@@ -1,6 +1,5 @@
 -- What no file is read or stored for leaves the uploads as they were.
-use Rattle.std.proofs.Common.{◌≡◌, inl, inr, ℕ, true, false, cond, List, Option, Some, None, Result, Ok, Err, refl, ap, ◌∙◌}
-use Rattle.host_names.specs.declared.digests.Digest.{Digest}
+use Rattle.std.proofs.Common.{◌≡◌, inl, inr, ℕ, true, false, cond, MatchOption, Option, Some, None, Result, Ok, Err, refl, ap, ◌∙◌}
 use Rattle.host_names.specs.declared.names.SiteName.{SiteName}
 use Rattle.site_change.specs.declared.refusals.ChangeRefusal.{ChangeRefusal}
 use Rattle.site_change.specs.declared.commands.Command.{Command}
@@ -11,41 +10,36 @@ use Rattle.change_undo.specs.declared.entries.Entry.TheVariants.{Change, Undo}
 use Rattle.host_api.specs.declared.bodies.Ask.{Ask}
 use Rattle.host_api.specs.declared.bodies.Ask.TheVariants as ask
 use Rattle.host_api.specs.declared.refusals.Refusal.{Refusal}
-use Rattle.host_server.specs.Asks.{Comes, HostStops}
+use Rattle.host_api.specs.declared.refusals.Refusal.TheVariants as reason
+use Rattle.host_api.specs.declared.texts.Told.{Told}
+use Rattle.host_api.specs.declared.texts.Told.TheVariants as told
+use Rattle.host_server.specs.Asks.{ComesOf, HostStops}
 use Rattle.host_answers.specs.Deploys.{site_of_deploy}
 use Rattle.host_server.specs.Hosts.{Host, next_number, with_entry}
-use Rattle.host_server.specs.Outcomes.{Outcome, commit_outcome, committed, enter_outcome, is_ready, outcome_on, published_if_ready, publishing, refused, undone}
+use Rattle.host_server.specs.Outcomes.{IsCommitted, Outcome, entering, is_ready, outcome_on, published_if_ready, refused, unless_refused}
 use Rattle.host_server.specs.Reasons.{commit_refusal, undo_refusal}
 
-publishing_same : (host : Host) (change : Command) (refusal : Option ChangeRefusal) → (publishing host change refusal).host.uploads ≡ host.uploads
-publishing_same host change None = refl
-publishing_same host change (Some why) = refl
+unless_same : (host : Host) (refusal : Option ChangeRefusal) (out : Outcome) → out.host.uploads ≡ host.uploads → (unless_refused host refusal out).host.uploads ≡ host.uploads
+unless_same host None out same = same
+unless_same host (Some why) out same = refl
 
-pub published_same : (host : Host) (site : SiteName) (n : ℕ) → (published_if_ready host site n).host.uploads ≡ host.uploads
-published_same host site n =
-    elim (is_ready host site n) as (λ b. (cond b (publishing host (command.Publish site n) (commit_refusal host (command.Publish site n))) (record { entry = Ok None; host = host })).host.uploads ≡ host.uploads) [
-      | true ↦ publishing_same host (command.Publish site n) (commit_refusal host (command.Publish site n))
+-- the deploy is published
+abbrev published_now : Host → SiteName → ℕ → (Option ℕ → Told) → Outcome
+published_now host site n tell = record { told = tell (Some (next_number host)); host = with_entry host (Change (command.Publish site n)) }
+
+pub published_same : (host : Host) (site : SiteName) (n : ℕ) (tell : Option ℕ → Told) → (published_if_ready host site n tell).host.uploads ≡ host.uploads
+published_same host site n tell =
+    elim (is_ready host site n) as (λ b. (cond b (unless_refused host (commit_refusal host (command.Publish site n)) (published_now host site n tell)) (record { told = tell None; host = host })).host.uploads ≡ host.uploads) [
+      | true ↦ unless_same host (commit_refusal host (command.Publish site n)) (published_now host site n tell) refl
       | false ↦ refl
     ]
 
-committed_same : (host : Host) (change : Command) (required : List Digest) → (committed host change required).host.uploads ≡ host.uploads
-committed_same host (command.Open site files auto) required = published_same (with_entry host (Change (command.Open site files auto))) site (next_number host)
-committed_same host change required = refl
-
-commit_same : (host : Host) (change : Command) (required : List Digest) (refusal : Option ChangeRefusal) → (commit_outcome host change required refusal).host.uploads ≡ host.uploads
-commit_same host change required None = committed_same host change required
-commit_same host change required (Some why) = refl
-
-enter_same : (host : Host) (entry : Entry) (refusal : Option ChangeRefusal) → (enter_outcome host entry refusal).host.uploads ≡ host.uploads
-enter_same host entry None = refl
-enter_same host entry (Some why) = refl
+enter_same : (host : Host) (entry : Entry) (refusal : Option ChangeRefusal) → (unless_refused host refusal (entering host entry)).host.uploads ≡ host.uploads
+enter_same host entry refusal = unless_same host refusal (entering host entry) refl
 
 on_same : (host : Host) (change : SiteName → Command) (site : Option SiteName) → (outcome_on host change site).host.uploads ≡ host.uploads
 on_same host change None = refl
 on_same host change (Some site) = enter_same host (Change (change site)) (commit_refusal host (change site))
-
-undone_same : (host : Host) (site : SiteName) (k : ℕ) (refusal : Option ChangeRefusal) → (undone host site k refusal).host.uploads ≡ host.uploads
-undone_same host site k refusal = enter_same host (Undo site k) refusal
 
 pub uploads_of : (a b : Host) → a ≡ b → a.uploads ≡ b.uploads
 uploads_of a b is = ap (λ (h : Host). h.uploads) is
@@ -55,12 +49,23 @@ uploads_told a b is = ap (λ (o : Outcome). o.host.uploads) is
 
 -- ---- without the files
 
-pub host_same : (host : Host) (asking : Result Ask Refusal) (out : Outcome) → Comes host asking out → out.host.uploads ≡ host.uploads
+committed_same : (host : Host) (change : Command) (out : Outcome) → IsCommitted host change out → out.host.uploads ≡ host.uploads
+committed_same host (command.Open site files auto) out (required, missing, is) =
+    let opened = with_entry host (Change (command.Open site files auto)) in
+    let tell : Option ℕ → Told = λ published. told.Opened (next_number host) published required in
+    uploads_told out (published_if_ready opened site (next_number host) tell) is ∙ published_same opened site (next_number host) tell
+committed_same host change out is = uploads_told out (entering host (Change change)) is
+
+commit_same : (host : Host) (change : Command) (out : Outcome) (refusal : Option ChangeRefusal)
+    → MatchOption refusal (IsCommitted host change out) (λ why. out ≡ refused host (reason.Change why)) → out.host.uploads ≡ host.uploads
+commit_same host change out None is = committed_same host change out is
+commit_same host change out (Some why) is = uploads_told out (refused host (reason.Change why)) is
+
+pub host_same : (host : Host) (asking : Result Ask Refusal) (out : Outcome) → ComesOf host asking out → out.host.uploads ≡ host.uploads
 host_same host (Err why) out is = uploads_told out (refused host why) is
-host_same host (Ok (ask.Command change)) out (required, are, is) =
-    uploads_told out (commit_outcome host change required (commit_refusal host change)) is ∙ commit_same host change required (commit_refusal host change)
+host_same host (Ok (ask.Command change)) out is = commit_same host change out (commit_refusal host change) is
 host_same host (Ok (ask.Undo site k)) out is =
-    uploads_told out (undone host site k (undo_refusal host site k)) is ∙ undone_same host site k (undo_refusal host site k)
+    uploads_told out (unless_refused host (undo_refusal host site k) (entering host (Undo site k))) is ∙ enter_same host (Undo site k) (undo_refusal host site k)
 host_same host (Ok (ask.Changes site)) out is = uploads_told out _ is
 host_same host (Ok (ask.Deploy n)) out (shows, same) = uploads_of out.host host same
 host_same host (Ok (ask.RemoveDeploy n)) out is =

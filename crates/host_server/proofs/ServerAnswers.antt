@@ -27,7 +27,7 @@ use Rattle.host_answers.specs.Deploys.{site_of_deploy}
 use Rattle.host_server.specs.Asks.{IsAnswer}
 use Rattle.host_server.specs.Hosts.{IsLawful, state_of}
 use Rattle.host_server.specs.Journals.{is_broken}
-use Rattle.host_server.specs.Memory.{DeployRunsOut}
+use Rattle.host_server.specs.Memory.{DeployStops}
 use Rattle.host_server.specs.Outcomes.{deploy_outcome, refused}
 use Rattle.host_server.specs.ServerHouses.{calls_of, failed_at, gave_at}
 use Rattle.host_server.specs.ServerJournals.{GoesOn}
@@ -117,13 +117,13 @@ module _ {S D : Type 0} {disk : Ghosts D} (did : S → Call → S → Type 0) (f
   does_by (ask.RemoveDeploy n) lawful digested is =
       deploy_told did failures server next parts body answer n (ask.RemoveDeploy n) (λ site. command.RemoveDeploy site n) (site_of_deploy (entry_at server.house.entries n)) refl refl
       (λ owner. refl)
-      (carried_out did failures server next parts body answer (Ok (ask.RemoveDeploy n)) (DeployRunsOut server.house n (λ site. command.RemoveDeploy site n) next.house)
+      (carried_out did failures server next parts body answer (Ok (ask.RemoveDeploy n)) (DeployStops server.house n (λ site. command.RemoveDeploy site n) next.house)
       (deploy_outcome server.house n (λ site. command.RemoveDeploy site n))
       (λ says house files. (deploy_outcome server.house n (λ site. command.RemoveDeploy site n), refl, says, house, files)) (λ left files. (left, files))) is
   does_by (ask.Cancel n) lawful digested is =
       deploy_told did failures server next parts body answer n (ask.Cancel n) (λ site. command.Cancel site n) (site_of_deploy (entry_at server.house.entries n)) refl refl
       (λ owner. refl)
-      (carried_out did failures server next parts body answer (Ok (ask.Cancel n)) (DeployRunsOut server.house n (λ site. command.Cancel site n) next.house)
+      (carried_out did failures server next parts body answer (Ok (ask.Cancel n)) (DeployStops server.house n (λ site. command.Cancel site n) next.house)
       (deploy_outcome server.house n (λ site. command.Cancel site n))
       (λ says house files. (deploy_outcome server.house n (λ site. command.Cancel site n), refl, says, house, files)) (λ left files. (left, files))) is
   does_by (ask.Upload n path) lawful digested is =

@@ -1,5 +1,5 @@
 -- What is answered to an upload.
-use Rattle.std.proofs.Common.{◌≡◌, inl, inr, ℕ, List, ◌&&◌, Option, Some, None, Result, Ok, Err, is_some, sym, ap, subst, ◌∙◌}
+use Rattle.std.proofs.Common.{◌≡◌, inl, inr, ℕ, List, ◌&&◌, Option, Some, None, Result, Ok, Err, is_some, ok_or, sym, ap, subst, ◌∙◌}
 use Rattle.host_names.specs.declared.digests.Digest.{Digest}
 use Rattle.host_names.specs.declared.names.SiteName.{SiteName}
 use Rattle.blob_store.specs.Calls.{Call}
@@ -9,6 +9,7 @@ use Rattle.site_change.specs.declared.refusals.ChangeRefusal.TheVariants.{NoSuch
 use Rattle.change_undo.specs.Histories.{entry_at}
 use Rattle.http_wire.specs.Requests.{RequestParts}
 use Rattle.host_disk.specs.declared.disks.Disk.{Ghosts}
+use Rattle.host_api.specs.Bodies.{then_with}
 use Rattle.host_api.specs.declared.bodies.Ask.TheVariants as ask
 use Rattle.host_api.specs.declared.refusals.Refusal.{Refusal}
 use Rattle.host_api.specs.declared.refusals.Refusal.TheVariants as reason
@@ -18,7 +19,7 @@ use Rattle.host_answers.specs.Answers.{InSite, UploadsBy, told_upload}
 use Rattle.host_answers.specs.Deploys.{site_of_deploy}
 use Rattle.host_answers.specs.declared.uploads.Uploaded.{Uploaded}
 use Rattle.host_server.specs.Journals.{is_broken}
-use Rattle.host_server.specs.Outcomes.{judge_at, uploaded}
+use Rattle.host_server.specs.Outcomes.{judge_in, uploaded}
 use Rattle.host_server.specs.ServerHouses.{calls_of}
 use Rattle.host_server.specs.Storing.{DoesUpload, IsUploaded, refusal_of_upload}
 use Rattle.host_server.specs.declared.servers.Server.{Server}
@@ -30,8 +31,11 @@ module _ {S D : Type 0} {disk : Ghosts D} (did : S → Call → S → Type 0) (f
   abbrev Judged : Type 0
   Judged = Result (SiteName × Digest) Refusal
 
+  abbrev judged_on : Option SiteName → Judged
+  judged_on site = then_with (ok_or site (reason.Change NoSuchDeploy)) (λ owner. judge_in server.house owner n path bytes)
+
   abbrev judged : Judged
-  judged = judge_at server.house (site_of_deploy (entry_at server.house.entries n)) n path bytes
+  judged = judged_on (site_of_deploy (entry_at server.house.entries n))
 
   tells_as : (result other : Result Uploaded Refusal) → result ≡ other → Tells (told_upload result) answer → Tells (told_upload other) answer
   tells_as result other is says = subst (λ (r : Result Uploaded Refusal). Tells (told_upload r) answer) is says
@@ -65,7 +69,7 @@ module _ {S D : Type 0} {disk : Ghosts D} (did : S → Call → S → Type 0) (f
       → InSite (calls_of did failures) server site (λ owner. UploadsBy (calls_of did failures) server owner n path bytes) answer next
       → AnswersAsk did failures server next parts bytes answer (Ok (ask.Upload n path))
   upload_by None is (says, same) =
-      let refused : judged ≡ Err (reason.Change NoSuchDeploy) = ap (λ (s : Option SiteName). judge_at server.house s n path bytes) is in
+      let refused : judged ≡ Err (reason.Change NoSuchDeploy) = ap judged_on is in
       let kept = keeps_same disk server.house next.house server.journal next.journal (ap (λ (s : Server S D disk). s.house) same) (ap (λ (s : Server S D disk). s.journal) same) in
       free did failures server next parts bytes answer (Ok (ask.Upload n path))
       (ap (λ (s : Option SiteName). is_broken server.journal && is_some s) is ∙ and_false (is_broken server.journal))
@@ -79,5 +83,5 @@ module _ {S D : Type 0} {disk : Ghosts D} (did : S → Call → S → Type 0) (f
       (ap (λ (s : Option SiteName). is_broken server.journal && is_some s) is ∙ and_true (is_broken server.journal))
       (inr (
         whole,
-        does_tell result (subst (λ (s : Option SiteName). DoesUpload did failures server (judge_at server.house s n path bytes) n bytes result next) (sym is) does) says,
+        does_tell result (subst (λ (s : Option SiteName). DoesUpload did failures server (judged_on s) n bytes result next) (sym is) does) says,
       ))

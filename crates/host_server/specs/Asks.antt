@@ -1,23 +1,22 @@
 -- What a request is answered, and what the server has then.
-use Rattle.std.specs.Prelude.{◌≡◌, ◌⊎◌, ℕ, List, true, false, None, Result, Ok, Err, IsTrue}
-use Rattle.host_names.specs.declared.digests.Digest.{Digest}
+use Rattle.std.specs.Prelude.{◌≡◌, ◌⊎◌, ℕ, List, true, false, None, Result, Ok, Err, IsTrue, MatchOption}
 use Rattle.blob_store.specs.Calls.{Call}
 use Rattle.http_wire.specs.Requests.{RequestParts}
-use Rattle.site_change.specs.declared.commands.Command.{Command}
 use Rattle.site_change.specs.declared.commands.Command.TheVariants.{Cancel, RemoveDeploy}
+use Rattle.change_undo.specs.declared.entries.Entry.TheVariants.{Change, Undo}
 use Rattle.host_api.specs.declared.bodies.Ask.{Ask}
 use Rattle.host_api.specs.declared.bodies.Ask.TheVariants as ask
 use Rattle.host_api.specs.declared.refusals.Refusal.{Refusal}
-use Rattle.host_api.specs.declared.refusals.Refusal.TheVariants.{Broken, Device, OutOfMemory}
+use Rattle.host_api.specs.declared.refusals.Refusal.TheVariants as reason
 use Rattle.host_api.specs.declared.texts.Told.TheVariants.{Changes}
 use Rattle.host_disk.specs.declared.disks.Disk.{Ghosts}
 use Rattle.host_answers.specs.Asking.{asked_for, asking_takes}
 use Rattle.host_answers.specs.ChangeLists.{shown_lines}
 use Rattle.host_server.specs.Files.{IsReadReply}
 use Rattle.host_server.specs.HeldUp.{holds_up}
-use Rattle.host_server.specs.Hosts.{Host, state_of}
-use Rattle.host_server.specs.Memory.{CommandRunsOut, DeployRunsOut}
-use Rattle.host_server.specs.Outcomes.{Outcome, AreRequired, commit_outcome, deploy_outcome, judge_upload, refused, undone}
+use Rattle.host_server.specs.Hosts.{Host, state_of, with_entry}
+use Rattle.host_server.specs.Memory.{DeployStops, opens_published}
+use Rattle.host_server.specs.Outcomes.{IsCommitted, Outcome, deploy_outcome, entering, judge_upload, refused, unless_refused}
 use Rattle.host_server.specs.Reasons.{commit_refusal, undo_refusal}
 use Rattle.host_replies.specs.Replies.{Answer, Tells, refused_answer}
 use Rattle.host_server.specs.Shown.{ShowsDeploy}
@@ -28,26 +27,29 @@ use Rattle.host_server.specs.declared.servers.Server.{Server}
 
 -- ---- without the files
 
--- What is told where a request asks for what no file is read or stored for, and what the host has then; whichever list of missing digests is told,
--- it is the right one.
-abbrev pub Comes : Host → Result Ask Refusal → Outcome → Type 0
-Comes host (Err refusal) out = out ≡ refused host refusal
-Comes host (Ok (ask.Command command)) out =
-    (required : List Digest) × AreRequired host.uploads command (commit_refusal host command) required
-    × (out ≡ commit_outcome host command required (commit_refusal host command))
-Comes host (Ok (ask.Undo site change)) out = out ≡ undone host site change (undo_refusal host site change)
-Comes host (Ok (ask.Changes site)) out = out ≡ record { told = Changes (shown_lines host.entries site); host = host }
-Comes host (Ok (ask.Deploy deploy)) out = ShowsDeploy host deploy out.told × (out.host ≡ host)
-Comes host (Ok (ask.RemoveDeploy deploy)) out = out ≡ deploy_outcome host deploy (λ site. RemoveDeploy site deploy)
-Comes host (Ok (ask.Cancel deploy)) out = out ≡ deploy_outcome host deploy (λ site. Cancel site deploy)
-Comes host asking out = ⊥
+-- A request that reads no file and stores none comes to this outcome: what is told, and what the host has then. If digests are told that are missing,
+-- they are the right ones.
+abbrev pub ComesOf : Host → Result Ask Refusal → Outcome → Type 0
+ComesOf host (Err refusal) out = out ≡ refused host refusal
+ComesOf host (Ok (ask.Command command)) out =
+    MatchOption (commit_refusal host command) (IsCommitted host command out) (λ why. out ≡ refused host (reason.Change why))
+ComesOf host (Ok (ask.Undo site change)) out =
+    out ≡ unless_refused host (undo_refusal host site change) (entering host (Undo site change))
+ComesOf host (Ok (ask.Changes site)) out = out ≡ record { told = Changes (shown_lines host.entries site); host = host }
+ComesOf host (Ok (ask.Deploy deploy)) out = ShowsDeploy host deploy out.told × (out.host ≡ host)
+ComesOf host (Ok (ask.RemoveDeploy deploy)) out = out ≡ deploy_outcome host deploy (λ site. RemoveDeploy site deploy)
+ComesOf host (Ok (ask.Cancel deploy)) out = out ≡ deploy_outcome host deploy (λ site. Cancel site deploy)
+ComesOf host asking out = ⊥
 
--- what the host has where there is no memory for an entry, or the device fails while it is put into the journal
+-- Nothing refuses what is asked for, but an entry of it isn't put: there is no memory for it, or the device fails while it is put into the journal.
+-- The host stays as it was; or it has opened a deploy, and doesn't get the entry that would publish the deploy.
 abbrev pub HostStops : Host → Result Ask Refusal → Host → Type 0
-HostStops host (Ok (ask.Command command)) next = CommandRunsOut host command next
+HostStops host (Ok (ask.Command command)) next =
+    (commit_refusal host command ≡ None)
+    × ((next ≡ host) ⊎ ((next ≡ with_entry host (Change command)) × IsTrue (opens_published host command)))
 HostStops host (Ok (ask.Undo site change)) next = (next ≡ host) × (undo_refusal host site change ≡ None)
-HostStops host (Ok (ask.RemoveDeploy deploy)) next = DeployRunsOut host deploy (λ site. RemoveDeploy site deploy) next
-HostStops host (Ok (ask.Cancel deploy)) next = DeployRunsOut host deploy (λ site. Cancel site deploy) next
+HostStops host (Ok (ask.RemoveDeploy deploy)) next = DeployStops host deploy (λ site. RemoveDeploy site deploy) next
+HostStops host (Ok (ask.Cancel deploy)) next = DeployStops host deploy (λ site. Cancel site deploy) next
 HostStops host asking next = ⊥
 
 -- ---- with them
@@ -59,9 +61,9 @@ IsReplyToAsk did failures server parts body (Ok (ask.Read site version path)) an
     IsReadReply did failures server parts path (file_of (state_of server.house) site version path) answer next
 IsReplyToAsk did failures server parts body (Ok (ask.Upload deploy path)) answer next = IsUploadReply did failures server deploy path body answer next
 IsReplyToAsk did failures server parts body asking answer next =
-    (out : Outcome) × Comes server.house asking out × Tells out.told answer × (next.house ≡ out.host) × (next.files ≡ server.files)
+    (out : Outcome) × ComesOf server.house asking out × Tells out.told answer × (next.house ≡ out.host) × (next.files ≡ server.files)
 
--- what the server has where there is no memory for an entry, or the device fails while it is put into the journal
+-- The same of a server. An upload whose deploy isn't published for this reason keeps its bytes.
 abbrev pub AskStops : {S D : Type 0} {disk : Ghosts D} → (did : S → Call → S → Type 0) → Server S D disk → List ℕ → Result Ask Refusal → Server S D disk → Type 0
 AskStops did server body (Ok (ask.Upload deploy path)) next =
     IsUnpublished did server (judge_upload server.house deploy path body) deploy body next
@@ -69,14 +71,14 @@ AskStops did server body asking next = HostStops server.house asking next.house 
 
 -- ---- a request
 
--- the reply to a request of these parts and this body, and what the server has then: what it asks for is held up, or has its reply
+-- A request of these parts and this body gets this reply, and the server is the next one then: what it asks for is held up, or is answered.
 abbrev pub IsReply : {S D : Type 0} {disk : Ghosts D} → (did : S → Call → S → Type 0) → (failures : S → ℕ) → Server S D disk → RequestParts → List ℕ → Answer → Server S D disk → Type 0
 IsReply did failures server parts body answer next =
-    ((holds_up server (asked_for parts body) ≡ true) × (answer ≡ refused_answer Broken) × (next ≡ server))
+    ((holds_up server (asked_for parts body) ≡ true) × (answer ≡ refused_answer reason.Broken) × (next ≡ server))
     ⊎ ((holds_up server (asked_for parts body) ≡ false) × IsReplyToAsk did failures server parts body (asked_for parts body) answer next)
 
--- What the server has where a request runs out of memory before its reply: what was there, where it takes memory to find what is asked for; or what
--- it has where there is no memory for an entry, where that isn't held up.
+-- A request runs out of memory before its reply. If it takes memory to find what is asked for, the server stays as it was; or a request that isn't
+-- held up gets an entry that isn't put.
 abbrev pub RunsOut : {S D : Type 0} {disk : Ghosts D} → (did : S → Call → S → Type 0) → Server S D disk → RequestParts → List ℕ → Server S D disk → Type 0
 RunsOut did server parts body next =
     ((next ≡ server) × IsTrue (asking_takes parts body))
@@ -87,5 +89,5 @@ RunsOut did server parts body next =
 abbrev pub IsAnswer : {S D : Type 0} {disk : Ghosts D} → (did : S → Call → S → Type 0) → (failures : S → ℕ) → Server S D disk → RequestParts → List ℕ → Answer → Server S D disk → Type 0
 IsAnswer did failures server parts body answer next =
     (IsReply did failures server parts body answer next × GoesOn server next)
-    ⊎ ((answer ≡ refused_answer OutOfMemory) × RunsOut did server parts body next × GoesOn server next)
-    ⊎ ((answer ≡ refused_answer Device) × AskStops did server body (asked_for parts body) next × Breaks server next)
+    ⊎ ((answer ≡ refused_answer reason.OutOfMemory) × RunsOut did server parts body next × GoesOn server next)
+    ⊎ ((answer ≡ refused_answer reason.Device) × AskStops did server body (asked_for parts body) next × Breaks server next)

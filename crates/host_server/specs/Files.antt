@@ -40,14 +40,10 @@ IsFileTold did failures true old path file plan answer new =
     ((answer ≡ unread_answer (type_of path) file) ⊎ (answer ≡ refused_answer reason.OutOfMemory)) × (new ≡ old)
 IsFileTold did failures false old path file plan answer new = IsFileSent did failures old path file plan answer new
 
--- the file was uploaded
-abbrev pub IsKnown : {S D : Type 0} {disk : Ghosts D} → Server S D disk → List ℕ → Type 0
-IsKnown server file = map.get server.house.uploads (digest_of file) ≡ Some file
-
 -- the reply to the reading of this file at the path, which was uploaded, or of none for this reason
 abbrev pub IsReadReply : {S D : Type 0} {disk : Ghosts D} → (did : S → Call → S → Type 0) → (failures : S → ℕ) → Server S D disk → RequestParts → List ℕ → Result (List ℕ) Refusal → Answer → Server S D disk
     → Type 0
 IsReadReply did failures server parts path (Err refusal) answer next = (answer ≡ refused_answer refusal) × (next ≡ server)
 IsReadReply did failures server parts path (Ok file) answer next =
-    IsKnown server file × (range : Asked) × AsksRange parts range
+    (map.get server.house.uploads (digest_of file) ≡ Some file) × (range : Asked) × AsksRange parts range
     × IsFileTold did failures (is_head parts) server.files path file (plan_of parts range file) answer next.files × (next.house ≡ server.house)

@@ -16,6 +16,8 @@ use Rattle.change_undo.specs.declared.entries.Entry.TheVariants.{Change, Undo}
 use Rattle.http_wire.specs.Requests.{RequestParts}
 use Rattle.host_api.specs.declared.refusals.Refusal.{Refusal}
 use Rattle.host_api.specs.declared.refusals.Refusal.TheVariants as reason
+use Rattle.host_api.specs.declared.texts.Told.{Told}
+use Rattle.host_api.specs.declared.texts.Told.TheVariants as tells
 use Rattle.host_disk.specs.declared.disks.Disk.{Ghosts}
 use Rattle.host_replies.specs.Replies.{Answer}
 use Rattle.host_answers.proofs.Growing.{StaysBy, answers_grow}
@@ -23,8 +25,8 @@ use Rattle.host_answers.specs.Answers.{AnswersBy}
 use Rattle.host_answers.specs.declared.stops.Stop.{Stop}
 use Rattle.host_answers.specs.declared.stops.Stop.TheVariants as stop
 use Rattle.host_answers.specs.declared.uploads.Uploaded.{Uploaded}
-use Rattle.host_server.specs.Hosts.{Grows, Host, with_entry, with_upload}
-use Rattle.host_server.specs.Outcomes.{is_ready, judge_at, published_if_ready, publishing, uploaded}
+use Rattle.host_server.specs.Hosts.{Grows, Host, next_number, with_entry, with_upload}
+use Rattle.host_server.specs.Outcomes.{Outcome, is_ready, judge_in, published_if_ready, unless_refused, uploaded}
 use Rattle.host_server.specs.Reasons.{commit_refusal, undo_refusal}
 use Rattle.host_server.specs.ServerHouses.{CommitsAt, DoesUploadTo, EntersAt, LooksAt, UndoesAt, UnlessBroken, calls_of, failed_at, gave_at}
 use Rattle.host_server.specs.Storing.{DoesUpload}
@@ -54,21 +56,27 @@ pub grows_upload : (old new : Host) (bytes : List ℕ) → new ≡ with_upload o
 grows_upload old new bytes is =
     subst (Grows old) (sym is) (record { same_limit = refl; more = []; longer = sym (append-nil old.entries); uploads = kept-with_file old.uploads bytes })
 
-publishing_grows : (host : Host) (command : Command) (refusal : Option ChangeRefusal) → Grows host (publishing host command refusal).host
-publishing_grows host command None = grows_entry host (with_entry host (Change command)) (Change command) refl
-publishing_grows host command (Some why) = itself host
+unless_refused_grows : (host : Host) (refusal : Option ChangeRefusal) (out : Outcome) → Grows host out.host → Grows host (unless_refused host refusal out).host
+unless_refused_grows host None out grows = grows
+unless_refused_grows host (Some why) out grows = itself host
 
-published_grows : (host : Host) (site : SiteName) (n : ℕ) → Grows host (published_if_ready host site n).host
-published_grows host site n =
-    elim (is_ready host site n) as (λ b. Grows host (cond b (publishing host (Publish site n) (commit_refusal host (Publish site n))) (record { entry = Ok None; host = host })).host) [
-      | true ↦ publishing_grows host (Publish site n) (commit_refusal host (Publish site n))
+-- the deploy is published
+abbrev published_now : Host → SiteName → ℕ → (Option ℕ → Told) → Outcome
+published_now host site n tell = record { told = tell (Some (next_number host)); host = with_entry host (Change (Publish site n)) }
+
+published_grows : (host : Host) (site : SiteName) (n : ℕ) (tell : Option ℕ → Told) → Grows host (published_if_ready host site n tell).host
+published_grows host site n tell =
+    elim (is_ready host site n) as (λ b. Grows host (cond b (unless_refused host (commit_refusal host (Publish site n)) (published_now host site n tell)) (record { told = tell None; host = host })).host) [
+      | true ↦ unless_refused_grows host (commit_refusal host (Publish site n)) (published_now host site n tell)
+          (grows_entry host (with_entry host (Change (Publish site n))) (Change (Publish site n)) refl)
       | false ↦ itself host
     ]
 
 uploaded_grows : (host : Host) (n : ℕ) (bytes : List ℕ) (judged : Result (SiteName × Digest) Refusal) → Grows host (uploaded host n bytes judged).host
 uploaded_grows host n bytes (Ok at) =
     let kept = with_upload host bytes in
-    grows_then host kept (published_if_ready kept at.0 n).host (grows_upload host kept bytes refl) (published_grows kept at.0 n)
+    let tell : Option ℕ → Told = λ published. tells.Uploaded published at.1 in
+    grows_then host kept (published_if_ready kept at.0 n tell).host (grows_upload host kept bytes refl) (published_grows kept at.0 n tell)
 uploaded_grows host n bytes (Err why) = itself host
 
 -- ---- the calls of a server
@@ -111,7 +119,7 @@ module _ {S D : Type 0} {disk : Ghosts D} (did : S → Call → S → Type 0) (f
   uploads_grow : (old : Server S D disk) (site : SiteName) (n : ℕ) (path bytes : List ℕ) (done : Result Uploaded Refusal) (new : Server S D disk)
       → UnlessBroken (Err reason.Broken) (DoesUploadTo did failures site n path bytes) old done new → Grows old.house new.house
   uploads_grow old site n path bytes done new is =
-      unless_grows (Err reason.Broken) (DoesUploadTo did failures site n path bytes) old done new (upload_grows old (judge_at old.house (Some site) n path bytes) n bytes done new) is
+      unless_grows (Err reason.Broken) (DoesUploadTo did failures site n path bytes) old done new (upload_grows old (judge_in old.house site n path bytes) n bytes done new) is
 
   looks_grows : (old : Server S D disk) (done : Result (Unit {0}) AllocError) (new : Server S D disk) → LooksAt old done new → Grows old.house new.house
   looks_grows old (Ok done) new looks = same_grows old new looks.0

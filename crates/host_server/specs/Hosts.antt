@@ -1,5 +1,5 @@
 -- What a host has: its entries and its uploads.
-use Rattle.std.specs.Prelude.{◌≡◌, ℕ, List, ◌++◌, unwrap_or, refl}
+use Rattle.std.specs.Prelude.{◌≡◌, ℕ, List, unwrap_or, refl}
 use Rattle.std.specs.Coded.{Coded, code_by, coded×, coded_ℕ}
 use Rattle.std.specs.FinMap as map
 use Rattle.byte_view.specs.Contents.{Contents, with_file}
@@ -44,7 +44,7 @@ IsLawful host = IsLegal host.uploads host.entries
 pub record Grows (old new : Host) : Type 0 where
   pub same_limit : new.limit ≡ old.limit
   pub more : List Entry
-  pub longer : new.entries ≡ old.entries ++ more
+  pub longer : new.entries ≡ logs.with_entries old.entries more
   pub uploads : IsWithin old.uploads new.uploads
 
 -- ---- how it is kept

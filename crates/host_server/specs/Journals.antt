@@ -1,5 +1,5 @@
 -- What becomes of a journal where a host gets more entries.
-use Rattle.std.specs.Prelude.{◌≡◌, ◌⊎◌, List, [], ◌∷◌, ◌++◌, Bool, false, Option, Some, None, Result, Err}
+use Rattle.std.specs.Prelude.{◌≡◌, ◌⊎◌, List, [], ◌∷◌, Bool, false, Option, Some, None, Result, Err}
 use Rattle.change_journal.specs.entries.Held.{Keeps}
 use Rattle.host_disk.specs.declared.disks.Disk.{Ghosts}
 use Rattle.change_undo.specs.Logs as logs
@@ -46,13 +46,13 @@ pub record PutsInPart {D : Type 0} (disk : Ghosts D) (old : Option (Keeps D)) (m
 -- the entries that the host got were put
 pub record KeepsUp {D : Type 0} (disk : Ghosts D) (old : Host) (journal : Option (Keeps D)) (new : Host) (next : Option (Keeps D)) : Type 0 where
   pub more : List Entry
-  pub longer : new.entries ≡ old.entries ++ more
+  pub longer : new.entries ≡ logs.with_entries old.entries more
   pub put : Puts disk journal more next
 
 -- they were, and then the device failed while one more was put, which the host didn't get
 pub record BreaksOff {D : Type 0} (disk : Ghosts D) (old : Host) (journal : Option (Keeps D)) (new : Host) (next : Option (Keeps D)) : Type 0 where
   pub more : List Entry
-  pub longer : new.entries ≡ old.entries ++ more
+  pub longer : new.entries ≡ logs.with_entries old.entries more
   pub missed : Entry
   pub put : PutsInPart disk journal more missed next
 

@@ -1,5 +1,5 @@
--- What a host has where an entry of a command isn't put into the journal.
-use Rattle.std.specs.Prelude.{◌≡◌, ◌⊎◌, ℕ, Bool, false, ◌&&◌, Some, None, is_none, IsTrue}
+-- Which deploys are published by themselves, and what a host has if the entry of a command isn't put into the journal.
+use Rattle.std.specs.Prelude.{◌≡◌, ℕ, Bool, false, ◌&&◌, Some, None, is_none}
 use Rattle.host_names.specs.declared.names.SiteName.{SiteName}
 use Rattle.site_change.specs.declared.commands.Command.{Command}
 use Rattle.site_change.specs.declared.commands.Command.TheVariants.{Open, Publish}
@@ -19,14 +19,8 @@ abbrev pub opens_published : Host → Command → Bool
 opens_published host (Open site files auto) = is_published (with_entry host (Change (Open site files auto))) site (next_number host)
 opens_published host command = false
 
--- What a host has where a command runs out of memory, which is not refused: what was there; or the command's entry too,
--- where a deploy would be published that it opened.
-abbrev pub CommandRunsOut : Host → Command → Host → Type 0
-CommandRunsOut host command next =
-    (commit_refusal host command ≡ None)
-    × ((next ≡ host) ⊎ ((next ≡ with_entry host (Change command)) × IsTrue (opens_published host command)))
-
--- The same of a command on the deploy of a number, which an entry opened, where the command is not refused.
-abbrev pub DeployRunsOut : Host → ℕ → (SiteName → Command) → Host → Type 0
-DeployRunsOut host n command next =
+-- A command on the deploy of this number isn't put into the journal, though an entry opened the deploy and nothing refuses the command in its site.
+-- The host stays as it was.
+abbrev pub DeployStops : Host → ℕ → (SiteName → Command) → Host → Type 0
+DeployStops host n command next =
     (next ≡ host) × (site : SiteName) × (site_of_deploy (entry_at host.entries n) ≡ Some site) × (commit_refusal host (command site) ≡ None)

@@ -4,7 +4,7 @@ use Rattle.hex.specs.Hex.{encode_lower}
 use Rattle.found_host.specs.declared.faults.OpenFault.{OpenFault}
 use Rattle.found_host.specs.declared.faults.OpenFault.TheVariants as fault
 
--- what a run says of a fault: its name, with the record, the entry or the file at fault, and the exit status
+-- A run says this text of a fault, and ends with this status. The text names the fault, and the record, the entry or the file that has it.
 abbrev pub shown_of : OpenFault → List ℕ × ℕ
 shown_of fault.BadHeader = (codes "journal: BadHeader", 3)
 shown_of (fault.BadRecord n) = (codes "journal: BadRecord " ++ decimal n, 3)

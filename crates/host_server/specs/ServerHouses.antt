@@ -23,7 +23,7 @@ use Rattle.host_answers.specs.declared.stops.Stop.TheVariants as stop
 use Rattle.host_answers.specs.declared.uploads.Uploaded.{Uploaded}
 use Rattle.host_server.specs.Hosts.{IsLawful, next_number, state_of, with_entry}
 use Rattle.host_server.specs.Journals.{Puts, PutsInPart, is_broken}
-use Rattle.host_server.specs.Outcomes.{judge_at}
+use Rattle.host_server.specs.Outcomes.{judge_in}
 use Rattle.host_server.specs.Reasons.{commit_refusal, undo_refusal}
 use Rattle.host_server.specs.Storing.{DoesUpload}
 use Rattle.host_server.specs.declared.servers.Server.{Server}
@@ -86,7 +86,7 @@ module _ {S D : Type 0} {disk : Ghosts D} where
     -- the bytes are taken as the file at a path of a deploy of the site, or it is told why not
     abbrev pub DoesUploadTo : SiteName → ℕ → (path bytes : List ℕ) → Server S D disk → Result Uploaded Refusal → Server S D disk → Type 0
     DoesUploadTo site n path bytes server done next =
-        DoesUpload did failures server (judge_at server.house (Some site) n path bytes) n bytes done next
+        DoesUpload did failures server (judge_in server.house site n path bytes) n bytes done next
 
     abbrev pub UploadsAt : Server S D disk → SiteName → ℕ → (path bytes : List ℕ) → Result Uploaded Refusal → Server S D disk → Type 0
     UploadsAt server site n path bytes done next =

@@ -16,14 +16,15 @@ use Rattle.host_api.specs.declared.texts.Told.TheVariants.{Deploy, Refused}
 use Rattle.host_answers.specs.Deploys.{site_of_deploy}
 use Rattle.host_server.specs.Hosts.{Host, state_of}
 
--- what is told of the deploy of a number in the site, which is open, or kept, or neither
+-- An open deploy of the site, which has a draft, is told with the digests that it lists and that are not uploaded. A kept one, which has a tree, is
+-- told as kept. Without either there is no such deploy.
 abbrev pub Shows : Contents → SiteName → ℕ → Option Draft → Option (Paths (List ℕ)) → Told → Type 0
 Shows uploads site n (Some draft) tree told =
     (required : List Digest) × AreMissing uploads draft.files.1 required × (told ≡ Deploy n site (state.Open required))
 Shows uploads site n None (Some tree) told = told ≡ Deploy n site state.Kept
 Shows uploads site n None None told = told ≡ Refused (Change NoSuchDeploy)
 
--- what is told of the deploy of a number, in the site of the entry that opened it
+-- The deploy of a number is told as it stands in the site of the entry that opened it. If no entry did, there is no such deploy.
 abbrev pub ShowsDeploy : Host → ℕ → Told → Type 0
 ShowsDeploy host n told =
     MatchOption (site_of_deploy (entry_at host.entries n)) (told ≡ Refused (Change NoSuchDeploy)) (λ site.

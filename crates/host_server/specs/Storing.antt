@@ -86,7 +86,7 @@ DoesUpload did failures server judged n bytes done next =
 
 -- ---- the reply
 
--- the reply to an upload: what comes of it, or the reason why the store doesn't take the bytes
+-- An upload has this reply: it tells what came of the bytes, or why the store doesn't take them. The server is then the next.
 abbrev pub IsUploadReply : {S D : Type 0} {disk : Ghosts D} → (did : S → Call → S → Type 0) → (failures : S → ℕ) → Server S D disk → ℕ → List ℕ → List ℕ → Answer → Server S D disk → Type 0
 IsUploadReply did failures server n path bytes answer next =
     ((told : Told) × IsUploaded did server (judge_upload server.house n path bytes) n bytes told next × Tells told answer)

@@ -7,6 +7,7 @@ use Rattle.host_api.specs.declared.bodies.Ask.{Ask}
 use Rattle.host_api.specs.declared.bodies.Ask.TheVariants as ask
 use Rattle.host_api.specs.declared.refusals.Refusal.{Refusal}
 use Rattle.host_api.specs.declared.texts.Told.{Told}
+use Rattle.host_api.specs.Types.{type_of}
 use Rattle.host_disk.specs.declared.disks.Disk.{Ghosts}
 use Rattle.http_wire.specs.Requests.{RequestParts}
 use Rattle.range_reply.specs.declared.boundaries.Boundary.{Boundary}
@@ -26,11 +27,11 @@ whole : (answer other : Answer) → answer ≡ other → other.withheld ≡ fals
 whole answer other is not withheld = cc (sym (ap (λ (a : Answer). a.withheld) is ∙ not) ∙ withheld)
 
 -- nor where bytes of a file are sent
-sent_whole : (path file : List ℕ) (plan : Choice) (boundary : Option Boundary) (bytes : List ℕ) → (sent_as path file plan boundary bytes).withheld ≡ true → ⊥
-sent_whole path file Whole boundary bytes withheld = cc withheld
-sent_whole path file (One first last) boundary bytes withheld = cc withheld
-sent_whole path file (Many intervals) boundary bytes withheld = cc withheld
-sent_whole path file None416 boundary bytes withheld = cc withheld
+sent_whole : (content_type file : List ℕ) (plan : Choice) (boundary : Option Boundary) (bytes : List ℕ) → (sent_as content_type file plan boundary bytes).withheld ≡ true → ⊥
+sent_whole content_type file Whole boundary bytes withheld = cc withheld
+sent_whole content_type file (One first last) boundary bytes withheld = cc withheld
+sent_whole content_type file (Many intervals) boundary bytes withheld = cc withheld
+sent_whole content_type file None416 boundary bytes withheld = cc withheld
 
 module _ {S : Type 0} (did : S → Call → S → Type 0) (failures : S → ℕ) where
   file_told : (head_only : Bool) (old new : CachedShelf S) (path file : List ℕ) (plan : Choice) (answer : Answer) → IsFileTold did failures head_only old path file plan answer new
@@ -38,7 +39,7 @@ module _ {S : Type 0} (did : S → Call → S → Type 0) (failures : S → ℕ)
   file_told true old new path file plan answer is withheld = refl
   file_told false old new path file plan answer (inl (none, says, same)) withheld = absurd (whole answer _ says refl withheld)
   file_told false old new path file plan answer (inr (inl (body, read, says))) withheld =
-      absurd (sent_whole path file body.plan body.boundary body.bytes (sym (ap (λ (a : Answer). a.withheld) says) ∙ withheld))
+      absurd (sent_whole (type_of path) file body.plan body.boundary body.bytes (sym (ap (λ (a : Answer). a.withheld) says) ∙ withheld))
   file_told false old new path file plan answer (inr (inr (why, other, failed, says))) withheld = absurd (whole answer _ says refl withheld)
 
 -- nor where something is told

@@ -1,10 +1,10 @@
 //! Uploads: their files are stored, and the deploys that they complete are published.
-ghost use Rattle.std.specs.Prelude.{◌≡◌, ◌≤◌, false, IfErr, OnErr, OnOk, Some};
+ghost use Rattle.std.specs.Prelude.{◌≡◌, ◌≤◌, false, IfErr, OnErr, OnOk};
 ghost use Rattle.host_names.specs.Digests.{digest_of};
 ghost use Rattle.blob_store.specs.declared.blobs.UploadFault.{UploadFault as Fault};
 ghost use Rattle.host_server.specs.Hosts.{Grows, with_upload};
 ghost use Rattle.host_server.specs.Journals;
-ghost use Rattle.host_server.specs.Outcomes.{judge_at};
+ghost use Rattle.host_server.specs.Outcomes.{judge_in};
 ghost use Rattle.host_server.specs.Storing as spec;
 ghost use Rattle.host_server.specs.Storing.{DoesUpload, IsNotStored, IsStored};
 
@@ -72,7 +72,7 @@ impl<S: Shelf, D: Disk> Server<S, D> {
         bytes: &[u8],
     ) -> Result<Uploaded, Refusal>
         requires whole { Journals.is_broken self.old.journal ≡ false }
-        ensures done { let judged = judge_at self.old.house (Some site.now) number path.now bytes.now in
+        ensures done { let judged = judge_in self.old.house site.now number path.now bytes.now in
             DoesUpload S.did S.failures self.old judged number bytes.now result self.new }
         ensures count { S.failures self.old.files.shelf ≤ S.failures self.new.files.shelf }
     {

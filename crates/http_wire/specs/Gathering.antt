@@ -5,7 +5,7 @@ use Rattle.http_wire.specs.declared.halts.Halt.TheVariants.{Failed, WouldWait}
 use Rattle.http_wire.specs.declared.sinks.WriteFailed.{WriteFailed}
 use Rattle.http_wire.specs.Halting.{WritesFrom}
 use Rattle.http_wire.specs.Sending.{Sent}
-use Rattle.http_wire.specs.Timing.{Event, WriteFails, all_put, IsLatest, GoesOn}
+use Rattle.http_wire.specs.Timing.{Event, NoRead, Ran, WriteFails, all_put, IsLatest, GoesOn}
 
 -- What is gathered of a text and not yet written, and how many bytes of the text were written before it, a count that stops at the largest
 -- number of 64 bits. Of what is put next so many bytes were taken before.
@@ -36,6 +36,11 @@ IsCounted out = out.sent + length out.rest < 2 ^ 64 - 1
 -- the text goes on from one place in it to another
 abbrev pub GoesOnFrom : Result (Unit {0}) (Halt WriteFailed) → (text : List ℕ) → (at : ℕ) → Gathered → List Event → Type 0
 GoesOnFrom result text at out events = (new_at : ℕ) × WritesFrom result text at new_at events × IsAmid text new_at out
+
+-- a call goes on with the text, wherever in it the calls before left it, and reads nothing
+abbrev pub SendsOn : {S : Type 0} → (saw : S → Event → S → Type 0) → (now new : S) → Result (Unit {0}) (Halt WriteFailed) → (text : List ℕ)
+    → (out new_out : Gathered) → Type 0
+SendsOn saw now new result text out new_out = (at : ℕ) → IsAmid text at out → Ran saw NoRead now new (GoesOnFrom result text at new_out)
 
 -- ---- what private functions say
 

@@ -40,7 +40,8 @@ AwaitsHead buffer got put = CutShort (buffer ++ got) × (put ≡ [])
 abbrev pub AwaitsBody : (buffer : List ℕ) → (size : ℕ) → (got put : List ℕ) → Type 0
 AwaitsBody buffer size got put = (length (buffer ++ got) < size) × (put ≡ [])
 
--- what each answer to the reading of a head says of the stream: one that is served or bad is gone
+-- what each answer to the reading of a head says of the stream: a head that is served or bad is gone from it, and so is one that has too many
+-- fields; any other answer leaves the stream as it was
 abbrev pub HeadIsOf : Result RequestParts HeadFault → (old new : Option (List ℕ)) → Type 0
 HeadIsOf (Ok parts) old new = ServesHead old new parts
 HeadIsOf (Err head_fault.Ended) old new = IfSome old CutShort × Keeps old new

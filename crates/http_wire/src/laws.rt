@@ -30,7 +30,8 @@ pub fn one_head()
         → (text ≡ other) × (rest ≡ others) }
     ensures says { (text : List ℕ) (parts others : RequestParts) → Says text parts → Says text others → parts ≡ others }
     ensures good { (text : List ℕ) (parts : RequestParts) → Says text parts → ¬ (IsBadHead text) }
-    ensures fits { (text : List ℕ) (parts : RequestParts) → Says text parts → ¬ (RequestExceeds field_limit text) }
+    ensures fits { (text : List ℕ) (parts : RequestParts)
+        → Says text parts → ¬ (RequestExceeds field_limit text) }
     ensures announces { (fields : List (List ℕ × List ℕ)) (limit : ℕ) (one another : Result ℕ LengthFault)
         → IsBodyLength one fields limit → IsBodyLength another fields limit → one ≡ another }
 {}
@@ -92,7 +93,8 @@ pub fn wrong_answers_are_refused<D: Duplex>()
     ensures cut_head { (stream text rest : List ℕ) → HasHead stream text rest → ¬ (CutShort stream) }
     ensures serves { (new : Option (List ℕ)) (parts : RequestParts) → ¬ (ServesHead (Some []) new parts) }
     ensures whole { ¬ (HasWholeHead (Some [])) }
-    ensures refuses { (new : Option (List ℕ)) → ¬ ((text : List ℕ) × TakesHead (Some []) new text × IsBadHead text) }
+    ensures refuses { (new : Option (List ℕ))
+        → ¬ ((text : List ℕ) × TakesHead (Some []) new text × IsBadHead text) }
     ensures large { (new : Option (List ℕ)) → ¬ (RefusesLargeHead (Some []) new) }
     ensures lines { ¬ (HasLines [] []) }
     ensures front { (start held : Option (List ℕ)) (count : ℕ) → ¬ (SentFront start held [] count) }

@@ -1,10 +1,10 @@
 //! Writes replies.
-ghost use Rattle.std.specs.Prelude.{◌≡◌, ◌≤◌, ℕ, List, [], length, decimal, IfErr, IsErrOf, OnOk, OnErr};
+ghost use Rattle.std.specs.Prelude.{◌≡◌, ◌≤◌, List, [], length, decimal, IfErr, IsErrOf, OnOk, OnErr};
 ghost use Rattle.http_wire.specs.Expectations.{continue_text};
 ghost use Rattle.http_wire.specs.Halting.{WritesFrom};
 ghost use Rattle.http_wire.specs.Replies.{range_text, sent_of, sent_reply};
 ghost use Rattle.std.specs.Io.KnownBytes.{Appends};
-ghost use Rattle.http_wire.specs.Gathering.{GoesOnFrom, IsAmid, IsCounted, Puts};
+ghost use Rattle.http_wire.specs.Gathering.{IsCounted, Puts, SendsOn};
 ghost use Rattle.http_wire.specs.Sending.{SentFront, WritesText};
 ghost use Rattle.http_wire.specs.Timing.{Event, NoRead, Ran, Steps};
 
@@ -163,9 +163,7 @@ pub fn try_write_reply<D: Duplex, P: BodyParts<Item: Drop> + Drop>(
     body: ReplyBody<P>,
 ) -> Result<(), Halt<WriteFailed>>
     requires { IsCounted out.old }
-    ensures ran { (at : ℕ) → IsAmid (sent_reply P.texts head.now body) at out.old
-        → Ran D.saw NoRead duplex.old duplex.new
-        (GoesOnFrom result (sent_reply P.texts head.now body) at out.new) }
+    ensures ran { SendsOn D.saw duplex.old duplex.new result (sent_reply P.texts head.now body) out.old out.new }
     ensures led { (events : List Event) × Steps D.saw duplex.old events duplex.new }
     ensures waits { IsErrOf result Halt.WouldWait → D.waits duplex.new }
 {

@@ -2,7 +2,7 @@
 use Rattle.std.proofs.Common.{◌≡◌, ℕ, ◌+◌, ◌-◌, ◌≤◌, zero, suc, List, [], ◌∷◌, ◌++◌, All, codes, drop, get_or, length, map, slice_get, Option, Some, refl, sym, ap, ap₂, ◌∙◌, arith, append_assoc, append-nil}
 use Rattle.std.proofs.lemmas.List.{length-drop, length-map, length-take}
 use Rattle.std.proofs.lemmas.List.Elements.{All-head, All-tail}
-use Rattle.std.specs.List.{concat, flat_map}
+use Rattle.std.specs.List.{concat, flat_map, zip}
 use Rattle.byte_view.specs.Holds.{Held, IsHeld, lent}
 use Rattle.byte_view.specs.Cuts.{slice}
 use Rattle.byte_view.proofs.Wholes.{whole-joined, whole-long}
@@ -11,8 +11,8 @@ use Rattle.http_wire.specs.Replies.{range_text}
 use Rattle.http_wire.specs.declared.replies.ContentRange.TheVariants.{Of}
 use Rattle.range_spec.specs.declared.selection.Choice.{Choice}
 use Rattle.range_spec.specs.declared.selection.Choice.TheVariants.{Whole, One, Many, None416}
-use Rattle.range_reply.specs.Bodies.{AreFor, shown_part, shown_text, stretch_of, text_in, whole_of}
-use Rattle.range_reply.specs.Multipart.{last_line, text_of}
+use Rattle.range_reply.specs.Bodies.{AreFor, body_text, stretch_of, stretches, text_in, whole_of}
+use Rattle.range_reply.specs.Multipart.{last_line, part_text, text_of}
 use Rattle.range_reply.specs.PartTexts.{boundary_line, hold_texts, range_line, several_texts, stretch_texts}
 use Rattle.range_reply.specs.Sending.{IsForm}
 use Rattle.range_reply.specs.declared.boundaries.Boundary.{Boundary}
@@ -22,39 +22,47 @@ use Rattle.range_reply.specs.Slices.{shown}
 
 -- a head in three texts, and what comes behind it
 regroup : (a boundary b content_type c range d bytes : List ℕ) → (a ++ (boundary ++ b)) ++ (content_type ++ ((c ++ (range ++ d)) ++ bytes))
-    ≡ (a ++ (boundary ++ (b ++ (content_type ++ (c ++ (range ++ d)))))) ++ bytes
+    ≡ a ++ (boundary ++ (b ++ (content_type ++ (c ++ (range ++ (d ++ bytes))))))
 regroup a boundary b content_type c range d bytes = simp append_assoc
 
 -- the part of one hold
-one_part : (boundary content_type : List ℕ) (h : Held) → IsHeld h → concat (hold_texts boundary content_type h) ≡ shown_part boundary content_type h
-one_part boundary content_type h held =
+one_part : (boundary content_type file : List ℕ) (h : Held) → h.file ≡ file → IsHeld h
+    → concat (hold_texts boundary content_type h) ≡ part_text boundary content_type (length file) (stretch_of h, shown h)
+one_part boundary content_type file h same held =
     let end = codes "\r\n" in
     let bytes : concat (lent h h.first h.last ++ end ∷ []) ≡ shown h ++ end =
     concat-append (lent h h.first h.last) (end ∷ []) ∙ ap₂ (λ u v. u ++ v) (whole-joined h held) (append-nil end) in
     ap (λ u. boundary_line boundary ++ (content_type ++ (range_line (stretch_of h) (length h.file) ++ u))) bytes
     ∙ regroup (codes "--") boundary (codes "\r\nContent-Type: ") content_type (codes "\r\nContent-Range: ") (range_text (Of h.first h.last (length h.file))) (codes "\r\n\r\n") (shown h ++ end)
+    ∙ ap (λ f. part_text boundary content_type (length f) (stretch_of h, shown h)) same
 
 -- those of several
-pub parts_joined : (boundary content_type : List ℕ) (holds : List Held) → All IsHeld holds
-    → concat (flat_map (hold_texts boundary content_type) holds) ≡ flat_map (shown_part boundary content_type) holds
-parts_joined boundary content_type [] held = refl
-parts_joined boundary content_type (h ∷ hs) held =
+parts_joined : (boundary content_type file : List ℕ) (holds : List Held) → All (λ h. h.file ≡ file) holds → All IsHeld holds
+    → concat (flat_map (hold_texts boundary content_type) holds)
+    ≡ flat_map (part_text boundary content_type (length file)) (zip (map stretch_of holds) (map shown holds))
+parts_joined boundary content_type file [] same held = refl
+parts_joined boundary content_type file (h ∷ hs) same held =
+    let P = λ (g : Held). g.file ≡ file in
     concat-append (hold_texts boundary content_type h) (flat_map (hold_texts boundary content_type) hs)
-    ∙ ap₂ (λ u v. u ++ v) (one_part boundary content_type h (All-head IsHeld h hs held)) (parts_joined boundary content_type hs (All-tail IsHeld h hs held))
+    ∙ ap₂ (λ u v. u ++ v) (one_part boundary content_type file h (All-head P h hs same) (All-head IsHeld h hs held))
+    (parts_joined boundary content_type file hs (All-tail P h hs same) (All-tail IsHeld h hs held))
 
-pub several_joined : (boundary content_type : List ℕ) (holds : List Held) → All IsHeld holds
-    → concat (several_texts boundary content_type holds) ≡ flat_map (shown_part boundary content_type) holds ++ last_line boundary
-several_joined boundary content_type holds held =
+several_joined : (boundary content_type file : List ℕ) (holds : List Held) → All (λ h. h.file ≡ file) holds → All IsHeld holds
+    → concat (several_texts boundary content_type holds) ≡ body_text boundary content_type (length file) (Many (map stretch_of holds)) (map shown holds)
+several_joined boundary content_type file holds same held =
     concat-append (flat_map (hold_texts boundary content_type) holds) (last_line boundary ∷ [])
-    ∙ ap₂ (λ u v. u ++ v) (parts_joined boundary content_type holds held) (append-nil (last_line boundary))
+    ∙ ap₂ (λ u v. u ++ v) (parts_joined boundary content_type file holds same held) (append-nil (last_line boundary))
 
 -- ---- several parts
 
-pub several_shown : (plan : Choice) (boundary : Option Boundary) (intervals : List (ℕ × ℕ)) (between : Boundary) (content_type : List ℕ) (holds : List Held)
-    → plan ≡ Many intervals → boundary ≡ Some between → All IsHeld holds
-    → concat (several_texts (text_of between) content_type holds) ≡ shown_text (text_in boundary) content_type holds plan
-several_shown plan boundary intervals between content_type holds many some held =
-    several_joined (text_of between) content_type holds held ∙ ap₂ (λ p q. shown_text (text_in q) content_type holds p) (sym many) (sym some)
+pub several_shown : (plan : Choice) (boundary : Option Boundary) (intervals : List (ℕ × ℕ)) (between : Boundary) (content_type : List ℕ) (size : ℕ)
+    (file : List ℕ) (holds : List Held) → plan ≡ Many intervals → boundary ≡ Some between → length file ≡ size → AreFor holds file plan → All IsHeld holds
+    → concat (several_texts (text_of between) content_type holds) ≡ body_text (text_in boundary) content_type size plan (map shown holds)
+several_shown plan boundary intervals between content_type size file holds many some sized are held =
+    let planned : Many (map stretch_of holds) ≡ plan = ap Many (are.in_order ∙ ap (stretches (length file)) many) ∙ sym many in
+    several_joined (text_of between) content_type file holds are.same_file held
+    ∙ ap₂ (λ p q. body_text (text_in q) content_type (length file) p (map shown holds)) planned (sym some)
+    ∙ ap (λ n. body_text (text_in boundary) content_type n plan (map shown holds)) sized
 
 -- ---- one stretch, or nothing
 
@@ -77,21 +85,18 @@ few_holds holds file (One first last) are alone = count-holds holds ((first, las
 few_holds holds file (Many intervals) are alone = absurd (alone intervals refl)
 few_holds holds file None416 are alone = count-holds holds [] are.in_order (omega arith)
 
-pub single_shown : (boundary content_type : List ℕ) (holds : List Held) (file : List ℕ) (plan : Choice) → AreFor holds file plan → ((intervals : List (ℕ × ℕ)) → plan ≡ Many intervals → ⊥)
-    → shown_text boundary content_type holds plan ≡ concat (map shown holds)
-single_shown boundary content_type holds file Whole are alone = refl
-single_shown boundary content_type holds file (One first last) are alone = refl
-single_shown boundary content_type holds file (Many intervals) are alone = absurd (alone intervals refl)
-single_shown boundary content_type [] file None416 are alone = refl
-single_shown boundary content_type (h ∷ hs) file None416 are alone =
-    let wrong = are.in_order in
-    absurd (cc wrong)
+pub single_shown : (boundary content_type : List ℕ) (size : ℕ) (plan : Choice) (texts : List (List ℕ)) → ((intervals : List (ℕ × ℕ)) → plan ≡ Many intervals → ⊥)
+    → body_text boundary content_type size plan texts ≡ concat texts
+single_shown boundary content_type size Whole texts alone = refl
+single_shown boundary content_type size (One first last) texts alone = refl
+single_shown boundary content_type size (Many intervals) texts alone = absurd (alone intervals refl)
+single_shown boundary content_type size None416 texts alone = refl
 
-pub stretch_shown : (first : Option Held) (boundary content_type : List ℕ) (holds : List Held) (file : List ℕ) (plan : Choice) → AreFor holds file plan → All IsHeld holds
-    → first ≡ slice_get holds 0 → ((intervals : List (ℕ × ℕ)) → plan ≡ Many intervals → ⊥)
-    → concat (stretch_texts first) ≡ shown_text boundary content_type holds plan
-stretch_shown first boundary content_type holds file plan are held is alone =
-    first_shown first holds (few_holds holds file plan are alone) held is ∙ sym (single_shown boundary content_type holds file plan are alone)
+pub stretch_shown : (first : Option Held) (boundary content_type : List ℕ) (size : ℕ) (holds : List Held) (file : List ℕ) (plan : Choice) → AreFor holds file plan
+    → All IsHeld holds → first ≡ slice_get holds 0 → ((intervals : List (ℕ × ℕ)) → plan ≡ Many intervals → ⊥)
+    → concat (stretch_texts first) ≡ body_text boundary content_type size plan (map shown holds)
+stretch_shown first boundary content_type size holds file plan are held is alone =
+    first_shown first holds (few_holds holds file plan are alone) held is ∙ sym (single_shown boundary content_type size plan (map shown holds) alone)
 
 -- a form that is none of several
 pub not_several : (f : FileForm) (plan : Choice) (boundary : Option Boundary) → IsForm f plan boundary → ((between : Boundary) → f ≡ form.Several between → ⊥)

@@ -1,12 +1,10 @@
--- What is sent of a file, and of the bytes that holds show of it.
-use Rattle.std.specs.Prelude.{◌≡◌, ℕ, zero, suc, List, [], ◌∷◌, ◌++◌, All, length, map, codes, Option, Some, None, IsSome}
-use Rattle.std.specs.List.{concat, flat_map}
-use Rattle.byte_view.specs.Cuts.{slice}
+-- The body that sends stretches of a file, and the holds of them.
+use Rattle.std.specs.Prelude.{◌≡◌, ℕ, zero, suc, List, [], ◌∷◌, ◌++◌, All, length, map, Option, Some, None, IsSome}
+use Rattle.std.specs.List.{concat, flat_map, zip}
 use Rattle.byte_view.specs.Holds.{Held}
 use Rattle.range_spec.specs.declared.selection.Choice.{Choice}
 use Rattle.range_spec.specs.declared.selection.Choice.TheVariants.{Whole, One, Many, None416}
-use Rattle.range_reply.specs.Multipart.{last_line, multipart_text, part_head, text_of}
-use Rattle.range_reply.specs.Slices.{shown}
+use Rattle.range_reply.specs.Multipart.{last_line, part_text, text_of}
 use Rattle.range_reply.specs.declared.boundaries.Boundary.{Boundary}
 
 -- the text of a boundary, if there is one
@@ -14,24 +12,13 @@ abbrev pub text_in : Option Boundary → List ℕ
 text_in None = []
 text_in (Some boundary) = text_of boundary
 
--- what is sent of a file: all of it (RFC 9110, section 15.3.1), an interval, several in parts (15.3.7), or nothing (15.5.17)
-abbrev pub body_text : List ℕ → List ℕ → List ℕ → Choice → List ℕ
-body_text boundary content_type file Whole = file
-body_text boundary content_type file (One first last) = slice file first last
-body_text boundary content_type file (Many intervals) = multipart_text boundary content_type file intervals
-body_text boundary content_type file None416 = []
-
--- the part for the stretch of a hold, with the bytes that its chunks show
-abbrev pub shown_part : List ℕ → List ℕ → Held → List ℕ
-shown_part boundary content_type h =
-    part_head boundary content_type (length h.file) (h.first, h.last) ++ (shown h ++ codes "\r\n")
-
--- the same body, with the bytes that the chunks of these holds show
-abbrev pub shown_text : List ℕ → List ℕ → List Held → Choice → List ℕ
-shown_text boundary content_type holds Whole = concat (map shown holds)
-shown_text boundary content_type holds (One first last) = concat (map shown holds)
-shown_text boundary content_type holds (Many intervals) = flat_map (shown_part boundary content_type) holds ++ last_line boundary
-shown_text boundary content_type holds None416 = []
+-- the body that sends these texts of a file of this many bytes, one for each stretch of the plan, in order. Several intervals come
+-- in parts, neither sorted nor joined, and the last boundary's line follows (RFC 9110, section 15.3.7.2). Any other plan sends its
+-- text as it is: all of the file (15.3.1), one interval (15.3.7.1), or nothing (15.5.17)
+abbrev pub body_text : List ℕ → List ℕ → ℕ → Choice → List (List ℕ) → List ℕ
+body_text boundary content_type size (Many intervals) texts =
+    flat_map (part_text boundary content_type size) (zip intervals texts) ++ last_line boundary
+body_text boundary content_type size plan texts = concat texts
 
 -- all of a file of this many bytes, where it has one
 abbrev pub whole_of : ℕ → List (ℕ × ℕ)

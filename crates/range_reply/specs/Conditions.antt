@@ -10,14 +10,14 @@ use Rattle.range_reply.specs.declared.conditions.IfRange.TheVariants.{Absent, Tr
 abbrev pub strong_tag : Digest → List ℕ
 strong_tag digest = codes "\"" ++ (encode_lower digest.0 ++ codes "\"")
 
--- the values of all If-Range fields of a request let a range be sent: there is none, or one that is exactly the strong tag; a weak
--- tag, a date, any other text and several fields don't
+-- the values of all If-Range fields of a request allow a range of the file: there is no value, or there is one and it is exactly
+-- the strong tag; a weak tag, a date, any other text and several fields don't
 abbrev pub allows_range : Digest → List (List ℕ) → Bool
 allows_range digest [] = true
 allows_range digest (value ∷ []) = bytes_eq value (strong_tag digest)
 allows_range digest (value ∷ other ∷ more) = false
 
--- what they say as a value of the code: nothing where there is none, or whether a range is let
+-- these values as the code keeps them: no value, one that is exactly the strong tag, or anything else
 abbrev pub condition_of : Digest → List (List ℕ) → IfRange
 condition_of digest [] = Absent
 condition_of digest (value ∷ []) = if bytes_eq value (strong_tag digest) then True else False

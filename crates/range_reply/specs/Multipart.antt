@@ -1,8 +1,6 @@
 -- Several ranges of a file in one body: `multipart/byteranges` (RFC 9110, section 14.6; RFC 2046, section 5.1.1).
-use Rattle.std.specs.Prelude.{◌≡◌, ◌≤◌, ◌^◌, ℕ, List, ◌++◌, Option, MatchOption, length, codes, decimal}
-use Rattle.std.specs.List.{flat_map}
+use Rattle.std.specs.Prelude.{◌≡◌, ◌≤◌, ◌^◌, ℕ, List, ◌++◌, Option, MatchOption, codes, decimal}
 use Rattle.hex.specs.Hex.{encode_lower}
-use Rattle.byte_view.specs.Cuts.{slice}
 use Rattle.host_names.specs.declared.digests.Digest.{Digest}
 use Rattle.http_wire.specs.Replies.{range_text}
 use Rattle.http_wire.specs.declared.replies.ContentRange.TheVariants.{Of}
@@ -16,17 +14,12 @@ candidate digest i = codes "fh" ++ (decimal i ++ (codes "-" ++ encode_lower dige
 abbrev pub text_of : Boundary → List ℕ
 text_of boundary = candidate boundary.digest boundary.number
 
--- what comes before the bytes of a part, for an interval of a file of this many bytes: the boundary's line, two fields and
--- an empty line
-abbrev pub part_head : List ℕ → List ℕ → ℕ → ℕ × ℕ → List ℕ
-part_head boundary content_type size interval =
+-- a part of a body, for an interval of a file of this many bytes, with its bytes: the boundary's line, two fields, an empty line,
+-- the bytes, and the end of a line, which belongs to the next boundary
+abbrev pub part_text : List ℕ → List ℕ → ℕ → (ℕ × ℕ) × List ℕ → List ℕ
+part_text boundary content_type size (interval, bytes) =
     codes "--" ++ (boundary ++ (codes "\r\nContent-Type: " ++ (content_type ++ (codes "\r\nContent-Range: "
-    ++ (range_text (Of interval.0 interval.1 size) ++ codes "\r\n\r\n")))))
-
--- a part: its head, the bytes of its interval, and the end of a line, which belongs to the next boundary
-abbrev pub part_text : List ℕ → List ℕ → List ℕ → ℕ × ℕ → List ℕ
-part_text boundary content_type file interval =
-    part_head boundary content_type (length file) interval ++ (slice file interval.0 interval.1 ++ codes "\r\n")
+    ++ (range_text (Of interval.0 interval.1 size) ++ (codes "\r\n\r\n" ++ (bytes ++ codes "\r\n")))))))
 
 -- the last boundary's line
 abbrev pub last_line : List ℕ → List ℕ
@@ -35,8 +28,3 @@ last_line boundary = codes "--" ++ (boundary ++ codes "--\r\n")
 -- a count, if a `u64` holds it
 abbrev pub IsCount : Option ℕ → ℕ → Type 0
 IsCount found count = MatchOption found (2 ^ 64 ≤ count) (λ sum. sum ≡ count)
-
--- the whole body: the parts in the order given, neither sorted nor joined (RFC 9110, section 15.3.7.2), and the last boundary
-abbrev pub multipart_text : List ℕ → List ℕ → List ℕ → List (ℕ × ℕ) → List ℕ
-multipart_text boundary content_type file intervals =
-    flat_map (part_text boundary content_type file) intervals ++ last_line boundary

@@ -8,7 +8,8 @@ use Rattle.range_spec.specs.Chosen.{chosen}
 use Rattle.range_reply.specs.declared.conditions.IfRange.{IfRange}
 use Rattle.range_reply.specs.declared.conditions.IfRange.TheVariants.{Absent, True, False}
 
--- the condition lets a range be served: there is none, or it holds
+-- what the code keeps of the If-Range fields lets a range be sent: there is no condition, or it holds; `allows_range` says the
+-- same of the values of the fields
 abbrev pub lets_ranges : IfRange → Bool
 lets_ranges Absent = true
 lets_ranges True = true

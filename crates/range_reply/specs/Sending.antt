@@ -11,7 +11,7 @@ use Rattle.range_reply.specs.declared.file_bodies.FileForm.{FileForm}
 use Rattle.range_reply.specs.declared.file_bodies.FileForm.TheVariants as form
 use Rattle.range_reply.specs.declared.file_bodies.Sends.{Sends}
 use Rattle.range_reply.specs.declared.file_bodies.Sends.TheVariants as sends
-use Rattle.range_reply.specs.Bodies.{AreFor, HasBoundary, body_text, shown_text, stretch_of, stretches, text_in, whole_of}
+use Rattle.range_reply.specs.Bodies.{AreFor, HasBoundary, body_text, stretch_of, stretches, text_in, whole_of}
 use Rattle.range_reply.specs.Boundaries.{HasNoBoundary, IsBoundaryFor}
 use Rattle.range_reply.specs.Multipart.{text_of}
 use Rattle.range_reply.specs.Slices.{shown}
@@ -46,7 +46,8 @@ IsForm form.Nothing plan boundary = plan ≡ None416
 pub record IsExact (file : List ℕ) (plan : Choice) (content_type : List ℕ) (body : SentFile) : Type 0 where
   pub sent : IsSent (map (λ i. slice file i.0 i.1) (stretches (length file) plan)) (digest_of file) plan
       body.boundary body.plan
-  pub bytes : body.bytes ≡ body_text (text_in body.boundary) content_type file body.plan
+  pub bytes : body.bytes ≡ body_text (text_in body.boundary) content_type (length file) body.plan
+      (map (λ i. slice file i.0 i.1) (stretches (length file) body.plan))
 
 -- the stretches that are held after those of a plan: all of the file, where it has several parts and no boundary
 abbrev pub more_of : ℕ → Choice → Option Boundary → List (ℕ × ℕ)
@@ -67,7 +68,8 @@ pub record IsRead {H : Type 0} (gave : H → Held → H → Type 0) (old : H) (f
   pub sent : IsSent (map shown holds) (digest_of file) plan body.boundary body.plan
   pub more : List Held
   pub more_held : AreHeld gave mid file (more_of (length file) plan body.boundary) more new
-  pub bytes : body.bytes ≡ shown_text (text_in body.boundary) content_type (sent_holds holds more plan body.boundary) body.plan
+  pub bytes : body.bytes ≡ body_text (text_in body.boundary) content_type (length file) body.plan
+      (map shown (sent_holds holds more plan body.boundary))
   pub exact : All (λ h. All (IsPure file) h.chunks) (holds ++ more) → IsExact file plan content_type body
 
 -- why it isn't read: the stretches of the plan can't be held; or each boundary occurs in one of several parts, and all of the file can't be
@@ -99,4 +101,4 @@ pub record IsMade (plan : Choice) (boundary : Option Boundary) (content_type : L
   pub lawful : All IsHeld holds
   pub separated : HasBoundary boundary plan
   pub sized : length file ≡ size
-  pub long : total ≡ length (shown_text (text_in boundary) content_type holds plan)
+  pub long : total ≡ length (body_text (text_in boundary) content_type size plan (map shown holds))

@@ -8,7 +8,7 @@ use Rattle.byte_view.specs.Holds.{Held, IsHeld, held_part}
 abbrev pub shown : Held → List ℕ
 shown h = held_part h h.first h.last
 
--- the stretches of the files themselves
+-- the bytes that the files themselves have in the stretches of these holds
 abbrev pub all_meant : List Held → List (List ℕ)
 all_meant holds = map (λ h. slice h.file h.first h.last) holds
 
@@ -16,6 +16,6 @@ all_meant holds = map (λ h. slice h.file h.first h.last) holds
 abbrev pub ArePure : List Held → Type 0
 ArePure holds = All (λ h. IsHeld h × All (IsPure h.file) h.chunks) holds
 
--- these bytes stand in one of these texts, at least, one after another
+-- at least one of these texts contains these bytes, one after another
 abbrev pub OccursInOne : List ℕ → List (List ℕ) → Type 0
 OccursInOne bytes texts = (text : List ℕ) × Contains texts text × HasSubslice text bytes

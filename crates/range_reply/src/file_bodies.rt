@@ -5,7 +5,7 @@ ghost use Rattle.byte_view.specs.Holds.{Held, IsHeld};
 ghost use Rattle.chunk_reads.specs.declared.faults.ReadFault.TheVariants.{OutOfMemory};
 ghost use Rattle.range_spec.specs.Chosen.{LiesWithin, intervals_in};
 ghost use Rattle.range_spec.specs.declared.selection.Choice.TheVariants as choice;
-ghost use Rattle.range_reply.specs.Bodies.{AreFor, HasBoundary, shown_text, text_in};
+ghost use Rattle.range_reply.specs.Bodies.{AreFor, HasBoundary, body_text, text_in};
 ghost use Rattle.range_reply.specs.Holding.{held_in};
 ghost use Rattle.range_reply.specs.Multipart.{IsCount};
 ghost use Rattle.range_reply.specs.Sending.{HasParts, IsForm, IsNotRead, IsRead, IsSent, plan_sent, sends_bytes};
@@ -75,16 +75,18 @@ pub struct FileBody {
 }
 
 impl Model for FileBody {
-    ghost use Rattle.range_reply.specs.Bodies.{shown_text, text_in};
+    ghost use Rattle.std.specs.Prelude.{map};
+    ghost use Rattle.range_reply.specs.Bodies.{body_text, text_in};
     ghost use Rattle.range_reply.specs.Holding.{held_in};
     ghost use Rattle.range_reply.specs.Sending.{IsMade, SentFile, plan_sent};
+    ghost use Rattle.range_reply.specs.Slices.{shown};
 
     ghost Value = { SentFile };
 
     ghost view = { λ b. let plan = plan_sent b.sends (held_in b.holds) in record {
       plan = plan;
       boundary = b.boundary;
-      bytes = shown_text (text_in b.boundary) b.content_type.text.now (held_in b.holds) plan;
+      bytes = body_text (text_in b.boundary) b.content_type.text.now b.size plan (map shown (held_in b.holds));
     } };
 
     ghost invariant = { λ b. IsMade (plan_sent b.sends (held_in b.holds)) b.boundary b.content_type.text.now (held_in b.holds)
@@ -116,7 +118,9 @@ fn body_length(
     requires lawful { All IsHeld holds.now }
     requires within { All (LiesWithin (length info.now)) (intervals_in plan.now) }
     requires separated { HasBoundary boundary.now plan.now }
-    ensures long { IsCount result (length (shown_text (text_in boundary.now) content_type.entry.text.now holds.now plan.now)) }
+    ensures long { IsCount result
+        (length (body_text (text_in boundary.now) content_type.entry.text.now (length info.now) plan.now
+        (map shown holds.now))) }
     ensures several { IfNone result (HasParts plan.now) }
 {
     match (plan, boundary) {
@@ -146,7 +150,8 @@ impl FileBody {
         ensures made { IfOk result (λ body. body ≡ record {
           plan = plan.now;
           boundary = boundary;
-          bytes = shown_text (text_in boundary) content_type.entry.text.now (held_in holds) plan.now;
+          bytes = body_text (text_in boundary) content_type.entry.text.now (length info.now) plan.now
+              (map shown (held_in holds));
         }) }
         ensures fault { IfErr result (λ fault. fault ≡ OutOfMemory) }
         ensures memory { IfErr result (λ _. HasParts plan.now) }

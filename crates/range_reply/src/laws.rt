@@ -8,23 +8,27 @@ ghost use Rattle.range_spec.specs.declared.selection.Choice.TheVariants.{Whole};
 
 /// Bytes occur in a text if and only if the text has these bytes from some place on.
 pub fn texts_are_found_where_they_stand()
-    ensures { (bytes text : List ℕ) → HasSubslice text bytes ↔ ((place : ℕ) × (place + length bytes ≤ length text) × (slice_range text place (place + length bytes) ≡ bytes)) }
+    ensures { (bytes text : List ℕ) → HasSubslice text bytes
+        ↔ ((place : ℕ) × (place + length bytes ≤ length text)
+        × (slice_range text place (place + length bytes) ≡ bytes)) }
 {}
 
 /// Some texts and a digest have at most one boundary.
 pub fn one_boundary()
-    ensures { (texts : List (List ℕ)) (digest : Digest) (one another : List ℕ) → IsBoundaryFor texts digest one → IsBoundaryFor texts digest another
-        → one ≡ another }
+    ensures { (texts : List (List ℕ)) (digest : Digest) (one another : List ℕ)
+        → IsBoundaryFor texts digest one → IsBoundaryFor texts digest another → one ≡ another }
 {}
 
 /// If all of a file is asked for, the body that is exact for the file is the file.
 pub fn a_whole_file_is_its_body()
-    ensures { (file content_type : List ℕ) (body : SentFile) → IsExact file Whole content_type body → body.bytes ≡ file }
+    ensures { (file content_type : List ℕ) (body : SentFile)
+        → IsExact file Whole content_type body → body.bytes ≡ file }
 {}
 
 /// Each of these relations is refuted for a wrong answer, so none of them is true of everything.
 pub fn wrong_answers_are_refused()
-    ensures parted { (texts : List (List ℕ)) (digest : Digest) (text : List ℕ) → HasNoBoundary texts digest → ¬ (IsBoundaryFor texts digest text) }
+    ensures parted { (texts : List (List ℕ)) (digest : Digest) (text : List ℕ)
+        → HasNoBoundary texts digest → ¬ (IsBoundaryFor texts digest text) }
     ensures empty { (texts : List (List ℕ)) (digest : Digest) → ¬ (IsBoundaryFor texts digest []) }
     ensures none { (digest : Digest) → ¬ (HasNoBoundary [] digest) }
 {}

@@ -1,8 +1,9 @@
 //! The length of a body of several ranges.
-ghost use Rattle.std.specs.Prelude.{◌+◌, All, length};
+ghost use Rattle.std.specs.Prelude.{◌+◌, ◌++◌, All, length};
 ghost use Rattle.std.specs.List.{flat_map};
+ghost use Rattle.byte_view.specs.Cuts.{slice};
 ghost use Rattle.range_spec.specs.Chosen.{LiesWithin};
-ghost use Rattle.range_reply.specs.Multipart.{IsCount, multipart_text, part_text, text_of};
+ghost use Rattle.range_reply.specs.Multipart.{IsCount, last_line, part_text, text_of};
 
 use crate::boundaries::Boundary;
 use crate::texts::{last_line, line_before_type, line_behind_type};
@@ -30,7 +31,8 @@ fn with_part(
 ) -> Option<u64>
     requires { LiesWithin (length info.now) interval }
     ensures { IsCount result
-        (total + length (part_text (text_of boundary.now) content_type.entry.text.now info.now interval)) }
+        (total + length (part_text (text_of boundary.now) content_type.entry.text.now (length info.now)
+        (interval, slice info.now interval.0 interval.1))) }
 {
     let (first, last) = interval;
     let before = line_before_type(boundary.text().as_str());
@@ -52,7 +54,8 @@ fn with_parts(
 ) -> Option<u64>
     requires { All (LiesWithin (length info.now)) intervals.now }
     ensures { IsCount result (total
-        + length (flat_map (part_text (text_of boundary.now) content_type.entry.text.now info.now) intervals.now)) }
+        + length (flat_map (λ i. part_text (text_of boundary.now) content_type.entry.text.now (length info.now)
+        (i, slice info.now i.0 i.1)) intervals.now)) }
 {
     for interval in intervals {
         total = with_part(total, info, boundary, content_type, *interval)?;
@@ -71,7 +74,8 @@ pub(crate) fn multipart_length(
 ) -> Option<u64>
     requires { All (LiesWithin (length info.now)) intervals.now }
     ensures { IsCount result
-        (length (multipart_text (text_of boundary.now) content_type.entry.text.now info.now intervals.now)) }
+        (length (flat_map (λ i. part_text (text_of boundary.now) content_type.entry.text.now (length info.now)
+        (i, slice info.now i.0 i.1)) intervals.now ++ last_line (text_of boundary.now))) }
 {
     let parts = with_parts(0, info, boundary, content_type, intervals.as_slice())?;
     with_texts(parts, &[last_line(boundary.text().as_str()).as_str()])

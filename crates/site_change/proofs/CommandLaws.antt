@@ -1,12 +1,14 @@
 -- What is proved of each command: all of it in one place.
 use Rattle.std.proofs.Common.{◌≡◌, inl, inr, ℕ, length, true, false, Some, None, option_map, refl, ap, ◌∙◌, ◌||◌, sym, cond}
 use Rattle.std.specs.FinMap as map
+use Rattle.std.specs.List.{find}
+use Rattle.std.specs.Option.{option_and_then}
 use Rattle.std.specs.Str.{bytes_eq}
 use Rattle.byte_view.specs.Contents.{Contents, AreDigested}
 use Rattle.host_names.specs.Cells.{site_of}
 use Rattle.host_names.specs.declared.cells.Cell.{Cell}
 use Rattle.host_names.specs.declared.cells.Cell.TheVariants as cell
-use Rattle.site_state.specs.Aliases.{alias_for, first_alias}
+use Rattle.site_state.specs.Aliases.{alias_for, name_in, stands_for}
 use Rattle.site_state.specs.Named.{AliasesNamed}
 use Rattle.site_state.specs.States.{State, with_cell, as_file, as_tree, as_number, as_draft, live_at, kept_at, draft_at, is_alias_of}
 use Rattle.site_state.specs.declared.values.Value.TheVariants as value
@@ -216,7 +218,7 @@ command_laws (RemoveDeploy site m) n state uploads =
       reads = λ other agree.
           let from_kept : kept_at other site m ≡ kept_at state site m = ap as_tree (agree k (or_here k (is_alias_of site k))) in
           let aliases = same_alias_entries site state other (λ c h. agree c (or_after (same_cell c k) (is_alias_of site c) h)) in record {
-            answer = λ i. removal_refusal (from_kept i) (first_alias m (aliases i));
+            answer = λ i. removal_refusal (from_kept i) (option_and_then (λ e. name_in e.0) (find (λ e. stands_for m e.1) (aliases i)));
             touched = λ c. refl;
             values = write_reads k None (touches (RemoveDeploy site m) n state) state other agree;
           };

@@ -3,9 +3,9 @@ use Rattle.std.proofs.Common.{◌≡◌, ℕ, List, [], ◌∷◌, None, ap, ◌
 use Rattle.byte_view.specs.Contents.{Contents}
 use Rattle.site_state.specs.States.{State}
 use Rattle.site_change.specs.declared.commands.Command.{Command}
-use Rattle.site_change.specs.Changes.{refusal, applied, if_accepted, run_from, IsWithin}
+use Rattle.site_change.specs.Changes.{refusal, applied, run_from, IsWithin}
 use Rattle.site_change.specs.Laws.{KeepsRunning}
-use Rattle.site_change.proofs.LeftOut.{accepted}
+use Rattle.site_change.proofs.LeftOut.{if_accepted, accepted}
 use Rattle.site_change.proofs.CommandLaws.{command_laws}
 
 -- an accepted command stays accepted, and does the same

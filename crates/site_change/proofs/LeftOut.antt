@@ -1,14 +1,18 @@
 -- A change can be left out where no later one touches what it changed.
-use Rattle.std.proofs.Common.{◌≡◌, ℕ, Bool, true, false, not, cond, List, [], ◌∷◌, Option, Some, None, refl, sym, ap, ◌∙◌}
+use Rattle.std.proofs.Common.{◌≡◌, ℕ, Bool, true, false, not, cond, List, [], ◌∷◌, Option, Some, None, is_none, refl, sym, ap, ◌∙◌}
 use Rattle.std.specs.FinMap as map
 use Rattle.byte_view.specs.Contents.{Contents}
 use Rattle.host_names.specs.declared.cells.Cell.{Cell}
 use Rattle.site_state.specs.States.{State}
 use Rattle.site_change.specs.declared.commands.Command.{Command}
 use Rattle.site_change.specs.declared.refusals.ChangeRefusal.{ChangeRefusal}
-use Rattle.site_change.specs.Changes.{refusal, applied, touches, changes, if_accepted, run_from, AvoidAll}
+use Rattle.site_change.specs.Changes.{refusal, applied, touches, changes, run_from, AvoidAll}
 use Rattle.site_change.specs.Laws.{AgreeOn, LeavesOut}
 use Rattle.site_change.proofs.Locality.{is_local, same_value-same}
+
+-- this, unless there is a reason to refuse
+abbrev pub if_accepted : Option ChangeRefusal → Option State → Option State
+if_accepted reason next = cond (is_none reason) next None
 
 -- a run that goes on was accepted
 pub accepted : (reason : Option ChangeRefusal) (next : Option State) (after : State) → if_accepted reason next ≡ Some after → (reason ≡ None) × (next ≡ Some after)

@@ -12,6 +12,7 @@ use Rattle.host_names.specs.Digests.{digest_cmp}
 use Rattle.host_names.specs.declared.digests.Digest.{Digest}
 use Rattle.site_state.specs.Files.{Paths, IsByPath}
 use Rattle.site_state.specs.Missing.{least_missing_of, if_lacking, lesser}
+use Rattle.site_state.proofs.LackingDigests.{least_missing-cons}
 use Rattle.site_change.specs.Changes.{file_at, tree_of}
 
 neither : (a b : Option Digest) → lesser a b ≡ None → (a ≡ None) × (b ≡ None)
@@ -25,7 +26,7 @@ there uploads digest e = elim (finmap.contains_key uploads digest) as (λ b. con
 -- where none is missing, the first isn't, and none of the rest is
 pub none_missing : (uploads : Contents) (f : List ℕ × Option Digest) (files : Paths (Option Digest)) → least_missing_of uploads (f ∷ files) ≡ None
     → (if_lacking uploads f.1 ≡ None) × (least_missing_of uploads files ≡ None)
-none_missing uploads f files none = neither (if_lacking uploads f.1) (least_missing_of uploads files) none
+none_missing uploads f files none = neither (if_lacking uploads f.1) (least_missing_of uploads files) (sym (least_missing-cons uploads f files) ∙ none)
 
 all_uploaded : (uploads : Contents) (files : Paths (Option Digest)) → least_missing_of uploads files ≡ None → AllByRecursion (λ f. if_lacking uploads f.1 ≡ None) files
 all_uploaded uploads [] none = tt

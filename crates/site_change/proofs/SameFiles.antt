@@ -11,6 +11,7 @@ use Rattle.site_state.specs.Missing.{if_lacking, lesser, least_missing_of}
 use Rattle.site_state.specs.States.{State, with_cell}
 use Rattle.site_state.specs.declared.values.Value.TheVariants as value
 use Rattle.site_state.specs.declared.values.Draft.{Draft}
+use Rattle.site_state.proofs.LackingDigests.{least_missing-cons}
 use Rattle.site_change.specs.declared.refusals.ChangeRefusal.TheVariants.{NotComplete}
 use Rattle.site_change.specs.Changes.{publish_refusal, restore_refusal, file_at, tree_of, with_published, with_listed, with_patch, published, restored, IsWithin}
 use Rattle.site_change.proofs.Listings.{none_missing, there}
@@ -36,7 +37,7 @@ same_files uploads more (f ∷ files) within e =
     let parts = none_missing uploads f files e in
     let first = stays_there uploads more f.1 within parts.0 in
     let rest = same_files uploads more files within parts.1 in record {
-      complete = (λ i. lesser (first.0 i) (rest.complete i));
+      complete = least_missing-cons more f files ∙ (λ i. lesser (first.0 i) (rest.complete i));
       each = (first.1, rest.each);
     }
 

@@ -1,5 +1,5 @@
 -- What a command does under the number n, to a state, with these uploads.
-use Rattle.std.specs.Prelude.{◌≡◌, ℕ, ◌≤◌, List, [], ◌∷◌, Bool, true, false, not, ◌||◌, nat_lt, Option, Some, None, unwrap_or, option_map, map, filter_map, length, if◌then◌else◌}
+use Rattle.std.specs.Prelude.{◌≡◌, ℕ, ◌≤◌, List, [], ◌∷◌, Bool, true, false, not, ◌||◌, nat_lt, Option, Some, None, is_none, unwrap_or, option_map, map, filter_map, length, if◌then◌else◌}
 use Rattle.std.specs.FinMap as map
 use Rattle.std.specs.List.{list_any}
 use Rattle.std.specs.Option.{option_eq}
@@ -244,16 +244,11 @@ changes command n state uploads c = not (option_eq value_eq (map.get state c) (m
 
 -- ---- commands in a row, each under its number
 
--- this, unless there is a reason to refuse
-abbrev pub if_accepted : Option ChangeRefusal → Option State → Option State
-if_accepted None then_state = then_state
-if_accepted (Some reason) then_state = None
-
 -- the state after all of them, where each is accepted in its place
 abbrev pub run_from : Contents → State → List (ℕ × Command) → Option State
 run_from uploads state [] = Some state
 run_from uploads state (c ∷ commands) =
-    if_accepted (refusal c.1 c.0 state uploads) (run_from uploads (applied c.1 c.0 state uploads) commands)
+    if is_none (refusal c.1 c.0 state uploads) then run_from uploads (applied c.1 c.0 state uploads) commands else None
 
 -- none of them touches, in its place, a cell that passes the test
 abbrev pub AvoidAll : Contents → State → List (ℕ × Command) → (Cell → Bool) → Type 0

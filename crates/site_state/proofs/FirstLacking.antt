@@ -5,7 +5,7 @@ use Rattle.byte_view.specs.Contents.{Contents}
 use Rattle.host_names.specs.declared.digests.Digest.{Digest}
 use Rattle.site_state.specs.Files.{Paths}
 use Rattle.site_state.specs.Missing.{is_lacking, if_lacking, lesser, least_missing_of, first_lacking_of}
-use Rattle.site_state.proofs.LackingDigests.{some_left}
+use Rattle.site_state.proofs.LackingDigests.{some_left, least_missing-cons}
 
 -- ---- how many items pass a test before one fails
 
@@ -49,10 +49,11 @@ module _ (contents : Contents) where
   none_lacking : (files : Paths (Option Digest)) → length files ≤ first_lacking_of contents files → least_missing_of contents files ≡ None
   none_lacking [] le = refl
   none_lacking (f ∷ files) le =
-      elim (if_lacking contents f.1) as (λ o. length (f ∷ files) ≤ cond (is_none o) (1 + first_lacking_of contents files) 0 → lesser o (least_missing_of contents files) ≡ None) [
+      least_missing-cons contents f files
+      ∙ (elim (if_lacking contents f.1) as (λ o. length (f ∷ files) ≤ cond (is_none o) (1 + first_lacking_of contents files) 0 → lesser o (least_missing_of contents files) ≡ None) [
         | Some digest ↦ λ none. absurd (omega (arith, none))
         | None ↦ λ some. none_lacking files (omega (arith, some))
-      ] le
+      ] le)
 
   all_passed : (files : Paths (Option Digest)) → least_missing_of contents files ≡ None → first_lacking_of contents files ≡ length files
   all_passed [] none = refl
@@ -60,7 +61,7 @@ module _ (contents : Contents) where
       elim (if_lacking contents f.1) as (λ o. lesser o (least_missing_of contents files) ≡ None → cond (is_none o) (1 + first_lacking_of contents files) 0 ≡ length (f ∷ files)) [
         | Some digest ↦ λ e. cc (sym (ap is_some e) ∙ some_left (Some digest) (least_missing_of contents files) refl)
         | None ↦ λ e. let rest = all_passed files e in omega (arith, rest)
-      ] none
+      ] (sym (least_missing-cons contents f files) ∙ none)
 
   -- that is the end exactly where nothing is missing
   pub complete_at : (files : Paths (Option Digest)) (place : ℕ) → place ≡ first_lacking_of contents files → (place ≡ length files) ↔ (least_missing_of contents files ≡ None)

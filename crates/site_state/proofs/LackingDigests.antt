@@ -1,8 +1,8 @@
 -- The digests that are missing, in order, and the least of them.
-use Rattle.std.proofs.Common.{◌≡◌, ◌⊎◌, inl, inr, ⊎_elim, ℕ, zero, suc, ◌+◌, ◌<◌, Bool, true, false, cond, List, [], ◌∷◌, length, get_or, drop, take, option_to_list, ◌++◌, filter, filter_map, Option, Some, None, IsSome, Contains, IsPermutation, Ordering, Less, Equal, Greater, is_gt, refl, sym, ap, subst, ◌∙◌, arith}
-use Rattle.std.specs.List.{dedup, slice_get, cons_option}
+use Rattle.std.proofs.Common.{◌≡◌, ◌⊎◌, inl, inr, ⊎_elim, ℕ, zero, suc, ◌+◌, ◌<◌, Bool, true, false, cond, List, [], ◌∷◌, length, get_or, drop, take, option_to_list, ◌++◌, filter, filter_map, Option, Some, None, IsSome, Contains, IsPermutation, Ordering, Less, Equal, Greater, is_gt, is_lt, refl, sym, ap, subst, ◌∙◌, arith}
+use Rattle.std.specs.List.{dedup, slice_get, cons_option, reduce}
 use Rattle.std.specs.List.Sorted.{IsSorted}
-use Rattle.std.specs.Ordering.{ordering_reverse}
+use Rattle.std.specs.Ordering.{ordering_reverse, ord_min}
 use Rattle.std.specs.Cmp.Lexicographic.{texts_ties}
 use Rattle.std.proofs.lemmas.Bool.{false≢true}
 use Rattle.std.proofs.lemmas.Cmp.{upto, tied_itself}
@@ -124,6 +124,33 @@ lesser_assoc (Some a) (Some b) (Some c) =
       ] refl
     ] refl
 
+lesser-min : (a b : Digest) → lesser (Some a) (Some b) ≡ Some (ord_min digest_cmp a b)
+lesser-min a b = by_order (digest_cmp a b) ∙ ap (λ r. Some (cond (is_lt r) b a)) (sym (digest_cmp_total.antisymm b a))
+  where
+    by_order : (r : Ordering) → cond (is_gt r) (Some b) (Some a) ≡ Some (cond (is_lt (ordering_reverse r)) b a)
+    by_order Less = refl
+    by_order Equal = refl
+    by_order Greater = refl
+
+-- the least of some digests is the lesser of the first and of the least of the others
+least-first : (d : Digest) (ds : List Digest) → reduce (ord_min digest_cmp) (d ∷ ds) ≡ lesser (Some d) (reduce (ord_min digest_cmp) ds)
+least-first d [] = refl
+least-first d (e ∷ ds) =
+    let others = reduce (ord_min digest_cmp) ds in
+    least-first (ord_min digest_cmp d e) ds ∙ ap (λ o. lesser o others) (sym (lesser-min d e))
+    ∙ lesser_assoc (Some d) (Some e) others ∙ ap (lesser (Some d)) (sym (least-first e ds))
+
+-- one file more is listed
+pub least_missing-cons : (contents : Contents) (f : List ℕ × Option Digest) (files : Paths (Option Digest))
+    → least_missing_of contents (f ∷ files) ≡ lesser (if_lacking contents f.1) (least_missing_of contents files)
+least_missing-cons contents (path, None) files = refl
+least_missing-cons contents (path, Some digest) files =
+    let rest = filter (is_lacking contents) (digests_of files) in
+    elim (is_lacking contents digest) as (λ t. reduce (ord_min digest_cmp) (cond t (digest ∷ rest) rest) ≡ lesser (cond t (Some digest) None) (reduce (ord_min digest_cmp) rest)) [
+      | true ↦ least-first digest rest
+      | false ↦ refl
+    ]
+
 -- a step of a loop that keeps the least digest so far
 pub least_step : (contents : Contents) (items files : Paths (Option Digest)) (i : ℕ) (item : List ℕ × Option Digest) (least next : Option Digest) → items ≡ files → i < length items → item ≡ get_or items i item
     → next ≡ lesser least (if_lacking contents item.1) → lesser next (least_missing_of contents (drop (i + 1) files)) ≡ lesser least (least_missing_of contents (drop i files))
@@ -132,7 +159,7 @@ least_step contents items files i item least next same lt at is =
     let within : i < length files = subst (λ l. i < length l) same lt in
     let here : item ≡ get_or files i item = at ∙ ap (λ l. get_or l i item) same in
     ap (λ o. lesser o rest) is ∙ lesser_assoc least (if_lacking contents item.1) rest
-    ∙ sym (ap (lesser least) (at_drop_more (least_missing_of contents) files i item within ∙ ap (λ (e : List ℕ × Option Digest). lesser (if_lacking contents e.1) rest) (sym here)))
+    ∙ sym (ap (lesser least) (at_drop_more (least_missing_of contents) files i item within ∙ least_missing-cons contents (get_or files i item) (drop (i + 1) files) ∙ ap (λ (e : List ℕ × Option Digest). lesser (if_lacking contents e.1) rest) (sym here)))
 
 -- of two digests the lesser is there where either is
 pub some_left : (a b : Option Digest) → IsSome a → IsSome (lesser a b)
@@ -150,9 +177,13 @@ pub lacking_at : (contents : Contents) (files : Paths (Option Digest)) (k : ℕ)
     → IsSome (if_lacking contents d.1) → IsSome (least_missing_of contents files)
 lacking_at contents [] k d lt is some = absurd (omega arith)
 lacking_at contents (f ∷ files) zero d lt is some =
-    some_left (if_lacking contents f.1) (least_missing_of contents files) (subst (λ (e : List ℕ × Option Digest). IsSome (if_lacking contents e.1)) is some)
+    let P : Option Digest → Type 0 = IsSome in
+    subst P (sym (least_missing-cons contents f files))
+    (some_left (if_lacking contents f.1) (least_missing_of contents files) (subst (λ (e : List ℕ × Option Digest). IsSome (if_lacking contents e.1)) is some))
 lacking_at contents (f ∷ files) (suc k) d lt is some =
-    some_right (if_lacking contents f.1) (least_missing_of contents files) (lacking_at contents files k d (omega arith) is some)
+    let P : Option Digest → Type 0 = IsSome in
+    subst P (sym (least_missing-cons contents f files))
+    (some_right (if_lacking contents f.1) (least_missing_of contents files) (lacking_at contents files k d (omega arith) is some))
 
 not_gt_itself : (d : Digest) → is_gt (digest_cmp d d) ≡ false
 not_gt_itself d = ap is_gt (tied_itself digest_cmp_total d)
@@ -216,7 +247,9 @@ module _ (contents : Contents) (path : List ℕ) (files : Paths (Option Digest))
 
 pub IsLeast-least_missing_of : (contents : Contents) (files : Paths (Option Digest)) → IsLeastMissing contents files (least_missing_of contents files)
 IsLeast-least_missing_of contents [] = λ d h _. omega (arith, h.1)
-IsLeast-least_missing_of contents (e ∷ files) = with_path contents e.0 files e.1 (least_missing_of contents files) (IsLeast-least_missing_of contents files)
+IsLeast-least_missing_of contents (e ∷ files) =
+    subst (IsLeastMissing contents (e ∷ files)) (sym (least_missing-cons contents e files))
+    (with_path contents e.0 files e.1 (least_missing_of contents files) (IsLeast-least_missing_of contents files))
 
 -- the first of the missing digests is the least of them
 first_is_least : (contents : Contents) (files : Paths (Option Digest)) (digests : List Digest) (least : Option Digest) → IsLeastMissing contents files least → AreMissing contents files digests → slice_get digests 0 ≡ least

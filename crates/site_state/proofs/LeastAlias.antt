@@ -3,8 +3,10 @@ use Rattle.std.proofs.Common.{◌≡◌, ◌⊎◌, inl, inr, ⊎_elim, ℕ, suc
 use Rattle.std.specs.FinMap as map
 use Rattle.std.specs.FinMap.{find, is_sorted}
 use Rattle.std.specs.FinMap.Entries.{where_key, find-where_key, is_sorted-where_key}
+use Rattle.std.specs.List.{find as first_item}
 use Rattle.std.specs.List.Sorted.{IsStrictlySortedBy}
 use Rattle.std.specs.Map.{keys_of}
+use Rattle.std.specs.Option.{option_and_then}
 use Rattle.std.specs.Ordering.{eq_by_cmp, ordering_then}
 use Rattle.std.specs.Cmp.Lexicographic.{bytes_decides, nat_list_cmp_total}
 use Rattle.std.proofs.lemmas.Bool.{false≢true, eqb-true}
@@ -15,7 +17,7 @@ use Rattle.host_names.specs.declared.names.AliasName.{AliasName}
 use Rattle.host_names.specs.declared.names.SiteName.{SiteName}
 use Rattle.host_names.specs.declared.cells.Cell.{Cell}
 use Rattle.host_names.specs.declared.cells.Cell.TheVariants as cell
-use Rattle.site_state.specs.Aliases.{stands_for, first_alias, alias_for, IsLeastAlias}
+use Rattle.site_state.specs.Aliases.{stands_for, name_in, alias_for, IsLeastAlias}
 use Rattle.site_state.specs.States.{State, as_number, alias_at, alias_entries, is_alias_of}
 use Rattle.site_state.specs.declared.values.Value.{Value}
 use Rattle.site_state.specs.declared.values.Value.TheVariants as value
@@ -48,6 +50,10 @@ is_number m (value.Draft draft) e = cc e
 
 itself : (m : ℕ) → (m == m) ≡ true
 itself m = eq-eqb m m refl
+
+-- the name of the first of these aliases that names the deploy
+abbrev first_alias : ℕ → List (Cell × Value) → Option AliasName
+first_alias m es = option_and_then (λ e. name_in e.0) (first_item (λ e. stands_for m e.1) es)
 
 module _ (site : SiteName) (m : ℕ) where
   at : List (Cell × Value) → AliasName → Option Value
@@ -108,8 +114,8 @@ module _ (site : SiteName) (m : ℕ) where
   step (cell.Alias own name) v es is sorted least =
       let same : cell.Alias own name ≡ cell.Alias site name = λ i. cell.Alias (record { 0 = sym ((bytes_decides site.0 own.0).0 is) i }) name in
       let here : IsStrictlySortedBy cell_cmp (keys_of ((cell.Alias site name, v) ∷ es)) = subst (λ c. IsStrictlySortedBy cell_cmp (keys_of ((c, v) ∷ es))) same sorted in
-      subst (λ c. IsLeastIn ((c, v) ∷ es) (first_alias m ((cell.Alias site name, v) ∷ es))) (sym same) (
-      elim (stands_for m v) as (λ t. stands_for m v ≡ t → IsLeastIn ((cell.Alias site name, v) ∷ es) (cond t (Some name) (first_alias m es))) [
+      subst (λ c. IsLeastIn ((c, v) ∷ es) (first_alias m ((c, v) ∷ es))) (sym same) (
+      elim (stands_for m v) as (λ t. stands_for m v ≡ t → IsLeastIn ((cell.Alias site name, v) ∷ es) (option_and_then (λ (e : Cell × Value). name_in e.0) (cond t (Some (cell.Alias site name, v)) (first_item (λ (e : Cell × Value). stands_for m e.1) es)))) [
         | true ↦ λ e. by_first name v es here e
         | false ↦ λ e. by_rest (cell.Alias site name, v) es (first_alias m es) here e least
       ] refl

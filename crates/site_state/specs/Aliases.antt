@@ -1,5 +1,5 @@
 -- Which alias names a deploy.
-use Rattle.std.specs.Prelude.{◌≡◌, ℕ, Bool, false, ◌==◌, List, [], ◌∷◌, Option, Some, None, if◌then◌else◌}
+use Rattle.std.specs.Prelude.{◌≡◌, ℕ, Bool, false, ◌==◌, Option, Some, None, find, option_and_then}
 use Rattle.std.specs.Cmp.Lexicographic.{slice_cmp}
 use Rattle.std.specs.Ordering.{nat_cmp}
 use Rattle.std.specs.declared.cmp.Ordering.TheVariants.{Less}
@@ -21,14 +21,9 @@ abbrev pub name_in : Cell → Option AliasName
 name_in (cell.Alias site name) = Some name
 name_in c = None
 
--- the name of the first of these aliases that names the deploy
-abbrev pub first_alias : ℕ → List (Cell × Value) → Option AliasName
-first_alias m [] = None
-first_alias m (e ∷ aliases) = if stands_for m e.1 then name_in e.0 else first_alias m aliases
-
--- the least alias of the site that names the deploy
+-- the least alias of the site that names the deploy: they are by name, and it is the first that does
 abbrev pub alias_for : State → SiteName → ℕ → Option AliasName
-alias_for state site m = first_alias m (alias_entries state site)
+alias_for state site m = option_and_then (λ e. name_in e.0) (find (λ e. stands_for m e.1) (alias_entries state site))
 
 -- An alias of the site that names the deploy, where none before it by name does; or that none does.
 abbrev pub IsLeastAlias : State → SiteName → ℕ → Option AliasName → Type 0

@@ -1,7 +1,7 @@
 //! Where a cell, and the files and the aliases of a site, are among all cells.
-ghost use Rattle.std.specs.Prelude.{◌≡◌, option_copied};
+ghost use Rattle.std.specs.Prelude.{◌≡◌, find, option_and_then, option_copied};
 ghost use Rattle.site_state.specs.AliasRange;
-ghost use Rattle.site_state.specs.Aliases;
+ghost use Rattle.site_state.specs.Aliases.{name_in, stands_for};
 ghost use Rattle.site_state.specs.LiveRange;
 ghost use Rattle.site_state.specs.States;
 
@@ -108,7 +108,8 @@ impl<'a> Span<Cell> for AliasesOf<'a> {
 
 /// The first of these aliases that names the deploy of a number.
 pub fn first_alias<'a>(aliases: Range<'a, Cell, Value>, number: u64) -> Option<&'a AliasName>
-    ensures { option_copied result ≡ Aliases.first_alias number aliases.entry }
+    ensures { option_copied result
+        ≡ option_and_then (λ e. name_in e.0) (find (λ e. stands_for number e.1) aliases.entry) }
 {
     let mut left = aliases;
     'aliases: while let Some(((cell, value), rest)) = left.split_first() {

@@ -3,6 +3,7 @@ use Rattle.std.proofs.Common.{◌≡◌, ℕ, List, [], false, Option, Result, O
 use Rattle.range_spec.specs.declared.selection.Choice.{Choice}
 use Rattle.range_spec.specs.declared.selection.Choice.TheVariants.{Whole, One, Many, None416}
 use Rattle.range_reply.specs.declared.boundaries.Boundary.{Boundary}
+use Rattle.host_api.specs.Types.{type_of}
 use Rattle.host_api.specs.declared.refusals.Refusal.{Refusal}
 use Rattle.host_replies.specs.Replies.{Answer}
 use Rattle.host_replies.specs.SentFiles.{sent_as}
@@ -10,14 +11,14 @@ use Rattle.world_read.specs.declared.requests.FileRequest.{FileRequest}
 use Rattle.world_read.specs.Reads.{Answered, Begins, Failed, FileReading, IsStage, ReadStage, Waits}
 use Rattle.world_read.specs.Stages.{IsSent, IsSentStage}
 
-sent_there : (path file : List ℕ) (plan : Choice) (boundary : Option Boundary) (bytes : List ℕ) → (sent_as path file plan boundary bytes).withheld ≡ false
-sent_there path file Whole boundary bytes = refl
-sent_there path file (One first last) boundary bytes = refl
-sent_there path file (Many intervals) boundary bytes = refl
-sent_there path file None416 boundary bytes = refl
+sent_there : (content_type file : List ℕ) (plan : Choice) (boundary : Option Boundary) (bytes : List ℕ) → (sent_as content_type file plan boundary bytes).withheld ≡ false
+sent_there content_type file Whole boundary bytes = refl
+sent_there content_type file (One first last) boundary bytes = refl
+sent_there content_type file (Many intervals) boundary bytes = refl
+sent_there content_type file None416 boundary bytes = refl
 
 pub stage_sent : (request : FileRequest) (file : List ℕ) (chunks : List (List ℕ)) (stage : ReadStage) → IsStage request file chunks stage → IsSentStage stage
-stage_sent request file chunks (Answered answer) (body, left, read, is) = ap (λ (a : Answer). a.withheld) is ∙ sent_there request.path file body.plan body.boundary body.bytes
+stage_sent request file chunks (Answered answer) (body, left, read, is) = ap (λ (a : Answer). a.withheld) is ∙ sent_there (type_of request.path) file body.plan body.boundary body.bytes
 stage_sent request file chunks (Waits name) is = tt
 stage_sent request file chunks Failed is = tt
 

@@ -61,19 +61,33 @@ impl<D: Disk> Journal<D> {
         ensures entries { IfOk result (λ answer. (answer.0.entries ≡ answer.1) × (answer.0.broken ≡ false)) }
         ensures writable { IfOk result (λ answer. All IsWritable answer.1) }
         ensures few { IfOk result (λ answer. last_number answer.1 ≤ 1000000) }
-        ensures found { IsTrue D.is_modelled → IfOk result (λ answer. IsFound header (texts answer.1) (D.seen disk)) }
-        ensures exactly { IsTrue D.is_modelled → IfOk result (λ answer. IsExactly (opened (texts answer.1) ++ 0 ∷ []) (D.seen answer.0.disk) (D.may_leave answer.0.disk)) }
+        ensures found { IsTrue D.is_modelled
+            → IfOk result (λ answer. IsFound header (texts answer.1) (D.seen disk)) }
+        ensures exactly { IsTrue D.is_modelled → IfOk result (λ answer.
+            IsExactly (opened (texts answer.1) ++ 0 ∷ []) (D.seen answer.0.disk) (D.may_leave answer.0.disk)) }
         ensures stored { IsTrue D.is_modelled → IfOk result (λ answer. AllStored (D.may_leave answer.0.disk) answer.1) }
-        ensures bad_header { IsTrue D.is_modelled → IfErr result (λ stop. stop.fault ≡ BadHeader → IsForeign header (D.seen disk)) }
-        ensures bad_record { IsTrue D.is_modelled → IfErr result (λ stop. (i : ℕ) → stop.fault ≡ BadRecord i → IsBadRecord header (λ before. IsText) i (D.seen disk)) }
-        ensures unwritten { IsTrue D.is_modelled → IfErr result (λ stop. (stop.fault ≡ Device → ⊥) → IsOnlyRead D.seen D.may_leave D.moment D.left_since disk stop.disk) }
-        ensures refused { IsTrue D.is_modelled → IsRefused header (λ before. IsText) (D.seen disk) → MatchResult result (λ _. ⊥) (λ stop. IsOnlyRead D.seen D.may_leave D.moment D.left_since disk stop.disk) }
-        ensures kept { IsTrue D.is_modelled → (had : Logs.Log) → last_number had ≤ 1000000 → HoldsEntries had (D.seen disk) → MatchResult result (λ answer. answer.1 ≡ had) (λ stop. (stop.fault ≡ Device) ⊎ (stop.fault ≡ OutOfMemory)) }
-        ensures any_moment { IsTrue D.is_modelled → (had : Logs.Log) (next : entries.Entry) → ((c : List ℕ) → D.may_leave disk c → MayHoldNext had next c) → MatchResult result (λ answer. LeavesOnly D.moment D.left_since disk answer.0.disk (MayHoldNext had next)) (λ stop. LeavesOnly D.moment D.left_since disk stop.disk (MayHoldNext had next)) }
+        ensures bad_header { IsTrue D.is_modelled
+            → IfErr result (λ stop. stop.fault ≡ BadHeader → IsForeign header (D.seen disk)) }
+        ensures bad_record { IsTrue D.is_modelled
+            → IfErr result (λ stop. (i : ℕ) → stop.fault ≡ BadRecord i → IsBadRecord header (λ before. IsText) i (D.seen disk)) }
+        ensures unwritten { IsTrue D.is_modelled → IfErr result (λ stop. (stop.fault ≡ Device → ⊥)
+            → IsOnlyRead D.seen D.may_leave D.moment D.left_since disk stop.disk) }
+        ensures refused { IsTrue D.is_modelled → IsRefused header (λ before. IsText) (D.seen disk)
+            → MatchResult result (λ _. ⊥) (λ stop. IsOnlyRead D.seen D.may_leave D.moment D.left_since disk stop.disk) }
+        ensures kept { IsTrue D.is_modelled
+            → (had : Logs.Log) → last_number had ≤ 1000000 → HoldsEntries had (D.seen disk)
+            → MatchResult result (λ answer. answer.1 ≡ had) (λ stop. (stop.fault ≡ Device) ⊎ (stop.fault ≡ OutOfMemory)) }
+        ensures any_moment { IsTrue D.is_modelled
+            → (had : Logs.Log) (next : entries.Entry) → ((c : List ℕ) → D.may_leave disk c → MayHoldNext had next c)
+            → MatchResult result (λ answer. LeavesOnly D.moment D.left_since disk answer.0.disk (MayHoldNext had next))
+            (λ stop. LeavesOnly D.moment D.left_since disk stop.disk (MayHoldNext had next)) }
         ensures memory { IsTrue D.is_modelled → IfErr result (λ stop. stop.fault ≡ OutOfMemory → HasRecord (D.seen disk)) }
-        ensures no_journal { IsTrue D.is_modelled → IsForeign header (D.seen disk) → MatchResult result (λ _. ⊥) (λ stop. (stop.fault ≡ BadHeader) ⊎ (stop.fault ≡ Device)) }
-        ensures reason { IsTrue D.is_modelled → IsRefused header (λ before. IsText) (D.seen disk) → IfErr result (λ stop. stop.fault ≡ Device → MayFailReading D.seen D.may_fail (D.seen disk)) }
-        ensures cause { MatchResult result (λ answer. D.faults answer.0.disk ≡ D.faults disk) (λ stop. TellsStop stop.fault (D.faults disk) (D.faults stop.disk)) }
+        ensures no_journal { IsTrue D.is_modelled → IsForeign header (D.seen disk)
+            → MatchResult result (λ _. ⊥) (λ stop. (stop.fault ≡ BadHeader) ⊎ (stop.fault ≡ Device)) }
+        ensures reason { IsTrue D.is_modelled → IsRefused header (λ before. IsText) (D.seen disk)
+            → IfErr result (λ stop. stop.fault ≡ Device → MayFailReading D.seen D.may_fail (D.seen disk)) }
+        ensures cause { MatchResult result (λ answer. D.faults answer.0.disk ≡ D.faults disk)
+            (λ stop. TellsStop stop.fault (D.faults disk) (D.faults stop.disk)) }
     {
         let mut collected = Collected::new(alloc);
         let (disk, opened) = open_ahead(alloc, disk, &HEADER, &mut collected);
@@ -93,8 +107,10 @@ impl<D: Disk> Journal<D> {
     pub fn is_broken(&self) -> bool
         ensures value { result ≡ self.now.broken }
         ensures writable { All IsWritable self.now.entries }
-        ensures stored { IsTrue D.is_modelled → result ≡ false → AllStored (D.may_leave self.now.disk) self.now.entries }
-        ensures torn { IsTrue D.is_modelled → result ≡ true → MayHoldMore (D.may_leave self.now.disk) self.now.entries }
+        ensures stored { IsTrue D.is_modelled → result ≡ false
+            → AllStored (D.may_leave self.now.disk) self.now.entries }
+        ensures torn { IsTrue D.is_modelled → result ≡ true
+            → MayHoldMore (D.may_leave self.now.disk) self.now.entries }
     {
         self.records.is_broken()
     }
@@ -104,14 +120,19 @@ impl<D: Disk> Journal<D> {
     /// the disk may or may not hold it, and each later put answers `Broken` and does nothing. It takes no memory.
     pub fn put(&mut self, prepared: Prepared) -> Result<(), PutFault>
         requires few { self.old.broken ≡ false → last_number self.old.entries < 1000000 }
-        ensures entries { MatchResult result (λ _. self.new.entries ≡ with_entry self.old.entries prepared) (λ _. self.new.entries ≡ self.old.entries) }
+        ensures entries { MatchResult result (λ _. self.new.entries ≡ with_entry self.old.entries prepared)
+            (λ _. self.new.entries ≡ self.old.entries) }
         ensures broken { MatchResult result (λ _. self.new.broken ≡ false) (λ _. self.new.broken ≡ true) }
         ensures refused { IsTrue self.old.broken → (result ≡ Err put_fault.Broken) × (self.new ≡ self.old) }
         ensures only_broken { IsErrOf result put_fault.Broken → IsTrue self.old.broken }
         ensures stored { IsTrue D.is_modelled → OnOk result (AllStored (D.may_leave self.new.disk) self.new.entries) }
-        ensures any_moment { IsTrue D.is_modelled → self.old.broken ≡ false → LeavesOnly D.moment D.left_since self.old.disk self.new.disk (MayHoldNext self.old.entries prepared) }
-        ensures held { IsTrue D.is_modelled → self.old.broken ≡ false → LeavesOnly D.moment D.left_since self.old.disk self.new.disk (λ c. HoldsEntries self.old.entries c ⊎ HoldsEntries (with_entry self.old.entries prepared) c) }
-        ensures cause { MatchResult result (λ _. D.faults self.new.disk ≡ D.faults self.old.disk) (λ fault. TellsBreak fault (D.faults self.old.disk) (D.faults self.new.disk)) }
+        ensures any_moment { IsTrue D.is_modelled → self.old.broken ≡ false
+            → LeavesOnly D.moment D.left_since self.old.disk self.new.disk (MayHoldNext self.old.entries prepared) }
+        ensures held { IsTrue D.is_modelled → self.old.broken ≡ false
+            → LeavesOnly D.moment D.left_since self.old.disk self.new.disk (λ c.
+            HoldsEntries self.old.entries c ⊎ HoldsEntries (with_entry self.old.entries prepared) c) }
+        ensures cause { MatchResult result (λ _. D.faults self.new.disk ≡ D.faults self.old.disk)
+            (λ fault. TellsBreak fault (D.faults self.old.disk) (D.faults self.new.disk)) }
     {
         self.records.put(prepared.bytes())?;
         self.held = Held::Put(Snapshot::of(&self.held), Snapshot::of(&prepared));

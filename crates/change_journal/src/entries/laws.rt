@@ -46,7 +46,8 @@ pub fn a_file_holds_one_list()
 pub fn a_file_holds_an_entry_whose_gate_is_open()
     ensures open_gate { (log : Log) (entry : Entry) (rest : List ℕ) → All IsWritable (with_entry log entry)
         → HoldsEntries (with_entry log entry) (opened (texts log) ++ 1 ∷ (framed (entry_text entry) ++ 0 ∷ rest)) }
-    ensures other_gate { (log : Log) (entry : Entry) (gate : ℕ) (rest : List ℕ) → All IsWritable log → gate ≢ 1
+    ensures other_gate { (log : Log) (entry : Entry) (gate : ℕ) (rest : List ℕ)
+        → All IsWritable log → gate ≢ 1
         → HoldsEntries log (opened (texts log) ++ gate ∷ (framed (entry_text entry) ++ 0 ∷ rest)) }
     ensures left { (log : Log) (entry : Entry) (file : List ℕ) → MayHoldNext log entry file
         → HoldsEntries log file ⊎ HoldsEntries (with_entry log entry) file }
@@ -54,7 +55,8 @@ pub fn a_file_holds_an_entry_whose_gate_is_open()
 
 /// An opening finds the entries before the first gate that isn't open, whatever follows that gate.
 pub fn an_opening_ends_at_a_gate_that_is_not_open()
-    ensures { (found log : Log) (gate : ℕ) (rest : List ℕ) → All IsWritable found → All IsWritable log → gate ≢ 1
+    ensures { (found log : Log) (gate : ℕ) (rest : List ℕ)
+        → All IsWritable found → All IsWritable log → gate ≢ 1
         → IsFound header (texts found) (opened (texts log) ++ gate ∷ rest) → found ≡ log }
 {}
 

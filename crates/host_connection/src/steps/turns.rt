@@ -1,7 +1,7 @@
 //! The phases of a turn, each gone through as far as the stream doesn't have to wait.
-ghost use Rattle.std.specs.Prelude.{◌≡◌, ◌≤◌, ℕ, List, IsErrOf};
-ghost use Rattle.http_wire.specs.Gathering.{nothing, GoesOnFrom, IsAmid, IsCounted};
-ghost use Rattle.http_wire.specs.Timing.{Event, NoRead, Ran, Steps};
+ghost use Rattle.std.specs.Prelude.{◌≡◌, ◌≤◌, List, IsErrOf};
+ghost use Rattle.http_wire.specs.Gathering.{nothing, IsCounted, SendsOn};
+ghost use Rattle.http_wire.specs.Timing.{Event, Steps};
 ghost use Rattle.host_connection.specs.Advancing.{size_in, Advances};
 ghost use Rattle.host_connection.specs.Carrying.{text_of, until_asked, AnswersOne, Asks, Carried, Carries, FollowsHead, FollowsReply, FollowsStop, IsAnswering, IsReply, Leads, MayWait};
 ghost use Rattle.host_connection.specs.declared.phases.Phase.TheVariants as phases;
@@ -75,8 +75,7 @@ impl Sending {
     // Goes on with it, behind the bytes of it that were written, and with those that are gathered in `out`. It begins where `out` begins a text.
     fn go_on<D: Duplex>(&self, duplex: &mut D, out: &mut Outgoing) -> Result<(), Halt<WriteFailed>>
         requires { IsCounted out.old }
-        ensures ran { (at : ℕ) → IsAmid (text_of self.now) at out.old
-            → Ran D.saw NoRead duplex.old duplex.new (GoesOnFrom result (text_of self.now) at out.new) }
+        ensures ran { SendsOn D.saw duplex.old duplex.new result (text_of self.now) out.old out.new }
         ensures led { (events : List Event) × Steps D.saw duplex.old events duplex.new }
         ensures waits { IsErrOf result Halt.WouldWait → D.waits duplex.new }
     {

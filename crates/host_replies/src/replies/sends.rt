@@ -1,7 +1,7 @@
 //! Replies on their way out.
-ghost use Rattle.std.specs.Prelude.{◌≡◌, ℕ, List, true, option_map, IsErrOf};
-ghost use Rattle.http_wire.specs.Gathering.{GoesOnFrom, IsAmid, IsCounted};
-ghost use Rattle.http_wire.specs.Timing.{Event, NoRead, Ran, Steps};
+ghost use Rattle.std.specs.Prelude.{◌≡◌, List, true, option_map, IsErrOf};
+ghost use Rattle.http_wire.specs.Gathering.{IsCounted, SendsOn};
+ghost use Rattle.http_wire.specs.Timing.{Event, Steps};
 ghost use Rattle.host_replies.specs.Bodies.{answer_of};
 ghost use Rattle.host_replies.specs.Replies.{sent_text};
 
@@ -27,9 +27,8 @@ impl Reply {
         requires tag { option_map (λ t. t.text.now) etag ≡ (answer_of self.now).etag }
         requires sent { (answer_of self.now).withheld ≡ true → head_only ≡ true }
         requires counted { IsCounted out.old }
-        ensures ran { (at : ℕ) → IsAmid (sent_text close head_only (answer_of self.now)) at out.old
-            → Ran D.saw NoRead duplex.old duplex.new
-            (GoesOnFrom result (sent_text close head_only (answer_of self.now)) at out.new) }
+        ensures ran { SendsOn D.saw duplex.old duplex.new result
+            (sent_text close head_only (answer_of self.now)) out.old out.new }
         ensures led { (events : List Event) × Steps D.saw duplex.old events duplex.new }
         ensures waits { IsErrOf result Halt.WouldWait → D.waits duplex.new }
     {
@@ -57,9 +56,8 @@ impl Reply {
         requires typed { content_type.text.now ≡ (answer_of self.now).content_type }
         requires sent { (answer_of self.now).withheld ≡ true → head_only ≡ true }
         requires counted { IsCounted out.old }
-        ensures ran { (at : ℕ) → IsAmid (sent_text close head_only (answer_of self.now)) at out.old
-            → Ran D.saw NoRead duplex.old duplex.new
-            (GoesOnFrom result (sent_text close head_only (answer_of self.now)) at out.new) }
+        ensures ran { SendsOn D.saw duplex.old duplex.new result
+            (sent_text close head_only (answer_of self.now)) out.old out.new }
         ensures led { (events : List Event) × Steps D.saw duplex.old events duplex.new }
         ensures waits { IsErrOf result Halt.WouldWait → D.waits duplex.new }
     {
@@ -82,9 +80,8 @@ impl Reply {
     ) -> Result<(), Halt<WriteFailed>>
         requires sent { (answer_of self.now).withheld ≡ true → head_only ≡ true }
         requires counted { IsCounted out.old }
-        ensures ran { (at : ℕ) → IsAmid (sent_text close head_only (answer_of self.now)) at out.old
-            → Ran D.saw NoRead duplex.old duplex.new
-            (GoesOnFrom result (sent_text close head_only (answer_of self.now)) at out.new) }
+        ensures ran { SendsOn D.saw duplex.old duplex.new result
+            (sent_text close head_only (answer_of self.now)) out.old out.new }
         ensures led { (events : List Event) × Steps D.saw duplex.old events duplex.new }
         ensures waits { IsErrOf result Halt.WouldWait → D.waits duplex.new }
     {

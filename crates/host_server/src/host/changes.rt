@@ -5,7 +5,7 @@ ghost use Rattle.host_server.specs.Entries.{IsEntered, IsRefusedAs, IsUndoRefuse
 ghost use Rattle.host_server.specs.Hosts.{Grows, next_number, with_entry};
 ghost use Rattle.host_server.specs.Journals.{Agrees, IsJournaled, IsStopped, is_broken};
 ghost use Rattle.host_server.specs.Memory.{is_published};
-ghost use Rattle.host_server.specs.Outcomes.{Publishes, published_if_ready};
+ghost use Rattle.host_server.specs.Outcomes.{Publishes, publishing_if_ready};
 ghost use Rattle.host_server.specs.Reasons;
 ghost use Rattle.host_server.specs.Reasons.{commit_refusal};
 
@@ -79,7 +79,7 @@ impl SoloHouse {
     ) -> Result<Option<u64>, Refusal>
         requires agrees { Agrees journal.old self.old.entries }
         requires whole { is_broken journal.old ≡ false }
-        ensures done { Publishes result self.new (published_if_ready self.old site.now number) }
+        ensures done { Publishes result self.new (publishing_if_ready self.old site.now number) }
         ensures stops { IsStopped result → IsTrue (is_published self.old site.now number) }
         ensures journal { IsJournaled D.Disk result self.old journal.old self.new journal.new }
         ensures err { OnErr result (self.new ≡ self.old) }

@@ -25,17 +25,17 @@ ghost use Rattle.host_api.specs.declared.texts.Told.{Told};
 ghost use Rattle.host_api.specs.declared.texts.Told.TheVariants.{Deploy, Refused};
 ghost use Rattle.host_answers.specs.Asking.{asked_for};
 ghost use Rattle.host_answers.specs.declared.uploads.Uploaded.{Uploaded};
-ghost use Rattle.host_server.specs.Asks.{Comes, HostStops, IsAnswer};
+ghost use Rattle.host_server.specs.Asks.{ComesOf, HostStops, IsAnswer};
 ghost use Rattle.host_replies.specs.FileAsks.{AsksRange};
 ghost use Rattle.host_server.specs.Hosts.{Grows, Host};
 ghost use Rattle.host_server.specs.Journals.{IsJournaled, IsStopped, is_broken};
 ghost use Rattle.journaled_history.specs.Puts.{IsPut, IsPutInVain};
-ghost use Rattle.host_server.specs.Memory.{CommandRunsOut, DeployRunsOut};
+ghost use Rattle.host_server.specs.Memory.{DeployStops};
 ghost use Rattle.host_server.specs.Openings.{IsOpened};
 ghost use Rattle.host_server.specs.Outcomes.{Outcome};
 ghost use Rattle.host_server.specs.ReadBack.{IsReadBack};
 ghost use Rattle.host_replies.specs.Replies.{Answer, Tells, refused_answer};
-ghost use Rattle.host_connection.specs.Serving.{IsInterim, Serves, Stream};
+ghost use Rattle.host_connection.specs.Serving.{IsHeadRefused, IsInterim, Serves, Stream};
 ghost use Rattle.host_server.specs.Shown.{Shows, ShowsDeploy};
 ghost use Rattle.host_server.specs.ServerHouses.{CommitsAt, EntersAt, LooksAt, MissesAt, UndoesAt, UploadsAt};
 ghost use Rattle.host_server.specs.Solo.{IsServed, Runs, RunsStore};
@@ -109,14 +109,14 @@ pub fn wrong_changes_are_refused<D: Disk>()
     ensures stopped { ¬ (IsStopped {A = ℕ} (Ok 0)) }
     ensures stops { (host next : Host) (site : SiteName) → ¬ (HostStops host (Ok (ask.Changes site)) next) }
     ensures command { (command : Command) (next : Host)
-        → ¬ (CommandRunsOut (record { limit = 0; entries = []; uploads = map.empty }) command next) }
+        → ¬ (HostStops (record { limit = 0; entries = []; uploads = map.empty }) (Ok (ask.Command command)) next) }
     ensures undo { (site : SiteName) (k : ℕ) (next : Host)
         → ¬ (HostStops (record { limit = 0; entries = []; uploads = map.empty }) (Ok (ask.Undo site k)) next) }
     ensures text { ¬ (Tells (Refused reason.BadName) (refused_answer reason.OutOfMemory)) }
-    ensures comes { (host : Host) (site : SiteName) (out : Outcome) → Comes host (Ok (ask.Changes site)) out
+    ensures comes { (host : Host) (site : SiteName) (out : Outcome) → ComesOf host (Ok (ask.Changes site)) out
         → out.host ≡ host }
     ensures deploy { (command : SiteName → Command) (next : Host)
-        → ¬ (DeployRunsOut (record { limit = 0; entries = []; uploads = map.empty }) 1 command next) }
+        → ¬ (DeployStops (record { limit = 0; entries = []; uploads = map.empty }) 1 command next) }
     ensures shown { (told : Told) → ShowsDeploy (record { limit = 0; entries = []; uploads = map.empty }) 1 told
         → told ≡ Refused (reason.Change NoSuchDeploy) }
     ensures shows { (uploads : Contents) (site : SiteName) (n : ℕ)
@@ -134,6 +134,7 @@ pub fn wrong_runs_are_refused<S: Shelf, D: Disk, X: Duplex>()
     ensures caught_up { (host : Server S D D.Disk)
         → ¬ (IsCaughtUp (IsAnswer S.did S.failures) host [] (0 ∷ [])) }
     ensures interim { (parts : RequestParts) → ¬ (IsInterim parts (0 ∷ [])) }
+    ensures head { (stream : Stream) → ¬ (IsHeadRefused stream []) }
     ensures opened { (old : D) (shelf : S) (limit : ℕ) (server : Server S D D.Disk) → server.journal ≡ None
         → ¬ (IsOpened S.did old shelf limit server) }
     ensures open_fault { (old new : D) (shelf new_shelf : S) (limit : ℕ)

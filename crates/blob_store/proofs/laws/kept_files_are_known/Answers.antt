@@ -6,9 +6,9 @@ use Rattle.blob_store.proofs.KeptOpen.{is_known, known_there, no_opening_stays, 
 use Rattle.blob_store.proofs.laws.kept_files_are_known.Goals as goal
 
 pub returns-clause-known : goal.returns-clause-known
-returns-clause-known g c = λ honest has old new wanted known file must keeps so there small needed is.
+returns-clause-known g c = λ honest has old new wanted one known file keeps so there small among named is.
     let did = g.S.Shelf.did in
-    is_known (Where honest did) has keeps.kept file small old new wanted known must there needed (honestly.opened did honest has keeps old new wanted known so is)
+    is_known (Where honest did) has keeps.kept file small old new wanted one known there among named (honestly.opened did honest has keeps old new wanted known so is)
 
 pub returns-clause-there : goal.returns-clause-there
 returns-clause-there g c = λ honest has old new wanted file keeps so there small fault.

@@ -1,24 +1,41 @@
-use Rattle.std.proofs.Common.{◌≡◌, inl, inr, true, false, ℕ, cond, ◌&&◌, List, [], ◌∷◌, Some, None, refl, sym, ap, ◌∙◌}
-use Rattle.std.specs.BTreeMap.{is_at}
-use Rattle.std.specs.FinMap.{get-empty}
+use Rattle.std.proofs.Common.{◌≡◌, inl, inr, true, false, ℕ, cond, ◌&&◌, List, [], ◌∷◌, ◌++◌, Some, None, map, refl, sym, ap, ◌∙◌, arith}
+use Rattle.std.specs.FinMap.{get, get-empty}
+use Rattle.std.specs.FinMap as fin
 use Rattle.std.proofs.lemmas.Cmp.{eq_by_cmp_equiv}
 use Rattle.host_names.specs.Digests.{digest_of, digest_cmp, digest_cmp_total}
+use Rattle.byte_view.specs.Contents.{with_file}
 use Rattle.blob_store.specs.Calls.{PutsInTurn}
 use Rattle.blob_store.specs.Folders.{is_answer, is_name}
 use Rattle.blob_store.specs.Keeping.{Thing}
+use Rattle.blob_store.specs.Openings.{Taken, known_of}
 use Rattle.blob_store.specs.Shelves.{Does}
+use Rattle.blob_store.specs.declared.openings.Wanted.{Wanted}
 use Rattle.blob_store.specs.declared.mem_shelf.MemShelf.{MemShelf}
 use Rattle.blob_store.specs.declared.shelves.ShelfFault.TheVariants.{Device, OutOfMemory}
 use Rattle.blob_store.specs.declared.shelves.ShelfName.TheVariants.{Part}
+use Rattle.blob_store.proofs.Additions.{get_added}
 use Rattle.blob_store.proofs.Once.{contains_here, contains_none}
 use Rattle.blob_store.proofs.laws.wrong_answers_are_refused.Goals as goal
 
-pub returns-clause-order : goal.returns-clause-order
-returns-clause-order g c digest must order =
-    let here : is_at (digest_cmp digest) digest ≡ true = (eq_by_cmp_equiv digest_cmp_total).refl digest in
-    let none : cond (is_at (digest_cmp digest) digest) (Some must) None ≡ None = order.each digest in
-    let some : Some must ≡ None = ap (λ b. cond b (Some must) None) (sym here) ∙ none in
-    absurd (cc some)
+-- of no wanted file nothing came
+no_taken : (taken : List Taken) → map (λ (t : Taken). t.wanted) taken ≡ [] → taken ≡ []
+no_taken [] e = refl
+no_taken (t ∷ taken) e = absurd (cc e)
+
+no_next : (taken : List Taken) (next : Wanted) (later : List Wanted) → map (λ (t : Taken). t.wanted) taken ++ next ∷ later ≡ [] → ⊥
+no_next [] next later e = absurd (cc e)
+no_next (t ∷ taken) next later e = absurd (cc e)
+
+pub returns-clause-opened : goal.returns-clause-opened
+returns-clause-opened g c old new file is =
+    let none = get-empty {X = List ℕ} digest_cmp (digest_of file) in
+    let known : with_file fin.empty file ≡ fin.empty = is.3 ∙ ap known_of (no_taken is.0 is.1) in
+    let at : get (with_file fin.empty file) (digest_of file) ≡ Some file = get_added fin.empty (with_file fin.empty file) file file refl refl none in
+    let wrong : None ≡ Some file = sym none ∙ ap (λ k. get k (digest_of file)) (sym known) ∙ at in
+    absurd (cc wrong)
+
+pub returns-clause-stopped : goal.returns-clause-stopped
+returns-clause-stopped g c old new fault is = no_next is.0 is.1 is.2 is.4
 
 pub returns-clause-keeps : goal.returns-clause-keeps
 returns-clause-keeps g c has shelf name keeps =
@@ -49,7 +66,7 @@ returns-clause-missed g c piece is = elim is.each.0 [
 ]
 
 pub returns-clause-twice : goal.returns-clause-twice
-returns-clause-twice g c piece is = is.apart.0.0 refl
+returns-clause-twice g c piece is = is.apart 0 1 (digest_of piece) (omega arith) (omega arith) refl
 
 pub returns-clause-again : goal.returns-clause-again
 returns-clause-again g c piece is = is.fresh.0 (contains_here (digest_of piece) [])

@@ -1,9 +1,9 @@
-use Rattle.std.proofs.Common.{rules, ◌≡◌, [], inl, inr, Err, None, length, refl, sym, ap, subst, map}
+use Rattle.std.proofs.Common.{rules, ◌≡◌, [], inl, inr, Err, None, length, refl, sym, ap, ap₂, subst, map, ◌∙◌}
 use Rattle.std.proofs.lemmas.Result.{IfErr-weaker, IfOk-weaker}
 use Rattle.host_names.specs.Digests.{digest_of}
 use Rattle.range_spec.specs.declared.selection.Choice.{Choice}
 use Rattle.range_spec.specs.declared.selection.Choice.TheVariants.{Whole}
-use Rattle.range_reply.specs.Bodies.{AreFor, HasBoundary, shown_text, stretches, text_in}
+use Rattle.range_reply.specs.Bodies.{AreFor, HasBoundary, body_text, stretches, text_in}
 use Rattle.range_reply.specs.Holding.{AreHeld, held_in}
 use Rattle.range_reply.specs.Sending.{IsNotRead, IsRead, IsSent, SentFile, more_of, sent_holds}
 use Rattle.range_reply.specs.Slices.{shown}
@@ -31,6 +31,7 @@ returns-in-Ok-clause-read g c =
     let has : HasBoundary boundary plan = c.in-Ok.ensures.separated in
     let digest : c.digest.result ≡ digest_of file = search rules in
     let seen : c.as_slice.result.now ≡ holds = search rules in
+    let opened : c.deref-in-Ok.result.now ≡ file = search rules in
     let are : AreFor holds file plan = record { same_file = held.same_file; in_order = held.in_order } in
     let R : SentFile → Type 0 = λ body. IsRead gave c.args.holder.now file plan content_type body c.hold_for.new.holder in
     IfOk-weaker c.new.result _ R (λ body is. subst R (sym is) (record {
@@ -41,12 +42,13 @@ returns-in-Ok-clause-read g c =
           (subst (λ hs. IsSent (map shown hs) c.digest.result plan boundary plan) seen c.in-Ok.ensures.shown);
       more = [];
       more_held = nothing_held gave file c.hold_for.new.holder (more_of (length file) plan boundary) (none-more (length file) plan boundary has);
-      bytes = ap (λ hs. shown_text (text_in boundary) content_type hs plan) (sym (first-sent holds [] plan boundary has));
+      bytes = ap₂ (λ n hs. body_text (text_in boundary) content_type n plan (map shown hs)) (ap length opened) (sym (first-sent holds [] plan boundary has));
       exact = λ pure. (
           let all = are_pure file holds held.same_file held.lawful (pure-first file holds [] pure) in
           record {
             sent = sent_of file (length file) holds c.as_slice.result.now c.digest.result plan boundary plan seen digest held.same_file held.in_order c.in-Ok.ensures.pure all;
-            bytes = sent-pure (text_in boundary) content_type file holds plan are all;
+            bytes = ap (λ n. body_text (text_in boundary) content_type n plan (map shown holds)) (ap length opened)
+                ∙ sent-pure (text_in boundary) content_type file holds plan are all;
           });
     })) c.new.ensures.made
 
@@ -82,7 +84,8 @@ returns-in_ok-whole-in-Err-clause-read g c =
     let seen : c.as_slice.result.now ≡ xs = search rules in
     let are : AreFor ys file Whole = record { same_file = rest.same_file; in_order = rest.in_order } in
     let R : SentFile → Type 0 = λ body. IsRead gave c.args.holder.now file plan content_type body c.hold_whole.new.holder in
-    let B : Choice → Type 0 = λ p. shown_text (text_in None) content_type ys Whole ≡ shown_text (text_in None) content_type (sent_holds xs ys p None) Whole in
+    let B : Choice → Type 0 = λ p. body_text (text_in None) content_type (length file) Whole (map shown ys)
+    ≡ body_text (text_in None) content_type (length file) Whole (map shown (sent_holds xs ys p None)) in
     IfOk-weaker c.new-in-Err.result _ R (λ body is. subst R (sym is) (record {
       holds = xs;
       mid = c.hold_for.new.holder;

@@ -3,9 +3,9 @@ use Rattle.host_names.specs.declared.cells.Cell.{Cell}
 use Rattle.site_state.specs.declared.changes.Change.{Change as CellChange}
 use Rattle.touch_index.specs.Next.{IsNext}
 use Rattle.touch_index.specs.Postings.{may_touch_any}
-use Rattle.change_undo.specs.Clashes.{in_cell}
 use Rattle.change_undo.specs.Kept.{kept_touch}
 use Rattle.change_undo.proofs.NextTouch.{next_one, no_next, within}
+use Rattle.change_undo.proofs.WithoutClash.{in_cell}
 use Rattle.change_undo.proofs.records.Records.kept_touch.Goals as goal
 
 pub returns-in-Some-touched_by : goal.returns-in-Some-touched_by

@@ -1,10 +1,11 @@
 use Rattle.std.proofs.Common.{Err, inl, subst, sym, ap}
 use Rattle.http_wire.specs.declared.halts.Halt.{Halt}
 use Rattle.http_wire.specs.declared.sinks.WriteFailed.{WriteFailed}
+use Rattle.http_wire.specs.Gathering.{SendsOn}
 use Rattle.host_connection.specs.declared.phases.Phase.{Phase}
 use Rattle.host_connection.specs.declared.steps.Wants.TheVariants as wants
 use Rattle.host_connection.specs.Carrying.{text_of, Awaits, Carried, IsHeld, MayWait}
-use Rattle.host_connection.proofs.Carried.{SendsOn, at_connection, at_reply, reply_failed, reply_followed, waits_in_reply}
+use Rattle.host_connection.proofs.Carried.{at_connection, at_reply, reply_failed, reply_followed, waits_in_reply}
 use Rattle.host_connection.proofs.steps.Connection.send.Goals as goal
 
 pub returns-in-Ok-clause-leads : goal.returns-in-Ok-clause-leads

@@ -1,4 +1,9 @@
-use Rattle.std.proofs.Common.{ℕ, ◌≡◌, inl, inr, Result, Ok, Err, if◌then◌else◌, is_ok, refl, sym, ◌∙◌}
+use Rattle.std.proofs.Common.{ℕ, ◌≡◌, inl, inr, List, [], ◌∷◌, ◌++◌, true, false, Result, Ok, Err, if◌then◌else◌, is_ok, refl, sym, ◌∙◌}
+use Rattle.std.specs.List.{flat_map}
+use Rattle.http_wire.specs.Replies.{ended_line, head_lines}
+use Rattle.host_api.specs.declared.refusals.HeadRefusal.TheVariants.{BadHead, HeadTooLarge}
+use Rattle.host_api.specs.declared.refusals.Refusal.TheVariants.{Head}
+use Rattle.host_replies.specs.Replies.{Answer, fields_for, refused_answer, sent_text}
 use Rattle.host_server.specs.OpeningLines.{shown_of}
 use Rattle.host_connection.specs.declared.connections.ConnectionFault.{ConnectionFault}
 use Rattle.found_host.specs.declared.faults.OpenFault.{OpenFault}
@@ -21,6 +26,19 @@ returns-clause-caught_up g c host is = not_caught_up _ host is
 pub returns-clause-interim : goal.returns-clause-interim
 returns-clause-interim g c parts (inl (expects, is)) = absurd (cc is)
 returns-clause-interim g c parts (inr (expects, is)) = absurd (cc is)
+
+-- a text with a line's end in it is not empty
+none_ended : (before behind : List ℕ) (x y : ℕ) → [] ≡ (before ++ x ∷ y ∷ []) ++ behind → ⊥
+none_ended [] behind x y none = absurd (cc none)
+none_ended (b ∷ before) behind x y none = absurd (cc none)
+
+-- so no reply is sent without a byte
+none_sent : (answer : Answer) → [] ≡ sent_text true false answer → ⊥
+none_sent answer none = none_ended (flat_map ended_line (head_lines (fields_for true answer))) answer.body 13 10 none
+
+pub returns-clause-head : goal.returns-clause-head
+returns-clause-head g c stream (inl (new, large, sent)) = none_sent (refused_answer (Head HeadTooLarge)) sent
+returns-clause-head g c stream (inr (new, text, takes, bad, sent)) = none_sent (refused_answer (Head BadHead)) sent
 
 pub returns-clause-opened : goal.returns-clause-opened
 returns-clause-opened g c old shelf limit server none is = absurd (cc (sym none ∙ is.is))

@@ -17,7 +17,7 @@ of_several-requires-clause-long c =
     let plan = ap (λ v. v.plan) c.self.view_is ∙ c.in-Several.ensures.0.1 in
     let boundary = ap (λ v. v.boundary) c.self.view_is ∙ c.in-Several.ensures.1 in
     c.self.invariant.long
-    ∙ ap length (sym (several_shown (plan_sent inside.sends (held_in inside.holds)) inside.boundary c.in-Several.ensures.0.0 between content_type (held_in inside.holds) plan boundary c.self.invariant.lawful))
+    ∙ ap length (sym (several_shown (plan_sent inside.sends (held_in inside.holds)) inside.boundary c.in-Several.ensures.0.0 between content_type inside.size c.self.invariant.file (held_in inside.holds) plan boundary c.self.invariant.sized c.self.invariant.are c.self.invariant.lawful))
     ∙ ap (λ hs. length_of (several_texts (text_of between) content_type hs)) (sym c.as_slice-holds.ensures)
 
 pub returns-in-Several : goal.returns-in-Several
@@ -28,7 +28,7 @@ returns-in-Several c =
     let plan = ap (λ v. v.plan) c.self.view_is ∙ c.in-Several.ensures.0.1 in
     let boundary = ap (λ v. v.boundary) c.self.view_is ∙ c.in-Several.ensures.1 in
     ap concat c.of_several.ensures ∙ ap (λ hs. concat (several_texts (text_of between) content_type hs)) c.as_slice-holds.ensures
-    ∙ several_shown (plan_sent inside.sends (held_in inside.holds)) inside.boundary c.in-Several.ensures.0.0 between content_type (held_in inside.holds) plan boundary c.self.invariant.lawful
+    ∙ several_shown (plan_sent inside.sends (held_in inside.holds)) inside.boundary c.in-Several.ensures.0.0 between content_type inside.size c.self.invariant.file (held_in inside.holds) plan boundary c.self.invariant.sized c.self.invariant.are c.self.invariant.lawful
     ∙ ap (λ v. v.bytes) c.self.view_is
 
 pub of_stretch-requires : goal.of_stretch-requires
@@ -37,7 +37,7 @@ of_stretch-requires c =
     let first = c.first.ensures.value ∙ ap (λ hs. slice_get hs 0) c.as_slice-holds.ensures in
     let alone : (intervals : List (ℕ × ℕ)) → (plan_sent inside.sends (held_in inside.holds)) ≡ Many intervals → ⊥ = λ intervals is. not_several c.form.result c.args.self.now.plan c.args.self.now.boundary c.form.ensures c.in_default.not-Several intervals (ap (λ v. v.plan) (sym c.self.view_is) ∙ is) in
     c.self.invariant.long
-    ∙ ap length (sym (stretch_shown _ (text_in inside.boundary) inside.content_type.text.now (held_in inside.holds) c.self.invariant.file (plan_sent inside.sends (held_in inside.holds)) c.self.invariant.are c.self.invariant.lawful first alone))
+    ∙ ap length (sym (stretch_shown _ (text_in inside.boundary) inside.content_type.text.now inside.size (held_in inside.holds) c.self.invariant.file (plan_sent inside.sends (held_in inside.holds)) c.self.invariant.are c.self.invariant.lawful first alone))
 
 pub returns-in_default : goal.returns-in_default
 returns-in_default c =
@@ -45,5 +45,5 @@ returns-in_default c =
     let first = c.first.ensures.value ∙ ap (λ hs. slice_get hs 0) c.as_slice-holds.ensures in
     let alone : (intervals : List (ℕ × ℕ)) → (plan_sent inside.sends (held_in inside.holds)) ≡ Many intervals → ⊥ = λ intervals is. not_several c.form.result c.args.self.now.plan c.args.self.now.boundary c.form.ensures c.in_default.not-Several intervals (ap (λ v. v.plan) (sym c.self.view_is) ∙ is) in
     ap concat c.of_stretch.ensures
-    ∙ stretch_shown _ (text_in inside.boundary) inside.content_type.text.now (held_in inside.holds) c.self.invariant.file (plan_sent inside.sends (held_in inside.holds)) c.self.invariant.are c.self.invariant.lawful first alone
+    ∙ stretch_shown _ (text_in inside.boundary) inside.content_type.text.now inside.size (held_in inside.holds) c.self.invariant.file (plan_sent inside.sends (held_in inside.holds)) c.self.invariant.are c.self.invariant.lawful first alone
     ∙ ap (λ v. v.bytes) c.self.view_is
