@@ -9,7 +9,7 @@ import time
 import unittest
 
 from lib.client import digest_of, done, request, sent, to_head
-from lib.held_loads import HeldLoads
+from lib.held_file import HeldFile
 from lib.served import Served, ask, publish
 from lib.worked_runs import entry, removing, undoing
 
@@ -35,7 +35,7 @@ class Held(Served):
     def begin(self, workers, nodes=1):
         """Serves the files. /y.txt was read at each node, and /x.txt at none."""
         room, store = self.folder().resolve(), self.folder().resolve()
-        self.held = HeldLoads(room, store / f"c-{digest_of(FILES['/x.txt'])}")
+        self.held = HeldFile(room, store / f"c-{digest_of(FILES['/x.txt'])}")
         self.serve("--workers", str(workers), "--store", str(store), nodes=nodes, environment=self.held.environment)
         publish(self.client(), FILES)
         for node in range(nodes):

@@ -54,8 +54,8 @@ def files_of(content):
 
 
 def files_in(folder):
-    """What a store has but its journal and what was written last."""
-    return {file.name: file.read_bytes() for file in folder.iterdir() if file.name not in ("journal", "blob.tmp")}
+    """What a store has but its journal and what has no name of its own yet."""
+    return {file.name: file.read_bytes() for file in folder.iterdir() if file.name != "journal" and file.suffix != ".tmp"}
 
 
 def is_stored(folder, content):

@@ -56,7 +56,7 @@ FailsAtFile {S} did old digest fault new =
 abbrev pub AreNamedBy : List ℕ → Answers → Type 0
 AreNamedBy text answers = (answers ≡ []) ⊎ ((size : ℕ) × (names : List Digest) × Spells text size names × AreAsked names answers)
 
--- it gave each piece of a file, whose names are the first of these, and was asked for nothing else
+-- it gave each piece of a file, whose names are the first of these, and was asked for nothing else; an empty file has none
 abbrev pub GivesFirst : {S : Type 0} → (did : S → Call → S → Type 0) → S → List Digest → S → Type 0
 GivesFirst did old names new = (file : List ℕ) × (later : List Digest) × (names_of file ++ later ≡ names) × GivesInTurn did old (pieces_given file) new
 
@@ -112,8 +112,8 @@ IsNextFault did old name before read_fault.OutOfMemory new =
 abbrev pub AreNoPieces : Answers → Type 0
 AreNoPieces answers = (file : List ℕ) (rest : Answers) → length file ≤ 16777216 → pieces_given file ≡ answers ++ rest → ⊥
 
--- why no file is read by these names: what was given begins none; or the shelf failed at a piece, after those before it; or there was no memory
--- for the name of the last one given. Of no names there is no reason
+-- why no file is read by these names: what was given begins none; or the shelf failed at a piece, after those before it; or there was no memory,
+-- after the first pieces or before any. Of no names there is no reason
 abbrev pub ArePiecesFault : {S : Type 0} → (did : S → Call → S → Type 0) → S → List Digest → ReadFault → S → Type 0
 ArePiecesFault did old names read_fault.Missing new = ⊥
 ArePiecesFault did old names read_fault.Damaged new = (answers : Answers) × AreAsked names answers × GivesInTurn did old answers new × AreNoPieces answers

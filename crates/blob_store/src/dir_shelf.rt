@@ -83,7 +83,7 @@ fn sync_folder<R: Files>(rt: &R, folder: &str) -> io::Result<()> {
     File::open(rt, folder)?.sync_all()
 }
 
-/// Writes bytes under the temporary name, syncs them, and renames the file to its own name, where it replaces what was there.
+/// Writes bytes under a temporary name, syncs them, and renames the file to its own name, where it replaces what was there.
 fn write_file<R: Files>(rt: &R, temporary: &str, path: &str, bytes: &[u8]) -> io::Result<()> {
     let mut file = File::create(rt, temporary)?;
     file.write_all(bytes)?;
@@ -91,8 +91,39 @@ fn write_file<R: Files>(rt: &R, temporary: &str, path: &str, bytes: &[u8]) -> io
     fs::rename(rt, temporary, path)
 }
 
+/// Writes the file of a table, and syncs the folder.
+fn write_table<R: Files>(
+    rt: &R,
+    folder: &str,
+    temporary: &str,
+    path: &str,
+    bytes: &[u8],
+) -> io::Result<()> {
+    write_file(rt, temporary, path, bytes)?;
+    sync_folder(rt, folder)
+}
+
+/// Writes the file of a name in a folder, first under a temporary name, which nobody else may use meanwhile. Once a table is written, its name
+/// lasts, and so do those of all files written before.
+pub(crate) fn write_in<R: Files>(
+    rt: &R,
+    alloc: Global,
+    folder: &str,
+    temporary: &str,
+    name: ShelfName,
+    bytes: &[u8],
+) -> Result<(), ShelfFault> {
+    let path = path_in(alloc, folder, name)?;
+    let path = path.as_str();
+    let written = match name {
+        ShelfName::Part(_) => write_file(rt, temporary, path, bytes),
+        ShelfName::Table(_) => write_table(rt, folder, temporary, path, bytes),
+    };
+    written.map_err(|_| ShelfFault::Device)
+}
+
 impl<'a, R: Files> DirShelf<'a, R> {
-    /// The shelf of a folder. It asks the system for nothing yet. Nobody else may write in the folder.
+    /// The shelf of a folder. It asks the system for nothing yet. While it is used, nobody else may write in the folder.
     pub fn new(rt: &'a R, alloc: Global, folder: &str) -> Result<DirShelf<'a, R>, AllocError>
         ensures { IfOk result (λ shelf. calls_of shelf.log ≡ []) }
     {
@@ -106,25 +137,6 @@ impl<'a, R: Files> DirShelf<'a, R> {
             log: CallLog::Empty,
         })
     }
-
-    /// Writes the file of a name. Once a table is written, its name lasts, and so do those of all files written before.
-    fn write(&self, name: ShelfName, bytes: &[u8]) -> Result<(), ShelfFault> {
-        let path = path_in(self.alloc, self.folder.as_str(), name)?;
-        let written = match name {
-            ShelfName::Part(_) => self.write_under(&path, bytes),
-            ShelfName::Table(_) => self.write_table(&path, bytes),
-        };
-        written.map_err(|_| ShelfFault::Device)
-    }
-
-    fn write_under(&self, path: &PathBuf, bytes: &[u8]) -> io::Result<()> {
-        write_file(self.rt, self.temporary.as_str(), path.as_str(), bytes)
-    }
-
-    fn write_table(&self, path: &PathBuf, bytes: &[u8]) -> io::Result<()> {
-        self.write_under(path, bytes)?;
-        sync_folder(self.rt, self.folder.as_str())
-    }
 }
 
 impl<R: Files> Shelf for DirShelf<'_, R> {
@@ -136,7 +148,8 @@ impl<R: Files> Shelf for DirShelf<'_, R> {
     ghost did = { λ old call new. calls_of new.log ≡ call ∷ calls_of old.log };
 
     fn put(&mut self, name: ShelfName, bytes: &[u8]) -> Result<(), ShelfFault> {
-        let outcome = self.write(name, bytes);
+        let (folder, temporary) = (self.folder.as_str(), self.temporary.as_str());
+        let outcome = write_in(self.rt, self.alloc, folder, temporary, name, bytes);
         logged_put(&mut self.log, name, bytes, outcome)
     }
 

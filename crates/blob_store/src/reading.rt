@@ -23,8 +23,8 @@ pub(crate) fn of_shelf(fault: ShelfFault) -> ReadFault
     }
 }
 
-/// The chunk of a name, checked.
-pub(crate) fn read_chunk<S: Shelf>(shelf: &mut S, name: Digest) -> Result<Chunk, ReadFault>
+/// The chunk with this name, as a shelf gives it now. It is checked after the shelf's call: it has that name.
+pub fn read_chunk<S: Shelf>(shelf: &mut S, name: Digest) -> Result<Chunk, ReadFault>
     ensures given { IfOk result (λ chunk. S.did shelf.old (Got (Part name) (Some chunk)) shelf.new) }
     ensures named { IfOk result (λ chunk. digest_of chunk ≡ name) }
     ensures fault { IfErr result (λ fault. IsChunkFault S.did shelf.old name fault shelf.new) }

@@ -3,33 +3,36 @@ ghost use Rattle.std.specs.Prelude.{◌≡◌, []};
 ghost use Rattle.blob_store.specs.Folders.{calls_of};
 
 use crate::call_logs::{CallLog, logged_get, logged_put};
+use crate::shelf_access::ShelfAccess;
 use crate::shelf_files::Files;
 use crate::shelves::{Shelf, ShelfFault, ShelfName};
 use std::sync::{Mutex, Wait};
 
-/// The shelf of files that threads share behind a lock. Each call waits for the lock and holds it for that call alone, so calls of other
-/// threads come in between. Nothing is known of the shelf then: contracts see the calls that were made by this value.
+/// The shelf of files that threads share. Each call reaches them by a `ShelfAccess`, and calls of other threads come in between. So nothing is
+/// known of the shelf: contracts see the calls that were made by this value.
 #[derive(Drop)]
-pub struct SharedShelf<'a, R, S> {
+pub struct SharedShelf<'a, R, S, A> {
     rt: &'a R,
     files: &'a Mutex<Files<S>>,
+    access: &'a A,
     log: CallLog,
 }
 
-impl<'a, R, S> SharedShelf<'a, R, S> {
-    /// The shelf of these files, for a thread that waits for the lock by this handle.
-    pub fn new(rt: &'a R, files: &'a Mutex<Files<S>>) -> SharedShelf<'a, R, S>
+impl<'a, R, S, A> SharedShelf<'a, R, S, A> {
+    /// The shelf of these files, for a thread that reaches it this way and waits for locks by this handle.
+    pub fn new(rt: &'a R, files: &'a Mutex<Files<S>>, access: &'a A) -> SharedShelf<'a, R, S, A>
         ensures { calls_of result.log ≡ [] }
     {
         SharedShelf {
             rt,
             files,
+            access,
             log: CallLog::Empty,
         }
     }
 }
 
-impl<R: Wait, S: Shelf> Shelf for SharedShelf<'_, R, S> {
+impl<R: Wait, S, A: ShelfAccess<S>> Shelf for SharedShelf<'_, R, S, A> {
     ghost use Rattle.std.specs.Prelude.{◌≡◌, ◌∷◌};
     ghost use Rattle.blob_store.specs.Folders.{calls_of, failures_in};
 
@@ -38,12 +41,12 @@ impl<R: Wait, S: Shelf> Shelf for SharedShelf<'_, R, S> {
     ghost did = { λ old call new. calls_of new.log ≡ call ∷ calls_of old.log };
 
     fn put(&mut self, name: ShelfName, bytes: &[u8]) -> Result<(), ShelfFault> {
-        let outcome = self.files.lock(self.rt).shelf_mut().put(name, bytes);
+        let outcome = self.access.put(self.rt, self.files, name, bytes);
         logged_put(&mut self.log, name, bytes, outcome)
     }
 
     fn get(&mut self, name: ShelfName) -> Result<Option<Vec<u8>>, ShelfFault> {
-        let outcome = self.files.lock(self.rt).shelf_mut().get(name);
+        let outcome = self.access.get(self.rt, self.files, name);
         logged_get(&mut self.log, name, outcome)
     }
 }

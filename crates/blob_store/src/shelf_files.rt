@@ -1,5 +1,5 @@
 //! Files on a shelf, without what is known of them.
-ghost use Rattle.std.specs.Prelude.{◌≡◌, ◌↔◌, ◌<◌, ◌≤◌, Err, IfErr, IfOk, None, OnOk, Some, length, option_map};
+ghost use Rattle.std.specs.Prelude.{◌≡◌, ◌↔◌, ◌<◌, ◌≤◌, Err, IfErr, IfOk, None, OnOk, Some, length};
 ghost use Rattle.host_names.specs.Digests.{digest_of};
 ghost use Rattle.blob_store.specs.declared.blobs.UploadFault.TheVariants as upload_fault;
 ghost use Rattle.chunk_reads.specs.declared.faults.ReadFault.TheVariants as read_fault;
@@ -10,8 +10,8 @@ ghost use Rattle.blob_store.specs.Faults.{HasPutPart, IsChunkFault};
 use crate::blob_indexes::BlobIndex;
 use crate::blobs::UploadFault;
 use crate::puts::put_file;
-use crate::reading::{of_shelf, read_chunk};
-use crate::shelves::{Shelf, ShelfName};
+use crate::reading::read_chunk;
+use crate::shelves::Shelf;
 use crate::tables::table_text;
 use byte_view::{BlobInfo, Chunk, MAX_SIZE};
 use chunk_reads::ReadFault;
@@ -81,21 +81,6 @@ impl<S: Shelf> Files<S> {
         )
         .map_err(UploadFault::of_shelf)?;
         Ok(info)
-    }
-
-    /// The bytes that the shelf gives now as the piece with this name. They aren't checked, and may be any bytes.
-    ///
-    /// Nodes that share a shelf need it: they check the piece after they have let go of the lock. Nothing else calls it.
-    pub fn piece(&mut self, name: &Digest) -> Result<Option<Vec<u8>>, ReadFault>
-        ensures given { IfOk result (λ bytes. S.did self.old.shelf (Got (Part name.now) (option_map (λ b. b.items) bytes)) self.new.shelf) }
-        ensures fault { IfErr result (λ fault. IsChunkFault S.did self.old.shelf name.now fault self.new.shelf) }
-        ensures device { IfErr result (λ fault. fault ≡ read_fault.Device → S.failures self.old.shelf < S.failures self.new.shelf) }
-        ensures count { S.failures self.old.shelf ≤ S.failures self.new.shelf }
-    {
-        match self.shelf.get(ShelfName::Part(*name)) {
-            Ok(bytes) => Ok(bytes),
-            Err(fault) => Err(of_shelf(fault)),
-        }
     }
 
     /// The chunk with this name, as the shelf gives it now, and checked: it has that name.

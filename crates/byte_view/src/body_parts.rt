@@ -7,10 +7,11 @@ ghost use Rattle.byte_view.specs.BodyParts.{text_of};
 use arrayvec::ArrayString;
 use std::iter::Iterator;
 
-/// A part of a body: a short text of its own, or bytes that it borrows.
+/// A part of a body: a short text of its own, such as a boundary's line, or bytes that it borrows. The room for its text is small, since parts are
+/// moved on their way out.
 #[derive(Clone, Copy, Debug)]
 pub enum Part<'a> {
-    Text(ArrayString<256>),
+    Text(ArrayString<96>),
     Lent(&'a [u8]),
 }
 

@@ -20,7 +20,7 @@ LoadedOfFiles did failures old key answer new =
     IsPiece did old.files.shelf key answer new.files.shelf × (answer ≡ Err Device → failures old.files.shelf < failures new.files.shelf)
     × (failures old.files.shelf ≤ failures new.files.shelf)
 
--- a load through a lock: what the shelf was asked isn't known, but a chunk that is given has the name
-abbrev pub LoadedThroughLock : {S : Type 0} → S → Digest → Result (List ℕ) ReadFault → S → Type 0
-LoadedThroughLock old key (Ok bytes) new = (digest_of bytes ≡ key) × (new ≡ old)
-LoadedThroughLock old key (Err fault) new = new ≡ old
+-- a load from a shelf that threads share: what the shelf was asked isn't known, but a chunk that is given has the name
+abbrev pub LoadedOfShared : {S : Type 0} → S → Digest → Result (List ℕ) ReadFault → S → Type 0
+LoadedOfShared old key (Ok bytes) new = (digest_of bytes ≡ key) × (new ≡ old)
+LoadedOfShared old key (Err fault) new = new ≡ old

@@ -7,6 +7,7 @@ use Rattle.std.specs.Set.{remove_key}
 use Rattle.std.specs.Str.{bytes_eq}
 use Rattle.std.proofs.lemmas.List.{length-map, take_all}
 use Rattle.std.proofs.lemmas.Option.{get_or_from_slice_get, slice_get-get_or, slice_get_within}
+use Rattle.std.proofs.lemmas.Slice.Eq.{bytes_eq-Decides}
 use Rattle.host_names.specs.declared.digests.Digest.{Digest}
 use Rattle.host_names.specs.Digests.{digest_of}
 use Rattle.lru.specs.LruCache.{LruCache, lru_cache, promoted, put_entries}
@@ -117,6 +118,42 @@ module _ {Share : Type 0} (bytes : Share → List ℕ) where
 
     pub size-promoted : (es : Entries) → AreNamed bytes es → size_of (chunks_of bytes (promoted (bytes_eq name.0) es)) ≡ size_of (chunks_of bytes es)
     size-promoted es named = ap size_of (chunks-promoted es named) ∙ sum_by-moved (λ chunk. 40 + length chunk) (has_name name) (chunks_of bytes es)
+
+    -- the first entry, where it has the name, is the one that is found
+    lookup-first : (es : Entries) (e : List ℕ × Share) → slice_get es 0 ≡ Some e → bytes_eq name.0 e.0 ≡ true → lookup (bytes_eq name.0) es ≡ Some e.1
+    lookup-first [] e some passes = cc some
+    lookup-first (f ∷ es) e some passes =
+        let same : f ≡ e = cc some in
+        ap (λ (g : List ℕ × Share). cond (bytes_eq name.0 g.0) (Some g.1) (lookup (bytes_eq name.0) es)) same ∙ ap (λ b. cond b (Some e.1) (lookup (bytes_eq name.0) es)) passes
+
+    -- and promoted it stays the first
+    promoted-first : (es : Entries) (e : List ℕ × Share) → slice_get es 0 ≡ Some e → bytes_eq name.0 e.0 ≡ true → promoted (bytes_eq name.0) es ≡ es
+    promoted-first [] e some passes = refl
+    promoted-first (f ∷ es) e some passes =
+        let same : f ≡ e = cc some in
+        by (bytes_eq name.0 f.0) (ap (λ (g : List ℕ × Share). bytes_eq name.0 g.0) same ∙ passes)
+      where
+        by : (b : Bool) → b ≡ true → option_map_or (λ g. g ∷ cond b es (f ∷ remove_entry (bytes_eq name.0) es)) (cond b (Some f) (lookup_entry (bytes_eq name.0) es)) (f ∷ es) ≡ f ∷ es
+        by true passes = refl
+        by false passes = cc passes
+
+    is_named : (key : List ℕ) → bytes_eq key name.0 ≡ true → bytes_eq name.0 key ≡ true
+    is_named key same = (bytes_eq-Decides name.0 key).1 (sym ((bytes_eq-Decides key name.0).0 same))
+
+    pub found-first : (es : Entries) (e : List ℕ × Share) (room : ℕ) (old : Recent) → AreNamed bytes es → recent (chunks_of bytes es) room ≡ old → slice_get es 0 ≡ Some e → bytes_eq e.0 name.0 ≡ true
+        → Some (bytes e.1) ≡ found name old.chunks
+    found-first es e room old named view some same =
+        sym (ap (option_map bytes) (lookup-first es e some (is_named e.0 same))) ∙ found-value es named ∙ ap (λ (r : Recent). found name r.chunks) view
+
+    pub view-first : (es : Entries) (e : List ℕ × Share) (room : ℕ) (old : Recent) → AreNamed bytes es → recent (chunks_of bytes es) room ≡ old → slice_get es 0 ≡ Some e → bytes_eq e.0 name.0 ≡ true
+        → old ≡ recent (to_front name old.chunks) old.room
+    view-first es e room old named view some same =
+        sym view ∙ ap (λ (fs : Entries). recent (chunks_of bytes fs) room) (sym (promoted-first es e some (is_named e.0 same))) ∙ view-promoted es room old named view
+
+    -- nothing is found where there is no first entry
+    pub none-first : (es : Entries) (room : ℕ) (old : Recent) → recent (chunks_of bytes es) room ≡ old → slice_get es 0 ≡ None → None ≡ found name old.chunks
+    none-first [] room old view none = ap (λ (r : Recent). found name r.chunks) view
+    none-first (e ∷ es) room old view none = cc none
 
   none_from_map : {A B : Type 0} (f : A → B) (o : Option A) → option_map f o ≡ None → o ≡ None
   none_from_map f None h = refl

@@ -67,6 +67,13 @@ impl ChunkList {
         ensures miss { found name.now self.old.chunks ≡ None → IsOk result }
         ensures err { OnErr result (self.new ≡ self.old) }
     {
+        // The chunk that was used last stays the first.
+        let Some((last, first)) = self.chunks.peek_mru() else {
+            return Ok(None);
+        };
+        if *last == name.0 {
+            return Ok(Some(Arc::try_clone(first)?));
+        }
         let Some(chunk) = self.chunks.peek(&name.0) else {
             return Ok(None);
         };

@@ -5,7 +5,7 @@ ghost use Rattle.std.specs.Prelude.{◌≡◌, ◌⊎◌};
 
 mod standard_streams;
 
-use blob_store::{FolderReader, LockedReader};
+use blob_store::{FolderAccess, LockedAccess};
 use command_line::ServeOptions;
 use host_nodes::{has_ports, open_memory, refuse_ports, run_serve};
 use host_server::{open_folder, run_solo};
@@ -40,13 +40,13 @@ fn main(rt: HostRuntime) -> ExitCode {
     ExitCode::from(match &options.store {
         None => {
             let opened = open_memory(alloc);
-            let reader = LockedReader;
-            run_serve(&rt, alloc, &options, opened, &reader, &mut out, &mut errors)
+            let access = LockedAccess;
+            run_serve(&rt, alloc, &options, opened, &access, &mut out, &mut errors)
         }
         Some(folder) => {
             let opened = open_folder(&rt, alloc, folder.as_str());
-            let reader = FolderReader::new(&rt, alloc, folder.as_str());
-            run_serve(&rt, alloc, &options, opened, &reader, &mut out, &mut errors)
+            let access = FolderAccess::new(&rt, alloc, folder.as_str());
+            run_serve(&rt, alloc, &options, opened, &access, &mut out, &mut errors)
         }
     })
 }

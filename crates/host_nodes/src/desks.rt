@@ -6,7 +6,7 @@ use crate::nodes::{Job, Shared, answer_peers, serve_clients, share_out};
 use crate::ports::{Bound, Ports};
 use crate::runtimes::Serving;
 use crate::stopping::{PEER_THREADS, Stop};
-use blob_store::{PieceReader, Shelf};
+use blob_store::{Shelf, ShelfAccess};
 use byte_view::BlobInfo;
 use change_undo::Entry;
 use event_loop::{Limits, Node, ReadySet};
@@ -23,7 +23,7 @@ use std::sync::{Mutex, Wait};
 use std::time::Clock;
 
 /// The desk from the seat of a node.
-type HostSeat<'a, J, K, D, S, T, R> = SeatedDesk<'a, J, K, D, S, T, R, R>;
+type HostSeat<'a, J, K, D, S, T, R, Q> = SeatedDesk<'a, J, K, D, S, T, R, R, Q>;
 
 /// The files of a node.
 type HostFiles<'a, 'g, 'h, R, S, Q> = GroupFiles<'a, R, HostGroup<'g, 'h, R, S, Q>>;
@@ -31,7 +31,7 @@ type HostFiles<'a, 'g, 'h, R, S, Q> = GroupFiles<'a, R, HostGroup<'g, 'h, R, S, 
 /// A worker of a node.
 type HostJob<'a, 'g, 'h, J, K, D, S, T, R, Q> = Job<
     'a,
-    GuestSteps<J, HostSeat<'a, J, K, D, S, T, R>, HostFiles<'a, 'g, 'h, R, S, Q>>,
+    GuestSteps<J, HostSeat<'a, J, K, D, S, T, R, Q>, HostFiles<'a, 'g, 'h, R, S, Q>>,
 >;
 
 /// What the threads of the nodes share.
@@ -133,16 +133,17 @@ fn job_of<
     S: Shelf,
     T: Absorb<Notice<J>, State = [Entry; 0]> + Drop,
     R: Net<Stream = TcpStream> + Clock + Wait + Drop,
-    Q: PieceReader<S>,
+    Q: ShelfAccess<S>,
 >(
     rt: &'a R,
     desk: &'a Desk<J, K, D, S, T, R>,
+    access: &'a Q,
     seat: &'a Mutex<Seat<J>>,
     group: &'a HostGroup<'g, 'h, R, S, Q>,
     node: &'a Node<Noted<J>>,
     visitor: DeskVisitor<J>,
 ) -> Option<HostJob<'a, 'g, 'h, J, K, D, S, T, R, Q>> {
-    let desk = SeatedDesk::new(rt, desk, seat);
+    let desk = SeatedDesk::new(rt, desk, access, seat);
     let files = GroupFiles::new(rt, group);
     let house = SharedHouse::new(visitor, desk, files).ok()?;
     let guest = Guest::new(house);
@@ -160,17 +161,18 @@ fn work_at<
     S: Shelf,
     T: Absorb<Notice<J>, State = [Entry; 0]> + Drop,
     R: Net<Stream = TcpStream> + Clock + Wait + Drop,
-    Q: PieceReader<S>,
+    Q: ShelfAccess<S>,
 >(
     alloc: Global,
     shared: &HostShared<'_, '_, '_, J, K, D, S, T, R, Q>,
+    access: &Q,
     at: usize,
     visitor: DeskVisitor<J>,
 ) {
     let (rt, desk) = (shared.rt, shared.desk);
     let (seats, groups, nodes) = (shared.seats, shared.groups, shared.nodes);
     if let (Some(seat), Some(group), Some(node)) = (seats.get(at), groups.get(at), nodes.get(at)) {
-        if let Some(job) = job_of(rt, desk, seat, group, node, visitor) {
+        if let Some(job) = job_of(rt, desk, access, seat, group, node, visitor) {
             serve_clients(rt, alloc, job);
         }
     }
@@ -210,11 +212,12 @@ fn serve_nodes<
     S: Shelf + Send,
     T: Absorb<Notice<J>, State = [Entry; 0]> + Drop + Send + Sync,
     R: Serving,
-    Q: PieceReader<S> + Send + Sync,
+    Q: ShelfAccess<S> + Send + Sync,
     O: Sink,
 >(
     alloc: Global,
     shared: &HostShared<'_, '_, '_, J, K, D, S, T, R, Q>,
+    access: &Q,
     ports: &[Ports],
     visitor: DeskVisitor<J>,
     plan: &Plan,
@@ -230,7 +233,7 @@ fn serve_nodes<
         tasks,
         &|shared, task| match task {
             Task::Serve(at, visitor) => {
-                work_at(alloc, shared, at, visitor);
+                work_at(alloc, shared, access, at, visitor);
                 stop.leave(shared.rt, ports);
             }
             Task::Answer(at) => answer_peers(alloc, shared, ports, limits, stop, at),
@@ -248,7 +251,7 @@ pub(crate) fn serve_desk<
     S: Shelf + Send,
     T: Absorb<Notice<J>, State = [Entry; 0]> + Drop + Send + Sync,
     R: Serving,
-    Q: PieceReader<S> + Send + Sync,
+    Q: ShelfAccess<S> + Send + Sync,
     O: Sink,
 >(
     rt: &'a R,
@@ -256,14 +259,14 @@ pub(crate) fn serve_desk<
     desk: &'a Desk<J, K, D, S, T, R>,
     seats: Seats<J>,
     visitor: DeskVisitor<J>,
-    reader: &'a Q,
+    access: &'a Q,
     bound: Bound,
     plan: &Plan,
     lines: &mut O,
 ) -> Result<(), Failure> {
     let Bound { clients, ports } = bound;
     let (ports, peers) = (ports.as_slice(), peer_addresses(alloc, ports.as_slice())?);
-    let groups = groups_of(rt, alloc, desk.files(), reader, peers.as_slice())?;
+    let groups = groups_of(rt, alloc, desk.files(), access, peers.as_slice())?;
     let seats = seats_of(alloc, seats, ports.len())?;
     let nodes = nodes_of::<J>(alloc, clients, plan.limits, plan.clients)?;
     let shared = Shared {
@@ -273,5 +276,5 @@ pub(crate) fn serve_desk<
         groups: groups.as_slice(),
         nodes: nodes.as_slice(),
     };
-    serve_nodes(alloc, &shared, ports, visitor, plan, lines)
+    serve_nodes(alloc, &shared, access, ports, visitor, plan, lines)
 }

@@ -2,7 +2,7 @@
 ghost use Rattle.std.specs.Prelude.{◌≡◌, ◌<◌, IfOk, length, vec_len};
 
 use crate::ports::Ports;
-use blob_store::{Files, PieceReader};
+use blob_store::{Files, ShelfAccess};
 use chunk_group::{Counter, Group, SharedSource};
 use peer_link::TcpLink;
 use peer_ring::{DigestHash, Ring, RingFault};
@@ -59,11 +59,11 @@ fn ring_of(alloc: Global, peers: &[SocketAddr]) -> Result<Ring<DigestHash>, Ring
 }
 
 /// The node at a place in the ring, with empty caches. There is none only for want of memory.
-fn group_at<'a, R: Net<Stream = TcpStream> + Clock + Wait, S, Q: PieceReader<S>>(
+fn group_at<'a, R: Net<Stream = TcpStream> + Clock + Wait, S, Q: ShelfAccess<S>>(
     rt: &'a R,
     alloc: Global,
     files: &'a Mutex<Files<S>>,
-    reader: &'a Q,
+    access: &'a Q,
     peers: &'a [SocketAddr],
     me: usize,
 ) -> Result<HostGroup<'a, 'a, R, S, Q>, AllocError>
@@ -72,22 +72,22 @@ fn group_at<'a, R: Net<Stream = TcpStream> + Clock + Wait, S, Q: PieceReader<S>>
     let Ok(ring) = ring_of(alloc, peers) else {
         return Err(AllocError);
     };
-    let source = SharedSource::new(rt, files, reader);
+    let source = SharedSource::new(rt, files, access);
     let link = TcpLink::new(alloc, rt, peers);
     Group::new(alloc, CACHE_LIMIT, ring, me, source, link, Counter::new())
 }
 
 /// The nodes at these addresses.
-pub(crate) fn groups_of<'a, R: Net<Stream = TcpStream> + Clock + Wait, S, Q: PieceReader<S>>(
+pub(crate) fn groups_of<'a, R: Net<Stream = TcpStream> + Clock + Wait, S, Q: ShelfAccess<S>>(
     rt: &'a R,
     alloc: Global,
     files: &'a Mutex<Files<S>>,
-    reader: &'a Q,
+    access: &'a Q,
     peers: &'a [SocketAddr],
 ) -> Result<Vec<HostGroup<'a, 'a, R, S, Q>>, AllocError> {
     let mut groups = Vec::new(alloc);
     for me in 0..peers.len() {
-        groups.push(group_at(rt, alloc, files, reader, peers, me)?)?;
+        groups.push(group_at(rt, alloc, files, access, peers, me)?)?;
     }
     Ok(groups)
 }

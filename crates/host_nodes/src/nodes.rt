@@ -3,7 +3,7 @@ use crate::groups::HostGroup;
 use crate::peer_ports::serve_peers;
 use crate::ports::Ports;
 use crate::stopping::Stop;
-use blob_store::PieceReader;
+use blob_store::ShelfAccess;
 use event_loop::{Limits, Node, NodeTurns, Steps, Worker, work};
 use std::alloc::{AllocError, Global};
 use std::net::{Net, TcpStream};
@@ -65,7 +65,7 @@ pub(crate) fn answer_peers<
     E,
     R: Net<Stream = TcpStream> + Clock + Wait,
     S,
-    Q: PieceReader<S>,
+    Q: ShelfAccess<S>,
 >(
     alloc: Global,
     shared: &Shared<'_, R, A, B, HostGroup<'_, '_, R, S, Q>, E>,

@@ -16,7 +16,7 @@ use crate::desks::{Plan, serve_desk};
 use crate::lines::{Failure, refuse};
 use crate::ports::bind_all;
 use crate::runtimes::Serving;
-use blob_store::{MemShelf, PieceReader, Shelf};
+use blob_store::{MemShelf, Shelf, ShelfAccess};
 use byte_view::BlobInfo;
 use change_undo::GREATEST_LIMIT;
 use command_line::ServeOptions;
@@ -80,7 +80,7 @@ fn serve_found<
     D: Disk + Drop + Send,
     S: Shelf + Drop + Send,
     R: Serving,
-    Q: PieceReader<S> + Send + Sync,
+    Q: ShelfAccess<S> + Send + Sync,
     O: Sink,
 >(
     rt: &R,
@@ -89,7 +89,7 @@ fn serve_found<
     limits: Limits,
     new: NewDesk,
     found: Found<D, S>,
-    reader: &Q,
+    access: &Q,
     out: &mut O,
 ) -> Result<(), Failure>
     requires names { AreNames J.name J.parts J.book K.book new }
@@ -116,7 +116,7 @@ fn serve_found<
         limits,
         clients: options.conns.unwrap_or(u64::MAX),
     };
-    serve_desk(rt, alloc, &desk, seats, visitor, reader, bound, &plan, out)
+    serve_desk(rt, alloc, &desk, seats, visitor, access, bound, &plan, out)
 }
 
 /// Serves from what a disk and a shelf have.
@@ -124,7 +124,7 @@ fn serve_store<
     D: Disk + Drop + Send,
     S: Shelf + Drop + Send,
     R: Serving,
-    Q: PieceReader<S> + Send + Sync,
+    Q: ShelfAccess<S> + Send + Sync,
     O: Sink,
 >(
     rt: &R,
@@ -133,7 +133,7 @@ fn serve_store<
     limits: Limits,
     disk: D,
     shelf: S,
-    reader: &Q,
+    access: &Q,
     out: &mut O,
 ) -> Result<(), Failure>
     requires ports { LeavesRoom options.now.listen }
@@ -143,7 +143,7 @@ fn serve_store<
         Err(stop) => return Err(Failure::NotOpened(stop.fault)),
     };
     let new = NewDesk::new(rt, options.nodes.clamp(1, MOST));
-    serve_found::<Brand, Brand, D, S, R, Q, O>(rt, alloc, options, limits, new, found, reader, out)
+    serve_found::<Brand, Brand, D, S, R, Q, O>(rt, alloc, options, limits, new, found, access, out)
 }
 
 /// The disk and the shelf of a host in memory, which is empty.
@@ -171,7 +171,7 @@ pub fn refuse_ports<E: Sink>(errors: &mut E) -> u8
 }
 
 /// Serves clients and other nodes from the disk and the shelf that were opened, as the words ask for it, and answers the exit status. It tells on
-/// `lines` where each node listens; if the status isn't 0, `errors` is told why. The nodes read pieces of files by `reader`.
+/// `lines` where each node listens; if the status isn't 0, `errors` is told why. The nodes reach the files on the shelf by `access`.
 ///
 /// Who calls it knows the runtime, and opens them: threads take a shelf in a folder only where it stands on no bound of a runtime that isn't known.
 pub fn run_serve<
@@ -186,7 +186,7 @@ pub fn run_serve<
         + Sync
         + Drop
         + Env,
-    Q: PieceReader<S> + Send + Sync,
+    Q: ShelfAccess<S> + Send + Sync,
     O: Sink,
     E: Sink,
 >(
@@ -194,7 +194,7 @@ pub fn run_serve<
     alloc: Global,
     options: &ServeOptions,
     opened: Result<(D, S), OpenFault>,
-    reader: &Q,
+    access: &Q,
     lines: &mut O,
     errors: &mut E,
 ) -> u8
@@ -208,7 +208,7 @@ pub fn run_serve<
         Err(fault) => return refuse(errors, &Failure::NotOpened(fault)),
     };
     let limits = Limits::with_second(second(rt));
-    match serve_store(rt, alloc, options, limits, disk, shelf, reader, lines) {
+    match serve_store(rt, alloc, options, limits, disk, shelf, access, lines) {
         Ok(()) => DONE,
         Err(failure) => refuse(errors, &failure),
     }

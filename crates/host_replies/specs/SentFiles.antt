@@ -12,7 +12,8 @@ use Rattle.host_api.specs.declared.refusals.Refusal.TheVariants as reason
 use Rattle.host_replies.specs.PartsTypes.{IsOfEight, parts_type}
 use Rattle.host_replies.specs.Replies.{Answer, part_answer, refused_answer}
 
--- what is answered where these bytes of a file of this type are sent (RFC 9110, sections 15.3.1, 15.3.7 and 15.5.17)
+-- A file of this type is answered so, where this plan sends these bytes (RFC 9110, sections 15.3.1 and 15.3.7). A range that the file doesn't
+-- have is refused (15.5.17).
 abbrev pub sent_as : List ℕ → List ℕ → Choice → Option Boundary → List ℕ → Answer
 sent_as content_type file Whole boundary bytes = part_answer 200 content_type file None bytes
 sent_as content_type file (One first last) boundary bytes = part_answer 206 content_type file (Some (Of first last (length file))) bytes

@@ -179,6 +179,7 @@ impl Reply {
 
     /// The reply with what is sent of a file of this type (RFC 9110, sections 15.3.1, 15.3.7 and 15.5.17). Its entity tag is the digest of the
     /// whole (RFC 9110, section 8.8.3).
+    #[inline(always)]
     pub fn of_file(content_type: FieldText<'static>, info: &BlobInfo, body: FileBody) -> Reply
         requires { SendsParts (digest_of info.now) body }
         ensures { answer_of result

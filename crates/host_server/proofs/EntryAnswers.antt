@@ -22,11 +22,10 @@ use Rattle.host_answers.specs.Answers.{ChangesBy, FollowsBy, InSite, UndoesBy, t
 use Rattle.host_answers.specs.Deploys.{Opening, opened_by, site_of_deploy}
 use Rattle.host_answers.specs.declared.stops.Stop.{Stop}
 use Rattle.host_answers.specs.declared.stops.Stop.TheVariants as stop
-use Rattle.host_server.specs.Asks.{AskStops, ComesOf, HostStops, IsReplyToAsk}
+use Rattle.host_server.specs.Asks.{AskStops, ComesOf, DeployStops, HostStops, IsReplyToAsk}
 use Rattle.host_server.specs.HeldUp.{holds_up}
 use Rattle.host_server.specs.Hosts.{Host}
 use Rattle.host_server.specs.Journals.{is_broken}
-use Rattle.host_server.specs.Memory.{DeployStops}
 use Rattle.host_server.specs.Outcomes.{IsCommitted, Outcome, deploy_outcome, entering, outcome_on, refused, unless_refused}
 use Rattle.host_server.specs.Reasons.{commit_refusal, undo_refusal}
 use Rattle.host_server.specs.ServerHouses.{CommitsAt, EntersAt, UnlessBroken, calls_of}

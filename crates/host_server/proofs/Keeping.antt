@@ -18,7 +18,7 @@ use Rattle.host_answers.specs.declared.uploads.Uploaded.{Uploaded}
 use Rattle.host_disk.specs.declared.disks.Disk.{Ghosts}
 use Rattle.host_server.specs.Hosts.{Host, next_number, state_of, with_entry, with_upload}
 use Rattle.host_server.specs.Journals.{IsJournaled, IsStopped, KeepsUp}
-use Rattle.host_server.specs.Memory.{is_published}
+use Rattle.host_server.specs.PublishedDeploys.{is_published}
 use Rattle.host_server.specs.Outcomes.{Outcome, Publishes, Publishing, is_ready, judge_in, judge_listed, published_if_ready, publishing, publishing_if_ready, unless_refused, uploaded}
 use Rattle.host_server.specs.Reasons.{commit_refusal}
 use Rattle.host_server.specs.ServerJournals.{Breaks, GoesOn}

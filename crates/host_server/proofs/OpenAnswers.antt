@@ -33,7 +33,7 @@ use Rattle.host_answers.specs.declared.stops.Stop.TheVariants as stop
 use Rattle.host_server.specs.Asks.{HostStops}
 use Rattle.host_server.specs.Hosts.{Host, IsLawful, next_number, state_of, with_entry}
 use Rattle.host_server.specs.Journals.{Puts, is_broken}
-use Rattle.host_server.specs.Memory.{is_published, opens_published}
+use Rattle.host_server.specs.PublishedDeploys.{is_published, opens_published}
 use Rattle.host_server.specs.Outcomes.{IsCommitted, Outcome, is_ready, published_if_ready, refused, unless_refused}
 use Rattle.host_server.specs.Reasons.{commit_refusal}
 use Rattle.host_server.specs.ServerHouses.{CommitsAt, EntersAt, MissesAt, calls_of}

@@ -24,10 +24,9 @@ use Rattle.host_answers.specs.Answers.{AnswersBy, CarriesOut as CarriesOutBy, Do
 use Rattle.host_answers.specs.Asking.{asked_for}
 use Rattle.host_answers.specs.ChangeLists.{shown_lines}
 use Rattle.host_answers.specs.Deploys.{site_of_deploy}
-use Rattle.host_server.specs.Asks.{IsAnswer}
+use Rattle.host_server.specs.Asks.{DeployStops, IsAnswer}
 use Rattle.host_server.specs.Hosts.{IsLawful, state_of}
 use Rattle.host_server.specs.Journals.{is_broken}
-use Rattle.host_server.specs.Memory.{DeployStops}
 use Rattle.host_server.specs.Outcomes.{deploy_outcome, refused}
 use Rattle.host_server.specs.ServerHouses.{calls_of, failed_at, gave_at}
 use Rattle.host_server.specs.ServerJournals.{GoesOn}

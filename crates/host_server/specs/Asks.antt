@@ -1,9 +1,12 @@
 -- What a request is answered, and what the server has then.
-use Rattle.std.specs.Prelude.{◌≡◌, ◌⊎◌, ℕ, List, true, false, None, Result, Ok, Err, IsTrue, MatchOption}
+use Rattle.std.specs.Prelude.{◌≡◌, ◌⊎◌, ℕ, List, true, false, Some, None, Result, Ok, Err, IsTrue, MatchOption}
 use Rattle.blob_store.specs.Calls.{Call}
 use Rattle.http_wire.specs.Requests.{RequestParts}
+use Rattle.host_names.specs.declared.names.SiteName.{SiteName}
+use Rattle.site_change.specs.declared.commands.Command.{Command}
 use Rattle.site_change.specs.declared.commands.Command.TheVariants.{Cancel, RemoveDeploy}
 use Rattle.change_undo.specs.declared.entries.Entry.TheVariants.{Change, Undo}
+use Rattle.change_undo.specs.Histories.{entry_at}
 use Rattle.host_api.specs.declared.bodies.Ask.{Ask}
 use Rattle.host_api.specs.declared.bodies.Ask.TheVariants as ask
 use Rattle.host_api.specs.declared.refusals.Refusal.{Refusal}
@@ -11,11 +14,12 @@ use Rattle.host_api.specs.declared.refusals.Refusal.TheVariants as reason
 use Rattle.host_api.specs.declared.texts.Told.TheVariants.{Changes}
 use Rattle.host_disk.specs.declared.disks.Disk.{Ghosts}
 use Rattle.host_answers.specs.Asking.{asked_for, asking_takes}
+use Rattle.host_answers.specs.Deploys.{site_of_deploy}
 use Rattle.host_answers.specs.ChangeLists.{shown_lines}
 use Rattle.host_server.specs.Files.{IsReadReply}
 use Rattle.host_server.specs.HeldUp.{holds_up}
 use Rattle.host_server.specs.Hosts.{Host, state_of, with_entry}
-use Rattle.host_server.specs.Memory.{DeployStops, opens_published}
+use Rattle.host_server.specs.PublishedDeploys.{opens_published}
 use Rattle.host_server.specs.Outcomes.{IsCommitted, Outcome, deploy_outcome, entering, judge_upload, refused, unless_refused}
 use Rattle.host_server.specs.Reasons.{commit_refusal, undo_refusal}
 use Rattle.host_replies.specs.Replies.{Answer, Tells, refused_answer}
@@ -40,6 +44,12 @@ ComesOf host (Ok (ask.Deploy deploy)) out = ShowsDeploy host deploy out.told × 
 ComesOf host (Ok (ask.RemoveDeploy deploy)) out = out ≡ deploy_outcome host deploy (λ site. RemoveDeploy site deploy)
 ComesOf host (Ok (ask.Cancel deploy)) out = out ≡ deploy_outcome host deploy (λ site. Cancel site deploy)
 ComesOf host asking out = ⊥
+
+-- A command on the deploy of this number isn't put into the journal, though an entry opened the deploy and nothing refuses the command in its site.
+-- The host stays as it was.
+abbrev pub DeployStops : Host → ℕ → (SiteName → Command) → Host → Type 0
+DeployStops host n command next =
+    (next ≡ host) × (site : SiteName) × (site_of_deploy (entry_at host.entries n) ≡ Some site) × (commit_refusal host (command site) ≡ None)
 
 -- Nothing refuses what is asked for, but an entry of it isn't put: there is no memory for it, or the device fails while it is put into the journal.
 -- The host stays as it was; or it has opened a deploy, and doesn't get the entry that would publish the deploy.

@@ -5,7 +5,7 @@ pub mod Journals
 pub mod Entries
 pub mod Reasons
 pub mod Outcomes
-pub mod Memory
+pub mod PublishedDeploys
 pub mod HeldUp
 -- what is shown of its deploys
 pub mod Shown

@@ -16,7 +16,7 @@ use Rattle.host_disk.specs.declared.disks.Disk.{Ghosts}
 use Rattle.host_answers.specs.Answers.{told_upload}
 use Rattle.host_answers.specs.declared.uploads.Uploaded.{Uploaded}
 use Rattle.host_server.specs.Hosts.{with_upload}
-use Rattle.host_server.specs.Memory.{is_published}
+use Rattle.host_server.specs.PublishedDeploys.{is_published}
 use Rattle.host_server.specs.Outcomes.{judge_upload, uploaded}
 use Rattle.host_replies.specs.Replies.{Answer, Tells, refused_answer}
 use Rattle.host_server.specs.ServerJournals.{Breaks, GoesOn}

@@ -10,7 +10,7 @@ use crate::faults::HeadFault;
 use crate::fields::{Fields, Values};
 use http::method::MethodError;
 use http::{Method, Version};
-use httparse::spans::{EMPTY_HEADER_SPAN, HeaderSpan, RequestSpans, Span, parse_request};
+use httparse::spans::{HeaderSpan, RequestSpans, Span, parse_request};
 use httparse::{Error, Status};
 use std::alloc::{AllocError, Global};
 use std::marker::Model;
@@ -82,15 +82,19 @@ fn find_parts(text: &[u8], room: &mut [HeaderSpan]) -> Result<RequestSpans, Head
 }
 
 impl Head {
-    /// Parses the text of a head by the grammar of requests. Returns the head or the reason why it is refused, or `AllocError` if memory
-    /// for the head cannot be allocated.
-    pub(crate) fn parse(alloc: Global, text: &[u8]) -> Result<Result<Head, HeadFault>, AllocError>
-        requires { IsHeadText text.now }
+    /// Parses the text of a head by the grammar of requests. `room` has a place for each of 64 fields, and is overwritten. Returns the head or the
+    /// reason why it is refused, or `AllocError` if memory for the head cannot be allocated.
+    pub(crate) fn parse(
+        alloc: Global,
+        text: &[u8],
+        room: &mut [HeaderSpan],
+    ) -> Result<Result<Head, HeadFault>, AllocError>
+        requires whole { IsHeadText text.now }
+        requires size { length room.old ≡ FIELD_LIMIT }
         ensures ok { IfOk result (λ parsed. IsParsedAs parsed text.now) }
         ensures memory { OnErr result (SaysSomething text.now) }
     {
-        let mut room = [EMPTY_HEADER_SPAN; FIELD_LIMIT];
-        let spans = match find_parts(text, &mut room) {
+        let spans = match find_parts(text, room) {
             Ok(spans) => spans,
             Err(fault) => return Ok(Err(fault)),
         };

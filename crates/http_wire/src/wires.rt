@@ -13,8 +13,9 @@ use crate::buffers::{Buffer, HEAD_LIMIT};
 use crate::duplexes::{Duplex, Steady};
 use crate::faults::{BodyFault, HeadFault};
 use crate::halts::Halt;
-use crate::heads::Head;
+use crate::heads::{FIELD_LIMIT, Head};
 use crate::scans::{Search, scan};
+use httparse::spans::{EMPTY_HEADER_SPAN, HeaderSpan};
 use std::alloc::{AllocError, Global};
 use std::marker::Model;
 
@@ -25,17 +26,19 @@ use std::marker::Model;
 pub struct Wire {
     buffer: Buffer,
     search: Search,
+    // Room for the fields of a head while it is parsed. It is kept, so that it isn't cleared for each head.
+    room: Vec<HeaderSpan>,
 }
 
 impl Model for Wire {
-    ghost use Rattle.std.specs.Prelude.{ℕ, List};
+    ghost use Rattle.std.specs.Prelude.{◌≡◌, ℕ, List, vec_len};
     ghost use Rattle.http_wire.specs.Scanning.{HasSearched};
 
     ghost Value = { List ℕ };
 
     ghost view = { λ w. w.buffer };
 
-    ghost invariant = { λ w. HasSearched w.buffer w.search.state w.search.scanned };
+    ghost invariant = { λ w. HasSearched w.buffer w.search.state w.search.scanned × (vec_len w.room ≡ 64) };
 }
 
 impl Wire {
@@ -45,7 +48,12 @@ impl Wire {
     {
         let buffer = Buffer::new(alloc)?;
         let search = Search::new();
-        Ok(Wire { buffer, search })
+        let room = vec![in alloc; EMPTY_HEADER_SPAN; FIELD_LIMIT]?;
+        Ok(Wire {
+            buffer,
+            search,
+            room,
+        })
     }
 
     /// Returns the number of bytes that were read and not yet taken.
@@ -62,7 +70,7 @@ impl Wire {
         ensures waits { IsErrOf result Halt.WouldWait → D.waits duplex.new }
         ensures short { IsErrOf result Halt.WouldWait → CutShort self.new }
     {
-        try_take_head(&mut self.buffer, duplex, &mut self.search)
+        try_take_head(&mut self.buffer, duplex, &mut self.search, &mut self.room)
     }
 
     /// Goes on reading a body of `size` bytes as `read_body` does, from a stream that may have to wait. `body` holds the part that was read
@@ -109,7 +117,7 @@ impl Wire {
             IfErr result (λ e. e ≢ HeadFault.BadHead → e ≢ HeadFault.HeadTooLarge → Keeps old new) }
         ensures ran { Ran D.saw (AwaitsHead self.old) duplex.old duplex.new (ReadsHead result self.old self.new) }
     {
-        take_head(&mut self.buffer, duplex, &mut self.search)
+        take_head(&mut self.buffer, duplex, &mut self.search, &mut self.room)
     }
 
     /// Reads a body of `count` bytes. Reads from the stream only if fewer bytes came before, and writes nothing. Allocates memory as the
@@ -140,12 +148,14 @@ fn take_head<D: Steady>(
     buffer: &mut Buffer,
     duplex: &mut D,
     search: &mut Search,
+    room: &mut [HeaderSpan],
 ) -> Result<Head, HeadFault>
-    requires { HasSearched buffer.old search.old.state search.old.scanned }
+    requires searched { HasSearched buffer.old search.old.state search.old.scanned }
+    requires size { length room.old ≡ FIELD_LIMIT }
     ensures ran { Ran D.saw (AwaitsHead buffer.old) duplex.old duplex.new (ReadsHead result buffer.old buffer.new) }
     ensures searched { HasSearched buffer.new search.new.state search.new.scanned }
 {
-    match try_take_head(buffer, duplex, search) {
+    match try_take_head(buffer, duplex, search, room) {
         Ok(head) => Ok(head),
         Err(Halt::Failed(fault)) => Err(fault),
         Err(Halt::WouldWait) => unreachable!(),
@@ -157,15 +167,17 @@ fn try_take_head<D: Duplex>(
     buffer: &mut Buffer,
     duplex: &mut D,
     search: &mut Search,
+    room: &mut [HeaderSpan],
 ) -> Result<Head, Halt<HeadFault>>
-    requires { HasSearched buffer.old search.old.state search.old.scanned }
+    requires searched { HasSearched buffer.old search.old.state search.old.scanned }
+    requires size { length room.old ≡ FIELD_LIMIT }
     ensures ran { Ran D.saw (AwaitsHead buffer.old) duplex.old duplex.new (TriesHead result buffer.old buffer.new) }
     ensures waits { IsErrOf result Halt.WouldWait → D.waits duplex.new }
     ensures short { IsErrOf result Halt.WouldWait → CutShort buffer.new }
     ensures searched { HasSearched buffer.new search.new.state search.new.scanned }
 {
     let count = find_head(buffer, duplex, search)?;
-    let parsed = Head::parse(buffer.allocator(), &buffer.as_slice()[..count])?;
+    let parsed = Head::parse(buffer.allocator(), &buffer.as_slice()[..count], room)?;
     buffer.consume(count);
     *search = Search::new();
     match parsed {

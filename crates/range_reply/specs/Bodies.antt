@@ -12,9 +12,9 @@ abbrev pub text_in : Option Boundary → List ℕ
 text_in None = []
 text_in (Some boundary) = text_of boundary
 
--- the body that sends these texts of a file of this many bytes, one for each stretch of the plan, in order. Several intervals come
--- in parts, neither sorted nor joined, and the last boundary's line follows (RFC 9110, section 15.3.7.2). Any other plan sends its
--- text as it is: all of the file (15.3.1), one interval (15.3.7.1), or nothing (15.5.17)
+-- A body sends these texts of a file of this many bytes, one for each stretch of the plan. Several intervals are parts, neither sorted nor
+-- joined, and the last boundary's line follows (RFC 9110, section 15.3.7.2). Any other plan sends its text as it is: the file (15.3.1), one
+-- interval (15.3.7.1), or nothing (15.5.17).
 abbrev pub body_text : List ℕ → List ℕ → ℕ → Choice → List (List ℕ) → List ℕ
 body_text boundary content_type size (Many intervals) texts =
     flat_map (part_text boundary content_type size) (zip intervals texts) ++ last_line boundary

@@ -14,8 +14,8 @@ candidate digest i = codes "fh" ++ (decimal i ++ (codes "-" ++ encode_lower dige
 abbrev pub text_of : Boundary → List ℕ
 text_of boundary = candidate boundary.digest boundary.number
 
--- a part of a body, for an interval of a file of this many bytes, with its bytes: the boundary's line, two fields, an empty line,
--- the bytes, and the end of a line, which belongs to the next boundary
+-- A part of a body sends the bytes of an interval of a file of this many bytes: the boundary's line, two fields, an empty line, the bytes,
+-- and the end of a line, which belongs to the next boundary.
 abbrev pub part_text : List ℕ → List ℕ → ℕ → (ℕ × ℕ) × List ℕ → List ℕ
 part_text boundary content_type size (interval, bytes) =
     codes "--" ++ (boundary ++ (codes "\r\nContent-Type: " ++ (content_type ++ (codes "\r\nContent-Range: "

@@ -205,6 +205,7 @@ impl FileBody {
     }
 
     /// Returns the parts of the body, in order. The bytes of the file are lent as they lie. Allocates nothing.
+    #[inline(always)]
     pub fn parts(&self) -> Parts<'_>
         ensures { concat result ≡ self.now.bytes }
     {

@@ -1,10 +1,11 @@
 //! Laws about texts, boundaries and bodies. Each law is the contract of a function that does nothing.
 ghost use Rattle.std.specs.Prelude.{◌≡◌, ◌+◌, ◌≤◌, ◌↔◌, ℕ, List, [], length, slice_range};
 ghost use Rattle.std.specs.Str.Iter.{HasSubslice};
+ghost use Rattle.byte_view.specs.Cuts.{slice};
 ghost use Rattle.host_names.specs.declared.digests.Digest.{Digest};
 ghost use Rattle.range_reply.specs.Boundaries.{HasNoBoundary, IsBoundaryFor};
 ghost use Rattle.range_reply.specs.Sending.{IsExact, SentFile};
-ghost use Rattle.range_spec.specs.declared.selection.Choice.TheVariants.{Whole};
+ghost use Rattle.range_spec.specs.declared.selection.Choice.TheVariants.{One, Whole};
 
 /// Bytes occur in a text if and only if the text has these bytes from some place on.
 pub fn texts_are_found_where_they_stand()
@@ -23,6 +24,12 @@ pub fn one_boundary()
 pub fn a_whole_file_is_its_body()
     ensures { (file content_type : List ℕ) (body : SentFile)
         → IsExact file Whole content_type body → body.bytes ≡ file }
+{}
+
+/// If one interval of a file is asked for, the body that is exact for the file is the bytes of that interval.
+pub fn an_interval_is_its_body()
+    ensures { (file content_type : List ℕ) (first last : ℕ) (body : SentFile)
+        → IsExact file (One first last) content_type body → body.bytes ≡ slice file first last }
 {}
 
 /// Each of these relations is refuted for a wrong answer, so none of them is true of everything.

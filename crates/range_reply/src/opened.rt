@@ -95,6 +95,7 @@ impl<'a> Opened<'a> {
     }
 
     /// Returns an `Opened` that gives what a hold shows of its stretch, or nothing if there is no hold.
+    #[inline(always)]
     pub fn of_stretch(hold: Option<&'a Hold>) -> Opened<'a>
         ensures bare { result.heading ≡ Done }
         ensures rest { rest_texts result ≡ stretch_texts (option_map (λ h. h.now) hold.entry) }
@@ -160,6 +161,7 @@ impl<'a> Opened<'a> {
     }
 
     /// Takes the first part that is left.
+    #[inline(always)]
     pub fn take(&mut self, heads: &Heads<'a>) -> Option<Part<'a>>
         ensures { YieldsFirstBy part_text (opened_texts heads.now) self.old result self.new }
     {

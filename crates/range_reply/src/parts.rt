@@ -64,6 +64,7 @@ impl<'a> Queue<'a> {
     }
 
     /// Takes the first part that is left.
+    #[inline(always)]
     fn take(&mut self) -> Option<Part<'a>>
         requires { IsOfSize self.old }
         ensures first { YieldsFirstBy part_text queue_texts self.old result self.new }
@@ -112,6 +113,7 @@ impl<'a> Parts<'a> {
     }
 
     /// Returns the parts that show the stretch of a hold, or no parts if there is no hold. They have `total` bytes.
+    #[inline(always)]
     pub(crate) fn of_stretch(hold: Option<&'a Hold>, total: u64) -> Parts<'a>
         requires { total ≡ length_of (stretch_texts (option_map (λ h. h.now) hold)) }
         ensures { result ≡ stretch_texts (option_map (λ h. h.now) hold.entry) }
@@ -158,6 +160,7 @@ impl<'a> Iterator for Parts<'a> {
 
     ghost remaining = { λ parts. at_most (length parts) };
 
+    #[inline(always)]
     fn next(&mut self) -> Option<Part<'a>> {
         let part = self.queue.take();
         if let Some(part) = &part {

@@ -21,7 +21,7 @@ pub(crate) fn text_in(boundary: &Option<Boundary>) -> ArrayString<64>
 
 /// Returns what comes before the type in the head of a part: the boundary's line and the name of the field.
 #[inline(never)]
-pub(crate) fn line_before_type(boundary: &str) -> ArrayString<256>
+pub(crate) fn line_before_type(boundary: &str) -> ArrayString<96>
     requires { length boundary.now ≤ 64 }
     ensures { result.bytes ≡ boundary_line boundary.now }
 {
@@ -34,7 +34,7 @@ pub(crate) fn line_before_type(boundary: &str) -> ArrayString<256>
 
 /// Returns what comes after the type in the head of a part: the first and last byte, the length of the file, and an empty line.
 #[inline(never)]
-pub(crate) fn line_behind_type(first: u64, last: u64, length: u64) -> ArrayString<256>
+pub(crate) fn line_behind_type(first: u64, last: u64, length: u64) -> ArrayString<96>
     ensures { result.bytes ≡ range_line (first, last) length }
 {
     let range = range_value(ContentRange::Of {
@@ -51,7 +51,7 @@ pub(crate) fn line_behind_type(first: u64, last: u64, length: u64) -> ArrayStrin
 
 /// Returns the last boundary's line.
 #[inline(never)]
-pub(crate) fn last_line(boundary: &str) -> ArrayString<256>
+pub(crate) fn last_line(boundary: &str) -> ArrayString<96>
     requires { length boundary.now ≤ 64 }
     ensures { result.bytes ≡ multipart.last_line boundary.now }
 {

@@ -1,9 +1,6 @@
--- What an upload finds at a desk, answers and does.
-use Rattle.std.specs.Prelude.{◌≡◌, ◌≢◌, ◌↔◌, ◌<◌, ℕ, Bool, true, false, List, length, Option, Some, None, IsSome, Result, Ok, Err}
-use Rattle.std.specs.FinMap as map
+-- What the steps of an upload find at a desk, answer and do.
+use Rattle.std.specs.Prelude.{◌≡◌, ℕ, Bool, true, false, List, Option, Some, None, Result, Ok, Err}
 use Rattle.byte_view.specs.Contents.{Contents}
-use Rattle.blob_store.specs.declared.blobs.UploadFault.TheVariants.{TooLarge}
-use Rattle.host_names.specs.Digests.{digest_of}
 use Rattle.host_names.specs.declared.digests.Digest.{Digest}
 use Rattle.host_names.specs.declared.names.SiteName.{SiteName}
 use Rattle.host_disk.specs.declared.disks.Disk.{Ghosts}
@@ -15,7 +12,7 @@ use Rattle.change_undo.specs.Logs.{Log}
 use Rattle.site_desk.specs.Books.{Kept, state_of}
 use Rattle.shared_desk.specs.Turns.{IsCommit, IsMet}
 use Rattle.shared_desk.specs.declared.upload_errors.UploadError.{UploadError}
-use Rattle.shared_desk.specs.declared.upload_errors.UploadError.TheVariants.{Broken, NoSuchDeploy, NotListed, WrongDigest, NotStored, NotPublished}
+use Rattle.shared_desk.specs.declared.upload_errors.UploadError.TheVariants.{Broken, NoSuchDeploy, NotListed, NotPublished}
 
 -- the digest at a path of a site's deploy, in the state of a book
 abbrev pub listed_in : {D : Type 0} → Kept D → SiteName → ℕ → List ℕ → Option (Option Digest)
@@ -49,19 +46,3 @@ Judges {D} disk floor site n path result = (kept : Kept D) × IsJudged floor sit
 -- an upload had its last turn
 abbrev pub Publishes : {D : Type 0} → Ghosts D → ℕ → Contents → SiteName → ℕ → Result (Option Log) (UploadError Log) → Type 0
 Publishes {D} disk floor files site n result = (old : Kept D) × (new : Kept D) × IsPublishing disk floor files site n old result new
-
--- the deploy lists the digest of these bytes there, and they fit into a file; then their file was known, among others, when the deploy was looked at again
-abbrev pub Stores : {D : Type 0} → Ghosts D → ℕ → SiteName → ℕ → List ℕ → List ℕ → Result (Option Log) (UploadError Log) → Type 0
-Stores disk floor site n path bytes result = Judges disk floor site n path (Ok (digest_of bytes)) × ¬ (16777216 < length bytes)
-    × ((files : Contents) × IsSome (map.get files (digest_of bytes)) × Publishes disk floor files site n result)
-
--- what is answered to an upload of these bytes to a path of a site's deploy
-abbrev pub DoesUpload : {D : Type 0} → Ghosts D → ℕ → SiteName → ℕ → List ℕ → List ℕ → Result (Option Log) (UploadError Log) → Type 0
-DoesUpload disk floor site n path bytes (Err Broken) = Judges disk floor site n path (Err Broken)
-DoesUpload disk floor site n path bytes (Err NoSuchDeploy) = Judges disk floor site n path (Err NoSuchDeploy)
-DoesUpload disk floor site n path bytes (Err NotListed) = Judges disk floor site n path (Err NotListed)
-DoesUpload disk floor site n path bytes (Err WrongDigest) = (listed : Digest) × (listed ≢ digest_of bytes) × Judges disk floor site n path (Ok listed)
-DoesUpload disk floor site n path bytes (Err (NotStored why)) =
-    Judges disk floor site n path (Ok (digest_of bytes)) × ((why ≡ TooLarge) ↔ (16777216 < length bytes))
-DoesUpload disk floor site n path bytes (Err (NotPublished why)) = Stores disk floor site n path bytes (Err (NotPublished why))
-DoesUpload disk floor site n path bytes (Ok published) = Stores disk floor site n path bytes (Ok published)

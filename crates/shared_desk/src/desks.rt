@@ -19,9 +19,8 @@ use std::marker::Model;
 use std::mem;
 use std::sync::{Mutex, Wait};
 
-/// A book, the files that are known, and those on the shelf. Each is behind a lock of its own. Who takes more than one of these locks takes them in this
-/// order; that of the shelf is held for one call of it alone. Contracts
-/// see how many seats it has.
+/// A book, the files that are known, and those on the shelf. Each is behind a lock of its own. A thread that takes more than one of these locks takes
+/// them in this order; the shelf's lock is held for one call alone, or not at all. Contracts see how many seats the desk has.
 #[derive(Drop)]
 pub struct Desk<
     J: DeskName,

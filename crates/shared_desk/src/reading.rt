@@ -24,7 +24,7 @@ impl<
     T: Absorb<Notice<J>, State = [Entry; 0]> + Drop,
     R: Wait + Drop,
 > Desk<J, K, D, S, T, R> {
-    /// The files on the shelf, behind their lock. Nodes read chunks from them.
+    /// The files on the shelf, behind their lock. Threads reach them by a `ShelfAccess`, which may pass the lock.
     pub fn files(&self) -> &Mutex<Files<S>> {
         &self.files
     }

@@ -3,7 +3,7 @@
 
 use crate::gates::Gate;
 use crate::scripts::Upload;
-use blob_store::Shelf;
+use blob_store::{LockedAccess, Shelf};
 use byte_view::BlobInfo;
 use change_undo::Entry;
 use host_disk::Disk;
@@ -25,7 +25,7 @@ pub(crate) trait AskedDesk<J: DeskName> {
     /// Its answer where this is to be its next entry.
     fn enter<W: Wait>(&self, rt: &W, seat: &mut Seat<J>, entry: Entry) -> Entered<J>;
 
-    /// Its answer to an upload to the deploy of this number.
+    /// Its answer to an upload to the deploy of this number, by the steps of `SeatedDesk::upload` of `shared_house`.
     fn upload<W: Wait>(
         &self,
         rt: &W,
@@ -63,14 +63,19 @@ impl<
         number: u64,
         upload: &Upload,
     ) -> Uploaded<J> {
-        self.upload(
-            rt,
-            seat,
-            &upload.site,
-            number,
-            &upload.path,
-            upload.text.as_bytes(),
-        )
+        let listed = match self.judge(rt, seat, &upload.site, number, &upload.path) {
+            Ok(listed) => listed,
+            Err(why) => return Err(why),
+        };
+        let bytes = upload.text.as_bytes();
+        let digest = Digest::of_bytes(bytes);
+        if listed != digest {
+            return Err(UploadError::WrongDigest);
+        }
+        match self.store(rt, &LockedAccess, digest, bytes) {
+            Ok(known) => self.publish_if_ready(rt, known, seat, &upload.site, number),
+            Err(fault) => Err(UploadError::NotStored(fault)),
+        }
     }
 
     fn read<W: Wait>(&self, rt: &W, gate: &Gate, bytes: &[u8]) -> (bool, u64) {

@@ -21,7 +21,7 @@ use Rattle.site_desk.specs.declared.errors.DeskError.{DeskError}
 use Rattle.site_desk.specs.declared.errors.DeskError.TheVariants as desk
 use Rattle.shared_desk.specs.declared.upload_errors.UploadError.{UploadError}
 use Rattle.shared_desk.specs.declared.upload_errors.UploadError.TheVariants as upload
-use Rattle.shared_house.specs.Entering.{IsEntryAnswer, IsUploadAnswer, ListsThem, Reason, reason_of_command}
+use Rattle.shared_house.specs.Entering.{IsEntryAnswer, IsPublishingAnswer, IsUploadAnswer, ListsThem, MayStore, Reason, reason_of_command}
 use Rattle.shared_house.specs.Receipts.{NotTakenAs, StopsAs, refusal_of_fault}
 use Rattle.shared_house.specs.Seeing.{by_front}
 use Rattle.shared_house.specs.Shared.{EntersAs, IsEntered, IsNotTaken, PublishesAs, TakesAs}
@@ -82,12 +82,12 @@ stops entry reason old desk.Device stopped new answer (is, same) = subst (λ (s 
 
 -- an upload that is taken, and what is learnt of the publishing
 pub took : (site : SiteName) (n : ℕ) (path bytes : List ℕ) (old : Log) (published : Option Log) (done : Uploaded) (new : Log)
-    → IsUploadAnswer site n path bytes (Ok published)
+    → MayStore site n path bytes → done.digest ≡ digest_of bytes → IsPublishingAnswer site n bytes published
     → MatchOption published ((done.published ≡ None) × (new ≡ old)) (λ receipt. (done.published ≡ Some (last_number receipt)) × by_front.learns old receipt new)
-    → done.digest ≡ digest_of bytes → TakesAs by_front old site n path bytes (Ok done) new
-took site n path bytes old None done new (lists, unready) (none, same) digest =
+    → TakesAs by_front old site n path bytes (Ok done) new
+took site n path bytes old None done new lists digest unready (none, same) =
     (digest, lists, subst (λ (p : Option ℕ). PublishesAs by_front old site n bytes p new) (sym none) (unready, same))
-took site n path bytes old (Some receipt) done new (lists, answer) (some, learnt) digest = (
+took site n path bytes old (Some receipt) done new lists digest answer (some, learnt) = (
   digest,
   lists,
   subst (λ (p : Option ℕ). PublishesAs by_front old site n bytes p new) (sym some)

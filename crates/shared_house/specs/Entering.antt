@@ -18,6 +18,7 @@ use Rattle.change_undo.specs.declared.entries.Entry.TheVariants.{Change}
 use Rattle.site_desk.specs.declared.errors.DeskError.{DeskError}
 use Rattle.site_desk.specs.declared.errors.DeskError.TheVariants as desk
 use Rattle.shared_desk.specs.declared.upload_errors.UploadError.{UploadError}
+use Rattle.shared_house.specs.declared.desk_access.Taken.{Taken}
 use Rattle.shared_desk.specs.declared.upload_errors.UploadError.TheVariants as upload
 
 -- the first reason against an entry after a log, by the uploads and the state that the log gives over them
@@ -80,11 +81,16 @@ abbrev pub IsUnready : SiteName → ℕ → (bytes : List ℕ) → Type 0
 IsUnready site n bytes =
     (m : Moment) × IsSome (map.get m.uploads (digest_of bytes)) × (is_ready_draft m.uploads (draft_at m.state site n) ≡ false)
 
--- What it answers to an upload of these bytes to a path of a deploy: that they are taken, and what comes of the publishing, if the deploy is ready then; or
--- the first reason against that.
-abbrev pub IsUploadAnswer : SiteName → ℕ → (path bytes : List ℕ) → Result (Option Log) (UploadError Log) → Type 0
-IsUploadAnswer site n path bytes (Ok None) = MayStore site n path bytes × IsUnready site n bytes
-IsUploadAnswer site n path bytes (Ok (Some receipt)) = MayStore site n path bytes × IsPublishAnswer site n (Ok receipt)
+-- what it says of the publishing once the file of these bytes is known: the deploy wasn't ready, or it is published
+abbrev pub IsPublishingAnswer : SiteName → ℕ → (bytes : List ℕ) → Option Log → Type 0
+IsPublishingAnswer site n bytes None = IsUnready site n bytes
+IsPublishingAnswer site n bytes (Some receipt) = IsPublishAnswer site n (Ok receipt)
+
+-- What it answers to an upload of these bytes to a path of a deploy: that they are taken, with their digest, and what comes of the publishing, if the
+-- deploy is ready then; or the first reason against that.
+abbrev pub IsUploadAnswer : SiteName → ℕ → (path bytes : List ℕ) → Result (Taken Log) (UploadError Log) → Type 0
+IsUploadAnswer site n path bytes (Ok taken) =
+    MayStore site n path bytes × (taken.digest ≡ digest_of bytes) × IsPublishingAnswer site n bytes taken.published
 IsUploadAnswer site n path bytes (Err upload.Broken) = Unit {0}
 IsUploadAnswer site n path bytes (Err upload.NoSuchDeploy) = Lists site n path None
 IsUploadAnswer site n path bytes (Err upload.NotListed) = Lists site n path (Some None)

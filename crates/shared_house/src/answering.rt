@@ -95,9 +95,9 @@ impl<J: DeskName, D: DeskAccess<J>, G: FileAccess> House for SharedHouse<J, D, G
         bytes: &[u8],
     ) -> Result<Uploaded, Refusal> {
         match self.desk.upload(site, deploy, path, bytes) {
-            Ok(published) => Ok(Uploaded {
-                published: self.learn_published(published),
-                digest: Digest::of_bytes(bytes),
+            Ok(taken) => Ok(Uploaded {
+                digest: taken.digest,
+                published: self.learn_published(taken.published),
             }),
             Err(why) => Err(self.not_taken(why)),
         }

@@ -13,6 +13,13 @@ use site_desk::{DeskError, DeskName, Notice};
 use site_state::Listing;
 use std::alloc::{AllocError, Global};
 
+/// An upload that is taken: the digest of its bytes, and the receipt of the publishing if its deploy is published then.
+#[derive(Drop)]
+pub struct Taken<R> {
+    pub digest: Digest,
+    pub published: Option<R>,
+}
+
 /// Where entries are made and files are kept. Others make entries there meanwhile.
 pub trait DeskAccess<J: DeskName> {
     /// Makes a command the next entry of whatever the log is by then, and gives the receipt of it.
@@ -23,14 +30,14 @@ pub trait DeskAccess<J: DeskName> {
     fn undo(&self, site: &SiteName, change: u64) -> Result<Notice<J>, DeskError<Notice<J>>>
         ensures { IsEntryAnswer (entry.Undo site.now change) (reason_of_undo site.now change) result };
 
-    /// Takes bytes as the file that a deploy lists at a path, and publishes the deploy if it is ready then. Gives the receipt of that.
+    /// Takes bytes as the file that a deploy lists at a path, and publishes the deploy if it is ready then.
     fn upload(
         &self,
         site: &SiteName,
         deploy: u64,
         path: &FilePath,
         bytes: &[u8],
-    ) -> Result<Option<Notice<J>>, UploadError<Notice<J>>>
+    ) -> Result<Taken<Notice<J>>, UploadError<Notice<J>>>
         ensures { IsUploadAnswer site.now deploy path.now bytes.now result };
 
     /// The listed digests whose files aren't uploaded by now.

@@ -12,7 +12,7 @@ mod seated_desks;
 
 pub use answered::Answered;
 pub use answering::answer_shared;
-pub use desk_access::DeskAccess;
+pub use desk_access::{DeskAccess, Taken};
 pub use file_access::{FileAccess, GroupFiles};
 pub use guests::{Guest, Note};
 pub use houses::{DeskVisitor, SharedHouse};

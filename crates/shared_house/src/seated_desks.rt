@@ -1,7 +1,9 @@
 //! A desk that threads share, from a node's seat.
+ghost use Rattle.std.specs.Prelude.{ℕ};
+ghost use Rattle.shared_desk.specs.Uploads.{Judges, Publishes};
 
-use crate::desk_access::DeskAccess;
-use blob_store::Shelf;
+use crate::desk_access::{DeskAccess, Taken};
+use blob_store::ShelfAccess;
 use byte_view::BlobInfo;
 use change_undo::Entry;
 use host_disk::Disk;
@@ -10,12 +12,13 @@ use left_right::Absorb;
 use seen_lists::ListName;
 use shared_desk::{Desk, UploadError};
 use site_change::Command;
-use site_desk::{DeskError, DeskName, Notice, Seat};
+use site_desk::{DeskError, DeskName, Notice, Seat, Tie};
 use site_state::Listing;
 use std::alloc::{AllocError, Global};
 use std::sync::{Mutex, Wait};
 
-/// A desk from a node's seat, which the node's workers share behind a lock.
+/// A desk from a node's seat, which the node's workers share behind a lock. An upload takes that lock for its first step and for its last one. So no
+/// worker waits for the seat while the bytes of another one are hashed or put on the shelf.
 #[derive(Drop)]
 pub struct SeatedDesk<
     'a,
@@ -26,9 +29,11 @@ pub struct SeatedDesk<
     T: Absorb<Notice<J>, State = [Entry; 0]> + Drop,
     R: Wait + Drop,
     W,
+    A,
 > {
     rt: &'a W,
     desk: &'a Desk<J, K, D, S, T, R>,
+    access: &'a A,
     seat: &'a Mutex<Seat<J>>,
 }
 
@@ -41,14 +46,21 @@ impl<
     T: Absorb<Notice<J>, State = [Entry; 0]> + Drop,
     R: Wait + Drop,
     W,
-> SeatedDesk<'a, J, K, D, S, T, R, W> {
-    /// A desk from a seat, for a thread that waits for their locks by this handle.
+    A,
+> SeatedDesk<'a, J, K, D, S, T, R, W, A> {
+    /// A desk from a seat, for a thread that reaches the shelf this way and waits for locks by this handle.
     pub fn new(
         rt: &'a W,
         desk: &'a Desk<J, K, D, S, T, R>,
+        access: &'a A,
         seat: &'a Mutex<Seat<J>>,
-    ) -> SeatedDesk<'a, J, K, D, S, T, R, W> {
-        SeatedDesk { rt, desk, seat }
+    ) -> SeatedDesk<'a, J, K, D, S, T, R, W, A> {
+        SeatedDesk {
+            rt,
+            desk,
+            access,
+            seat,
+        }
     }
 }
 
@@ -56,11 +68,50 @@ impl<
     J: DeskName,
     K: ListName<BlobInfo>,
     D: Disk,
-    S: Shelf,
+    S,
     T: Absorb<Notice<J>, State = [Entry; 0]> + Drop,
     R: Wait + Drop,
     W: Wait,
-> DeskAccess<J> for SeatedDesk<'_, J, K, D, S, T, R, W> {
+    A,
+> SeatedDesk<'_, J, K, D, S, T, R, W, A> {
+    /// The first step of an upload, at the seat: the digest that is listed.
+    fn judge(
+        &self,
+        site: &SiteName,
+        deploy: u64,
+        path: &FilePath,
+    ) -> Result<Digest, UploadError<Notice<J>>>
+        ensures { (floor : ℕ) × Judges D.Disk floor site.now deploy path.now result }
+    {
+        let mut seat = self.seat.lock(self.rt);
+        self.desk.judge(self.rt, &mut *seat, site, deploy, path)
+    }
+
+    /// The last step of an upload, at the seat: publishes the deploy if it is ready and these files are known.
+    fn publish_if_ready(
+        &self,
+        known: Tie<K>,
+        site: &SiteName,
+        deploy: u64,
+    ) -> Result<Option<Notice<J>>, UploadError<Notice<J>>>
+        ensures { (floor : ℕ) × Publishes D.Disk floor known site.now deploy result }
+    {
+        let mut seat = self.seat.lock(self.rt);
+        self.desk
+            .publish_if_ready(self.rt, known, &mut *seat, site, deploy)
+    }
+}
+
+impl<
+    J: DeskName,
+    K: ListName<BlobInfo>,
+    D: Disk,
+    S,
+    T: Absorb<Notice<J>, State = [Entry; 0]> + Drop,
+    R: Wait + Drop,
+    W: Wait,
+    A: ShelfAccess<S>,
+> DeskAccess<J> for SeatedDesk<'_, J, K, D, S, T, R, W, A> {
     fn commit(&self, command: Command) -> Result<Notice<J>, DeskError<Notice<J>>> {
         let mut seat = self.seat.lock(self.rt);
         self.desk.commit(self.rt, &mut *seat, command)
@@ -77,10 +128,23 @@ impl<
         deploy: u64,
         path: &FilePath,
         bytes: &[u8],
-    ) -> Result<Option<Notice<J>>, UploadError<Notice<J>>> {
-        let mut seat = self.seat.lock(self.rt);
-        self.desk
-            .upload(self.rt, &mut *seat, site, deploy, path, bytes)
+    ) -> Result<Taken<Notice<J>>, UploadError<Notice<J>>> {
+        let listed = match self.judge(site, deploy, path) {
+            Ok(listed) => listed,
+            Err(why) => return Err(why),
+        };
+        let digest = Digest::of_bytes(bytes);
+        if listed != digest {
+            return Err(UploadError::WrongDigest);
+        }
+        let known = match self.desk.store(self.rt, self.access, digest, bytes) {
+            Ok(known) => known,
+            Err(fault) => return Err(UploadError::NotStored(fault)),
+        };
+        match self.publish_if_ready(known, site, deploy) {
+            Ok(published) => Ok(Taken { digest, published }),
+            Err(why) => Err(why),
+        }
     }
 
     fn missing(&self, alloc: Global, files: &Listing) -> Result<Vec<Digest>, AllocError> {

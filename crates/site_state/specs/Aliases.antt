@@ -21,7 +21,7 @@ abbrev pub name_in : Cell → Option AliasName
 name_in (cell.Alias site name) = Some name
 name_in c = None
 
--- the least alias of the site that names the deploy: they are by name, and it is the first that does
+-- The least alias of the site that names the deploy. The aliases stand in the order of their names, so it is the first that does.
 abbrev pub alias_for : State → SiteName → ℕ → Option AliasName
 alias_for state site m = option_and_then (λ e. name_in e.0) (find (λ e. stands_for m e.1) (alias_entries state site))
 

@@ -33,7 +33,7 @@ IsLeastMissing contents files (Some least) =
     Contains (digests_of files) least × (is_lacking contents least ≡ true)
     × ((digest : Digest) → Contains (digests_of files) digest → is_lacking contents digest ≡ true → is_gt (digest_cmp least digest) ≡ false)
 
--- ---- file by file
+-- ---- what private functions say, file by file
 
 -- the digest that is listed, if it is lacking
 abbrev pub if_lacking : Contents → Option Digest → Option Digest

@@ -3,7 +3,7 @@
 use super::fixtures::{bytes_of, is_chunk_of, names};
 use super::gates::assert_count;
 use super::node_fixtures::first_node;
-use blob_store::{BlobIndex, Files, LockedReader, MemShelf};
+use blob_store::{BlobIndex, Files, LockedAccess, MemShelf};
 use chunk_group::{Counter, Group, SharedSource};
 use chunk_reads::ReadFault;
 use host_names::Digest;
@@ -20,7 +20,7 @@ use std::thread::Threads;
 /// How many chunks the shelf has. Reads are of one more.
 const CHUNKS: usize = 8;
 
-type ShelfSource<'a, R> = SharedSource<'a, R, MemShelf, LockedReader>;
+type ShelfSource<'a, R> = SharedSource<'a, R, MemShelf, LockedAccess>;
 
 type ShelfNode<'a, R> = Group<DigestHash, ShelfSource<'a, R>, NoLink, Counter>;
 
@@ -109,8 +109,8 @@ fn assert_shared<R: Threads + Wait + Abort + Sync>(
 ) -> Result<(), Fail> {
     let names = names(alloc, CHUNKS + 1)?;
     let right = AtomicU64::new(0);
-    let reader = LockedReader;
-    let source = SharedSource::new(rt, files, &reader);
+    let access = LockedAccess;
+    let source = SharedSource::new(rt, files, &access);
     visit_shelf(rt, alloc, source, names.as_slice(), &right)?;
     assert_count(rt, &right, 36, "right answers");
     Ok(())

@@ -14,6 +14,7 @@ use range_reply::Parts;
 
 impl Reply {
     /// Goes on with it, with this type and this entity tag.
+    #[inline(always)]
     fn try_send_with<D: Duplex>(
         &self,
         duplex: &mut D,

@@ -4,7 +4,7 @@ ghost use Rattle.change_undo.specs.declared.entries.Entry.TheVariants as entry;
 ghost use Rattle.host_server.specs.Entries.{IsEntered, IsRefusedAs, IsUndoRefusedAs};
 ghost use Rattle.host_server.specs.Hosts.{Grows, next_number, with_entry};
 ghost use Rattle.host_server.specs.Journals.{Agrees, IsJournaled, IsStopped, is_broken};
-ghost use Rattle.host_server.specs.Memory.{is_published};
+ghost use Rattle.host_server.specs.PublishedDeploys.{is_published};
 ghost use Rattle.host_server.specs.Outcomes.{Publishes, publishing_if_ready};
 ghost use Rattle.host_server.specs.Reasons;
 ghost use Rattle.host_server.specs.Reasons.{commit_refusal};

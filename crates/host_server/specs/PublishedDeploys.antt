@@ -1,11 +1,9 @@
--- Which deploys are published by themselves, and what a host has if the entry of a command isn't put into the journal.
-use Rattle.std.specs.Prelude.{◌≡◌, ℕ, Bool, false, ◌&&◌, Some, None, is_none}
+-- Which deploys are published by themselves.
+use Rattle.std.specs.Prelude.{ℕ, Bool, false, ◌&&◌, is_none}
 use Rattle.host_names.specs.declared.names.SiteName.{SiteName}
 use Rattle.site_change.specs.declared.commands.Command.{Command}
 use Rattle.site_change.specs.declared.commands.Command.TheVariants.{Open, Publish}
 use Rattle.change_undo.specs.declared.entries.Entry.TheVariants.{Change}
-use Rattle.change_undo.specs.Histories.{entry_at}
-use Rattle.host_answers.specs.Deploys.{site_of_deploy}
 use Rattle.host_server.specs.Hosts.{Host, next_number, with_entry}
 use Rattle.host_server.specs.Outcomes.{is_ready}
 use Rattle.host_server.specs.Reasons.{commit_refusal}
@@ -18,9 +16,3 @@ is_published host site n = is_ready host site n && is_none (commit_refusal host 
 abbrev pub opens_published : Host → Command → Bool
 opens_published host (Open site files auto) = is_published (with_entry host (Change (Open site files auto))) site (next_number host)
 opens_published host command = false
-
--- A command on the deploy of this number isn't put into the journal, though an entry opened the deploy and nothing refuses the command in its site.
--- The host stays as it was.
-abbrev pub DeployStops : Host → ℕ → (SiteName → Command) → Host → Type 0
-DeployStops host n command next =
-    (next ≡ host) × (site : SiteName) × (site_of_deploy (entry_at host.entries n) ≡ Some site) × (commit_refusal host (command site) ≡ None)

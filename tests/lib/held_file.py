@@ -1,20 +1,20 @@
-"""Loads of one file of a shelf, each held by a library in C (hold_reads.c) until a gate is opened."""
+"""Reads and syncs of one file of a shelf, each held by a library in C (hold_file.c) until a gate is opened."""
 
 import subprocess
 import time
 
 from lib.client import HERE, PATIENCE, SECONDS
 
-SOURCE = HERE / "hold_reads.c"
-# After so many seconds a load that is still held goes on, so that a program which waits for it comes to an end. No test holds one for so long.
+SOURCE = HERE / "hold_file.c"
+# After so many seconds a call that is still held goes on, so that a program which waits for it comes to an end. No test holds one for so long.
 LONGEST_HOLD = 60
 
 
-class HeldLoads:
-    """The loads of this file. The library, the gate and what was told are in a folder of their own."""
+class HeldFile:
+    """The file. The library, the gate and what was told are in a folder of their own."""
 
     def __init__(self, room, file):
-        self.library, self.gate, self.told_in = (room / name for name in ("hold_reads.so", "gate", "told"))
+        self.library, self.gate, self.told_in = (room / name for name in ("hold_file.so", "gate", "told"))
         subprocess.run(["gcc", "-O1", "-shared", "-fPIC", "-o", self.library, SOURCE, "-ldl"], check=True, timeout=SECONDS)
         self.environment = {
             "LD_PRELOAD": str(self.library), "HELD_FILE": str(file), "GATE_FILE": str(self.gate), "TOLD_FILE": str(self.told_in),
@@ -22,7 +22,7 @@ class HeldLoads:
         }
 
     def told(self):
-        """What was told of the file, in order: `opened`, and for each read `held`, and then `went on` or `gave up`."""
+        """What was told of the file, in order: `opened`, and for each call `held`, and then `went on` or `gave up`."""
         return self.told_in.read_text().splitlines() if self.told_in.exists() else []
 
     def wait(self, *lines):
@@ -33,5 +33,10 @@ class HeldLoads:
             time.sleep(0.002)
 
     def open(self):
-        """Opens the gate. It stays open."""
+        """Opens the gate."""
         self.gate.touch()
+
+    def close(self):
+        """Closes the gate, and forgets what was told. No call is held then."""
+        for file in (self.gate, self.told_in):
+            file.unlink(missing_ok=True)

@@ -1,5 +1,5 @@
-/* Is before the C library's calls on files in a program, and holds each read of the file HELD_FILE until there is a file GATE_FILE, at most
- * for HELD_SECONDS. It tells in lines of the file TOLD_FILE when the held file is opened, when a read of it is held, and when that read goes
+/* Is before the C library's calls on files in a program, and holds each read and each sync of the file HELD_FILE until there is a file GATE_FILE,
+ * at most for HELD_SECONDS. It tells in lines of the file TOLD_FILE when the held file is opened, when a call is held, and when that call goes
  * on: since the gate is open, or since it gives up. */
 #define _GNU_SOURCE
 #include <dlfcn.h>
@@ -66,4 +66,9 @@ ssize_t read(int fd, void *bytes, size_t size) {
 ssize_t pread(int fd, void *bytes, size_t size, off_t at) {
     if (is_held_descriptor(fd)) hold();
     return NEXT(pread)(fd, bytes, size, at);
+}
+
+int fsync(int fd) {
+    if (is_held_descriptor(fd)) hold();
+    return NEXT(fsync)(fd);
 }
