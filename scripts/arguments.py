@@ -2,6 +2,7 @@
 
 import argparse
 import pathlib
+import re
 
 TOP = pathlib.Path(__file__).resolve().parent.parent
 
@@ -22,7 +23,27 @@ class Arguments(argparse.ArgumentParser):
                 self.error(f"there is no crate {name}")
 
 
+def lines_of_crates(top=TOP):
+    """The lines of a repository's crates.txt without their comments, by the names of the crates, in its order."""
+    lines = (line.partition("#")[0].strip() for line in (top / "crates.txt").read_text().splitlines())
+    return {re.split(r"[\s:]", line)[0]: line for line in lines if line}
+
+
 def crates(top=TOP):
     """The names in a repository's crates.txt, in its order."""
-    lines = (line.partition("#")[0].partition(":")[0].strip() for line in (top / "crates.txt").read_text().splitlines())
-    return [name for name in lines if name]
+    return list(lines_of_crates(top))
+
+
+def used_by(name, top=TOP):
+    """The crates that a crate needs of its repository, with those that each uses: each after these, and the crate itself at the end."""
+    lines, found = lines_of_crates(top), {}
+
+    def add(one):
+        if one not in found:
+            below = [used for used in re.split(r"[\s:,]+", lines[one])[1:] if used in lines]
+            for used in below:
+                add(used)
+            found[one] = below
+
+    add(name)
+    return found

@@ -108,7 +108,7 @@ class Scripts(unittest.TestCase):
         """A command's name is words with hyphens between them, that of a module words with underscores."""
         for file in self.python + self.shell:
             with self.subTest(file.name):
-                self.assertRegex(file.name, r"^(__init__|[a-z]+(_[a-z]+)*)\.py$" if file.suffix == ".py" else r"^[a-z]+([-_][a-z]+)*$")
+                self.assertRegex(file.name, r"^(__init__|[a-z]+(_[a-z]+)*)\.(py|sh)$" if file.suffix else r"^[a-z]+([-_][a-z]+)*$")
 
     def test_each_module_says_what_it_is_for(self):
         for file in self.python:

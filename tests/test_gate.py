@@ -10,7 +10,7 @@ import sys
 import time
 import unittest
 
-from lib.sandbox import Sandbox
+from lib.sandbox import LAUNCHER, Sandbox
 
 TOP = pathlib.Path(__file__).resolve().parent.parent
 PARTS = """\
@@ -31,14 +31,14 @@ done
 
 class Gate(unittest.TestCase):
     def setUp(self):
-        self.sandbox = Sandbox("test", ".ci/run", "filehost")
+        self.sandbox = Sandbox("test", ".ci/run", *LAUNCHER)
         self.addCleanup(self.sandbox.close)
         self.sandbox.write("tests/run", PARTS)
 
     def launch(self):
-        """Calls the launcher, and returns which crates it had proved."""
+        """Calls the launcher, and returns what it called of the toolchain."""
         self.sandbox.run(str(self.sandbox.top / "filehost"))
-        return [call.partition(":")[0] for call in self.sandbox.calls()]
+        return self.sandbox.calls()
 
     def gate(self, ci="3 passed, 0 failed", ci_status=0, run="2 passed, 0 failed", run_status=0, command="test", **how):
         """Runs the gate over parts that say and answer this, and returns its status and its lines."""
@@ -84,7 +84,7 @@ class Gate(unittest.TestCase):
         self.sandbox.let_time_pass()
         self.gate(EDIT_MEANWHILE=str(self.sandbox.top / "crates/low/src/lib.rt"), SECONDS_A_CRATE="0.1")
         self.sandbox.calls()
-        self.assertEqual(self.launch(), ["low", "filehost"])
+        self.assertEqual(self.launch(), ["build: ci low filehost"])
 
     def test_says_first_what_it_will_do_and_then_how_long_each_part_took(self):
         self.sandbox.add_crates("low:\nfilehost: low\n")
@@ -101,7 +101,7 @@ class Gate(unittest.TestCase):
         self.sandbox.add_crates("low:\nfilehost: low\n")
         answer = self.gate(ci="1 passed, 1 failed", ci_status=1, NO_PROGRAM="yes")
         self.assert_ends(answer, 1, "3 passed, 1 failed")
-        self.assertEqual(self.sandbox.calls(), ["repository: ci", "low: lib", "filehost: run -- --version"])
+        self.assertEqual(self.sandbox.calls(), ["repository: ci low filehost", "build: ci low filehost"])
 
     def test_ends_at_once_with_all_that_it_started_where_it_is_stopped(self):
         self.sandbox.add_crates("filehost:\n")

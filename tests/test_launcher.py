@@ -10,7 +10,7 @@ import time
 import unittest
 
 from lib.client import HEAP, HELP, PATIENCE
-from lib.sandbox import TOP, Sandbox
+from lib.sandbox import LAUNCHER, TOP, Sandbox
 
 CRATES = """\
 # name: what it stands on
@@ -20,7 +20,8 @@ upper: middle low
 low: sha1
 middle: low
 """
-IN_ORDER = ["low: lib", "middle: lib", "upper: lib", "filehost: run -- --version"]
+# What is proved, in the copy that the build makes: the crates that the program uses, lowest first.
+IN_ORDER = ["build: ci low middle upper filehost"]
 # Two crates that don't stand on each other, and one that stands on both.
 SIDE_BY_SIDE = "filehost: upper\nupper: left right\nleft: low\nright: low\nlow:\n"
 OWN_STATUS = 7
@@ -28,7 +29,7 @@ OWN_STATUS = 7
 
 class Launcher(unittest.TestCase):
     def setUp(self):
-        self.sandbox = Sandbox("filehost")
+        self.sandbox = Sandbox(*LAUNCHER)
         self.addCleanup(self.sandbox.close)
         self.launcher = str(self.sandbox.top / "filehost")
 
@@ -124,15 +125,20 @@ class Launcher(unittest.TestCase):
         self.call()
         self.assertEqual(self.sandbox.calls(), IN_ORDER)
 
-    def test_proves_crates_that_do_not_use_each_other_side_by_side(self):
-        self.sandbox.add_crates(SIDE_BY_SIDE)
-        self.set_processors(2)
-        # Each goes on once the other was begun.
-        self.assertEqual(self.call(BESIDE_OF_left="right", BESIDE_OF_right="left")[0], OWN_STATUS)
-        calls = self.sandbox.calls()
-        self.assertEqual((calls[0], sorted(calls[1:3]), calls[3:]), ("low: lib", ["left: lib", "right: lib"], IN_ORDER[2:]))
-        beside = set((self.sandbox.folder / "calls.beside").read_text().splitlines())
-        self.assertTrue(beside and beside <= {"left beside right", "right beside left"}, beside)
+    def test_proves_a_copy_of_the_crates_without_their_wrong_bodies(self):
+        self.sandbox.add_crates(CRATES)
+        for path in ("HANDLES", "crates/low/must-fail/wrong.edit", "crates/filehost/stdin", "crates/low/src/below/more.rt", "examples/wrong.rt"):
+            self.sandbox.write(path, "text")
+        building = self.start(HOLD_OF_low=self.hold())
+        copy = self.sandbox.top / "crates/filehost/out/build"
+        self.wait_for(building, self.sandbox.folder / "calls.began.low")
+        files = {str(path.relative_to(copy)) for path in copy.rglob("*") if path.is_file()}
+        self.let_go()
+        building.communicate(timeout=60)
+        shapes = [f"crates/{name}/{part}" for name in ("low", "middle", "upper") for part in ("src/lib.rt", "specs/Lib.antt", "proofs/Lib.antt")]
+        more = ["HANDLES", "crates.txt", "crates/filehost/src/main.rt", "crates/filehost/stdin", "crates/low/src/below/more.rt"]
+        self.assertEqual(files, {*shapes, *more})
+        self.assertFalse(copy.exists())
 
     def test_prints_a_line_a_crate_where_nobody_looks_at_a_terminal(self):
         self.sandbox.add_crates(CRATES)
@@ -141,8 +147,15 @@ class Launcher(unittest.TestCase):
         self.assertNotIn("proved", out)
         share = {"low": 10, "middle": 30, "upper": 60, "filehost": 100}
         told = [f"[{place}/4, 0 min, {part} % done] {crate} is proved, in 0 s of a processor" for place, (crate, part) in enumerate(share.items(), 1)]
-        self.assertEqual(err.splitlines()[1:], [*told, "filehost: built in 0 minutes"])
+        self.assertEqual(err.splitlines()[1:], [*told, "filehost: built in 0 minutes, with 0 minutes of a processor"])
         self.assertNotIn("\r", err)
+
+    def test_says_which_crates_were_proved_before(self):
+        self.sandbox.add_crates("filehost: low\nlow:\n")
+        told = [line.partition("] ")[2] for line in self.call(KEPT="low")[2].splitlines()[1:3]]
+        self.assertEqual(told, ["low was proved here before", "filehost is proved, in 0 s of a processor"])
+        # What such a build takes is not what one from nothing takes.
+        self.assertFalse((self.sandbox.top / "crates/filehost/out/build-seconds.txt").exists())
 
     def test_says_at_its_start_how_long_a_build_takes(self):
         """That is 1.15 times what its longest chain of crates lasts, or all its work on this number of processors."""
@@ -154,18 +167,16 @@ class Launcher(unittest.TestCase):
             self.sandbox.write("crates/low/src/lib.rt", str(processors))
             with self.subTest(processors):
                 first = self.call()[2].splitlines()[0]
-                self.assertIn(f"each of its 5 crates is proved first, which from nothing takes about {minutes} min on {processors} processors", first)
+                about = f"takes about 71 minutes of a processor, and {minutes} min on {processors} processors"
+                self.assertIn(f"each of its 5 crates is proved first, which from nothing {about}", first)
             self.sandbox.let_time_pass()
 
     def test_tells_how_much_of_a_processor_each_crate_took(self):
         self.sandbox.add_crates(SIDE_BY_SIDE)
-        self.set_processors(2)
-        # Left ends once it is told of right, so that its time can't be charged to right.
-        building = self.start(TURNS_OF_left="1000000", HOLD_OF_left=self.hold())
-        err = self.read_until(building.stderr, b"right is proved")
+        building = self.start(TURNS_OF_left="1000000", HOLD_OF_left=self.hold(), SECONDS_OF_left="1.5")
+        self.wait_for(building, self.sandbox.folder / "calls.began.left")
         self.let_go()
-        err = (err + building.stderr.read()).decode()
-        building.communicate(timeout=60)
+        err = building.communicate(timeout=60)[1].decode()
         took = dict(re.findall(r"(?m)\] (\w+) is proved, in (\d+) s of a processor$", err))
         self.assertGreater(int(took.pop("left")), 0)
         self.assertEqual(took, dict.fromkeys(("low", "right", "upper", "filehost"), "0"))
@@ -186,23 +197,28 @@ class Launcher(unittest.TestCase):
         with contextlib.suppress(OSError):
             while piece := os.read(near, 4096):
                 shown += piece
-                if b"3 of 8 functions" in shown or time.monotonic() > until:
+                if b"proving low" in shown or time.monotonic() > until:
                     self.let_go()
         os.close(near)
         self.assertEqual(building.wait(), OWN_STATUS)
         lines = shown.decode().split("\r\x1b[K")
-        self.assertIn("[0/2, 0 min, 30 % done] proving low 3 of 8 functions", lines)
+        self.assertIn("[0/2, 0 min, 0 % done] proving low", lines)
         self.assertIn("[1/2, 0 min, 80 % done] low is proved, in 0 s of a processor\r\n", lines)
         self.assertIn("[1/2, 0 min, 80 % done] proving filehost", lines)
-        self.assertEqual(lines[-1], "filehost: built in 0 minutes\r\n")
+        self.assertEqual(lines[-1], "filehost: built in 0 minutes, with 0 minutes of a processor\r\n")
 
-    def test_stops_the_other_proofs_where_one_fails(self):
-        self.sandbox.add_crates(SIDE_BY_SIDE)
-        self.sandbox.write("crates/left/src/broken")
-        began = time.monotonic()
-        _, _, err = self.call(SECONDS_OF_right="50")
-        self.assertIn("the build failed at left", err.splitlines()[-1])
-        self.assertLess(time.monotonic() - began, 20)
+    def test_stops_the_prover_where_it_is_stopped(self):
+        self.sandbox.add_crates(CRATES)
+        for number in (signal.SIGTERM, signal.SIGINT):
+            with self.subTest(number):
+                building = self.start(SECONDS_OF_low="50", start_new_session=True, preexec_fn=lambda: signal.signal(signal.SIGINT, signal.SIG_DFL))
+                self.wait_for(building, self.sandbox.folder / "calls.began.low")
+                began = time.monotonic()
+                os.killpg(building.pid, number)
+                building.communicate(timeout=60)
+                self.assertLess(time.monotonic() - began, 20)
+                (self.sandbox.folder / "calls.began.low").unlink()
+                (self.sandbox.folder / "calls.busy.build").rmdir()
 
     def test_gives_the_program_its_arguments_input_and_status(self):
         self.sandbox.add_crates(CRATES)
@@ -266,7 +282,7 @@ class Launcher(unittest.TestCase):
     def test_says_where_a_build_failed_and_runs_no_older_program(self):
         for crate in ("low", "filehost"):
             with self.subTest(crate):
-                log = self.sandbox.top / f"crates/{crate}/out/build.log"
+                log = self.sandbox.top / "crates/filehost/out/build.log"
                 self.add_built_program()
                 broken = self.sandbox.write(f"crates/{crate}/src/broken")
                 for what in ("the first call", "the next call"):
@@ -278,15 +294,15 @@ class Launcher(unittest.TestCase):
                 self.assertEqual(self.call()[0], OWN_STATUS)
 
     def test_builds_again_after_a_build_that_was_cut_off(self):
-        program = self.sandbox.top / "crates/filehost/out/filehost"
-        busy = self.sandbox.folder / "calls.busy.low"
+        made = self.sandbox.top / "crates/filehost/out/build/crates/filehost/out/filehost"
+        busy = self.sandbox.folder / "calls.busy.build"
         for moment, cut_at, why in (
             ("in its first crate", busy, {"SECONDS_A_CRATE": "60"}),
-            ("with the program made", program, {"SECONDS_AFTER_BUILD": "60"}),
+            ("with the program made", made, {"SECONDS_AFTER_BUILD": "60"}),
         ):
             with self.subTest(moment):
                 self.add_built_program()
-                program.unlink()
+                self.sandbox.write("crates/low/src/lib.rt", moment)
                 self.cut_off(cut_at, why)
                 if busy.exists():
                     busy.rmdir()
@@ -302,9 +318,14 @@ class Launcher(unittest.TestCase):
         os.killpg(building.pid, signal.SIGKILL)
         building.wait()
 
-    def start(self, *words, stdout=subprocess.PIPE, stderr=subprocess.PIPE, start_new_session=False, **more):
-        how = {"stdin": subprocess.DEVNULL, "stdout": stdout, "stderr": stderr, "start_new_session": start_new_session}
+    def start(self, *words, stdout=subprocess.PIPE, stderr=subprocess.PIPE, start_new_session=False, preexec_fn=None, **more):
+        how = {"stdin": subprocess.DEVNULL, "stdout": stdout, "stderr": stderr, "start_new_session": start_new_session, "preexec_fn": preexec_fn}
         return subprocess.Popen([self.launcher, *words], env=self.sandbox.environment(**more), **how)
+
+    def wait_for(self, building, file):
+        while not file.exists():
+            self.assertIsNone(building.poll())
+            time.sleep(0.01)
 
     def test_lets_the_program_take_its_place(self):
         self.add_built_program()
@@ -321,9 +342,7 @@ class Launcher(unittest.TestCase):
     def test_builds_once_for_two_calls_at_once(self):
         self.sandbox.add_crates(CRATES)
         first = self.start("solo", HOLD_OF_low=self.hold())
-        while not (self.sandbox.folder / "calls.began.low").exists():
-            self.assertIsNone(first.poll())
-            time.sleep(0.01)
+        self.wait_for(first, self.sandbox.folder / "calls.began.low")
         second = self.start("solo")
         waits = self.read_until(second.stderr, b"another call is building")
         self.assertIn(b"another call is building", waits)

@@ -164,7 +164,7 @@ class Readme(Program):
                 elif command.startswith("printf"):
                     self.assertTrue(out.startswith(b"HTTP/1.1 200 OK\r\n"), out)
         # Nothing was built, and nothing is left outside of the copy.
-        self.assertEqual(set((self.room / "calls").read_text().splitlines()), {"copy: ci"})
+        self.assertEqual({" ".join(call.split()[:2]) for call in (self.room / "calls").read_text().splitlines()}, {"copy: ci"})
         self.assertEqual(sorted(path.name for path in TOP.iterdir()), there)
 
     def test_shows_the_first_run_as_the_program_answers_it(self):

@@ -33,7 +33,6 @@ class Words(unittest.TestCase):
     def setUp(self):
         self.sandbox = Sandbox()
         self.addCleanup(self.sandbox.close)
-        (self.sandbox.tools / "sed").symlink_to(shutil.which("sed"))
         self.folder = self.sandbox.folder / "elsewhere"
         self.folder.mkdir()
 

@@ -14,7 +14,10 @@ TOP = pathlib.Path(__file__).resolve().parents[2]
 FAKE_RT = pathlib.Path(__file__).resolve().parent / "fake_rt"
 
 # What the scripts may call besides rt. A PATH of these alone has no toolchain on it, wherever that is installed.
-TOOLS = "bash cat chmod cp dirname env find flock mkdir mktemp mv nice nproc readlink rm rmdir sleep sort tail tee touch wc".split()
+TOOLS = ("bash cat chmod cp cut dirname env find flock getconf grep head mkdir mktemp mv nproc readlink rm rmdir sed sha256sum sleep sort tail tee touch uname"
+         " wc xargs").split()
+# The launcher, and what it calls to build.
+LAUNCHER = "filehost scripts/program_sources.sh scripts/build scripts/prove_program.py scripts/prover_times.py scripts/arguments.py".split()
 
 
 class Sandbox:
