@@ -52,6 +52,16 @@ class Edits(unittest.TestCase):
         self.assertEqual(changed, named, "run scripts/try-wrong-bodies, or name the crates in docs/GATE.md")
 
 
+    def test_are_in_the_gate_only_if_the_document_says_why(self):
+        # The first edit of a crate in the gate costs everyone one more proof of that crate.
+        told = (TOP / "docs" / "GATE.md").read_text().partition("\n| Crate | In the gate | Why |\n")[2].partition("\n\n")[0]
+        rows = re.findall(r"(?m)^\| `(\w+)` \| (\d+) \| \w.* \|$", told)
+        counts = {crate.name: len(list((crate / "must-fail").glob("*.edit"))) for crate in CRATES}
+        wanted = {name: int(count) for name, count in rows}
+        self.assertGreater(len(wanted), 1)
+        self.assertEqual({name: count for name, count in counts.items() if count}, wanted, "put the edit into wrong-bodies, or say why not in docs/GATE.md")
+
+
 class Contracts(unittest.TestCase):
     """What the digest of a crate's contracts goes by."""
 
