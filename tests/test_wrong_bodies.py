@@ -13,6 +13,7 @@ sys.path.insert(0, str(TOP / "scripts"))
 
 import contracts  # noqa: E402
 import edit_trials  # noqa: E402
+from lib.sandbox import Sandbox  # noqa: E402
 from source_words import Source  # noqa: E402
 
 CRATES = sorted(folder for folder in (TOP / "crates").iterdir() if folder.is_dir())
@@ -213,6 +214,71 @@ class Together(unittest.TestCase):
         one, unread, three = ("    1", "    4"), ("    2", "    ?"), ("    3", "    5")
         self.assertEqual(self.tried(one, unread, three), ({one, three}, 2))
         self.assertEqual(self.tried(one, unread), (set(), 1))
+
+
+# What the scripts ask of the toolchain, so that it refuses each edit but `right.edit`.
+TOOLCHAIN = """
+import pathlib, types
+
+class Crate:
+    def __init__(self, folder):
+        self.name, self.folder = folder.name, str(folder)
+
+    def is_built(self):
+        return True
+
+    def count(self, _pattern):
+        return 1
+
+rtlib = types.SimpleNamespace(guarded=lambda: [], crates_below=lambda top: [Crate(one) for one in pathlib.Path(top, "crates").iterdir()])
+free = processors = lambda: 1
+need = lambda _crate: 1
+
+def read_edit(_edit, _folder):
+    return {}, None
+
+def must_fail(crate, edit, _flags, _kept=None):
+    return not edit.endswith("/right.edit"), f"must-fail {crate.name}/{edit}"
+"""
+
+
+class Outside(unittest.TestCase):
+    """The scripts over a crate of which the gate tries no wrong body, and which was never tried."""
+
+    def setUp(self):
+        modules = (f"scripts/{name}.py" for name in ("arguments", "contracts", "edit_trials", "source_words"))
+        self.sandbox = Sandbox("scripts/try-wrong-bodies", "scripts/wrong-bodies", *modules)
+        self.addCleanup(self.sandbox.close)
+        self.sandbox.add_crates("few:\n")
+        self.sandbox.write("HANDLES")
+        self.sandbox.write("crates/few/wrong-bodies/wrong.edit", "file: src/lib.rt\nold: first\nnew: second\n")
+        (self.sandbox.folder / "toolchain" / "rt").write_text(TOOLCHAIN)
+        self.kept = self.sandbox.top / "crates/few/wrong-bodies/contracts.sha1"
+
+    def call(self, *words):
+        status, out, errors = self.sandbox.run(*words)
+        self.assertEqual(errors, "")
+        return status, out.splitlines()
+
+    def tried(self):
+        status, lines = self.call("scripts/try-wrong-bodies")
+        return status, lines[-1]
+
+    def untried(self):
+        return self.call("scripts/wrong-bodies", "--untried")[1]
+
+    def test_are_tried_until_each_is_refused_and_again_once_a_contract_changes(self):
+        self.assertEqual(self.untried(), ["few"])
+        right = self.sandbox.write("crates/few/wrong-bodies/right.edit", "file: src/lib.rt\nold: first\nnew: third\n")
+        self.assertEqual((self.tried(), self.kept.exists()), ((1, "1 refused, 1 let through"), False))
+        right.unlink()
+        self.assertEqual((self.tried(), self.untried()), ((0, "1 refused, 0 let through"), []))
+        self.sandbox.write("crates/few/specs/Lib.antt", "another definition")
+        self.assertEqual(self.untried(), ["few"])
+
+    def test_are_counted_and_listed(self):
+        self.assertEqual(self.call("scripts/wrong-bodies", "--counts")[1][2:], ["| few | 0 | 1 |", "| all | 0 | 1 |"])
+        self.assertEqual(self.call("scripts/wrong-bodies", "few")[1][2:], ["| few |  | wrong | src/lib.rt | try-wrong-bodies |"])
 
 
 if __name__ == "__main__":
