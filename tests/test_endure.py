@@ -7,7 +7,7 @@ import subprocess
 import tempfile
 import unittest
 
-from lib.client import ABC, HELLO, SECONDS, TOP, Program
+from lib.client import ABC, HELLO, PROGRAM, SECONDS, TOP, Program
 from lib.generated_histories import Generator
 from lib.long_model import LongModel
 from lib.many_clients import Shown
@@ -34,7 +34,7 @@ class Endure(Program):
 
     def test_finds_nothing_wrong(self):
         for minutes in LONGER:
-            status, counts, lines, errors = self.endure(minutes, 1)
+            status, counts, lines, errors = self.endure(minutes, 1, "--program", PROGRAM)
             self.assertEqual((status, counts["wrong replies"], counts["lost entries"], errors), (0, 0, 0, ""))
             rows = [line.strip("| ").split(" | ") for line in lines if line.startswith("|")]
             if all(counts[name] for name in COUNTS[:-2]) and len(rows) > 3:
@@ -69,7 +69,7 @@ class EndureServe(Program):
 
     def test_finds_nothing_wrong(self):
         for minutes in LONGER:
-            status, cells, errors = self.endure("--minutes", str(minutes))
+            status, cells, errors = self.endure("--minutes", str(minutes), "--program", PROGRAM)
             self.assertEqual((status, cells["Wrong replies"], cells["Lost entries"], errors), (0, "0", "0", ""))
             counts = [int(cells[name].replace(",", "")) for name in ("Lives", "Looks", "Entries", "Undos", "Hostile connections")]
             if min(counts) > 1:

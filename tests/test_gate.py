@@ -167,6 +167,10 @@ class Gate(unittest.TestCase):
                 self.assert_ends(self.gate(), 1, "0 passed, 1 failed")
                 self.assertEqual(self.sandbox.calls(), [])
 
+    def test_has_its_own_program_tested_whatever_the_variable_names(self):
+        self.sandbox.write("tests/run", 'import os\nprint(os.environ.get("FILEHOST_PROGRAM", "its own"))\nprint("1 passed, 0 failed")\n')
+        self.assertEqual(self.gate(FILEHOST_PROGRAM="another")[1][-3:], ["its own", "1 passed, 0 failed", "4 passed, 0 failed"])
+
     def test_works_from_any_folder_and_as_the_merge_gate(self):
         for command in ("test", ".ci/run"):
             with self.subTest(command):
@@ -176,7 +180,7 @@ class Gate(unittest.TestCase):
 
 class Runner(unittest.TestCase):
     def setUp(self):
-        self.sandbox = Sandbox("tests/run", "scripts/arguments.py")
+        self.sandbox = Sandbox("tests/run", "scripts/arguments.py", "scripts/chosen_program.py")
         self.addCleanup(self.sandbox.close)
 
     def assert_counts(self, body, status, last):

@@ -12,10 +12,11 @@ import threading
 import time
 import unittest
 
+from chosen_program import PROGRAM
+
 HERE = pathlib.Path(__file__).resolve().parent
 TOP = HERE.parent.parent
 CRATE = TOP / "crates/filehost"
-PROGRAM = CRATE / "out/filehost"
 # What the launcher adds to the environment of the program.
 HEAP = {"MALLOC_MMAP_THRESHOLD_": "65536"}
 EXAMPLES = TOP / "examples"
