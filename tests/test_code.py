@@ -1,7 +1,10 @@
 """The limits of files and functions, in Rattle, in Python and in shell scripts; and that no test uses another one."""
 
 import ast
+import builtins
 import re
+import shutil
+import subprocess
 import unittest
 
 from lib.repository import TOP, crates
@@ -72,6 +75,21 @@ def lines_of_clauses(text):
     return lines
 
 
+def misnamed(text):
+    """The names that a module uses though nothing in it gives them a value, and those that it imports and doesn't use."""
+    used, bound, imported = set(), {*dir(builtins), "__file__"}, set()
+    for part in ast.walk(ast.parse(text)):
+        if isinstance(part, ast.Name):
+            (used if isinstance(part.ctx, ast.Load) else bound).add(part.id)
+        elif isinstance(part, ast.arg):
+            bound.add(part.arg)
+        elif isinstance(part, ast.alias):
+            imported.add((part.asname or part.name).partition(".")[0])
+        elif isinstance(part, (ast.FunctionDef, ast.AsyncFunctionDef, ast.ClassDef, ast.ExceptHandler, ast.MatchAs, ast.MatchStar)):
+            bound.add(part.name)
+    return used - bound - imported, imported - used
+
+
 def scripts(first_line, ending):
     """The files with this ending, or with none and this first line, in the folders of tests and scripts and at the top."""
     files = [file for folder in (".", *FOLDERS) for file in sorted((TOP / folder).iterdir()) if file.is_file()]
@@ -114,6 +132,20 @@ class Scripts(unittest.TestCase):
         for file in self.python:
             with self.subTest(str(file.relative_to(TOP))):
                 self.assertTrue(ast.get_docstring(ast.parse(file.read_text())))
+
+    def test_name_what_is_there_and_import_what_they_use(self):
+        """Where pyflakes is installed, it looks too, and finds more."""
+        for file in self.python:
+            with self.subTest(str(file.relative_to(TOP))):
+                self.assertEqual(misnamed(file.read_text()), (set(), set()))
+        if pyflakes := shutil.which("pyflakes3") or shutil.which("pyflakes"):
+            ran = subprocess.run([pyflakes, *self.python], capture_output=True, text=True)
+            self.assertEqual(ran.stdout + ran.stderr, "")
+
+    def test_finds_names_that_are_not_there_and_imports_that_nothing_uses(self):
+        text = "import os, sys as system\nfrom a import b as c, d\ndef f(x, *y, z=1):\n    global g\n    g = [w for w in x]\n    return len(y) + d.e + h\n"
+        self.assertEqual(misnamed(text), ({"h"}, {"os", "system", "c"}))
+        self.assertEqual(misnamed("try:\n    1\nexcept OSError as e:\n    match e:\n        case [k, *m]:\n            __file__, k, m, (n := 1), n\n"), (set(), set()))
 
     def test_no_test_uses_another_one(self):
         """What several tests use is in tests/lib, which uses no test either. Nor does a measurement."""

@@ -11,7 +11,7 @@ LOG = r"(?:(?:\w+\.)*entries\b(?!\.now)|\b(?:log|before)(?:\.now)?\b)"
 SPELT_OUT = {
     "counts the entries of a log": rf"\blength (?:{LOG}|had\b)",
     "puts entries after those of a log": rf"{LOG} *\+\+",
-    "puts the entries of a log after others": rf"\+\+ *(?:\w+\.)*entries\b",
+    "puts the entries of a log after others": r"\+\+ *(?:\w+\.)*entries\b",
     "numbers entries from 1": r"\benumerate_from 1\b",
 }
 

@@ -5,7 +5,7 @@ What is expected follows from docs/HTTP.md, "Routes" and "Targets".
 
 import unittest
 
-from lib.client import STATUS_OF, digest_of, opened, sent
+from lib.client import STATUS_OF, digest_of, opened
 from lib.rows import (
     DEPLOYS, NO_NUMBERS, UNDO, Interface, change, delete, get, post, publishing, put, read, row, served, undo, uploading, written,
 )

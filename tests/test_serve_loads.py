@@ -8,7 +8,7 @@ import random
 import time
 import unittest
 
-from lib.client import digest_of, done, request, sent, to_head
+from lib.client import PATIENCE, digest_of, done, request, sent, to_head
 from lib.held_file import HeldFile
 from lib.served import Served, ask, publish
 from lib.worked_runs import entry, removing, undoing

@@ -11,7 +11,7 @@ import unittest
 from lib.built_crates import BuiltCrate
 from lib.client import SECONDS, digest_of, refused, sent
 from lib.generated_histories import NAMES, PATHS, PROGRAMS_AT_ONCE, SITES
-from lib.plain_history import ALIAS, DRAFT, KEPT, LIVE, Deploy, Entry
+from lib.plain_history import DRAFT, KEPT, LIVE, Deploy, Entry
 from lib.plain_world import CHUNK, FAULT, Ask, Phase, World
 from lib.stores import told
 import journal
