@@ -1,22 +1,27 @@
 """scripts/quick-build, over a toolchain that is made up: its module is a shell script, and a program is that script without the calls of checks."""
 
+import contextlib
 import os
+import pathlib
 import shutil
 import signal
 import subprocess
 import time
 import unittest
 
-from lib.sandbox import Sandbox
+from lib.sandbox import LAUNCHER, Sandbox
 
 # It calls the clang next to it as `rt try` does, with the module in the folder that it works in.
 RT = """#!/usr/bin/env bash
-echo $$ >"${PROCESS:-/dev/null}"
-printf '%s\\n' "$PWD: $*" >>"$CALLS"
+crate=$PWD
 mkdir -p "$TMPDIR/rt-try"
 cat src/main.rt >"$TMPDIR/rt-try/module.bc"
 cd "$TMPDIR/rt-try"
-sleep "${SECONDS_OF_A_TRY:-0}"
+printf '%s\\n' "$crate: $*" >>"$CALLS"
+if [[ ${HELD:-} == rt ]]; then
+  echo $$ >"$CALLS.held"
+  sleep 50
+fi
 if grep broken module.bc; then
   exit 2
 fi
@@ -25,6 +30,10 @@ exec "${0%/bin/*}/toolchain/bin/clang" -fsanitize=address module.bc
 # What it compiles is the word before -o.
 CLANG = """#!/usr/bin/env bash
 [[ $* != *fsanitize* ]] || { echo "the module was given to the toolchain's own clang"; exit 3; }
+if [[ ${HELD:-} == clang ]]; then
+  echo $$ >"$CALLS.held"
+  sleep 50
+fi
 while [[ $2 != -o ]]; do shift; done
 cp "$1" "$3"
 """
@@ -44,10 +53,9 @@ attributes() { :; }
 
 class QuickBuild(unittest.TestCase):
     def setUp(self):
-        self.sandbox = Sandbox("scripts/quick-build", "filehost")
+        self.sandbox = Sandbox("scripts/quick-build", *LAUNCHER)
         self.addCleanup(self.sandbox.close)
-        for tool in ("grep", "ln", "sed"):
-            (self.sandbox.tools / tool).symlink_to(shutil.which(tool))
+        (self.sandbox.tools / "ln").symlink_to(shutil.which("ln"))
         self.out = self.sandbox.top / "crates/filehost/out"
         self.program = self.out / "filehost-unproved"
         self.log = self.out / "quick-build.log"
@@ -125,26 +133,35 @@ class QuickBuild(unittest.TestCase):
         self.assertEqual((status, out, len(errors.splitlines())), (1, "", 1), errors)
         self.assertIn("no command rt", errors)
 
+    def assert_ends(self, process):
+        """Whoever takes it over when its parent has ended may let it wait before it is gone."""
+        until = time.monotonic() + 20
+        with contextlib.suppress(FileNotFoundError, ProcessLookupError):
+            while ") Z " not in pathlib.Path(f"/proc/{process}/stat").read_text():
+                self.assertLess(time.monotonic(), until, "it goes on")
+                time.sleep(0.01)
+
     def test_ends_at_once_with_the_toolchain_where_it_is_stopped(self):
         self.use_toolchain()
-        process = self.sandbox.folder / "process"
-        for number in (signal.SIGINT, signal.SIGTERM):
-            with self.subTest(number):
+        held = self.sandbox.folder / "calls.held"
+        for number, name in ((signal.SIGINT, "rt"), (signal.SIGTERM, "rt"), (signal.SIGINT, "clang"), (signal.SIGTERM, "clang")):
+            with self.subTest(number=number, name=name):
+                held.write_text("")
                 how = {"stdin": subprocess.DEVNULL, "stdout": subprocess.PIPE, "stderr": subprocess.PIPE, "start_new_session": True}
                 how["preexec_fn"] = lambda: signal.signal(signal.SIGINT, signal.SIG_DFL)
-                environment = self.sandbox.environment(**self.environment(SECONDS_OF_A_TRY="50", PROCESS=str(process)))
+                environment = self.sandbox.environment(**self.environment(HELD=name))
                 build = subprocess.Popen([str(self.sandbox.top / "scripts/quick-build")], env=environment, **how)
-                while build.poll() is None and not self.sandbox.calls():
+                while build.poll() is None and not held.read_text():
                     time.sleep(0.01)
                 os.kill(build.pid, number)
                 out, errors = build.communicate(timeout=40)
-                self.assertRaises(ProcessLookupError, os.kill, int(process.read_text()), 0)
+                self.assert_ends(int(held.read_text()))
                 self.assertEqual((build.returncode, out, errors, list(self.room.iterdir()), self.program.exists()), (130, b"", b"", [], False))
 
     def test_is_no_build_for_the_launcher(self):
         self.sandbox.write("crates/filehost/out/filehost-unproved", "#!/usr/bin/env bash\necho unproved\n", 0o755)
         status, out, _ = self.sandbox.run(str(self.sandbox.top / "filehost"), "word")
-        self.assertEqual((status, out.partition(" ")[0], self.sandbox.calls()), (7, "<word>", ["filehost: run -- --version"]))
+        self.assertEqual((status, out.partition(" ")[0], self.sandbox.calls()), (7, "<word>", ["build: ci filehost"]))
 
 
 if __name__ == "__main__":
