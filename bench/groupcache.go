@@ -1,4 +1,4 @@
-// Measures three packages of groupcache and its nodes, as crates/group_bench measures ours: a run makes one measurement and prints the
+// Measures three packages of groupcache and its nodes, as crates/desk_driver measures ours: a run makes one measurement and prints the
 // nanoseconds of all its calls and the sum of their answers.
 package main
 

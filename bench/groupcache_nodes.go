@@ -1,4 +1,4 @@
-// Reads through the first of three nodes of groupcache, each a process of its own, as crates/group_bench reads through three of ours.
+// Reads through the first of three nodes of groupcache, each a process of its own, as crates/desk_driver reads through three of ours.
 package main
 
 import (

@@ -53,7 +53,7 @@ def count_served(program, folder, requests, *how, within=None):
     stream, line = write_gets(folder, requests).read_bytes(), folder / "line"
     cuts = ",".join(str(end.end()) for end in re.finditer(b"\r\n\r\n", stream))
     line.write_text(" ".join([cuts, *map(str, how), stream.hex()]) + "\n")
-    return instructions_of([program], folder, line, within)
+    return instructions_of([program, "steps"], folder, line, within)
 
 
 def count_at_once(program, folder, requests):
@@ -63,7 +63,7 @@ def count_at_once(program, folder, requests):
 
 def count_within(program, folder, requests):
     """The same without what the program does before and after: it reads and writes hexadecimal digits."""
-    return count_served(program, folder, requests, within="step_tests::serving::written_at_once")
+    return count_served(program, folder, requests, within="host_driver::steps::serving::written_at_once")
 
 
 def count_in_steps(program, folder, requests):

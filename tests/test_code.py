@@ -51,7 +51,7 @@ class Rattle(unittest.TestCase):
             counted = sum(len(re.findall(r"\bfn \w+", text)) for text in texts)
             with self.subTest(name):
                 self.assertGreater(counted, 0)
-                if name not in LARGE and not name.endswith(("_tests", "_bench")):
+                if name not in LARGE and not name.endswith(("_tests", "_driver")):
                     self.assertLessEqual(counted, 110)
 
     def test_has_clauses_that_need_no_scrolling(self):

@@ -1,4 +1,4 @@
-"""A desk that threads share, over `shared_desk_tests`: what it answers and shows, how it is opened and closed, what goes on while another thread holds one
+"""A desk that threads share, over `desk_driver`: what it answers and shows, how it is opened and closed, what goes on while another thread holds one
 of its locks.
 """
 

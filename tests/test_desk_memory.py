@@ -1,4 +1,4 @@
-"""Something is asked of a desk again and again, over `shared_desk_tests`, each time with another allocation refused: where there is no memory the seat's
+"""Something is asked of a desk again and again, over `desk_driver`, each time with another allocation refused: where there is no memory the seat's
 count, what is shown and the bytes of the journal stay, and the same call makes the entry then. So it is with the opening of the desk. Where all allocations
 are refused from a place on, each run ends.
 """

@@ -1,4 +1,4 @@
-"""Eight deployers and eight readers at one desk, each in a thread of its own, over `shared_desk_tests`. The log is legal, each receipt has a number of its own,
+"""Eight deployers and eight readers at one desk, each in a thread of its own, over `desk_driver`. The log is legal, each receipt has a number of its own,
 each refusal is one over the log that it tells, and no reader sees less than before; also after a kill and another opening.
 """
 

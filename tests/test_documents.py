@@ -63,11 +63,11 @@ class OrderOfCrates(unittest.TestCase):
                 self.assertLessEqual(uses & crates().keys(), before)
             before.add(name)
 
-    def test_has_each_crate_below_a_heading_with_tests_and_measurements_last(self):
+    def test_has_each_crate_below_a_heading_with_tests_and_drivers_last(self):
         self.assertEqual([name for names in groups().values() for name in names], list(crates()))
-        *_, tests, measurements = groups().values()
+        *_, tests, drivers = groups().values()
         self.assertEqual(groups()["Host"][-1], "filehost")
-        for ending, names in (("_tests", tests), ("_bench", measurements)):
+        for ending, names in (("_tests", tests), ("_driver", drivers)):
             self.assertEqual([name for name in crates() if name.endswith(ending)], names)
 
     def test_is_that_of_the_folders(self):

@@ -1,7 +1,7 @@
 """Journals in files: what the crates write is what docs/STORAGE.md says, and what is opened of a file; and which calls of the system a
 put and an opening make.
 
-The program is journal_bench, which opens a journal at a path. The reader and the writer are in journal.py. Files that are written by
+The program is host_driver, which opens a journal at a path. The reader and the writer are in journal.py. Files that are written by
 hand are in test_journal_files.py.
 """
 

@@ -1,4 +1,4 @@
-"""Connections in steps, over `step_tests`: streams come in pieces, and each read and each write would have to wait first. They are answered as they are
+"""Connections in steps, over `host_driver`: streams come in pieces, and each read and each write would have to wait first. They are answered as they are
 at once, byte for byte."""
 
 import concurrent.futures
@@ -10,7 +10,7 @@ from lib.built_crates import BuiltCrate
 from lib.changed_streams import BASES, changed_streams
 from lib.client import EXAMPLES, SECONDS
 
-CRATE = BuiltCrate("step_tests")
+CRATE = BuiltCrate("host_driver")
 PROGRAMS_AT_ONCE = 4
 # How many bytes a write takes.
 FEW = (1, 7, 1_000)
@@ -19,7 +19,7 @@ MANY = 1_000_000
 
 def answered(lines):
     """What is written for each of these lines."""
-    ran = subprocess.run([CRATE.program], input="".join(f"{line}\n" for line in lines), check=True, capture_output=True, text=True, timeout=SECONDS)
+    ran = subprocess.run([CRATE.program, "steps"], input="".join(f"{line}\n" for line in lines), check=True, capture_output=True, text=True, timeout=SECONDS)
     return [bytes.fromhex(line) for line in ran.stdout.splitlines()]
 
 

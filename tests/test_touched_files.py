@@ -24,7 +24,7 @@ def files():
     """The files of the crates and the documents, by the names that CONTRIBUTING.md gives them. Crates that only measure or test are left out,
     and so are laws."""
     for crate in sorted((TOP / "crates").iterdir()):
-        if crate.name.endswith(("_bench", "_tests")):
+        if crate.name.endswith(("_driver", "_tests")):
             continue
         for folder in ("src", "specs", "proofs"):
             for file in sorted((crate / folder).rglob("*")):

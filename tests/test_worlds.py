@@ -1,4 +1,4 @@
-"""Worlds: lists of steps of a desk, of nodes and of visitors, over `world_tests`, which takes them and tells what visitors then have. Worked ones, and lists
+"""Worlds: lists of steps of a desk, of nodes and of visitors, over `host_driver`, which takes them and tells what visitors then have. Worked ones, and lists
 that are drawn by chance, each of 10,000 steps, with peers that lie, faults and evictions: there each visitor has what it has in the plain model.
 """
 
@@ -16,7 +16,7 @@ from lib.plain_world import CHUNK, FAULT, Ask, Phase, World
 from lib.stores import told
 import journal
 
-CRATE = BuiltCrate("world_tests")
+CRATE = BuiltCrate("host_driver")
 LISTS, STEPS = 10, 10_000
 # The entries that a log may have, what the caches of a node may count, nodes, and visitors.
 LIMITS = (300, 250, 2, 6)
@@ -36,7 +36,7 @@ CALLS = ("look", "begin", "answer", "fault", "lie", "main", "hot", "settle", "fi
 
 def played(lines):
     """What the program tells after lists of steps."""
-    ran = subprocess.run([CRATE.program], input="".join(f"{line}\n" for line in lines), check=True, capture_output=True, text=True, timeout=SECONDS)
+    ran = subprocess.run([CRATE.program, "world"], input="".join(f"{line}\n" for line in lines), check=True, capture_output=True, text=True, timeout=SECONDS)
     return ran.stdout.splitlines()
 
 

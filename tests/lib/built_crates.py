@@ -20,11 +20,11 @@ class BuiltCrate:
         sources = (file for folder in ("src", "specs", "proofs") for file in TOP.glob(f"crates/*/{folder}/**/*") if file.is_file())
         return self.program.stat().st_mtime >= max(file.stat().st_mtime for file in sources)
 
-    def build(self, *words):
-        """Proves and builds the program, and runs it with these words. A program that is built already keeps its time, so the time is set here."""
+    def build(self):
+        """Proves and builds the program, and has it list what it does. A program that is built already keeps its time, so the time is set here."""
         # Files of tests that run at once may want the same program.
         with (self.folder / "src/main.rt").open() as lock:
             fcntl.flock(lock, fcntl.LOCK_EX)
             if not self.is_built():
-                subprocess.run(["rt", "run", "--", *words], cwd=self.folder, stdin=subprocess.DEVNULL, capture_output=True, check=True)
+                subprocess.run(["rt", "run", "--", "list"], cwd=self.folder, stdin=subprocess.DEVNULL, capture_output=True, check=True)
                 self.program.touch()

@@ -1,4 +1,4 @@
-"""Deployers and readers at a desk over a store in a folder, by `shared_desk_tests`: what they are to do, and what is printed then."""
+"""Deployers and readers at a desk over a store in a folder, by `desk_driver`: what they are to do, and what is printed then."""
 
 import collections
 import pathlib
@@ -10,7 +10,7 @@ from lib.built_crates import BuiltCrate
 from lib.client import SECONDS
 import journal
 
-CRATE = BuiltCrate("shared_desk_tests")
+CRATE = BuiltCrate("desk_driver")
 DEPLOYERS, READERS = 8, 8
 
 
@@ -111,7 +111,7 @@ class AtDesk(unittest.TestCase):
         return (self.folder / "journal").read_bytes()
 
     def start(self, stage, folder=None, **how):
-        words = [CRATE.program, stage, folder or self.folder]
+        words = [CRATE.program, "desk", stage, folder or self.folder]
         return subprocess.Popen(words, stdin=subprocess.PIPE, stdout=subprocess.PIPE, stderr=subprocess.PIPE, text=True, **how)
 
     def run_lines(self, stage, lines, **how):

@@ -1,4 +1,4 @@
-"""Journals that `journal_bench` opens, and what it says of them."""
+"""Journals that `host_driver` opens, and what it says of them."""
 
 import concurrent.futures
 import itertools
@@ -11,7 +11,7 @@ from lib.built_crates import BuiltCrate
 from lib.client import SECONDS
 import journal
 
-CRATE = BuiltCrate("journal_bench")
+CRATE = BuiltCrate("host_driver")
 FILES_AT_ONCE = 4
 
 
@@ -31,7 +31,7 @@ class Journals(unittest.TestCase):
 
     @classmethod
     def setUpClass(cls):
-        CRATE.build("list")
+        CRATE.build()
 
     def setUp(self):
         folder = tempfile.TemporaryDirectory()
@@ -40,7 +40,7 @@ class Journals(unittest.TestCase):
         self.file = self.folder / "journal"
 
     def run_program(self, *words, **how):
-        ran = subprocess.run([CRATE.program, *words], check=True, capture_output=True, text=True, timeout=SECONDS, **how)
+        ran = subprocess.run([CRATE.program, "journal", *words], check=True, capture_output=True, text=True, timeout=SECONDS, **how)
         return ran.stdout.strip()
 
     def open(self, path=None):

@@ -1,5 +1,0 @@
-use Rattle.site_state.specs.Files.{IsByPath}
-use Rattle.host_bench.proofs.files.listing.Given as goal
-
-abbrev pub invariant-loop-number : goal.invariant-loop-number
-invariant-loop-number l = IsByPath l.entries.items

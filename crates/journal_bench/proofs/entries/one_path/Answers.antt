@@ -1,6 +1,0 @@
-use Rattle.std.specs.List.Sorted.{IsStrictlySortedBy}
-use Rattle.journal_bench.proofs.entries.one_path.Goals as goal
-
-pub from_sorted-requires : goal.from_sorted-requires
-unfolding IsStrictlySortedBy
-from_sorted-requires c = rw c.in_ok-vec.ensures.items (tt, tt)

@@ -1,5 +1,0 @@
-use Rattle.std.proofs.Common.{length}
-use Rattle.reply_bench.proofs.files.+have_names.Given as goal
-
-abbrev pub decreases-have_names : goal.decreases-have_names
-decreases-have_names l = length l.chunks.now
