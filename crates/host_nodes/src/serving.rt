@@ -1,7 +1,5 @@
 //! `filehost serve`: a host is opened, and its nodes serve.
 ghost use Rattle.std.specs.Prelude.{◌≡◌, ◌↔◌, IfErr, IfOk, codes, true};
-ghost use Rattle.shared_desk.specs.FoundFiles.{files_of};
-ghost use Rattle.shared_desk.specs.NewDesks.{AreNames};
 ghost use Rattle.blob_store.specs.Shelves.{found_in};
 ghost use Rattle.found_host.specs.declared.faults.OpenFault.TheVariants.{OutOfMemory};
 ghost use Rattle.blob_store.specs.declared.mem_shelf.MemShelf.{MemShelf};
@@ -12,12 +10,10 @@ ghost use Rattle.host_server.specs.Solo.{IsSaid, SaysFault};
 ghost use Rattle.host_nodes.specs.Ends.{IsEnd};
 ghost use Rattle.host_nodes.specs.Ports.{HasPorts, LeavesRoom};
 
-use crate::desks::{Plan, serve_desk};
 use crate::lines::{Failure, refuse};
-use crate::ports::bind_all;
+use crate::open_desks::{numbers, serve_found};
 use crate::runtimes::Serving;
 use blob_store::{MemShelf, Shelf, ShelfAccess};
-use byte_view::BlobInfo;
 use change_undo::GREATEST_LIMIT;
 use command_line::ServeOptions;
 use event_loop::Limits;
@@ -25,10 +21,8 @@ use found_host::{Found, OpenFault};
 use host_disk::{Disk, MemDisk};
 use host_server::fail;
 use http_wire::Sink;
-use seen_lists::ListName;
-use shared_desk::{NewDesk, open};
-use site_desk::DeskName;
-use std::alloc::{AllocError, Global};
+use shared_desk::NewDesk;
+use std::alloc::Global;
 use std::env::Env;
 use std::marker::Brand;
 use std::net::{Net, TcpListener, TcpStream};
@@ -53,9 +47,6 @@ const SECOND: &str = "FILEHOST_DEADLINE_SECOND";
 
 const MILLISECONDS: u64 = 1_000;
 
-/// How many nodes there are at most, and how many workers a node has at most.
-const MOST: u64 = 8;
-
 /// How long a second of the deadlines is.
 fn second<R: Env>(rt: &R) -> u64 {
     let mut text = [0; 8];
@@ -66,57 +57,6 @@ fn second<R: Env>(rt: &R) -> u64 {
         Ok(digits) => digits.parse::<u64>().unwrap_or(MILLISECONDS),
         Err(_) => MILLISECONDS,
     }
-}
-
-/// A value in a place of its own.
-fn boxed<T: Drop>(alloc: Global, value: T) -> Result<Box<T>, AllocError> {
-    Ok(Box::new(alloc, value)?)
-}
-
-/// Serves from the desk of what was found.
-fn serve_found<
-    J: DeskName + Send + Sync,
-    K: ListName<BlobInfo> + Send + Sync,
-    D: Disk + Drop + Send,
-    S: Shelf + Drop + Send,
-    R: Serving,
-    Q: ShelfAccess<S> + Send + Sync,
-    O: Sink,
->(
-    rt: &R,
-    alloc: Global,
-    options: &ServeOptions,
-    limits: Limits,
-    new: NewDesk,
-    found: Found<D, S>,
-    access: &Q,
-    out: &mut O,
-) -> Result<(), Failure>
-    requires names { AreNames J.name J.parts J.book K.book new }
-    requires entries { J.found ≡ found.journal.entries }
-    requires uploads { K.found ≡ files_of found.store.known }
-    requires limit { found.limit ≡ 1000000 }
-    requires ports { LeavesRoom options.now.listen }
-{
-    // The words give as many; the proof sees it here.
-    let (nodes, workers) = (options.nodes.clamp(1, MOST), options.workers.clamp(1, MOST));
-    let Ok((desk, seats, visitor)) = open::<J, K, D, S, R>(
-        alloc,
-        rt.clone()?,
-        new,
-        found,
-        (nodes * workers) as usize,
-    ) else {
-        return Err(Failure::NotOpened(OpenFault::OutOfMemory));
-    };
-    let desk = boxed(alloc, desk)?;
-    let bound = bind_all(rt, alloc, &options.listen, nodes as u16)?;
-    let plan = Plan {
-        workers: workers as usize,
-        limits,
-        clients: options.conns.unwrap_or(u64::MAX),
-    };
-    serve_desk(rt, alloc, &desk, seats, visitor, access, bound, &plan, out)
 }
 
 /// Serves from what a disk and a shelf have.
@@ -142,7 +82,7 @@ fn serve_store<
         Ok(found) => found,
         Err(stop) => return Err(Failure::NotOpened(stop.fault)),
     };
-    let new = NewDesk::new(rt, options.nodes.clamp(1, MOST));
+    let new = NewDesk::new(rt, numbers(options).0);
     serve_found::<Brand, Brand, D, S, R, Q, O>(rt, alloc, options, limits, new, found, access, out)
 }
 

@@ -1,5 +1,5 @@
 use Rattle.shared_desk.proofs.Crossing.{desk_sync}
-use Rattle.host_nodes.proofs.desks.serve_nodes.Goals as goal
+use Rattle.host_nodes.proofs.tasks.do_tasks.Goals as goal
 
 pub share_out-requires-sync-A : goal.share_out-requires-sync-A
 share_out-requires-sync-A g c κs within =

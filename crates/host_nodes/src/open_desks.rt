@@ -1,0 +1,193 @@
+//! A desk is opened, and its nodes serve.
+ghost use Rattle.std.specs.Prelude.{◌≡◌, ◌<◌, ◌≤◌};
+ghost use Rattle.shared_desk.specs.FoundFiles.{files_of};
+ghost use Rattle.shared_desk.specs.NewDesks.{AreNames};
+ghost use Rattle.host_nodes.specs.Ports.{LeavesRoom};
+
+use crate::desks::{Plan, Posts, Staff, posts_of, serve_desk};
+use crate::lines::Failure;
+use crate::ports::bind_all;
+use crate::runtimes::Serving;
+use blob_store::{Shelf, ShelfAccess};
+use byte_view::BlobInfo;
+use change_undo::Entry;
+use command_line::ServeOptions;
+use event_loop::Limits;
+use found_host::{Found, OpenFault};
+use host_disk::Disk;
+use http_wire::Sink;
+use left_right::Absorb;
+use seen_lists::{ListName, Shown};
+use shared_desk::{Desk, NewDesk, open};
+use site_desk::{DeskName, HostSnap, Notice};
+use std::alloc::{AllocError, Global};
+use std::net::{Net, TcpListener, TcpStream};
+use std::sync::Wait;
+
+/// How many nodes there are at most, and how many workers a node has at most.
+const MOST: u64 = 8;
+
+/// A value in a place of its own.
+fn boxed<T: Drop>(alloc: Global, value: T) -> Result<Box<T>, AllocError> {
+    Ok(Box::new(alloc, value)?)
+}
+
+/// A desk that is open, and who works at it.
+#[derive(Drop)]
+struct OpenDesk<
+    J: DeskName,
+    K: ListName<BlobInfo>,
+    D: Disk + Drop,
+    S: Shelf + Drop,
+    R: Wait + Drop,
+> {
+    desk: Box<Desk<J, K, D, S, Shown<Entry, J, HostSnap>, R>>,
+    staff: Staff<J>,
+}
+
+/// How many nodes there are, and how many workers each has.
+pub(crate) fn numbers(options: &ServeOptions) -> (u64, u64)
+    ensures nodes { (0 < result.0) × (result.0 ≤ 8) }
+    ensures workers { (0 < result.1) × (result.1 ≤ 8) }
+{
+    // The words give as many; the proof sees it here.
+    (options.nodes.clamp(1, MOST), options.workers.clamp(1, MOST))
+}
+
+/// Opens the desk of what was found, with a seat for each node and this many visitors.
+fn open_desk<
+    J: DeskName,
+    K: ListName<BlobInfo>,
+    D: Disk + Drop,
+    S: Shelf + Drop,
+    R: Wait + Clone + Drop,
+>(
+    rt: &R,
+    alloc: Global,
+    new: NewDesk,
+    found: Found<D, S>,
+    visitors: usize,
+) -> Result<OpenDesk<J, K, D, S, R>, Failure>
+    requires names { AreNames J.name J.parts J.book K.book new }
+    requires entries { J.found ≡ found.journal.entries }
+    requires uploads { K.found ≡ files_of found.store.known }
+    requires limit { found.limit ≡ 1000000 }
+    requires visitors { (0 < visitors) × (visitors ≤ 64) }
+{
+    match open::<J, K, D, S, R>(alloc, rt.clone()?, new, found, visitors) {
+        Ok((desk, seats, visitor)) => {
+            let staff = Staff { seats, visitor };
+            Ok(OpenDesk {
+                desk: boxed(alloc, desk)?,
+                staff,
+            })
+        }
+        Err(_) => Err(Failure::NotOpened(OpenFault::OutOfMemory)),
+    }
+}
+
+/// What the words ask of each node.
+fn plan_of(options: &ServeOptions, limits: Limits) -> Plan {
+    Plan {
+        workers: numbers(options).1 as usize,
+        limits,
+        clients: options.conns.unwrap_or(u64::MAX),
+    }
+}
+
+/// Binds the ports that the words ask for, and gives these who work at a desk their posts there.
+fn posts_at<J: DeskName, R: Net<Listener = TcpListener, Stream = TcpStream>>(
+    rt: &R,
+    alloc: Global,
+    options: &ServeOptions,
+    staff: Staff<J>,
+    plan: &Plan,
+) -> Result<Posts<J>, Failure>
+    requires ports { LeavesRoom options.now.listen }
+{
+    let (nodes, _) = numbers(options);
+    let bound = bind_all(rt, alloc, &options.listen, nodes as u16)?;
+    posts_of(alloc, staff, bound, plan)
+}
+
+/// Serves at a desk, with these who work at it.
+fn serve_staffed<
+    J: DeskName + Send + Sync,
+    K: ListName<BlobInfo> + Send + Sync,
+    D: Disk + Send,
+    S: Shelf + Send,
+    T: Absorb<Notice<J>, State = [Entry; 0]> + Drop + Send + Sync,
+    R: Serving,
+    Q: ShelfAccess<S> + Send + Sync,
+    O: Sink,
+>(
+    rt: &R,
+    alloc: Global,
+    options: &ServeOptions,
+    limits: Limits,
+    desk: &Desk<J, K, D, S, T, R>,
+    staff: Staff<J>,
+    access: &Q,
+    out: &mut O,
+) -> Result<(), Failure>
+    requires ports { LeavesRoom options.now.listen }
+{
+    let plan = plan_of(options, limits);
+    let posts = posts_at(rt, alloc, options, staff, &plan)?;
+    serve_desk(rt, alloc, desk, posts, access, &plan, out)
+}
+
+/// Serves from a desk that is open.
+fn serve_open<
+    J: DeskName + Send + Sync,
+    K: ListName<BlobInfo> + Send + Sync,
+    D: Disk + Drop + Send,
+    S: Shelf + Drop + Send,
+    R: Serving,
+    Q: ShelfAccess<S> + Send + Sync,
+    O: Sink,
+>(
+    rt: &R,
+    alloc: Global,
+    options: &ServeOptions,
+    limits: Limits,
+    opened: OpenDesk<J, K, D, S, R>,
+    access: &Q,
+    out: &mut O,
+) -> Result<(), Failure>
+    requires ports { LeavesRoom options.now.listen }
+{
+    let OpenDesk { desk, staff } = opened;
+    serve_staffed(rt, alloc, options, limits, &desk, staff, access, out)
+}
+
+/// Serves from the desk of what was found.
+pub(crate) fn serve_found<
+    J: DeskName + Send + Sync,
+    K: ListName<BlobInfo> + Send + Sync,
+    D: Disk + Drop + Send,
+    S: Shelf + Drop + Send,
+    R: Serving,
+    Q: ShelfAccess<S> + Send + Sync,
+    O: Sink,
+>(
+    rt: &R,
+    alloc: Global,
+    options: &ServeOptions,
+    limits: Limits,
+    new: NewDesk,
+    found: Found<D, S>,
+    access: &Q,
+    out: &mut O,
+) -> Result<(), Failure>
+    requires names { AreNames J.name J.parts J.book K.book new }
+    requires entries { J.found ≡ found.journal.entries }
+    requires uploads { K.found ≡ files_of found.store.known }
+    requires limit { found.limit ≡ 1000000 }
+    requires ports { LeavesRoom options.now.listen }
+{
+    let (nodes, workers) = numbers(options);
+    let visitors = (nodes * workers) as usize;
+    let opened = open_desk::<J, K, D, S, R>(rt, alloc, new, found, visitors)?;
+    serve_open(rt, alloc, options, limits, opened, access, out)
+}
