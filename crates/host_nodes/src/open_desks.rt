@@ -18,7 +18,7 @@ use host_disk::Disk;
 use http_wire::Sink;
 use left_right::Absorb;
 use seen_lists::{ListName, Shown};
-use shared_desk::{Desk, NewDesk, open};
+use shared_desk::{Desk, NewDesk, Opened, open};
 use site_desk::{DeskName, HostSnap, Notice};
 use std::alloc::{AllocError, Global};
 use std::net::{Net, TcpListener, TcpStream};
@@ -54,15 +54,28 @@ pub(crate) fn numbers(options: &ServeOptions) -> (u64, u64)
     (options.nodes.clamp(1, MOST), options.workers.clamp(1, MOST))
 }
 
+/// Puts a desk that was just opened into a place of its own, with its seats and its visitor beside it.
+fn staffed<J: DeskName, K: ListName<BlobInfo>, D: Disk + Drop, S: Shelf + Drop, R: Wait + Drop>(
+    alloc: Global,
+    opened: Opened<J, K, D, S, R>,
+) -> Result<OpenDesk<J, K, D, S, R>, Failure> {
+    let (desk, seats, visitor) = opened;
+    let staff = Staff { seats, visitor };
+    let desk = boxed(alloc, desk)?;
+    Ok(OpenDesk { desk, staff })
+}
+
+/// What came of a call that fails only for want of memory.
+fn or_no_memory<T, E: Drop>(outcome: Result<T, E>) -> Result<T, Failure> {
+    match outcome {
+        Ok(value) => Ok(value),
+        Err(_) => Err(Failure::NotOpened(OpenFault::OutOfMemory)),
+    }
+}
+
 /// Opens the desk of what was found, with a seat for each node and this many visitors.
-fn open_desk<
-    J: DeskName,
-    K: ListName<BlobInfo>,
-    D: Disk + Drop,
-    S: Shelf + Drop,
-    R: Wait + Clone + Drop,
->(
-    rt: &R,
+fn open_desk<J: DeskName, K: ListName<BlobInfo>, D: Disk + Drop, S: Shelf + Drop, R: Wait + Drop>(
+    rt: R,
     alloc: Global,
     new: NewDesk,
     found: Found<D, S>,
@@ -74,16 +87,8 @@ fn open_desk<
     requires limit { found.limit ≡ 1000000 }
     requires visitors { (0 < visitors) × (visitors ≤ 64) }
 {
-    match open::<J, K, D, S, R>(alloc, rt.clone()?, new, found, visitors) {
-        Ok((desk, seats, visitor)) => {
-            let staff = Staff { seats, visitor };
-            Ok(OpenDesk {
-                desk: boxed(alloc, desk)?,
-                staff,
-            })
-        }
-        Err(_) => Err(Failure::NotOpened(OpenFault::OutOfMemory)),
-    }
+    let opened = or_no_memory(open::<J, K, D, S, R>(alloc, rt, new, found, visitors))?;
+    staffed(alloc, opened)
 }
 
 /// What the words ask of each node.
@@ -161,7 +166,7 @@ fn serve_open<
     serve_staffed(rt, alloc, options, limits, &desk, staff, access, out)
 }
 
-/// Serves from the desk of what was found.
+/// Serves from the desk of what was found, which has the runtime for its own.
 pub(crate) fn serve_found<
     J: DeskName + Send + Sync,
     K: ListName<BlobInfo> + Send + Sync,
@@ -172,6 +177,7 @@ pub(crate) fn serve_found<
     O: Sink,
 >(
     rt: &R,
+    own: R,
     alloc: Global,
     options: &ServeOptions,
     limits: Limits,
@@ -188,6 +194,6 @@ pub(crate) fn serve_found<
 {
     let (nodes, workers) = numbers(options);
     let visitors = (nodes * workers) as usize;
-    let opened = open_desk::<J, K, D, S, R>(rt, alloc, new, found, visitors)?;
+    let opened = open_desk::<J, K, D, S, R>(own, alloc, new, found, visitors)?;
     serve_open(rt, alloc, options, limits, opened, access, out)
 }

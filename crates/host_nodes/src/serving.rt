@@ -78,12 +78,15 @@ fn serve_store<
 ) -> Result<(), Failure>
     requires ports { LeavesRoom options.now.listen }
 {
+    let own = rt.clone()?;
     let found = match Found::open(alloc, disk, shelf, GREATEST_LIMIT) {
         Ok(found) => found,
         Err(stop) => return Err(Failure::NotOpened(stop.fault)),
     };
     let new = NewDesk::new(rt, numbers(options).0);
-    serve_found::<Brand, Brand, D, S, R, Q, O>(rt, alloc, options, limits, new, found, access, out)
+    serve_found::<Brand, Brand, D, S, R, Q, O>(
+        rt, own, alloc, options, limits, new, found, access, out,
+    )
 }
 
 /// The disk and the shelf of a host in memory, which is empty.
