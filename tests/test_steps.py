@@ -36,7 +36,7 @@ def differing(streams, seed):
     """The streams that are answered otherwise in two pieces, with writes of some length, than at once."""
     draw = random.Random(seed)
     steps = [in_steps(stream, [draw.randrange(len(stream) + 1)], draw.choice((*FEW, MANY))) for stream in streams]
-    return [line for line, wanted, got in zip(steps, answered(map(at_once, streams)), answered(steps)) if wanted != got]
+    return [line for line, wanted, got in zip(steps, answered(map(at_once, streams)), answered(steps), strict=True) if wanted != got]
 
 
 def hear(seed):
@@ -54,7 +54,7 @@ class Steps(unittest.TestCase):
         cls.replies = (EXAMPLES / "first-run.replies").read_bytes()
 
     def assert_answered(self, lines):
-        self.assertEqual({line for line, got in zip(lines, answered(lines)) if got != self.replies}, set())
+        self.assertEqual({line for line, got in zip(lines, answered(lines), strict=True) if got != self.replies}, set())
 
     def test_a_stream_in_each_two_pieces(self):
         cuts = range(len(self.stream) + 1)
