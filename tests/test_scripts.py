@@ -18,7 +18,7 @@ from lib.client import LARGEST_FILE, REQUESTS, content_length, cut_after
 from lib.sandbox import TOP, Sandbox
 
 # Scripts outside of scripts/ and bench/.
-OTHERS = ("test", "tests/run", "examples/listen", "examples/make-deploy")
+OTHERS = ("site", "test", "tests/run", "examples/listen", "examples/make-deploy")
 OF_CRATES = ("scripts/draw-bugs --seed 1", "scripts/fail-allocations", "scripts/slow-proofs", "scripts/try-wrong-bodies", "scripts/wrong-bodies")
 
 

@@ -6,6 +6,11 @@ from .changes import last_number, made_since, parse_changes, publishing_of, undo
 from .deploy import Deploy
 from .errors import BadReply, Refused, UnknownOutcome, WrongWords
 from .names import DIGEST, check_path, check_site, in_target
+from .refusals import raise_for
+from .workers import each
+
+# So many files at least are asked for over one connection: as many requests as a host takes over it.
+FEW = 100
 
 
 class Site:
@@ -33,21 +38,35 @@ class Site:
 
     # What there is.
 
-    def digests(self, paths, deploy=None, alias=None):
-        """The SHA-1 digest of the file at each of these paths, in 40 digits; a path without a file isn't in the result."""
+    def digests(self, paths, deploy=None, alias=None, jobs=1):
+        """The SHA-1 digest of the file at each of these paths, in 40 digits; a path without a file isn't in the result. They are asked for over `jobs`
+        connections at most."""
         paths = list(paths)
-        found, asked = {}, iter(paths)
+        found = {}
 
-        def answered(reply):
-            path = next(asked)
-            if reply.status == 200 and DIGEST.fullmatch(reply.tag or ""):
-                found[path] = reply.tag
-            elif reply.status != 404:
-                fault = "without a digest as its tag" if reply.status == 200 else f"with the status {reply.status}"
-                raise BadReply(f"{self.host.read_address.url(self.target(path))} is answered {fault}: look at --read and --host")
+        def ask(part):
+            asked = iter(part)
 
-        self.host.ask_heads([self.target(path, deploy, alias) for path in paths], answered)
+            def answered(reply):
+                path = next(asked)
+                if digest := self.digest_in(reply, path):
+                    found[path] = digest
+
+            self.host.ask_heads([self.target(path, deploy, alias) for path in part], answered)
+
+        size = max(FEW, -(-len(paths) // jobs))
+        each([paths[start:start + size] for start in range(0, len(paths), size)], ask, jobs, self.host.waiting.ended)
         return found
+
+    def digest_in(self, reply, path):
+        """The digest that the reply to a HEAD tells, or None if there is no file. Raises what else the reply says."""
+        if reply.status == 404:
+            return None
+        if reply.status == 200 and DIGEST.fullmatch(reply.tag or ""):
+            return reply.tag
+        if reply.status == 200:
+            raise BadReply(f"{self.address(path)} is answered without a digest as its tag: look at --host and --read")
+        raise_for(reply, self.host.read_address)
 
     def digest(self, path, deploy=None, alias=None):
         """The digest of the file at this path, or None if there is none."""
@@ -69,14 +88,15 @@ class Site:
 
     # Changes.
 
-    def open(self, files, patch=False, draft=False):
+    def open(self, files, patch=False, draft=False, before=None):
         """Opens a deploy of these files, and returns the Deploy, whose `required` says which contents the host lacks.
 
         files   for each path its digest; in a patch None if the file there is to be removed
         patch   whether the paths that aren't listed stay as they are
         draft   whether only a restore publishes the deploy
+        before  the number of the last change before, if that is known; else it is asked for
         """
-        before = self.last()
+        before = self.last() if before is None else before
 
         def find():
             changes = self.changes()

@@ -1,0 +1,92 @@
+"""The command `site`: it reads its words, calls the command, and ends with its status."""
+
+from __future__ import annotations
+
+import os
+import signal
+import sys
+
+from . import commands, looking
+from .errors import SiteError, WrongWords
+from .names import check_site
+from .output import Output
+from .parsing import Help, parse
+from .publishing import Asked, Publishing
+from .settings import preview_of, settings_of
+
+INTERRUPTED = 130
+LOST_READER = 141
+
+
+class Terminated(KeyboardInterrupt):
+    """The command was told to end by another signal than that of Ctrl-C."""
+
+    def __init__(self, number):
+        super().__init__()
+        self.status = 128 + number
+
+
+def terminate(number, _):
+    raise Terminated(number)
+
+
+def push(options, output):
+    asked = Asked(options.word_DIR, True, options.draft, options.dry_run, options.delete, tuple(options.remove), None, not options.no_cache, options.jobs)
+    Publishing(settings_of(options, options.word_DIR), asked, output).run()
+
+
+def deploy(options, output):
+    if options.alias is not None:
+        check_site(options.alias, "an alias")
+        if options.draft:
+            raise WrongWords("a draft can't have an alias until it is published: site restore N, then site alias NAME N")
+    place = options.word_DIR
+    asked = Asked(place, False, options.draft, options.dry_run, alias=options.alias, uses_cache=not options.no_cache, jobs=options.jobs, command="deploy")
+    Publishing(settings_of(options, place), asked, output).run()
+
+
+def preview(options, output):
+    settings = settings_of(options, options.word_DIR)
+    settings = settings.of_site(preview_of(settings.site))
+    asked = Asked(options.word_DIR, False, False, options.dry_run, uses_cache=not options.no_cache, jobs=options.jobs, command="preview")
+    Publishing(settings, asked, output).run()
+
+
+RUNS = {
+    "push": push, "deploy": deploy, "preview": preview, "status": looking.status, "log": commands.log, "get": commands.get, "undo": commands.undo,
+    "restore": commands.restore, "alias": commands.alias, "mv": commands.mv, "rm": commands.rm, "cancel": commands.cancel, "delete": commands.delete,
+}
+
+
+def run(words):
+    """Runs the command that these words call, and returns its status."""
+    try:
+        command, options = parse(words)
+    except Help as text:
+        print(text, end="")
+        return 0
+    except WrongWords as error:
+        Output("").fail(error)
+        return error.status
+    output = Output(command.name, options.quiet, options.json)
+    try:
+        RUNS[command.name](options, output)
+    except SiteError as error:
+        output.fail(error)
+        return error.status
+    except KeyboardInterrupt as error:
+        output.progress.end()
+        return getattr(error, "status", INTERRUPTED)
+    return 0
+
+
+def main():
+    """The status of the command with the words of this process."""
+    for name in ("SIGTERM", "SIGHUP"):
+        signal.signal(getattr(signal, name), terminate)
+    try:
+        return run(sys.argv[1:])
+    except BrokenPipeError:
+        # Nobody reads on. Standard output isn't flushed again at the end.
+        os.dup2(os.open(os.devnull, os.O_WRONLY), sys.stdout.fileno())
+        return LOST_READER
