@@ -146,7 +146,6 @@ class Host:
     def look_for(self, find, is_late, why):
         """What `find` returns of a request whose reply was lost. If that is nothing, and the host may still carry the request out, UnknownOutcome is
         raised."""
-        self.waiting.note_fault(why)
         try:
             if (found := find()) is not None:
                 return found

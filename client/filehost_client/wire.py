@@ -12,6 +12,7 @@ LARGEST_HEAD = 65_536
 # More than any reply of the interface has: a list of 10,000 digests is 430 KB.
 LARGEST_BODY = 4_194_304
 PIECE = 262_144
+MOST_FIELDS = 100
 
 STATUS_LINE = re.compile(rb"HTTP/1\.([01]) ([1-9][0-9]{2})(?: [^\r\n]*)?\r?\n", re.ASCII)
 
@@ -101,9 +102,9 @@ class Incoming:
         """The bytes up to the first of these ends, which they include."""
         while True:
             places = [place + len(end) for end in ends if (place := self.buffer.find(end)) >= 0]
-            if places:
+            if places and min(places) <= most:
                 return self.take(min(places))
-            if len(self.buffer) > most:
+            if places or len(self.buffer) > most:
                 raise BadReply("a head or a line of a reply is too long: is this a filehost?")
             self.more(began)
 
@@ -150,11 +151,16 @@ class Incoming:
             if not size:
                 raise BadReply("a chunked reply has a chunk without a size")
             if int(size[0], 16) == 0:
-                while self.until(b"\n").strip():
-                    pass
-                return
+                return self.end_chunks()
             yield from self.pieces(int(size[0], 16))
             self.until(b"\n", most=2)
+
+    def end_chunks(self):
+        """Passes over the fields after the last chunk, up to an empty line."""
+        for _ in range(MOST_FIELDS):
+            if not self.until(b"\n").strip():
+                return
+        raise BadReply("a chunked reply has too many fields at its end")
 
     def rest(self):
         """All that comes until the connection ends."""

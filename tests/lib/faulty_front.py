@@ -99,7 +99,7 @@ class Handler(socketserver.StreamRequestHandler):
                 if done == LOSE_REQUEST:
                     return
                 if isinstance(done, bytes):
-                    self.wfile.write(done)
+                    self.wfile.write(done.partition(b"\r\n\r\n")[0] + b"\r\n\r\n" if method == "HEAD" else done)
                     continue
                 if behind is None:
                     behind = stack.enter_context(socket.create_connection((HOST, self.server.port_behind), 60))
