@@ -32,7 +32,7 @@ def read_message(stream):
 
 class Front(socketserver.ThreadingTCPServer):
     """The front: `judge(method, target, count)` says what is done to the request, the `count`-th of this method and target. It returns a word from above,
-    bytes that are sent instead, or a number: of the reply only so many bytes are handed on. `asked` has each request, as (method, target)."""
+    bytes that are sent instead, or a number: of the reply only so many bytes are handed on. `asked` has each request, as (method, target), and `heads` their heads."""
 
     daemon_threads = True
     allow_reuse_address = True
@@ -42,7 +42,9 @@ class Front(socketserver.ThreadingTCPServer):
         self.port_behind = port
         self.judge = judge or (lambda method, target, count: PASS)
         self.password, self.prefix = password, prefix
-        self.lock, self.asked, self.connections = threading.Lock(), [], 0
+        # Called before the program's reply is handed on.
+        self.before_reply = lambda method, target: None
+        self.lock, self.asked, self.heads = threading.Lock(), [], []
         super().__init__((HOST, 0), Handler)
         self.port = self.server_address[1]
         if certificate:
@@ -76,14 +78,13 @@ class Handler(socketserver.StreamRequestHandler):
     timeout = 60
 
     def handle(self):
-        with self.server.lock:
-            self.server.connections += 1
         with contextlib.ExitStack() as stack:
             behind = None
             while True:
                 head, length = read_message(self.rfile)
                 if not head:
                     return
+                self.server.heads.append(head.decode("latin-1"))
                 method, target = head.decode("latin-1").split(" ")[:2]
                 if not target.startswith(self.server.prefix):
                     self.wfile.write(answer("404 Not Found"))
@@ -107,6 +108,7 @@ class Handler(socketserver.StreamRequestHandler):
                 behind.sendall(head + body)
                 told, length = read_message(stream)
                 reply = told + stream.read(0 if method == "HEAD" else length)
+                self.server.before_reply(method, target)
                 if done == LOSE_REPLY or not told:
                     return
                 if isinstance(done, int):
