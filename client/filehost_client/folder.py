@@ -55,7 +55,7 @@ def read_folder(place):
     """
     root = os.path.realpath(place)
     if not os.path.isdir(root):
-        raise WrongWords(f"there is no folder {shown(place)}")
+        raise WrongWords(f"there is no folder {shown(os.fspath(place))}")
     folder = Folder(root)
     waiting = [("", [])]
     while waiting:
@@ -124,6 +124,6 @@ def check_folder(folder, place, is_whole):
     if is_whole and len(folder.files) > MOST_FILES:
         problems.append(f"there are {number_of(len(folder.files), 'file')}, and a deploy has at most {MOST_FILES:,}: leave some out by {IGNORE_FILE}")
     if not folder.files and not problems:
-        problems.append(f"there is no file to deploy in {shown(place)}")
+        problems.append(f"there is no file to deploy in {shown(os.fspath(place))}")
     if problems:
         raise Unfit(problems)

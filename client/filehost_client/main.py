@@ -82,6 +82,12 @@ def run(words):
 
 def main():
     """The status of the command with the words of this process."""
+    for name, mode in (("stdin", "r"), ("stdout", "w"), ("stderr", "w")):
+        # A stream that is closed takes the place of none that is opened later.
+        if getattr(sys, name) is None:
+            setattr(sys, name, open(os.devnull, mode, encoding="utf-8"))
+    # A path may have letters that the terminal's encoding lacks.
+    sys.stdout.reconfigure(errors="backslashreplace")
     for name in ("SIGTERM", "SIGHUP"):
         signal.signal(getattr(signal, name), terminate)
     try:
