@@ -55,7 +55,8 @@ class KeptFile:
         try:
             os.makedirs(os.path.dirname(self.place), mode=0o700, exist_ok=True)
             with open(temporary, "w", encoding="utf-8") as file:
-                json.dump(members, file, ensure_ascii=True, separators=(",", ":"))
+                # In one piece: this is many times as fast as to write it bit by bit.
+                file.write(json.dumps(members, ensure_ascii=True, separators=(",", ":")))
             os.replace(temporary, self.place)
         except OSError as error:
             self.tell(f"{self.place} can't be written: {error.strerror}")
