@@ -3,7 +3,7 @@
 from __future__ import annotations
 
 import re
-from dataclasses import dataclass, field
+from typing import NamedTuple
 from urllib.parse import unquote, urlsplit
 
 from .errors import WrongWords
@@ -11,15 +11,24 @@ from .errors import WrongWords
 PORTS = {"http": 80, "https": 443}
 
 
-@dataclass(frozen=True)
-class Address:
-    """A host's URL: its scheme, name and port, the prefix of all its targets, and the login that the URL had, as (name, password)."""
+class Login(NamedTuple):
+    """A name and a password, which nothing prints."""
+
+    name: str
+    password: str
+
+    def __repr__(self):
+        return "Login(..)"
+
+
+class Address(NamedTuple):
+    """A host's URL: its scheme, name and port, the prefix of all its targets, and the login that the URL had."""
 
     scheme: str
     name: str
     port: int
     prefix: str
-    login: tuple[str, str] | None = field(default=None, repr=False, compare=False)
+    login: Login | None = None
 
     @property
     def place(self):
@@ -31,7 +40,8 @@ class Address:
         """The URL of a target, without a login."""
         return f"{self.scheme}://{self.place}{self.prefix}{target}"
 
-    __str__ = url
+    def __str__(self):
+        return self.url()
 
 
 def parse_address(text, what="--host"):
@@ -49,5 +59,5 @@ def parse_address(text, what="--host"):
         raise WrongWords(f"{what}: a URL has no ?, no # and no space after the host's name, but at most a prefix, such as https://example.org/files")
     login = None
     if parts.username is not None:
-        login = (unquote(parts.username), unquote(parts.password or ""))
+        login = Login(unquote(parts.username), unquote(parts.password or ""))
     return Address(parts.scheme, name, port or PORTS[parts.scheme], parts.path.rstrip("/"), login)

@@ -2,7 +2,7 @@
 
 from __future__ import annotations
 
-from dataclasses import dataclass
+from typing import NamedTuple
 
 from .errors import BadReply, UnknownOutcome
 
@@ -10,8 +10,7 @@ from .errors import BadReply, UnknownOutcome
 LISTED = 1_000
 
 
-@dataclass(frozen=True)
-class Change:
+class Change(NamedTuple):
     """A line of the list: its number, its kind, whether it is in effect (an undo always is), and which change an undo undid."""
 
     number: int

@@ -2,7 +2,7 @@
 
 from __future__ import annotations
 
-from dataclasses import dataclass
+from typing import NamedTuple
 
 from .errors import WrongWords
 from .names import LAST_NUMBER, check_number
@@ -43,8 +43,7 @@ seconds.__name__ = "number of seconds from 0 to 86,400"
 entry.__name__ = f"number from 1 to {LAST_NUMBER:,}"
 
 
-@dataclass(frozen=True)
-class Option:
+class Option(NamedTuple):
     """An option: its flags, the word for its value (none for a switch), what it does, and how its value is read."""
 
     flags: tuple[str, ...]
@@ -63,8 +62,7 @@ class Option:
         return ", ".join(self.flags) + (f" {self.value}" if self.value else "")
 
 
-@dataclass(frozen=True)
-class Word:
+class Word(NamedTuple):
     """A word of a command: its name, whether it may be left out, and how it is read."""
 
     name: str
@@ -76,8 +74,7 @@ class Word:
         return f"[{self.name}]" if self.is_optional else self.name
 
 
-@dataclass(frozen=True)
-class Command:
+class Command(NamedTuple):
     """A command: its words, what it does in a few words and in some sentences, its options, and examples."""
 
     name: str

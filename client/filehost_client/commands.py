@@ -4,7 +4,6 @@ from __future__ import annotations
 
 import sys
 
-from .download import download
 from .errors import Refused, WrongWords
 from .names import check_path, check_site, shown
 from .naming import explained_restore, explained_undo, numbers_of
@@ -144,6 +143,7 @@ def done(call, members, line):
 
 
 def get(options, output):
+    from .download import download
     path, place = check_path(options.word_PATH), options.output
     to_stream = place in (None, "-")
     if to_stream and (options.resume or options.json):

@@ -5,7 +5,7 @@ from __future__ import annotations
 import hashlib
 import os
 import time
-from dataclasses import dataclass
+from typing import NamedTuple
 
 from .errors import Unfit
 from .names import DIGEST, shown
@@ -15,10 +15,11 @@ PIECE = 1 << 18
 # The time of a file may be this much coarser than a clock: a change within it may leave the time as it was.
 RACE_SECONDS = 2
 THREADS = min(8, os.cpu_count() or 1)
+# Smaller files are hashed one after another: threads that hash them spend more time on waiting for one another, two to three times as much as was measured.
+LARGE = 1 << 18
 
 
-@dataclass(frozen=True)
-class Hashed:
+class Hashed(NamedTuple):
     """The digest of a file, the bytes that were hashed, and whether it may be trusted as long as size, times and inode stay."""
 
     digest: str
@@ -36,10 +37,12 @@ def hash_file(place):
     try:
         told = os.fstat(at)
         sha, size = hashlib.sha1(), 0
-        while piece := os.read(at, PIECE):
+        # Room for one byte more shows the end. More room than that costs a small file more than its hash.
+        most = min(PIECE, told.st_size + 1)
+        while piece := os.read(at, most):
             sha.update(piece)
             size += len(piece)
-            if size >= told.st_size and len(piece) < PIECE:
+            if len(piece) < most and size >= told.st_size:
                 break
     finally:
         os.close(at)
@@ -75,8 +78,9 @@ class DigestCache:
             self.store.write({"files": {path: kept for path, kept in self.known.items() if path in paths}})
 
 
-def hash_files(files, cache, waiting, progress=lambda size: None):
-    """The digest and the size of each of these files, by their paths. Raises Unfit with all that can't be read."""
+def hash_files(files, cache, ended, progress=lambda size: None):
+    """The digest and the size of each of these files, by their paths. Raises Unfit with all that can't be read. Once the event `ended` is set, no further
+    file is begun."""
     found, left, problems = {}, [], []
     for file in files.values():
         digest = cache.digest(file)
@@ -96,7 +100,8 @@ def hash_files(files, cache, waiting, progress=lambda size: None):
         cache.note(file.path, hashed)
         progress(hashed.size)
 
-    each(left, work, THREADS, waiting)
+    each([file for file in left if file.size < LARGE], work, 1, ended)
+    each([file for file in left if file.size >= LARGE], work, THREADS, ended)
     if problems:
         raise Unfit(sorted(problems))
     cache.save(files.keys())

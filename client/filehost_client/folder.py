@@ -4,7 +4,7 @@ from __future__ import annotations
 
 import os
 import stat
-from dataclasses import dataclass, field
+from typing import NamedTuple
 
 from .errors import Unfit, WrongWords
 from .ignore import NAME as IGNORE_FILE
@@ -16,8 +16,7 @@ from .settings_file import NAME as SETTINGS_FILE
 OWN_FILES = (IGNORE_FILE, SETTINGS_FILE)
 
 
-@dataclass(frozen=True)
-class LocalFile:
+class LocalFile(NamedTuple):
     """A file: its path on the site, its place, and what the system says of it."""
 
     path: str
@@ -32,15 +31,20 @@ class LocalFile:
         return LocalFile(path, place, told.st_size, told.st_mtime_ns, told.st_ctime_ns, told.st_ino)
 
 
-@dataclass
 class Folder:
-    """What was found in a folder: the files by their paths on the site, how many names were left out, and what can't be read."""
+    """What was found in a folder.
 
-    root: str
-    files: dict[str, LocalFile] = field(default_factory=dict)
-    left_out: int = 0
-    ignored: int = 0
-    problems: list[str] = field(default_factory=list)
+    root      its real place
+    files     the files by their paths on the site, in the order of these
+    left_out  how many names were left out for what they are, and `ignored`, how many by a `.siteignore`
+    problems  a line for each name that can't be read
+    """
+
+    def __init__(self, root):
+        self.root = root
+        self.files: dict[str, LocalFile] = {}
+        self.left_out = self.ignored = 0
+        self.problems: list[str] = []
 
 
 def is_hidden(name):

@@ -37,7 +37,7 @@ class Host:
         login = login or self.address.login
         self.interface = Pool(self.address, context_for(self.address, ca), login)
         self.reads = self.interface
-        if self.read_address != self.address:
+        if str(self.read_address) != str(self.address):
             # A login for the interface isn't sent to another place.
             self.reads = Pool(self.read_address, context_for(self.read_address, ca), self.read_address.login)
 

@@ -3,7 +3,7 @@
 from __future__ import annotations
 
 import re
-from dataclasses import dataclass
+from typing import NamedTuple
 
 NAME = ".siteignore"
 CLASSES = {
@@ -13,8 +13,7 @@ CLASSES = {
 NOTHING = "(?!)"
 
 
-@dataclass(frozen=True)
-class Rule:
+class Rule(NamedTuple):
     """One line: what it matches, below which folder (empty, or with a slash at its end), and what it says of that."""
 
     base: str

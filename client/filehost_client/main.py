@@ -2,6 +2,7 @@
 
 from __future__ import annotations
 
+import gc
 import os
 import signal
 import sys
@@ -86,6 +87,8 @@ def main():
         # A stream that is closed takes the place of none that is opened later.
         if getattr(sys, name) is None:
             setattr(sys, name, open(os.devnull, mode, encoding="utf-8"))
+    # A run is short, and leaves next to nothing in cycles. To look for them among the objects of 10,000 files takes as long as to hash these.
+    gc.disable()
     # A path may have letters that the terminal's encoding lacks.
     sys.stdout.reconfigure(errors="backslashreplace")
     for name in ("SIGTERM", "SIGHUP"):

@@ -6,7 +6,6 @@ import argparse
 
 from .command_table import BY_NAME, COMMON, VERSION
 from .errors import WrongWords
-from .help_texts import help_of, help_of_all
 from .names import shown
 
 
@@ -18,7 +17,8 @@ class Parser(argparse.ArgumentParser):
     """A parser that raises a mistake as WrongWords, in one line, and knows no help of its own."""
 
     def __init__(self, name):
-        super().__init__(prog=name, add_help=False, allow_abbrev=False)
+        # The width isn't used, and to find that of the terminal takes a while.
+        super().__init__(prog=name, add_help=False, allow_abbrev=False, formatter_class=lambda prog: argparse.HelpFormatter(prog, width=80))
 
     def error(self, message):
         raise WrongWords(f"{shown(' '.join(message.split()))}: {self.prog} --help says what it takes")
@@ -49,6 +49,7 @@ def parse(words):
     front.add_argument("rest", nargs=argparse.REMAINDER)
     front.parse_args(words, options)
     if options.help:
+        from .help_texts import help_of_all
         raise Help(help_of_all())
     if options.version:
         raise Help(f"site {VERSION}\n")
@@ -68,6 +69,7 @@ def parse_rest(command, options):
     for word in command.words:
         parser.add_argument(f"word_{word.name}", metavar=word.name, type=word.kind, nargs="?" if word.is_optional else None)
     if "--help" in options.rest or "-h" in options.rest:
+        from .help_texts import help_of
         raise Help(help_of(command))
     parser.parse_intermixed_args(options.rest, options)
     for option in (*COMMON, *command.options):

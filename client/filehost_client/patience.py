@@ -1,6 +1,6 @@
 """How long a host that doesn't answer is asked again, and with which pauses."""
 
-import random
+import os
 import threading
 import time
 
@@ -52,7 +52,7 @@ class Patience:
             raise Unreachable(f"{self.place} can't be reached: {why}{tried}")
         self.waiting.note_fault(why)
         # Several clients that lost the same host don't all come back at the same moment.
-        pause = min(left, self.pause_seconds * random.uniform(0.8, 1.2))
+        pause = min(left, self.pause_seconds * (0.8 + os.urandom(1)[0] / 640))
         self.pause_seconds = min(LONGEST_PAUSE, self.pause_seconds * 2)
         if self.waiting.ended.wait(pause):
             raise Unreachable(f"{self.place} can't be reached: {why}")

@@ -3,14 +3,13 @@
 from __future__ import annotations
 
 import json
-from dataclasses import dataclass, field
+from typing import NamedTuple
 
 from .errors import Unfit, WrongWords
 from .names import LARGEST_LISTING, MOST_FILES, check_path, number_of, shown
 
 
-@dataclass
-class Comparison:
+class Comparison(NamedTuple):
     """A folder beside what a site serves.
 
     new, changed, unchanged  paths of the folder
@@ -20,25 +19,18 @@ class Comparison:
     served                   the digest of each path that was asked for and is served
     """
 
-    new: list[str] = field(default_factory=list)
-    changed: list[str] = field(default_factory=list)
-    unchanged: list[str] = field(default_factory=list)
-    gone: list[str] = field(default_factory=list)
-    replaced: list[str] = field(default_factory=list)
-    lost: list[str] = field(default_factory=list)
-    served: dict[str, str] = field(default_factory=dict)
-
-    @property
-    def differs(self):
-        return bool(self.new or self.changed)
+    new: list[str]
+    changed: list[str]
+    unchanged: list[str]
+    gone: list[str]
+    replaced: list[str]
+    lost: list[str]
+    served: dict[str, str]
 
 
-def compare(site, digests, put, others=(), jobs=8):
-    """Compares the digests of a folder's files with what a site serves. `put` are those that this client put there from the folder earlier, and `others`
-    more paths of which it is asked whether they are served."""
-    asked = list(dict.fromkeys([*digests, *put, *others]))
-    served = site.digests(asked, jobs=jobs)
-    found = Comparison(served=served)
+def compare(served, digests, put):
+    """Compares the digests of a folder's files with those of what a site serves. `put` are those that this client put there from the folder earlier."""
+    found = Comparison([], [], [], [], [], [], served)
     for path, digest in digests.items():
         (found.new if path not in served else found.unchanged if served[path] == digest else found.changed).append(path)
     for path, digest in put.items():
@@ -47,8 +39,7 @@ def compare(site, digests, put, others=(), jobs=8):
     return found
 
 
-@dataclass
-class Plan:
+class Plan(NamedTuple):
     """What is to be opened: the listing, whether it is a patch, which paths are sent and removed, and which stay though the folder doesn't have them."""
 
     listing: dict[str, str | None]
@@ -57,8 +48,8 @@ class Plan:
     changed: list[str]
     removed: list[str]
     unchanged: int
-    stays: list[str] = field(default_factory=list)
-    replaced: list[str] = field(default_factory=list)
+    stays: list[str]
+    replaced: list[str]
 
     def listed(self):
         """A line for each path that differs."""
@@ -93,7 +84,7 @@ def plan_push(found, digests, named, removes_gone):
 
 def plan_deploy(found, digests):
     """The deploy of all files, after which the site serves no others. Raises Unfit if it is too large."""
-    plan = Plan(digests, False, found.new, found.changed, [*found.gone, *found.replaced], len(found.unchanged))
+    plan = Plan(digests, False, found.new, found.changed, [*found.gone, *found.replaced], len(found.unchanged), [], [])
     check_listing(plan)
     return plan
 

@@ -4,7 +4,7 @@ from __future__ import annotations
 
 import os
 import time
-from dataclasses import dataclass
+from typing import NamedTuple
 
 from .changes import made_since
 from .deploy import Deploy
@@ -24,8 +24,7 @@ CANCEL_SECONDS = 10
 NAMED = 10
 
 
-@dataclass
-class Asked:
+class Asked(NamedTuple):
     """What a command asks for: the folder, whether it is a push, and its options."""
 
     place: str
@@ -110,7 +109,9 @@ class Publishing:
     def plan(self):
         """What is to be sent. If the folder lacks files that it put to the site, somebody is asked whether these are to be removed."""
         put = self.record.files()
-        found = compare(self.site, self.digests, put, self.named, self.asked.jobs)
+        # A site without changes serves nothing. For any other the host is asked path by path.
+        served = self.site.digests({**self.digests, **put, **dict.fromkeys(self.named)}, jobs=self.asked.jobs) if self.site.changes() else {}
+        found = compare(served, self.digests, put)
         if not self.asked.is_push:
             return plan_deploy(found, self.digests)
         missing = [path for path in self.named if path not in found.served]

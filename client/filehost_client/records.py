@@ -2,7 +2,6 @@
 
 from __future__ import annotations
 
-import glob
 import os
 
 from .kept_files import KeptFile, key_of, state_folder
@@ -58,7 +57,8 @@ class FolderRecord:
 
     def __init__(self, host, site, root, tell):
         self.file = KeptFile(os.path.join(state_folder(), "folders", f"{site}-{key_of(host, site, root)}.json"), tell)
-        self.root = root
+        # In a file of its own, since it is written while the host waits.
+        self.open_file = KeptFile(f"{self.file.place}.open", tell)
         self.about = {"host": host, "site": site, "folder": root}
 
     def running(self):
@@ -80,13 +80,12 @@ class FolderRecord:
 
     def open_deploy(self):
         """The number of the deploy that a run opened and didn't end, or None."""
-        number = self.file.read().get("open")
+        number = self.open_file.read().get("open")
         return number if isinstance(number, int) else None
 
     def note_open(self, number):
         """Notes the deploy that is open, or, with None, that none is."""
-        with self.file.changed() as members:
-            members.update(self.about, open=number)
+        self.open_file.write({"open": number})
 
     def note_draft(self, number, put, removed, is_whole):
         """Notes what a draft will put and remove once it is restored."""
@@ -108,7 +107,11 @@ class FolderRecord:
 
 def end_drafts(host, site, number, is_published, tell):
     """Notes that a draft was published or cancelled, in the record of the folder that it is of. Returns whether there is one."""
-    for place in sorted(glob.glob(os.path.join(glob.escape(state_folder()), "folders", f"{site}-*.json"))):
+    folder = os.path.join(state_folder(), "folders")
+    for name in sorted(os.listdir(folder)) if os.path.isdir(folder) else ():
+        if not name.startswith(f"{site}-") or not name.endswith(".json"):
+            continue
+        place = os.path.join(folder, name)
         told = KeptFile(place, tell).read()
         if told.get("host") == host and told.get("site") == site and isinstance(told.get("folder"), str):
             record = FolderRecord(host, site, told["folder"], tell)

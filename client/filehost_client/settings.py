@@ -4,9 +4,9 @@ from __future__ import annotations
 
 import os
 import sys
-from dataclasses import dataclass, replace
+from typing import NamedTuple
 
-from .addresses import Address, parse_address
+from .addresses import Address, Login, parse_address
 from .command_table import RETRY_SECONDS
 from .errors import WrongWords
 from .host import Host
@@ -16,8 +16,7 @@ from .settings_file import NAME as FILE
 from .settings_file import find_settings
 
 
-@dataclass(frozen=True)
-class Settings:
+class Settings(NamedTuple):
     """The host, the site, where sites are read, the certificates that are trusted, a login as (name, password), and for how many seconds a host that
     doesn't answer is asked again."""
 
@@ -25,12 +24,12 @@ class Settings:
     site: str
     read: Address | None
     ca: str | None
-    login: tuple[str, str] | None
+    login: Login | None
     retry: float
 
     def of_site(self, name):
         """The same for another site."""
-        return replace(self, site=name)
+        return self._replace(site=name)
 
     def make_host(self, tell=None, retry=None):
         """The host. `tell` is told why it doesn't answer, once; `retry` are other seconds."""
@@ -66,15 +65,15 @@ def login_of(user, address):
         return address.login or netrc_login(address.name)
     name, colon, password = user.partition(":")
     if colon:
-        return name, password
+        return Login(name, password)
     if "SITE_PASSWORD" in os.environ:
-        return name, os.environ["SITE_PASSWORD"]
+        return Login(name, os.environ["SITE_PASSWORD"])
     kept = netrc_login(address.name)
     if kept and kept[0] == name:
         return kept
     if sys.stdin.isatty() and sys.stderr.isatty():
         import getpass
-        return name, getpass.getpass(f"password of {name} at {address}: ")
+        return Login(name, getpass.getpass(f"password of {name} at {address}: "))
     raise WrongWords(f"--user {name} has no password: give it in SITE_PASSWORD, in ~/.netrc, or as --user {name}:PASSWORD", "NoPassword")
 
 
@@ -88,4 +87,4 @@ def netrc_login(name):
         found = netrc.netrc(file).authenticators(name)
     except (OSError, ValueError, netrc.NetrcParseError) as error:
         raise WrongWords(f"{file} can't be read: {error}") from None
-    return (found[0] or "", found[2] or "") if found else None
+    return Login(found[0] or "", found[2] or "") if found else None

@@ -4,14 +4,14 @@ from __future__ import annotations
 
 import json
 import re
-from dataclasses import dataclass
+from typing import NamedTuple
 
 from .errors import BadReply
 
 LARGEST_HEAD = 65_536
 # More than any reply of the interface has: a list of 10,000 digests is 430 KB.
 LARGEST_BODY = 4_194_304
-PIECE = 262_144
+PIECE = 65_536
 MOST_FIELDS = 100
 
 STATUS_LINE = re.compile(rb"HTTP/1\.([01]) ([1-9][0-9]{2})(?: [^\r\n]*)?\r?\n", re.ASCII)
@@ -25,8 +25,7 @@ class Ended(Exception):
         self.began = began
 
 
-@dataclass(frozen=True)
-class Reply:
+class Reply(NamedTuple):
     """A reply: its status, its fields by their names in lower case, and its body, if that was read."""
 
     status: int
@@ -48,8 +47,7 @@ class Reply:
         return found and found[1]
 
 
-@dataclass(frozen=True)
-class Head:
+class Head(NamedTuple):
     """The head of a reply."""
 
     status: int

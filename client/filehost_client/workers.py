@@ -7,8 +7,10 @@ def each(items, work, count, ended=None):
     """Calls `work` with each item, `count` at a time. After an error, or once the event `ended` is set, no further item is begun; then the first error is
     raised. An interrupt of the caller ends the threads as soon as their present items are done."""
     items = list(items)
-    if count == 1 or len(items) == 1:
+    if count == 1 or len(items) <= 1:
         for item in items:
+            if ended and ended.is_set():
+                return
             work(item)
         return
     left, lock, errors = iter(items), threading.Lock(), []
