@@ -7,7 +7,7 @@ import json
 import unittest
 
 from lib.faulty_front import HANG_UP, LOSE_REPLY, LOSE_REQUEST, PASS, Front, answer
-from lib.served import ask
+from lib.served import ask, publish
 from lib.site_runs import SiteRuns, kinds
 
 DEPLOYS = "/api/v1/sites/one/deploys"
@@ -50,12 +50,13 @@ class SentAgain(Faults):
                     # The host knows none of these contents.
                     files = {path: f"{path} {method} {number}".encode() for path in ("/a", "/b", "/c")}
                     self.write(files)
+                    site = f"{method.lower()}-{number}"
+                    publish(self.client(), {"/other": b"other"}, site)
                     judge = self.do_once(method, part, done)
                     self.stand_before(judge)
-                    site = f"{method.lower()}-{number}"
                     told = self.told("push", "--site", site, self.place)
                     self.assertEqual(len(judge.found), 1)
-                    self.assertEqual((told["new"], told["sent_files"], kinds(self.changes(site))), (3, 3, ["open", "publish"]))
+                    self.assertEqual((told["new"], told["sent_files"], kinds(self.changes(site))), (3, 3, ["open", "publish"] * 2))
                     self.assert_serves(files, site)
 
     def test_a_proxy_that_ends_each_connection_after_a_reply_only_costs_time(self):
@@ -252,12 +253,13 @@ class Nonsense(Faults):
         self.assertEqual(self.changes(), [])
 
     def test_in_place_of_the_state_of_a_file(self):
+        publish(self.client(), {"/other": b"other"})
         for reply, status, part in ((answer("200 OK"), 3, "without a digest as its tag"), (answer("200 OK", b"", "text/html", 'ETag: "5f-1"'), 3, "--read"),
                                     (answer("403 Forbidden"), 1, "403"), (answer("302 Found", b"", "text/html", "Location: /login"), 2, "/login")):
             with self.subTest(reply):
                 self.stand_before(lambda method, target, count, reply=reply: reply if method == "HEAD" else PASS)
                 self.assert_fails(status, part, words=["push", self.place])
-        self.assertEqual(self.changes(), [])
+        self.assertEqual(kinds(self.changes()), ["open", "publish"])
 
     def test_in_place_of_the_reply_to_an_opening_or_an_upload(self):
         other = answer("200 OK", b'{"id":"1","published":null,"required":["%s"]}' % (b"0" * 40), "application/json")

@@ -16,7 +16,7 @@ import unittest
 
 from lib.client import LARGEST_FILE
 from lib.faulty_front import Front
-from lib.served import HOST, free_ports
+from lib.served import HOST, free_ports, publish
 from lib.site_runs import SiteRuns
 
 CERTIFICATE = pathlib.Path(__file__).resolve().parent / "lib/certificate.pem"
@@ -96,6 +96,7 @@ class Logins(Proxies):
             self.assertNotIn("ann:", file.read_text())
 
     def test_is_not_sent_to_another_place_of_reading(self):
+        publish(self.client(), {"/other": b"other"})
         reading = Front(self.port + 1)
         self.addCleanup(reading.end)
         self.assert_never_shown("push", self.place, "--user", f"{USER}:{PASSWORD}", "--read", f"http://{HOST}:{reading.port}")

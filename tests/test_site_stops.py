@@ -104,7 +104,7 @@ class ClientStops(Stops):
         # So many requests are in hand at once.
         jobs = 4
         front = self.stand_before(lambda method, target, count: time.sleep(0.01 if method == "PUT" else 0) or PASS)
-        killed = 0
+        killed = named = 0
         for moment in range(MOMENTS):
             with self.subTest(moment=moment):
                 files = contents(f"moment {moment}")
@@ -120,14 +120,16 @@ class ClientStops(Stops):
                 killed += client.wait(60) == -signal.SIGKILL
                 status, _, errors = self.site("push", self.place, "--jobs", str(jobs))
                 self.assertEqual(status, 0, errors)
+                named += "is open, perhaps by an earlier run" in errors
                 self.assert_serves(files)
                 sent = [target for method, target in front.asked[begun:] if method == "PUT"]
                 self.assertLessEqual(len(sent), FILES + jobs)
                 self.assertEqual(self.uploaded(), before + FILES)
         self.assertEqual(killed, MOMENTS)
-        # No deploy is left open.
+        # No deploy is left open, but for one that was opened just as the client was killed, which is named then.
         told = self.changes()
-        self.assertEqual(kinds(told).count("open"), kinds(told).count("publish") + kinds(told).count("cancel"))
+        self.assertEqual(kinds(told).count("open"), kinds(told).count("publish") + kinds(told).count("cancel") + named)
+        self.assertLessEqual(named, 1)
         self.assertGreater(kinds(told).count("cancel"), MOMENTS // 2)
 
     def interrupted(self, name, status, *words):

@@ -50,7 +50,8 @@ class Patience:
         if left <= 0:
             tried = f", tried again for {self.waiting.seconds:g} s" if self.waiting.seconds else ""
             raise Unreachable(f"{self.place} can't be reached: {why}{tried}")
-        self.waiting.note_fault(why)
+        if not self.waiting.ended.is_set():
+            self.waiting.note_fault(why)
         # Several clients that lost the same host don't all come back at the same moment.
         pause = min(left, self.pause_seconds * (0.8 + os.urandom(1)[0] / 640))
         self.pause_seconds = min(LONGEST_PAUSE, self.pause_seconds * 2)

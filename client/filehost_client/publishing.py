@@ -126,14 +126,16 @@ class Publishing:
 
     def cancel_left_over(self):
         """Cancels the deploy that the last run from this folder left open, if it can be that one."""
-        number = self.record.open_deploy()
+        noted, before = self.record.left_open()
+        # A run that was stopped while it opened a deploy didn't note its number. Then this may be one of another client.
+        number = noted if noted or before is None else opened_since(self.site, before)
         if number is None:
             return
         state = self.site.state(number)
         if state and state.get("state") == "open" and state.get("site") == self.site.name:
             known = {*self.digests.values(), *self.record.files().values()}
             required = set(state.get("required", []))
-            if not required or not required <= known:
+            if not noted or not required or not required <= known:
                 self.output.note(f"deploy {number} is open, perhaps by an earlier run: `site cancel {number}` ends it")
             elif self.site.cancel(number):
                 self.output.note(f"cancelled deploy {number}, which the last run left open")
@@ -145,6 +147,7 @@ class Publishing:
         began = time.monotonic()
         try:
             self.before = self.site.last()
+            self.record.note_open(None, self.before)
             self.deploy = self.site.open(plan.listing, plan.is_patch, asked.is_draft, self.before)
             self.record.note_open(self.deploy.number)
             sources = sources_of(self.deploy, self.folder.files, self.sizes)
@@ -190,7 +193,7 @@ class Publishing:
         site = self.settings.make_host(retry=CANCEL_SECONDS).site(self.site.name)
         if self.deploy:
             number = self.deploy.number
-        elif self.before is None or (number := made_since(site.changes(), self.before, "open")) is None:
+        elif self.before is None or (number := opened_since(site, self.before)) is None:
             return
         deploy = Deploy(site, number, {}, [], None, self.asked.is_push, self.asked.is_draft)
         if deploy.cancel():
@@ -245,6 +248,14 @@ class Publishing:
         if self.asked.alias:
             lines.append(f"{self.asked.alias} names deploy {deploy.number}: {self.host.read_address.url(self.site.target('/', alias=self.asked.alias))}")
         return [*lines, self.site.address()]
+
+
+def opened_since(site, before):
+    """The number of the one deploy that was opened since a change, or None."""
+    try:
+        return made_since(site.changes(), before, "open")
+    except UnknownOutcome:
+        return None
 
 
 def names(paths):

@@ -78,14 +78,14 @@ class FolderRecord:
                 files.pop(path, None)
             members.update(self.about, files=files)
 
-    def open_deploy(self):
-        """The number of the deploy that a run opened and didn't end, or None."""
-        number = self.open_file.read().get("open")
-        return number if isinstance(number, int) else None
+    def left_open(self):
+        """The number of the deploy that a run opened and didn't end, and the number of the last change before it opened that; None for what isn't known."""
+        told = self.open_file.read()
+        return tuple(told[name] if isinstance(told.get(name), int) else None for name in ("open", "before"))
 
-    def note_open(self, number):
-        """Notes the deploy that is open, or, with None, that none is."""
-        self.open_file.write({"open": number})
+    def note_open(self, number, before=None):
+        """Notes the deploy that is open, or, with its number None, that one is being opened after the change `before`, or that none is."""
+        self.open_file.write({"open": number, "before": before})
 
     def note_draft(self, number, put, removed, is_whole):
         """Notes what a draft will put and remove once it is restored."""
