@@ -210,6 +210,24 @@ class Changes(Faults):
         self.assert_done("undo", "3")
         self.assertEqual(kinds(self.changes()[before:]), ["undo"])
 
+    def test_a_proxy_that_lost_its_patience_leaves_the_outcome_open(self):
+        """The host may still carry the request out, so it isn't sent again; an undo or another change that is there by then counts."""
+        self.deployed()
+        late = answer("504 Gateway Timeout", b"<html>", "text/html")
+        front = self.stand_before(self.do_once("POST", "/rename", late))
+        self.assert_fails(3, "isn't done yet, and may still be", "Look: site log", words=["mv", "/a", "/d"])
+        self.assertEqual(front.count("POST"), 1)
+
+        def judge(method, target, count):
+            if method == "POST" and target.endswith("/rename"):
+                self.assertEqual(ask(self.client(), "POST", target, '{"from":"/a","to":"/d"}')[0], 200)
+                return late
+            return PASS
+
+        front = self.stand_before(judge)
+        self.assert_done("mv", "/a", "/d")
+        self.assertEqual((front.count("POST"), kinds(self.changes())[-2:]), (1, ["open", "rename"]))
+
     def test_a_disk_that_failed_is_told_and_nothing_is_sent_twice(self):
         self.deployed()
         reply = answer("503 Service Unavailable", b'{"error":"Device"}', "application/json")
