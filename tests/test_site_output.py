@@ -99,7 +99,7 @@ class Elsewhere(unittest.TestCase):
                 shown.file_done()
             shown.end()
         lines = stream.getvalue().splitlines()
-        self.assertIn(len(lines), range(3, 9))
+        self.assertIn(len(lines), range(1, 9))
         for line in lines:
             self.assertRegex(line, r"^uploading: \d of 3 files, [\d.]+ k?B of 3\.0 kB, ")
 

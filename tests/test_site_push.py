@@ -5,6 +5,7 @@ import os
 import unittest
 
 from lib.client import LARGEST_FILE
+from lib.faulty_front import PASS, Front, answer
 from lib.site_runs import SiteRuns, kinds
 
 STRANGE = {
@@ -227,7 +228,22 @@ class Deploys(SiteRuns):
         for number in range(4_000):
             (below / f"{number:0>200}").write_bytes(b"")
         self.assert_fails(2, "the list of the files", "4,194,304", words=["push", self.place])
+        # With all other refusals, before any file is read.
+        self.write({"/a#b": b""})
+        status, _, errors = self.site("deploy", self.place)
+        self.assertEqual((status, len(errors.splitlines())), (2, 2), errors)
+        self.assertIn("the list of the files", errors)
         self.assertEqual(self.changes(), [])
+
+    def test_a_deploy_whose_alias_can_not_be_set_stands(self):
+        self.write({"/a": b"a"})
+        front = Front(self.port, lambda method, target, count: answer("403 Forbidden") if "/aliases/" in target else PASS)
+        self.addCleanup(front.end)
+        self.address = f"http://127.0.0.1:{front.port}"
+        status, _, errors = self.site("deploy", "--alias", "next", self.place)
+        self.assertEqual(status, 1)
+        self.assertEqual(errors.splitlines()[0], "site: deploy 1, change 2 is published, and the alias next isn't set")
+        self.assert_serves({"/a": b"a"})
 
     def test_keeps_a_record_that_may_be_damaged_or_lost(self):
         self.write({"/a": b"a", "/b": b"b"})

@@ -51,7 +51,8 @@ def undo(options, output):
         made = call.site.undo(number)
     except Refused as error:
         raise explained_undo(error, number, call.site, call.record) from None
-    output.result({"site": call.site.name, "undone": number, "change": made}, [f"change {number} is undone, by change {made}", call.site.address()])
+    both = numbers_of(call.site, call.record).both(number) or f"change {number}"
+    output.result({"site": call.site.name, "undone": number, "change": made}, [f"{both} is undone, by change {made}", call.site.address()])
 
 
 def restore(options, output):

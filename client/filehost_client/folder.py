@@ -9,11 +9,13 @@ from typing import NamedTuple
 from .errors import Unfit, WrongWords
 from .ignore import NAME as IGNORE_FILE
 from .ignore import is_ignored, rules_of
-from .names import LARGEST_FILE, MOST_FILES, fault_of_path, number_of, shown
+from .names import LARGEST_FILE, LARGEST_LISTING, MOST_FILES, fault_of_path, listing_size, number_of, shown
 from .settings_file import NAME as SETTINGS_FILE
 
 # Files of this client, which aren't counted as left out.
 OWN_FILES = (IGNORE_FILE, SETTINGS_FILE)
+# How long a digest is.
+DIGITS = 40
 
 
 class LocalFile(NamedTuple):
@@ -118,7 +120,7 @@ def is_link_inside(root, place):
 
 
 def check_folder(folder, place, is_whole):
-    """Raises Unfit with all that keeps the files of a folder from being deployed: of a whole site also their number."""
+    """Raises Unfit with all that keeps the files of a folder from being deployed: of a whole site also their number and their list."""
     problems = list(folder.problems)
     for path, file in folder.files.items():
         if fault := fault_of_path(path):
@@ -127,6 +129,9 @@ def check_folder(folder, place, is_whole):
             problems.append(f"{shown(path)} has {file.size:,} bytes, and a file has at most {LARGEST_FILE:,}: leave it out by a line in {IGNORE_FILE}")
     if is_whole and len(folder.files) > MOST_FILES:
         problems.append(f"there are {number_of(len(folder.files), 'file')}, and a deploy has at most {MOST_FILES:,}: leave some out by {IGNORE_FILE}")
+    size = listing_size(dict.fromkeys(folder.files, "0" * DIGITS), patch=True, draft=True)
+    if is_whole and size > LARGEST_LISTING:
+        problems.append(f"the list of the files has {size:,} bytes, and a host takes at most {LARGEST_LISTING:,}: shorten their paths, or leave some out")
     if not folder.files and not problems:
         problems.append(f"there is no file to deploy in {shown(os.fspath(place))}")
     if problems:

@@ -34,7 +34,7 @@ def status(options, output):
 
 def differences_of(options, output, folder):
     """The members and the lines that say what differs between a folder and the site."""
-    asked = Asked(folder, True, is_dry_run=True, uses_cache=not options.no_cache, jobs=options.jobs, command="push")
+    asked = Asked(folder, True, is_dry_run=True, uses_cache=not options.no_cache, jobs=options.jobs)
     plan = Publishing(settings_of(options, folder), asked, output).look()
     lines = [*plan.listed(), *(f"{'gone':8} {path}" for path in plan.stays), *(f"{'others':8} {path}" for path in plan.replaced)]
     counts = f"{len(plan.new):,} new, {len(plan.changed):,} changed, {len(plan.stays):,} gone from the folder, {plan.unchanged:,} unchanged"

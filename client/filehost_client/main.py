@@ -4,6 +4,8 @@ from __future__ import annotations
 
 import gc
 import os
+import re
+import shlex
 import signal
 import sys
 
@@ -31,8 +33,20 @@ def terminate(number, _):
     raise Terminated(number)
 
 
+def again(options):
+    """The words of the command, without a login, so that they can be shown."""
+    shown = []
+    words = iter(options.words)
+    for word in words:
+        if word == "--user":
+            next(words, None)
+        elif not word.startswith("--user="):
+            shown.append(re.sub(r"//[^/]*@", "//", word))
+    return shlex.join(["site", *shown])
+
+
 def push(options, output):
-    asked = Asked(options.word_DIR, True, options.draft, options.dry_run, options.delete, tuple(options.remove), None, not options.no_cache, options.jobs)
+    asked = Asked(options.word_DIR, True, options.draft, options.dry_run, options.delete, tuple(options.remove), None, not options.no_cache, options.jobs, again(options))
     Publishing(settings_of(options, options.word_DIR), asked, output).run()
 
 
@@ -42,14 +56,14 @@ def deploy(options, output):
         if options.draft:
             raise WrongWords("a draft can't have an alias until it is published: site restore N, then site alias NAME N")
     place = options.word_DIR
-    asked = Asked(place, False, options.draft, options.dry_run, alias=options.alias, uses_cache=not options.no_cache, jobs=options.jobs, command="deploy")
+    asked = Asked(place, False, options.draft, options.dry_run, alias=options.alias, uses_cache=not options.no_cache, jobs=options.jobs, again=again(options))
     Publishing(settings_of(options, place), asked, output).run()
 
 
 def preview(options, output):
     settings = settings_of(options, options.word_DIR)
     settings = settings.of_site(preview_of(settings.site))
-    asked = Asked(options.word_DIR, False, False, options.dry_run, uses_cache=not options.no_cache, jobs=options.jobs, command="preview")
+    asked = Asked(options.word_DIR, False, False, options.dry_run, uses_cache=not options.no_cache, jobs=options.jobs, again=again(options))
     Publishing(settings, asked, output).run()
 
 
@@ -69,6 +83,7 @@ def run(words):
     except WrongWords as error:
         Output("").fail(error)
         return error.status
+    options.words = words
     output = Output(command.name, options.quiet, options.json)
     try:
         RUNS[command.name](options, output)

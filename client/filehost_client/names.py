@@ -1,5 +1,6 @@
 """Names, paths and numbers as a host takes them (docs/HTTP.md, "Targets"), and how they are shown in a line."""
 
+import json
 import re
 from urllib.parse import quote
 
@@ -62,6 +63,11 @@ def check_path(text):
     if fault := fault_of_path(path):
         raise WrongWords(f"{shown(text)!r} can't be on a site: {fault}")
     return path
+
+
+def listing_size(files, **members):
+    """How many bytes the body has that lists these files, each path with its digest."""
+    return len(json.dumps({"files": files, **members}, ensure_ascii=False, separators=(",", ":")).encode("utf-8", "surrogatepass"))
 
 
 def in_target(path):

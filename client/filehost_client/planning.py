@@ -2,11 +2,10 @@
 
 from __future__ import annotations
 
-import json
 from typing import NamedTuple
 
 from .errors import Unfit, WrongWords
-from .names import LARGEST_LISTING, MOST_FILES, check_path, number_of, shown
+from .names import LARGEST_LISTING, MOST_FILES, check_path, listing_size, number_of, shown
 
 
 class Comparison(NamedTuple):
@@ -94,7 +93,7 @@ def check_listing(plan):
     problems = []
     if len(plan.listing) > MOST_FILES:
         problems.append(f"{number_of(len(plan.listing), 'path')} would be listed, and a deploy lists at most {MOST_FILES:,}: push a part of them first")
-    size = len(json.dumps({"files": plan.listing, "patch": True, "draft": True}, ensure_ascii=False, separators=(",", ":")).encode())
+    size = listing_size(plan.listing, patch=True, draft=True)
     if size > LARGEST_LISTING:
         problems.append(f"the list of the files has {size:,} bytes, and a host takes at most {LARGEST_LISTING:,}: shorten their paths, or leave some out")
     if problems:

@@ -36,11 +36,8 @@ class Asked(NamedTuple):
     alias: str | None = None
     uses_cache: bool = True
     jobs: int = 8
-    command: str = "push"
-
-    def again(self):
-        """The command to go on with."""
-        return f"site {self.command} {shown(self.place)}"
+    # The command by which it can go on.
+    again: str = ""
 
 
 class Publishing:
@@ -110,7 +107,7 @@ class Publishing:
         """What is to be sent. If the folder lacks files that it put to the site, somebody is asked whether these are to be removed."""
         put = self.record.files()
         # A site without changes serves nothing. For any other the host is asked path by path.
-        served = self.site.digests({**self.digests, **put, **dict.fromkeys(self.named)}, jobs=self.asked.jobs) if self.site.changes() else {}
+        served = self.served({**self.digests, **put, **dict.fromkeys(self.named)}) if self.site.changes() else {}
         found = compare(served, self.digests, put)
         if not self.asked.is_push:
             return plan_deploy(found, self.digests)
@@ -123,6 +120,15 @@ class Publishing:
         if found.lost and not self.asked.is_dry_run:
             self.record.note_files({}, found.lost)
         return plan_push(found, self.digests, self.named, removes)
+
+    def served(self, paths):
+        """The digests that the site serves at these paths."""
+        progress = self.output.progress
+        progress.begin("comparing", len(paths))
+        try:
+            return self.site.digests(paths, jobs=self.asked.jobs, told=progress.file_done)
+        finally:
+            progress.end()
 
     def cancel_left_over(self):
         """Cancels the deploy that the last run from this folder left open, if it can be that one."""
@@ -160,8 +166,16 @@ class Publishing:
         self.seconds = time.monotonic() - began
         self.note(plan)
         if asked.alias:
-            self.site.set_alias(asked.alias, self.deploy.number)
-            self.site_record.note_alias(asked.alias, self.deploy.number)
+            self.set_alias(asked.alias)
+
+    def set_alias(self, name):
+        """Lets an alias name the deploy, which stands whatever comes of that."""
+        try:
+            self.site.set_alias(name, self.deploy.number)
+        except SiteError:
+            self.output.say(f"deploy {self.deploy.number}, change {self.deploy.published} is published, and the alias {name} isn't set")
+            raise
+        self.site_record.note_alias(name, self.deploy.number)
 
     def note(self, plan):
         """Notes in the records what was published, or what a draft would publish."""
@@ -178,7 +192,7 @@ class Publishing:
         """Cancels the deploy after an error or an interrupt, and says so. If the host is away, the next run does it."""
         if isinstance(error, (Unreachable, UnknownOutcome)):
             if self.deploy:
-                self.output.note(f"deploy {self.deploy.number} is open; what was uploaded isn't sent again. Go on: {self.asked.again()}")
+                self.output.note(f"deploy {self.deploy.number} is open; what was uploaded isn't sent again. Go on: {self.asked.again}")
             return
         self.host.cut()
         try:

@@ -38,9 +38,9 @@ class Site:
 
     # What there is.
 
-    def digests(self, paths, deploy=None, alias=None, jobs=1):
+    def digests(self, paths, deploy=None, alias=None, jobs=1, told=lambda: None):
         """The SHA-1 digest of the file at each of these paths, in 40 digits; a path without a file isn't in the result. They are asked for over `jobs`
-        connections at most."""
+        connections at most, and `told` is called after each."""
         paths = list(paths)
         found = {}
 
@@ -51,6 +51,7 @@ class Site:
                 path = next(asked)
                 if digest := self.digest_in(reply, path):
                     found[path] = digest
+                told()
 
             self.host.ask_heads([self.target(path, deploy, alias) for path in part], answered)
 
