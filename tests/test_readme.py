@@ -30,7 +30,7 @@ TESTS = "print('the tests')\nprint('2 passed, 0 failed')\n"
 
 def left_out(folder, names):
     """What of a folder is no source: what git, rt and Python keep, and the store that README.md makes at the top."""
-    return {".git", "out", "__pycache__"} | ({"store", "site-store", "DIR"} if pathlib.Path(folder) == TOP else set())
+    return {".git", "out", "__pycache__"} | ({"store", "site-store", "my-site", "DIR"} if pathlib.Path(folder) == TOP else set())
 
 
 def is_command(words, others=()):

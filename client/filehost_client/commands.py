@@ -149,6 +149,9 @@ def get(options, output):
     to_stream = place in (None, "-")
     if to_stream and (options.resume or options.json):
         raise WrongWords(f"{'--resume' if options.resume else '--json'} needs a file: -o FILE")
+    if to_stream and sys.stdout.isatty():
+        # The file is shown there.
+        output.progress.is_quiet = True
     call = Call(options, output)
     try:
         digest, size = download(call.site, path, place, output.progress, options.deploy, options.resume, sys.stdout.buffer if to_stream else None)

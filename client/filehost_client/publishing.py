@@ -49,6 +49,8 @@ class Publishing:
         self.output = output
         self.host = settings.make_host(self.tell_waiting)
         self.site = self.host.site(settings.site)
+        # What `read` finds: the folder, the paths of --remove, the digest and the size of each file, and the records.
+        self.folder = self.named = self.digests = self.sizes = self.record = self.site_record = None
         self.deploy = None
         # The number of the last change before the deploy was opened, as soon as it is being opened.
         self.before = None
@@ -198,6 +200,8 @@ class Publishing:
         try:
             if self.deploy or isinstance(error, KeyboardInterrupt):
                 self.cancel()
+            else:
+                self.record.note_open(None)
         except SiteError as fault:
             number = self.deploy.number if self.deploy else "that was being opened"
             self.output.say(f"deploy {number} may still be open ({fault}): `site log` shows it, and `site cancel N` ends it")
@@ -208,6 +212,9 @@ class Publishing:
         if self.deploy:
             number = self.deploy.number
         elif self.before is None or (number := opened_since(site, self.before)) is None:
+            return
+        elif not set(Deploy.required_now(site.host, number) or ()) <= set(self.digests.values()):
+            self.output.say(f"deploy {number} may be the one that was being opened: `site cancel {number}` ends it")
             return
         deploy = Deploy(site, number, {}, [], None, self.asked.is_push, self.asked.is_draft)
         if deploy.cancel():
