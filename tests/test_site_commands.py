@@ -1,4 +1,4 @@
-"""The client `site` beside a host of two nodes: what its other commands do and say, the hints where two numbers are mixed up, and each exit status."""
+"""The client `site` with a host of two nodes: what its other commands do and say, the hints where two numbers are mixed up, and each exit status."""
 
 import json
 import subprocess

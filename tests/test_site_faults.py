@@ -1,14 +1,19 @@
-"""The client `site` behind a bad network: requests and replies that are lost, hosts that are busy, close, or answer nonsense.
+"""The client `site` over a bad network: requests and replies that are lost, hosts that are busy, close, or answer nonsense.
 
 A front hands requests on to a real host, and does something else to those that a test chooses. What is counted is what the host did.
 """
 
 import json
+import socketserver
+import threading
 import unittest
+from unittest import mock
 
 from lib.faulty_front import HANG_UP, LOSE_REPLY, LOSE_REQUEST, PASS, Front, answer
 from lib.served import ask, publish
 from lib.site_runs import SiteRuns, kinds
+
+from filehost_client import Host, connection
 
 DEPLOYS = "/api/v1/sites/one/deploys"
 BUSY = answer("503 Service Unavailable", b'{"error":"OutOfMemory"}', "application/json")
@@ -85,6 +90,30 @@ class SentAgain(Faults):
         self.assertEqual(status, 0)
         self.assertIn("cancelled deploy 1, which the last run left open", errors)
         self.assertEqual(kinds(self.changes()), ["open", "cancel", "open", "publish"])
+
+
+class OneByOne(unittest.TestCase):
+    """A proxy that takes a request only after the reply to the one before: what comes earlier is lost."""
+
+    def test_is_asked_one_by_one_once_that_is_known(self):
+        digest, taken = "5" * 40, []
+
+        class Handler(socketserver.BaseRequestHandler):
+            def handle(self):
+                while came := self.request.recv(65_536):
+                    taken.append(came.count(b"HEAD "))
+                    self.request.sendall(answer("200 OK", b"", "text/plain", f'ETag: "{digest}"'))
+
+        class Proxy(socketserver.ThreadingTCPServer):
+            daemon_threads = True
+
+        with Proxy(("127.0.0.1", 0), Handler) as proxy, mock.patch.object(connection, "REPLY_SECONDS", 0.3):
+            threading.Thread(target=proxy.serve_forever, kwargs={"poll_interval": 0.05}, daemon=True).start()
+            site = Host(f"http://127.0.0.1:{proxy.server_address[1]}").site("one")
+            paths = [f"/{number}" for number in range(20)]
+            self.assertEqual(site.digests(paths), dict.fromkeys(paths, digest))
+            proxy.shutdown()
+        self.assertEqual(taken, [20] + [1] * 19)
 
 
 class Changes(Faults):

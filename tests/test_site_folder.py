@@ -1,4 +1,4 @@
-"""Which files of a folder the client `site` takes, and how it hashes them: hidden names, links, special files, `.siteignore` beside git's own rules, and the
+"""Which files of a folder the client `site` takes, and how it hashes them: hidden names, links, special files, `.siteignore` by git's own rules, and the
 cache of digests."""
 
 import hashlib
@@ -152,7 +152,7 @@ class Cached(unittest.TestCase):
         self.hashed = []
 
     def hash(self, later=0.0):
-        """The digests of the folder's files, by a clock that is so many seconds later; notes which files were read."""
+        """The digests of the folder's files, by a clock that is this many seconds later; notes which files were read."""
         real, clock = digests.hash_file, time.time_ns
         with mock.patch.object(digests, "hash_file", lambda place: self.hashed.append(os.path.basename(place)) or real(place)), \
                 mock.patch.object(digests.time, "time_ns", lambda: clock() + int(later * 1e9)):

@@ -35,7 +35,7 @@ class Downloads(SiteRuns):
         self.assertEqual(self.parts(), [])
 
     def cut(self, lengths, between=None):
-        """A judge that hands on so many bytes of the first replies; between them something may be done."""
+        """A judge that hands on this many bytes of each of the first replies; between them something may be done."""
         left = list(lengths)
 
         def judge(method, target, count):

@@ -101,7 +101,7 @@ class HostStops(Stops):
 class ClientStops(Stops):
     def test_killed_at_ten_moments_it_goes_on_and_sends_nothing_twice(self):
         self.start_host()
-        # So many requests are in hand at once.
+        # How many requests are in hand at once.
         jobs = 4
         front = self.stand_before(lambda method, target, count: time.sleep(0.01 if method == "PUT" else 0) or PASS)
         killed = named = 0

@@ -6,7 +6,7 @@ from typing import NamedTuple
 
 from .errors import BadReply, UnknownOutcome
 
-# The list has the last changes, at most so many.
+# The list has the last changes, at most this many.
 LISTED = 1_000
 
 

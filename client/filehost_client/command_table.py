@@ -117,8 +117,7 @@ COMMANDS = (
     Command(
         "push", (DIR,), "sends what differs",
         "Sends what differs in DIR from what the site serves, as one change that can be taken back alone later. A file that an earlier push from DIR put to "
-        "the site, and that DIR no longer has, is removed after a question, or by --delete; else it stays and is named. Where nothing differs, nothing is "
-        "sent.",
+        "the site, and that DIR no longer has, is removed after a question, or by --delete; else it stays and is named. If nothing differs, nothing is sent.",
         ("site push public", "site push --delete --remove /old/page.html public"),
         (Option(("--delete",), None, "removes what DIR no longer has, without a question"),
          Option(("--remove",), "PATH", "removes this file of the site too; may be repeated", repeats=True), DRAFT, *OF_FOLDERS),
@@ -147,7 +146,7 @@ COMMANDS = (
     Command(
         "log", (), "the last changes",
         "Lists the last changes of the site, the newest first: the number, the kind, whether the change is live or undone, and the numbers of a deploy and of "
-        "its publishing where this client knows both. The host tells the last 1,000.",
+        "its publishing if this client knows both. The host tells the last 1,000.",
         ("site log -n 50",),
         (Option(("-n",), "N", f"how many (default: {LOGGED})", whole(1, 1_000), LOGGED),),
     ),

@@ -17,7 +17,7 @@ CONNECT_SECONDS = 15
 REPLY_SECONDS = 90
 # A host ends a connection on which nothing came for 15 seconds; a kept one that is nearly as old isn't used again.
 OLD = 10
-# A body of at most so many bytes goes out in one write with its head.
+# A body of at most this many bytes goes out in one write with its head.
 SMALL = 65_536
 PIECE = 262_144
 # How many bytes of requests are sent before their replies are read. The replies have room in the buffers of a socket.
@@ -73,6 +73,8 @@ class Connection:
         self.context = context
         self.socket = None
         self.is_used = False
+        # Whether a proxy took no request before the reply to the one before.
+        self.is_serial = False
         self.last = 0.0
         self.fields = [("Host", address.place), ("User-Agent", agent)]
         if login:
@@ -205,7 +207,7 @@ class Connection:
         asked, length = [], 0
         for target in targets:
             head = request_head("HEAD", self.address.prefix + target, self.fields)
-            if asked and length + len(head) > AHEAD:
+            if asked and (self.is_serial or length + len(head) > AHEAD):
                 break
             asked.append(head)
             length += len(head)
@@ -219,7 +221,8 @@ class Connection:
                     if head.closes:
                         break
             self.finish(head, "HEAD")
-        except Lost:
+        except Lost as error:
+            self.is_serial = self.is_serial or error.is_late
             if not replies:
                 raise
         return replies

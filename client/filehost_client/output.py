@@ -9,7 +9,7 @@ from .errors import Unfit
 from .names import shown
 from .progress import Progress
 
-# So many lines of problems are told.
+# How many lines of problems are told.
 MOST_PROBLEMS = 20
 
 

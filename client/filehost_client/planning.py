@@ -1,4 +1,4 @@
-"""What a push or a deploy of a folder would send: the folder's files beside what the site serves."""
+"""What a push or a deploy of a folder would send: the folder's files compared with what the site serves."""
 
 from __future__ import annotations
 
@@ -9,7 +9,7 @@ from .names import LARGEST_LISTING, MOST_FILES, check_path, listing_size, number
 
 
 class Comparison(NamedTuple):
-    """A folder beside what a site serves.
+    """A folder compared with what a site serves.
 
     new, changed, unchanged  paths of the folder
     gone                     paths that the folder no longer has and the site serves as this client put them there from it

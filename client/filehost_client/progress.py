@@ -11,7 +11,7 @@ from .names import number_of
 
 REDRAW_SECONDS = 0.1
 LINE_SECONDS = 10.0
-# The rate is that of the last so many seconds.
+# The rate is that of the last few seconds.
 WINDOW_SECONDS = 5.0
 UNITS = ("B", "kB", "MB", "GB", "TB")
 
@@ -46,7 +46,7 @@ class Progress:
         self.is_drawn = False
 
     def begin(self, title, files, size=0):
-        """Begins a part of the work, with so many files and bytes."""
+        """Begins a part of the work, with its number of files and bytes."""
         self.end()
         self.title, self.files, self.size = title, files, size
         self.done_files = self.done_bytes = 0

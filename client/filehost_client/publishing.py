@@ -18,9 +18,9 @@ from .progress import size_of
 from .records import FolderRecord, SiteRecord
 from .uploads import sources_of, upload_all
 
-# For so long an interrupted command tries to cancel its deploy.
+# How long an interrupted command tries to cancel its deploy.
 CANCEL_SECONDS = 10
-# So many paths are named in a line.
+# How many paths are named in a line.
 NAMED = 10
 
 
@@ -150,7 +150,7 @@ class Publishing:
         self.record.note_open(None)
 
     def publish(self, plan):
-        """Opens the deploy, uploads what the host lacks, and notes what stands then."""
+        """Opens the deploy, uploads what the host lacks, and notes what the site has then."""
         asked = self.asked
         began = time.monotonic()
         try:
@@ -171,7 +171,7 @@ class Publishing:
             self.set_alias(asked.alias)
 
     def set_alias(self, name):
-        """Lets an alias name the deploy, which stands whatever comes of that."""
+        """Lets an alias name the deploy, which remains whatever comes of that."""
         try:
             self.site.set_alias(name, self.deploy.number)
         except SiteError:

@@ -9,7 +9,7 @@ from .names import DIGEST, check_path, check_site, in_target
 from .refusals import raise_for
 from .workers import each
 
-# So many files at least are asked for over one connection: as many requests as a host takes over it.
+# How many files at least are asked for over one connection: as many requests as a host takes over it.
 FEW = 100
 
 
@@ -135,17 +135,17 @@ class Site:
 
     def restore(self, deploy):
         """Serves a deploy of this number again, or publishes an open one."""
-        def stands(_):
+        def agrees(_):
             return not self.is_kept(deploy) or self.digest("/index.html", deploy=deploy) == self.digest("/index.html")
 
-        return self.make("restore", "POST", f"deploys/{deploy}/restore", None, stands)
+        return self.make("restore", "POST", f"deploys/{deploy}/restore", None, agrees)
 
     def set_alias(self, name, deploy):
         """Lets an alias name a deploy that was published whole."""
-        def stands(_):
+        def agrees(_):
             return self.digest("/index.html", deploy=deploy) == self.digest("/index.html", alias=name)
 
-        return self.make("alias", "PUT", f"aliases/{check_site(name, 'an alias')}", {"deploy": deploy}, stands)
+        return self.make("alias", "PUT", f"aliases/{check_site(name, 'an alias')}", {"deploy": deploy}, agrees)
 
     def remove_alias(self, name):
         """Removes an alias."""
@@ -173,13 +173,13 @@ class Site:
         self.check_owner(deploy)
         return self.make("delete", "DELETE", f"/api/v1/deploys/{deploy}", None, lambda _: not self.is_kept(deploy))
 
-    def make(self, kind, method, rest, body, stands):
-        """Sends a change, and returns its number. `stands` says of the only change of this kind since whether the site is as this request leaves it."""
+    def make(self, kind, method, rest, body, agrees):
+        """Sends a change, and returns its number. `agrees` says of the only change of this kind since whether the site is as this request leaves it."""
         before = self.last()
 
         def find():
             number = made_since(self.changes(), before, kind)
-            if number is not None and not stands(number):
+            if number is not None and not agrees(number):
                 raise UnknownOutcome(f"the reply was lost, and change {number} may be another client's. Look: site log")
             return number and {"entry": number}
 

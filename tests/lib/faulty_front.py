@@ -32,14 +32,14 @@ def read_message(stream):
 
 class Front(socketserver.ThreadingTCPServer):
     """The front: `judge(method, target, count)` says what is done to the request, the `count`-th of this method and target. It returns a word from above,
-    bytes that are sent instead, or a number: of the reply only so many bytes are handed on. `asked` has each request, as (method, target), and `heads` their heads."""
+    bytes that are sent instead, or a number: of the reply only as many bytes are handed on. `asked` has each request, as (method, target), and `heads` their heads."""
 
     daemon_threads = True
     allow_reuse_address = True
     request_queue_size = 64
 
     def __init__(self, port, judge=None, certificate=None, password=None, prefix=""):
-        self.port_behind = port
+        self.upstream_port = port
         self.judge = judge or (lambda method, target, count: PASS)
         self.password, self.prefix = password, prefix
         # Called before the program's reply is handed on.
@@ -79,7 +79,7 @@ class Handler(socketserver.StreamRequestHandler):
 
     def handle(self):
         with contextlib.ExitStack() as stack:
-            behind = None
+            upstream = None
             while True:
                 head, length = read_message(self.rfile)
                 if not head:
@@ -102,10 +102,10 @@ class Handler(socketserver.StreamRequestHandler):
                 if isinstance(done, bytes):
                     self.wfile.write(done.partition(b"\r\n\r\n")[0] + b"\r\n\r\n" if method == "HEAD" else done)
                     continue
-                if behind is None:
-                    behind = stack.enter_context(socket.create_connection((HOST, self.server.port_behind), 60))
-                    stream = stack.enter_context(behind.makefile("rb"))
-                behind.sendall(head + body)
+                if upstream is None:
+                    upstream = stack.enter_context(socket.create_connection((HOST, self.server.upstream_port), 60))
+                    stream = stack.enter_context(upstream.makefile("rb"))
+                upstream.sendall(head + body)
                 told, length = read_message(stream)
                 reply = told + stream.read(0 if method == "HEAD" else length)
                 self.server.before_reply(method, target)

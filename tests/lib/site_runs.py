@@ -17,7 +17,7 @@ sys.path.append(str(TOP / "client"))
 
 # Without the packages of the system: the client needs none.
 SITE = [sys.executable, "-S", str(TOP / "site")]
-# A run may take so many seconds on the slowest machine.
+# How many seconds a run may take on the slowest machine.
 SECONDS = 120
 
 
