@@ -194,7 +194,7 @@ class Deploys(SiteRuns):
         told = self.told("push", self.place)
         self.assertEqual((told["new"], told["sent_files"], told["sent_bytes"]), (20, 0, 0))
         self.assert_serves({"/7": b"7"})
-        self.assert_fails(2, "preview", "63", words=["preview", "--site", "a" * 56, self.place])
+        self.assert_fails(2, "can't have a preview", "over 63 characters", words=["preview", "--site", "a" * 56, self.place])
         self.assert_done("preview", "--site", "a" * 55, self.place)
 
     def test_tells_all_refusals_before_anything_is_sent(self):
