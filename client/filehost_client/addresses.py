@@ -33,7 +33,7 @@ class Address(NamedTuple):
     @property
     def place(self):
         """The name with the port, if that isn't the scheme's own: the value of a Host field."""
-        name = f"[{self.name}]" if ":" in self.name else self.name.encode("idna").decode()
+        name = f"[{self.name}]" if ":" in self.name else self.name if self.name.isascii() else self.name.encode("idna").decode()
         return name if self.port == PORTS[self.scheme] else f"{name}:{self.port}"
 
     def url(self, target=""):
@@ -50,7 +50,8 @@ def parse_address(text, what="--host"):
         parts = urlsplit(text.strip())
         port = parts.port
         name = parts.hostname or ""
-        name.encode("idna")
+        if not name.isascii():
+            name.encode("idna")
     except (ValueError, UnicodeError) as error:
         raise WrongWords(f"{what}: this isn't a URL: {str(error).splitlines()[0]}") from None
     if parts.scheme not in PORTS or not name:

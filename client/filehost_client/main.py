@@ -2,14 +2,13 @@
 
 from __future__ import annotations
 
+import contextlib
 import gc
 import os
 import re
-import shlex
 import signal
 import sys
 
-from . import commands, looking
 from .errors import SiteError, WrongWords
 from .names import check_site
 from .output import Output
@@ -35,6 +34,7 @@ def terminate(number, _):
 
 def again(options):
     """The words of the command, without a login, so that they can be shown."""
+    import shlex
     shown = []
     words = iter(options.words)
     for word in words:
@@ -67,10 +67,15 @@ def preview(options, output):
     Publishing(settings, asked, output).run()
 
 
-RUNS = {
-    "push": push, "deploy": deploy, "preview": preview, "status": looking.status, "log": commands.log, "get": commands.get, "undo": commands.undo,
-    "restore": commands.restore, "alias": commands.alias, "mv": commands.mv, "rm": commands.rm, "cancel": commands.cancel, "delete": commands.delete,
-}
+def run_of(name):
+    """The function that runs a command. What a push doesn't need is loaded only for the commands that do."""
+    if name in ("push", "deploy", "preview"):
+        return {"push": push, "deploy": deploy, "preview": preview}[name]
+    if name == "status":
+        from .looking import status
+        return status
+    from . import commands
+    return getattr(commands, name)
 
 
 def run(words):
@@ -86,7 +91,7 @@ def run(words):
     options.words = words
     output = Output(command.name, options.quiet, options.json)
     try:
-        RUNS[command.name](options, output)
+        run_of(command.name)(options, output)
     except SiteError as error:
         output.fail(error)
         return error.status
@@ -97,6 +102,16 @@ def run(words):
 
 
 def main():
+    """Runs the command with the words of this process, and ends the process with its status."""
+    status = guarded()
+    for stream in (sys.stdout, sys.stderr):
+        with contextlib.suppress(OSError, ValueError):
+            stream.flush()
+    # What is left, such as threads that wait for a host, needs no end of its own, and to take 10,000 objects apart takes a while.
+    os._exit(status)
+
+
+def guarded():
     """The status of the command with the words of this process."""
     for name, mode in (("stdin", "r"), ("stdout", "w"), ("stderr", "w")):
         # A stream that is closed takes the place of none that is opened later.
