@@ -104,7 +104,7 @@ class Refused(SiteRuns):
         for variables, part in (
             ({"SITE_HOST": ""}, "which host? Give --host"), ({"SITE_NAME": ""}, "which site? Give --site"), ({"SITE_HOST": "example.org"}, "begins with http://"),
             ({"SITE_HOST": "ftp://example.org"}, "begins with http://"), ({"SITE_HOST": "http://"}, "begins with http://"),
-            ({"SITE_HOST": "http://h:99999"}, "isn't a URL"), ({"SITE_HOST": "http://h/?q"}, "no ?"), ({"SITE_HOST": "http://h/a b"}, "no space"),
+            ({"SITE_HOST": "http://h:99999"}, "a port is a number"), ({"SITE_HOST": "http://h/?q"}, "no ?"), ({"SITE_HOST": "http://h/a b"}, "no space"),
             ({"SITE_HOST": "http://u:secret@h/#x"}, "no #"), ({"SITE_NAME": "One"}, "not the name of a site"), ({"SITE_NAME": "a" * 64}, "63"),
         ):
             with self.subTest(variables):

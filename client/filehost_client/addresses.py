@@ -4,11 +4,12 @@ from __future__ import annotations
 
 import re
 from typing import NamedTuple
-from urllib.parse import unquote, urlsplit
 
 from .errors import WrongWords
 
 PORTS = {"http": 80, "https": 443}
+# RFC 3986, section 3: the login, the name, the port and the path. A name in brackets is an address of IPv6.
+URL = re.compile(r"(?P<scheme>[A-Za-z][A-Za-z0-9+.-]*)://(?:(?P<login>[^@/?#]*)@)?(?P<name>\[[0-9A-Fa-f:.]+\]|[^@:/?#\[\]]*)(?::(?P<port>[0-9]*))?(?P<rest>[/?#].*)?")
 
 
 class Login(NamedTuple):
@@ -46,19 +47,26 @@ class Address(NamedTuple):
 
 def parse_address(text, what="--host"):
     """Reads a URL such as https://example.org/files. Raises WrongWords, which says what is wrong and doesn't repeat a login."""
-    try:
-        parts = urlsplit(text.strip())
-        port = parts.port
-        name = parts.hostname or ""
-        if not name.isascii():
-            name.encode("idna")
-    except (ValueError, UnicodeError) as error:
-        raise WrongWords(f"{what}: this isn't a URL: {str(error).splitlines()[0]}") from None
-    if parts.scheme not in PORTS or not name:
+    found = URL.fullmatch(text.strip())
+    scheme, name = (found["scheme"].lower(), found["name"].strip("[]").lower()) if found else ("", "")
+    if scheme not in PORTS or not name:
         raise WrongWords(f"{what}: a URL begins with http:// or https:// and the host's name, such as http://127.0.0.1:8080")
-    if parts.query or parts.fragment or not re.fullmatch(r"[!-~]*", parts.path):
+    port, prefix = int(found["port"] or PORTS[scheme]), found["rest"] or ""
+    if not 0 < port < 65_536:
+        raise WrongWords(f"{what}: a port is a number from 1 to 65,535")
+    if not re.fullmatch(r"[!-~]*", prefix) or "?" in prefix or "#" in prefix:
         raise WrongWords(f"{what}: a URL has no ?, no # and no space after the host's name, but at most a prefix, such as https://example.org/files")
-    login = None
-    if parts.username is not None:
-        login = Login(unquote(parts.username), unquote(parts.password or ""))
-    return Address(parts.scheme, name, port or PORTS[parts.scheme], parts.path.rstrip("/"), login)
+    try:
+        name.encode("ascii" if name.isascii() else "idna")
+    except UnicodeError:
+        raise WrongWords(f"{what}: this isn't the name of a host") from None
+    return Address(scheme, name, port, prefix.rstrip("/"), login_in(found["login"]))
+
+
+def login_in(text):
+    """The login in front of a URL's name, or None."""
+    if text is None:
+        return None
+    from urllib.parse import unquote
+    name, _, password = text.partition(":")
+    return Login(unquote(name), unquote(password))

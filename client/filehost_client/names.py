@@ -2,7 +2,6 @@
 
 import json
 import re
-from urllib.parse import quote
 
 from .errors import WrongWords
 
@@ -14,6 +13,7 @@ LAST_NUMBER = 1_000_000
 PREVIEW = "-preview"
 
 SITE = re.compile(r"[a-z0-9-]{1,63}", re.ASCII)
+PLAIN = re.compile(r"[A-Za-z0-9_.~/-]+", re.ASCII)
 DIGEST = re.compile(r"[0-9a-f]{40}", re.ASCII)
 UNSAFE = re.compile(r"[\x00-\x1f\x7f-\x9f\u2028\u2029\ud800-\udfff]")
 
@@ -71,5 +71,7 @@ def listing_size(files, **members):
 
 
 def in_target(path):
-    """A path as the end of a target, percent-encoded."""
-    return quote(path)
+    """A path as the end of a target: all but slashes and the unreserved characters of RFC 3986, section 2.3, is percent-encoded."""
+    if PLAIN.fullmatch(path):
+        return path
+    return "".join(chr(byte) if PLAIN.fullmatch(chr(byte)) else f"%{byte:02X}" for byte in path.encode())
