@@ -77,6 +77,8 @@ class Logins(Proxies):
         netrc.chmod(0o600)
         self.assert_never_shown("push", self.place)
         self.assert_never_shown("status", "--user", USER)
+        netrc.write_text(f'# mine\nmachine other login x\nmacdef init\ncd /\n\ndefault\n  login {USER}\n  password "pass:word \\ü"\n')
+        self.assert_never_shown("status")
         netrc.write_text("machine\n")
         self.assert_fails(2, ".netrc can't be read", words=["status"])
         netrc.write_text(f'machine {HOST} login {USER} password "{PASSWORD}"\n')

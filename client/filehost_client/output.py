@@ -3,6 +3,7 @@
 from __future__ import annotations
 
 import json
+import select
 import sys
 
 from .errors import Unfit
@@ -11,6 +12,8 @@ from .progress import Progress
 
 # How many lines of problems are told.
 MOST_PROBLEMS = 20
+# How often it is looked whether an answer or a signal has come.
+LOOK_SECONDS = 0.3
 
 
 class Output:
@@ -64,4 +67,7 @@ class Output:
         """Asks a question that is answered by y or n, and by nothing for n."""
         self.progress.clear()
         print(f"site: {shown(question)} [y/N] ", end="", file=sys.stderr, flush=True)
+        # Ctrl-C that comes right before a read is seen only after it.
+        while not select.select([sys.stdin], [], [], LOOK_SECONDS)[0]:
+            pass
         return sys.stdin.readline().strip().lower() in ("y", "yes")

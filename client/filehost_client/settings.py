@@ -11,6 +11,7 @@ from .command_table import RETRY_SECONDS
 from .errors import WrongWords
 from .host import Host
 from .names import PREVIEW, check_site
+from .netrc_file import netrc_login
 from .patience import Waiting
 from .settings_file import NAME as FILE
 from .settings_file import find_settings
@@ -75,16 +76,3 @@ def login_of(user, address):
         import getpass
         return Login(name, getpass.getpass(f"password of {name} at {address}: "))
     raise WrongWords(f"--user {name} has no password: give it in SITE_PASSWORD, in ~/.netrc, or as --user {name}:PASSWORD", "NoPassword")
-
-
-def netrc_login(name):
-    """The login that a netrc file has for a host's name, or None."""
-    file = os.environ.get("NETRC") or os.path.expanduser("~/.netrc")
-    if not os.path.isfile(file):
-        return None
-    import netrc
-    try:
-        found = netrc.netrc(file).authenticators(name)
-    except (OSError, ValueError, netrc.NetrcParseError) as error:
-        raise WrongWords(f"{file} can't be read: {error}") from None
-    return Login(found[0] or "", found[2] or "") if found else None
