@@ -9,7 +9,7 @@ import unittest
 
 from lib.repository import TOP, crates
 
-FOLDERS = ("tests", "tests/lib", "scripts", "bench", "examples")
+FOLDERS = ("tests", "tests/lib", "scripts", "bench", "examples", "client/filehost_client")
 # The crates in which some lines of clauses are still over 120 columns.
 WIDE = (
     "byte_view", "chunk_reads", "blob_store", "http_wire", "range_reply", "persistent_collections", "site_state", "site_change", "touch_index", "change_undo",
@@ -126,7 +126,7 @@ class Scripts(unittest.TestCase):
         """A command's name is words with hyphens between them, that of a module words with underscores."""
         for file in self.python + self.shell:
             with self.subTest(file.name):
-                self.assertRegex(file.name, r"^(__init__|[a-z]+(_[a-z]+)*)\.(py|sh)$" if file.suffix else r"^[a-z]+([-_][a-z]+)*$")
+                self.assertRegex(file.name, r"^(__init__|__main__|[a-z]+(_[a-z]+)*)\.(py|sh)$" if file.suffix else r"^[a-z]+([-_][a-z]+)*$")
 
     def test_each_module_says_what_it_is_for(self):
         for file in self.python:

@@ -30,7 +30,7 @@ TESTS = "print('the tests')\nprint('2 passed, 0 failed')\n"
 
 def left_out(folder, names):
     """What of a folder is no source: what git, rt and Python keep, and the store that README.md makes at the top."""
-    return {".git", "out", "__pycache__"} | ({"store", "site-store", "DIR"} if pathlib.Path(folder) == TOP else set())
+    return {".git", "out", "__pycache__"} | ({"store", "site-store", "my-site", "DIR"} if pathlib.Path(folder) == TOP else set())
 
 
 def is_command(words, others=()):
@@ -94,7 +94,8 @@ class Readme(Program):
             words = re.sub(rf"\b{word}\b", meant, words)
         environment = {
             **os.environ, "PATH": f"{self.room / 'toolchain'}:{os.environ['PATH']}", "CALLS": str(self.room / "calls"), "NO_PROGRAM": "yes",
-            "CI_SAYS": "3 passed, 0 failed\n", "CI_STATUS": "0", "TMPDIR": str(self.room),
+            "CI_SAYS": "3 passed, 0 failed\n", "CI_STATUS": "0", "TMPDIR": str(self.room), "XDG_STATE_HOME": str(self.room / "state"),
+            "XDG_CACHE_HOME": str(self.room / "cache"),
         }
         pipes = dict.fromkeys(("stdout", "stderr"), subprocess.PIPE)
         started = subprocess.Popen(["bash", "-c", words], cwd=self.top, stdin=subprocess.DEVNULL, env=environment, start_new_session=True, **pipes)
@@ -135,6 +136,18 @@ class Readme(Program):
         started.wait(SECONDS)
         return told
 
+    def lines_below(self, command):
+        """The lines that a page shows below each showing of a command, up to an empty one or another command."""
+        for found in re.finditer(rf"(?m)^    {re.escape(command)}\n((?:    .*\n)*)", self.text):
+            lines = [line.strip() for line in found[1].splitlines()]
+            count = next((place for place, line in enumerate(lines) if is_command(line, OF_THE_SYSTEM)), len(lines))
+            yield lines[:count]
+
+    def assert_told(self, command, out, shown):
+        """The client tells what one showing of a command tells, but for the seconds and the port."""
+        told = re.sub(r"in [\d.]+ s$", "in 0.1 s", out.decode().replace(self.port, PORT), flags=re.M)
+        self.assertEqual(told.splitlines(), shown, command)
+
     def answered(self, command):
         """What a page shows below a command, in a line of its own."""
         return re.search(rf"(?m)^    {re.escape(command)}\n    (.*)$", self.text)[1]
@@ -144,6 +157,7 @@ class Readme(Program):
         there = sorted(path.name for path in TOP.iterdir())
         shown = commands(self.text)
         self.assertGreater(len(shown), 12)
+        below = {command: self.lines_below(command) for command in shown}
         for command in shown:
             with self.subTest(command):
                 if f"--port {PORT}" in command:
@@ -153,7 +167,9 @@ class Readme(Program):
                     self.assertIn(self.port.encode(), self.start(command).stdout.readline())
                     continue
                 out = self.run_to_its_end(command)
-                if command.startswith("curl"):
+                if "/site " in command:
+                    self.assert_told(command, out, next(below[command]))
+                elif command.startswith("curl"):
                     self.assertEqual(out.decode(), self.answered(command))
                 elif found := re.search(r"< (examples/[\w-]+)\.http$", command):
                     self.assertEqual(out, (TOP / f"{found[1]}.replies").read_bytes())
@@ -161,7 +177,7 @@ class Readme(Program):
                     self.assertEqual(out, (TOP / "examples/small-site.http").read_bytes())
                 elif command == "./test":
                     self.assertEqual(out.splitlines()[-1], b"5 passed, 0 failed")
-                elif command.startswith("printf"):
+                elif command.startswith("printf") and "filehost" in command:
                     self.assertTrue(out.startswith(b"HTTP/1.1 200 OK\r\n"), out)
         # Nothing was built, and nothing is left outside of the copy.
         self.assertEqual({" ".join(call.split()[:2]) for call in (self.room / "calls").read_text().splitlines()}, {"copy: ci"})

@@ -18,7 +18,7 @@ from lib.client import LARGEST_FILE, REQUESTS, content_length, cut_after
 from lib.sandbox import TOP, Sandbox
 
 # Scripts outside of scripts/ and bench/.
-OTHERS = ("test", "tests/run", "examples/listen", "examples/make-deploy")
+OTHERS = ("site", "test", "tests/run", "examples/listen", "examples/make-deploy")
 OF_CRATES = ("scripts/draw-bugs --seed 1", "scripts/fail-allocations", "scripts/slow-proofs", "scripts/try-wrong-bodies", "scripts/wrong-bodies")
 
 
@@ -67,8 +67,8 @@ class Words(unittest.TestCase):
                     self.assertIn(f"there is no crate {name}".strip(), self.assert_refuses(*words.split(), name))
 
     def test_those_without_words_take_none(self):
-        measuring = ("bench/compare", "bench/endure", "bench/group", "bench/journal", "bench/run", "bench/serve", "bench/store")
-        for script in ("test", "scripts/lines", "bench/install-groupcache", "bench/install-servers", *measuring):
+        measuring = ("bench/compare", "bench/endure", "bench/group", "bench/journal", "bench/run", "bench/serve", "bench/site", "bench/store")
+        for script in ("test", "scripts/lines", "scripts/pack-site", "bench/install-groupcache", "bench/install-servers", *measuring):
             with self.subTest(script):
                 self.assertIn("no_word", self.assert_refuses(script, "no_word"))
 
