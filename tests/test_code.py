@@ -76,9 +76,12 @@ def lines_of_clauses(text):
 
 
 def misnamed(text):
-    """The names that a module uses though nothing in it gives them a value, and those that it imports and doesn't use."""
-    used, bound, imported = set(), {*dir(builtins), "__file__"}, set()
+    """The names that a module uses though nothing in it gives them a value, and those that it imports and neither uses nor offers in `__all__`."""
+    # `from __future__ import annotations` is for Python itself.
+    used, bound, imported = {"annotations"}, {*dir(builtins), "__file__", "annotations"}, set()
     for part in ast.walk(ast.parse(text)):
+        if isinstance(part, ast.Assign) and any(isinstance(to, ast.Name) and to.id == "__all__" for to in part.targets):
+            used.update(ast.literal_eval(part.value))
         if isinstance(part, ast.Name):
             (used if isinstance(part.ctx, ast.Load) else bound).add(part.id)
         elif isinstance(part, ast.arg):
