@@ -17,6 +17,8 @@ CONNECT_SECONDS = 15
 REPLY_SECONDS = 90
 # A host ends a connection on which nothing came for 15 seconds; a kept one that is nearly as old isn't used again.
 OLD = 10
+# One on which a reply came just now isn't looked at before the next request: among many small uploads the look would be felt.
+FRESH = 0.5
 # A body of at most this many bytes goes out in one write with its head.
 SMALL = 65_536
 PIECE = 262_144
@@ -83,7 +85,8 @@ class Connection:
     def open(self):
         """Connects, unless that is done and the connection is fit for use. Raises NotSent, or Unreachable if the certificate isn't trusted."""
         if self.socket:
-            if time.monotonic() - self.last < OLD and not self.has_ended():
+            age = time.monotonic() - self.last
+            if age < FRESH or age < OLD and not self.has_ended():
                 return
             self.close()
         try:

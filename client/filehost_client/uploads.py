@@ -2,6 +2,8 @@
 
 from __future__ import annotations
 
+import os
+
 from .errors import BadReply, ChangedMeanwhile, WrongWords
 from .names import shown
 from .workers import each
@@ -11,11 +13,12 @@ class CountedFile:
     """A file whose bytes are counted as they are read."""
 
     def __init__(self, place, count):
-        self.file = open(place, "rb", buffering=0)
+        # Each call of the system lets another thread go on first, so there are as few as can be.
+        self.descriptor = os.open(place, os.O_RDONLY | os.O_CLOEXEC)
         self.count = count
 
     def read(self, most):
-        piece = self.file.read(most)
+        piece = os.read(self.descriptor, most)
         self.count(len(piece))
         return piece
 
@@ -23,7 +26,7 @@ class CountedFile:
         return self
 
     def __exit__(self, *_):
-        self.file.close()
+        os.close(self.descriptor)
 
 
 def sources_of(deploy, files, sizes):
