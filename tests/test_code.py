@@ -77,8 +77,7 @@ def lines_of_clauses(text):
 
 def misnamed(text):
     """The names that a module uses though nothing in it gives them a value, and those that it imports and neither uses nor offers in `__all__`."""
-    # `from __future__ import annotations` is for Python itself.
-    used, bound, imported = {"annotations"}, {*dir(builtins), "__file__", "annotations"}, set()
+    used, bound, imported = set(), {*dir(builtins), "__file__"}, set()
     for part in ast.walk(ast.parse(text)):
         if isinstance(part, ast.Assign) and any(isinstance(to, ast.Name) and to.id == "__all__" for to in part.targets):
             used.update(ast.literal_eval(part.value))
@@ -86,8 +85,9 @@ def misnamed(text):
             (used if isinstance(part.ctx, ast.Load) else bound).add(part.id)
         elif isinstance(part, ast.arg):
             bound.add(part.arg)
-        elif isinstance(part, ast.alias):
-            imported.add((part.asname or part.name).partition(".")[0])
+        elif isinstance(part, (ast.Import, ast.ImportFrom)) and getattr(part, "module", None) != "__future__":
+            # What comes of __future__ is for Python itself.
+            imported.update((one.asname or one.name).partition(".")[0] for one in part.names)
         elif isinstance(part, (ast.FunctionDef, ast.AsyncFunctionDef, ast.ClassDef, ast.ExceptHandler, ast.MatchAs, ast.MatchStar)):
             bound.add(part.name)
     return used - bound - imported, imported - used
@@ -148,6 +148,9 @@ class Scripts(unittest.TestCase):
     def test_finds_names_that_are_not_there_and_imports_that_nothing_uses(self):
         text = "import os, sys as system\nfrom a import b as c, d\ndef f(x, *y, z=1):\n    global g\n    g = [w for w in x]\n    return len(y) + d.e + h\n"
         self.assertEqual(misnamed(text), ({"h"}, {"os", "system", "c"}))
+        self.assertEqual(misnamed("from __future__ import annotations\nfrom a import b, c\n__all__ = ['b', 'q']\n"), ({"q"}, {"c"}))
+        self.assertEqual(misnamed("from a import annotations\n"), (set(), {"annotations"}))
+        self.assertEqual(misnamed("print(annotations)\n"), ({"annotations"}, set()))
         self.assertEqual(misnamed("try:\n    1\nexcept OSError as e:\n    match e:\n        case [k, *m]:\n            __file__, k, m, (n := 1), n\n"), (set(), set()))
 
     def test_no_test_uses_another_one(self):
