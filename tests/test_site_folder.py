@@ -222,6 +222,50 @@ class Cached(unittest.TestCase):
         self.assertEqual(list(json.loads(pathlib.Path(self.store.place).read_text())["files"]), ["/a"])
 
 
+class Kept(unittest.TestCase):
+    """The bytes of small files, which are kept from their hash to their upload."""
+
+    def setUp(self):
+        room = tempfile.TemporaryDirectory(prefix="filehost-test-")
+        self.addCleanup(room.cleanup)
+        self.top = pathlib.Path(room.name)
+
+    def hash(self, files, room=digests.ROOM):
+        """The contents that are kept once these files were written and hashed."""
+        for name, content in files.items():
+            (self.top / name).write_bytes(content)
+        contents = digests.Contents(room)
+        digests.hash_files(folder.read_folder(self.top).files, digests.DigestCache(None), None, contents=contents)
+        return contents
+
+    def take(self, contents, name):
+        return contents.take(f"/{name}", str(self.top / name))
+
+    def test_are_those_that_were_hashed_and_are_taken_once(self):
+        files = {"empty": b"", "small": b"s" * digests.SMALL, "large": b"l" * (digests.SMALL + 1)}
+        contents = self.hash(files)
+        self.assertEqual([self.take(contents, name) for name in files], [b"", files["small"], None])
+        self.assertEqual([self.take(contents, name) for name in files], [None] * 3)
+        self.assertIsNone(self.take(contents, "never-there"))
+
+    def test_of_a_file_that_was_changed_or_removed_are_not_taken(self):
+        contents = self.hash({name: b"before" for name in "abcdef"})
+        # Most systems take the times of files from a clock that goes on each 4 to 10 milliseconds.
+        time.sleep(0.05)
+        (self.top / "a").write_bytes(b"beside")
+        (self.top / "b").write_bytes(b"")
+        (self.top / "c").unlink()
+        (self.top / "new").write_bytes(b"before")
+        (self.top / "new").replace(self.top / "d")
+        os.utime(self.top / "e", (1, 1))
+        self.assertEqual([self.take(contents, name) for name in "abcdef"], [None] * 5 + [b"before"])
+
+    def test_have_no_more_bytes_than_there_is_room_for(self):
+        contents = self.hash({"a": bytes(60), "b": bytes(50), "c": bytes(40), "d": b"", "e": b"e"}, room=100)
+        self.assertEqual([self.take(contents, name) for name in "abcde"], [bytes(60), None, bytes(40), b"", None])
+        self.assertLessEqual(digests.ROOM, 16 << 20)
+
+
 class CacheOfRuns(SiteRuns):
     def test_is_used_unless_it_is_turned_off(self):
         """A wrong digest in the cache shows whether that was used."""

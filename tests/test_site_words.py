@@ -21,6 +21,11 @@ from filehost_client.settings_file import find_settings
 
 COMMANDS = ("push", "deploy", "preview", "status", "log", "get", "undo", "restore", "alias", "mv", "rm", "cancel", "delete")
 STATUSES = {"0", "1", "2", "3", "130"}
+# Modules that take long to load, and that no push or deploy needs unless its settings ask for them.
+SLOW = {
+    "argparse", "asyncio", "base64", "concurrent", "dataclasses", "datetime", "email", "encodings.idna", "http", "inspect", "logging", "pathlib", "random",
+    "shlex", "shutil", "ssl", "subprocess", "tempfile", "typing", "urllib",
+}
 
 
 class Help(unittest.TestCase):
@@ -82,6 +87,19 @@ class Help(unittest.TestCase):
             self.assertIn("EXIT STATUS", re.sub(r"\x1b\[\d+m|.\x08", "", ran.stdout))
         else:
             print("left out: there is no groff", file=sys.stderr)
+
+
+class Start(SiteRuns):
+    def test_a_deploy_loads_no_slow_module_that_it_does_not_need(self):
+        self.start_host()
+        self.write({"/a": b"a"})
+        ended = "import os, sys; sys.path.insert(0, sys.argv.pop(1)); os._exit = lambda status: (print(status, *sys.modules), sys.exit())"
+        words = [f"{ended}; from filehost_client.main import main; main()", TOP / "client", "deploy", self.place, "--quiet"]
+        ran = subprocess.run([sys.executable, "-S", "-c", *words], capture_output=True, text=True, timeout=60, env=self.environment())
+        status, *loaded = ran.stdout.split()
+        self.assertEqual((status, ran.stderr), ("0", ""))
+        self.assertIn("filehost_client.uploads", loaded)
+        self.assertEqual(SLOW.intersection(loaded), set())
 
 
 class Refused(SiteRuns):

@@ -1,9 +1,7 @@
 """Where a host is: its URL, taken apart, and how addresses are printed. A login in a URL is used and never printed."""
 
-from __future__ import annotations
-
 import re
-from typing import NamedTuple
+from collections import namedtuple
 
 from .errors import WrongWords
 
@@ -12,24 +10,19 @@ PORTS = {"http": 80, "https": 443}
 URL = re.compile(r"(?P<scheme>[A-Za-z][A-Za-z0-9+.-]*)://(?:(?P<login>[^@/?#]*)@)?(?P<name>\[[0-9A-Fa-f:.]+\]|[^@:/?#\[\]]*)(?::(?P<port>[0-9]*))?(?P<rest>[/?#].*)?")
 
 
-class Login(NamedTuple):
+class Login(namedtuple("Login", "name password")):
     """A name and a password, which nothing prints."""
 
-    name: str
-    password: str
+    __slots__ = ()
 
     def __repr__(self):
         return "Login(..)"
 
 
-class Address(NamedTuple):
-    """A host's URL: its scheme, name and port, the prefix of all its targets, and the login that the URL had."""
+class Address(namedtuple("Address", "scheme name port prefix login", defaults=(None,))):
+    """A host's URL: its scheme, name and port, the prefix of all its targets, and the login that the URL had, or None."""
 
-    scheme: str
-    name: str
-    port: int
-    prefix: str
-    login: Login | None = None
+    __slots__ = ()
 
     @property
     def place(self):

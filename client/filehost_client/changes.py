@@ -1,8 +1,6 @@
 """The list of a site's changes, and what it shows of a request whose reply was lost."""
 
-from __future__ import annotations
-
-from typing import NamedTuple
+from collections import namedtuple
 
 from .errors import BadReply, UnknownOutcome
 
@@ -10,13 +8,10 @@ from .errors import BadReply, UnknownOutcome
 LISTED = 1_000
 
 
-class Change(NamedTuple):
-    """A line of the list: its number, its kind, whether it is in effect (an undo always is), and which change an undo undid."""
+class Change(namedtuple("Change", "number kind is_live undone", defaults=(True, None))):
+    """A line of the list: its number, its kind, whether it is in effect (an undo always is), and which change an undo undid, else None."""
 
-    number: int
-    kind: str
-    is_live: bool = True
-    undone: int | None = None
+    __slots__ = ()
 
 
 def parse_changes(members):

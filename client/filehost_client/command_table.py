@@ -1,8 +1,6 @@
 """The commands and options of `site`. The parser, the help and the manual page are made from this table."""
 
-from __future__ import annotations
-
-from typing import NamedTuple
+from collections import namedtuple
 
 from .errors import WrongWords
 from .names import LAST_NUMBER, check_number
@@ -43,15 +41,10 @@ seconds.__name__ = "number of seconds from 0 to 86,400"
 entry.__name__ = f"number from 1 to {LAST_NUMBER:,}"
 
 
-class Option(NamedTuple):
-    """An option: its flags, the word for its value (none for a switch), what it does, and how its value is read."""
+class Option(namedtuple("Option", "flags value text kind default repeats", defaults=(str, None, False))):
+    """An option: its flags, the word for its value (None for a switch), what it does, how its value is read, its default, and whether it may be repeated."""
 
-    flags: tuple[str, ...]
-    value: str | None
-    text: str
-    kind: object = str
-    default: object = None
-    repeats: bool = False
+    __slots__ = ()
 
     @property
     def name(self):
@@ -62,27 +55,20 @@ class Option(NamedTuple):
         return ", ".join(self.flags) + (f" {self.value}" if self.value else "")
 
 
-class Word(NamedTuple):
+class Word(namedtuple("Word", "name is_optional kind", defaults=(False, str))):
     """A word of a command: its name, whether it may be left out, and how it is read."""
 
-    name: str
-    is_optional: bool = False
-    kind: object = str
+    __slots__ = ()
 
     @property
     def shown(self):
         return f"[{self.name}]" if self.is_optional else self.name
 
 
-class Command(NamedTuple):
-    """A command: its words, what it does in a few words and in some sentences, its options, and examples."""
+class Command(namedtuple("Command", "name words brief text examples options", defaults=((),))):
+    """A command: its name and words, what it does in a few words and in some sentences, examples, and its options."""
 
-    name: str
-    words: tuple[Word, ...]
-    brief: str
-    text: str
-    examples: tuple[str, ...]
-    options: tuple[Option, ...] = ()
+    __slots__ = ()
 
     @property
     def shown(self):

@@ -1,7 +1,5 @@
 """What each command of `site` does, but for those that send a folder: it asks the host, and prints what came out."""
 
-from __future__ import annotations
-
 import sys
 
 from .errors import Refused, WrongWords

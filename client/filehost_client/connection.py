@@ -1,8 +1,5 @@
 """A connection to a host, which is kept from request to request, and a pool of them."""
 
-from __future__ import annotations
-
-import base64
 import contextlib
 import os
 import select
@@ -80,6 +77,7 @@ class Connection:
         self.last = 0.0
         self.fields = [("Host", address.place), ("User-Agent", agent)]
         if login:
+            import base64  # Few hosts ask for a login.
             self.fields.append(("Authorization", "Basic " + base64.b64encode(":".join(login).encode()).decode()))
 
     def open(self):
@@ -90,7 +88,9 @@ class Connection:
                 return
             self.close()
         try:
-            plain = socket.create_connection((self.address.name, self.address.port), CONNECT_SECONDS)
+            # As bytes: for a name that is text Python first loads its tables of letters beyond ASCII.
+            name = self.address.name.encode() if self.address.name.isascii() else self.address.name
+            plain = socket.create_connection((name, self.address.port), CONNECT_SECONDS)
             plain.setsockopt(socket.IPPROTO_TCP, socket.TCP_NODELAY, 1)
             self.socket = self.wrapped(plain) if self.context else plain
         except (OSError, UnicodeError) as error:

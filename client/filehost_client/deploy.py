@@ -1,7 +1,5 @@
 """A deploy that was opened: what the host lacks of it, the uploads, and how it ends."""
 
-from __future__ import annotations
-
 from .connection import FileBody
 from .errors import BadReply, ChangedMeanwhile, Refused, UnknownOutcome
 from .names import in_target, shown

@@ -1,11 +1,9 @@
-"""The SHA-1 of each file, and a cache of them."""
-
-from __future__ import annotations
+"""The SHA-1 of each file, a cache of them, and the bytes of small files."""
 
 import hashlib
 import os
 import time
-from typing import NamedTuple
+from collections import namedtuple
 
 from .errors import Unfit
 from .names import DIGEST, shown
@@ -17,37 +15,64 @@ RACE_SECONDS = 2
 THREADS = min(8, os.cpu_count() or 1)
 # Smaller files are hashed one after another: threads that hash them spend more time on waiting for one another, two to three times as much as was measured.
 LARGE = 1 << 18
+# Files of at most SMALL bytes are kept in memory from their hash to their upload: threads that read them again would wait for one another as often as they
+# send. All that are kept have at most ROOM bytes.
+SMALL = 1 << 16
+ROOM = 8 << 20
 
 
-class Hashed(NamedTuple):
-    """The digest of a file, the bytes that were hashed, and whether it may be trusted as long as size, times and inode stay."""
+class Hashed(namedtuple("Hashed", "digest size is_settled modified changed inode content")):
+    """The digest of a file, how many bytes were hashed, whether it may be trusted as long as size, times and inode stay, these, and the bytes of a small
+    file, else None."""
 
-    digest: str
-    size: int
-    is_settled: bool
-    modified: int
-    changed: int
-    inode: int
+    __slots__ = ()
+
+    def is_of(self, told):
+        """Whether the system tells of the file what it told when it was hashed."""
+        return (self.size, self.modified, self.changed, self.inode) == (told.st_size, told.st_mtime_ns, told.st_ctime_ns, told.st_ino)
 
 
 def hash_file(place):
     """Reads a file once. Raises OSError."""
     began = time.time_ns()
-    at = os.open(place, os.O_RDONLY | getattr(os, "O_CLOEXEC", 0))
+    at = os.open(place, os.O_RDONLY)
     try:
         told = os.fstat(at)
-        sha, size = hashlib.sha1(), 0
         # Room for one byte more shows the end. More room than that costs a small file more than its hash.
         most = min(PIECE, told.st_size + 1)
-        while piece := os.read(at, most):
+        first = piece = os.read(at, most)
+        sha, size = hashlib.sha1(first), len(first)
+        while piece and not (len(piece) < most and size >= told.st_size):
+            piece = os.read(at, most)
             sha.update(piece)
             size += len(piece)
-            if len(piece) < most and size >= told.st_size:
-                break
     finally:
         os.close(at)
     is_settled = size == told.st_size and max(told.st_mtime_ns, told.st_ctime_ns) < began - RACE_SECONDS * 1_000_000_000
-    return Hashed(sha.hexdigest(), size, is_settled, told.st_mtime_ns, told.st_ctime_ns, told.st_ino)
+    content = first if size == len(first) <= SMALL else None
+    return Hashed(sha.hexdigest(), size, is_settled, told.st_mtime_ns, told.st_ctime_ns, told.st_ino, content)
+
+
+class Contents:
+    """The bytes of small files, as they were hashed."""
+
+    def __init__(self, room=ROOM):
+        self.room = room
+        self.kept = {}
+
+    def keep(self, path, hashed):
+        """Keeps the bytes of a small file, as long as there is room."""
+        if hashed.content is not None and hashed.size <= self.room:
+            self.room -= hashed.size
+            self.kept[path] = hashed
+
+    def take(self, path, place):
+        """The bytes of a file, which aren't kept any longer; or None if they weren't, or if the file was changed or removed since."""
+        hashed = self.kept.pop(path, None)
+        try:
+            return hashed.content if hashed and hashed.is_of(os.stat(place)) else None
+        except OSError:
+            return None
 
 
 class DigestCache:
@@ -78,9 +103,9 @@ class DigestCache:
             self.store.write({"files": {path: kept for path, kept in self.known.items() if path in paths}})
 
 
-def hash_files(files, cache, ended, progress=lambda size: None):
-    """The digest and the size of each of these files, by their paths. Raises Unfit with all that can't be read. Once the event `ended` is set, no further
-    file is begun."""
+def hash_files(files, cache, ended, progress=lambda size: None, contents=None):
+    """The digest and the size of each of these files, by their paths. `contents` keeps the bytes of those that are read. Raises Unfit with all that can't be
+    read. Once the event `ended` is set, no further file is begun."""
     found, left, problems = {}, [], []
     for file in files.values():
         digest = cache.digest(file)
@@ -98,6 +123,8 @@ def hash_files(files, cache, ended, progress=lambda size: None):
             return
         found[file.path] = (hashed.digest, hashed.size)
         cache.note(file.path, hashed)
+        if contents:
+            contents.keep(file.path, hashed)
         progress(hashed.size)
 
     each([file for file in left if file.size < LARGE], work, 1, ended)

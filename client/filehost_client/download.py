@@ -1,7 +1,5 @@
 """A download that goes on after a cut, and never has bytes of two versions of a file."""
 
-from __future__ import annotations
-
 import glob
 import hashlib
 import os

@@ -1,36 +1,28 @@
 """The files of a folder that a site consists of."""
 
-from __future__ import annotations
-
 import os
 import stat
-from typing import NamedTuple
+from collections import namedtuple
 
 from .errors import Unfit, WrongWords
-from .ignore import NAME as IGNORE_FILE
-from .ignore import is_ignored, rules_of
 from .names import LARGEST_FILE, LARGEST_LISTING, MOST_FILES, fault_of_path, listing_size, number_of, shown
 from .settings_file import NAME as SETTINGS_FILE
 
+IGNORE_FILE = ".siteignore"
 # Files of this client, which aren't counted as left out.
 OWN_FILES = (IGNORE_FILE, SETTINGS_FILE)
 # How long a digest is.
 DIGITS = 40
 
 
-class LocalFile(NamedTuple):
+class LocalFile(namedtuple("LocalFile", "path place size modified changed inode")):
     """A file: its path on the site, its place, and what the system says of it."""
 
-    path: str
-    place: str
-    size: int
-    modified: int
-    changed: int
-    inode: int
+    __slots__ = ()
 
-    @staticmethod
-    def of(path, place, told):
-        return LocalFile(path, place, told.st_size, told.st_mtime_ns, told.st_ctime_ns, told.st_ino)
+    @classmethod
+    def of(cls, path, place, told):
+        return cls(path, place, told.st_size, told.st_mtime_ns, told.st_ctime_ns, told.st_ino)
 
 
 class Folder:
@@ -44,9 +36,9 @@ class Folder:
 
     def __init__(self, root):
         self.root = root
-        self.files: dict[str, LocalFile] = {}
+        self.files = {}
         self.left_out = self.ignored = 0
-        self.problems: list[str] = []
+        self.problems = []
 
 
 def is_hidden(name):
@@ -84,26 +76,31 @@ def own_rules(root, below, entries):
     """The rules of the `.siteignore` that is in a folder itself."""
     if not any(entry.name == IGNORE_FILE and entry.is_file() for entry in entries):
         return []
+    from .ignore import rules_of  # Most folders have no such file.
     with open(os.path.join(root, below, IGNORE_FILE), encoding="utf-8", errors="surrogateescape") as file:
         return rules_of(file.read(), below)
+
+
+def is_ignored(rules, path, is_folder):
+    """Whether the last rule that matches a path, without a slash at its front, leaves it out."""
+    return next((not rule.is_kept for rule in reversed(rules) if rule.matches(path, is_folder)), False)
 
 
 def look_at(folder, entry, below, rules, waiting):
     """Takes one name of a folder as a file, as a folder to be looked into, or leaves it out."""
     path = below + entry.name
     try:
-        is_link = entry.is_symlink()
         is_folder = entry.is_dir(follow_symlinks=False)
         if is_hidden(entry.name):
             folder.left_out += 1
-        elif is_ignored(rules, path, is_folder):
+        elif rules and is_ignored(rules, path, is_folder):
             folder.ignored += 1
         elif is_folder:
             waiting.append((path + "/", rules))
-        elif is_link and not is_link_inside(folder.root, entry.path) or not is_link and not entry.is_file():
-            folder.left_out += 1
-        else:
+        elif (is_link_inside(folder.root, entry.path) if entry.is_symlink() else entry.is_file()):
             folder.files["/" + path] = LocalFile.of("/" + path, entry.path, entry.stat())
+        else:
+            folder.left_out += 1
     except OSError as error:
         folder.problems.append(f"/{shown(path)} can't be read: {error.strerror}")
 

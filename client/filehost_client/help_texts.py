@@ -1,7 +1,5 @@
 """The help of `site` and of its commands, each within a screen of 24 lines of 80 columns, and its manual page."""
 
-from __future__ import annotations
-
 import textwrap
 
 from .command_table import ABOUT, COMMANDS, COMMON, STATUSES, VARIABLES, VERSION

@@ -1,7 +1,5 @@
 """A host: the requests that it is sent, when they are sent again, and when that would be wrong."""
 
-from __future__ import annotations
-
 import json
 
 from .addresses import Address, parse_address

@@ -1,11 +1,8 @@
 """The rules of `.siteignore` files: which names in a folder aren't part of a site. They are those of `.gitignore` (gitignore(5))."""
 
-from __future__ import annotations
-
 import re
-from typing import NamedTuple
+from collections import namedtuple
 
-NAME = ".siteignore"
 CLASSES = {
     "alnum": "a-zA-Z0-9", "alpha": "a-zA-Z", "blank": " \\t", "cntrl": "\\x00-\\x1f\\x7f", "digit": "0-9", "graph": "!-~", "lower": "a-z", "print": " -~",
     "punct": "!-/:-@\\[-`{-~", "space": " \\t-\\r", "upper": "A-Z", "xdigit": "0-9a-fA-F",
@@ -13,14 +10,11 @@ CLASSES = {
 NOTHING = "(?!)"
 
 
-class Rule(NamedTuple):
-    """One line: what it matches, below which folder (empty, or with a slash at its end), and what it says of that."""
+class Rule(namedtuple("Rule", "base pattern is_of_names is_of_folders is_kept")):
+    """One line: below which folder it counts (empty, or with a slash at its end), what it matches, whether that is a name alone, whether folders alone, and
+    whether it keeps them."""
 
-    base: str
-    pattern: re.Pattern
-    is_of_names: bool
-    is_of_folders: bool
-    is_kept: bool
+    __slots__ = ()
 
     def matches(self, path, is_folder):
         if self.is_of_folders and not is_folder or not path.startswith(self.base):
@@ -44,11 +38,6 @@ def rules_of(text, base=""):
         pattern = re.compile(expression_of(line.removeprefix("/")), re.DOTALL)
         rules.append(Rule(base, pattern, "/" not in line, is_of_folders, is_kept))
     return rules
-
-
-def is_ignored(rules, path, is_folder):
-    """Whether the last rule that matches a path, without a slash at its front, leaves it out."""
-    return next((not rule.is_kept for rule in reversed(rules) if rule.matches(path, is_folder)), False)
 
 
 def expression_of(pattern):

@@ -1,7 +1,5 @@
 """Files in which the client keeps what it knows: JSON that is written whole, and a lock that a killed process gives back."""
 
-from __future__ import annotations
-
 import contextlib
 import fcntl
 import hashlib

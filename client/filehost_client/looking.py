@@ -1,7 +1,5 @@
 """`site status`: whether the host answers, the last change, and what differs from a folder."""
 
-from __future__ import annotations
-
 from .commands import Call
 from .naming import numbers_of
 from .publishing import Asked, Publishing

@@ -1,7 +1,5 @@
 """The command `site`: it reads its words, calls the command, and ends with its status."""
 
-from __future__ import annotations
-
 import contextlib
 import gc
 import os
@@ -34,7 +32,7 @@ def terminate(number, _):
 
 def again(options):
     """The words of the command, without a login, so that they can be shown."""
-    import shlex
+    import shlex  # Few runs fail so that they can go on.
     shown = []
     words = iter(options.words)
     for word in words:
@@ -45,8 +43,14 @@ def again(options):
     return shlex.join(["site", *shown])
 
 
+def asked_of(options, is_push, **more):
+    """What a command with these options asks for; `more` are those that only this command has."""
+    of_each = {"is_dry_run": options.dry_run, "uses_cache": not options.no_cache, "jobs": options.jobs, "again": lambda: again(options)}
+    return Asked(options.word_DIR, is_push, **of_each, **more)
+
+
 def push(options, output):
-    asked = Asked(options.word_DIR, True, options.draft, options.dry_run, options.delete, tuple(options.remove), None, not options.no_cache, options.jobs, again(options))
+    asked = asked_of(options, True, is_draft=options.draft, deletes=options.delete, removes=tuple(options.remove))
     Publishing(settings_of(options, options.word_DIR), asked, output).run()
 
 
@@ -55,16 +59,13 @@ def deploy(options, output):
         check_site(options.alias, "an alias")
         if options.draft:
             raise WrongWords("a draft can't have an alias until it is published: site restore N, then site alias NAME N")
-    place = options.word_DIR
-    asked = Asked(place, False, options.draft, options.dry_run, alias=options.alias, uses_cache=not options.no_cache, jobs=options.jobs, again=again(options))
-    Publishing(settings_of(options, place), asked, output).run()
+    asked = asked_of(options, False, is_draft=options.draft, alias=options.alias)
+    Publishing(settings_of(options, options.word_DIR), asked, output).run()
 
 
 def preview(options, output):
     settings = settings_of(options, options.word_DIR)
-    settings = settings.of_site(preview_of(settings.site))
-    asked = Asked(options.word_DIR, False, False, options.dry_run, uses_cache=not options.no_cache, jobs=options.jobs, again=again(options))
-    Publishing(settings, asked, output).run()
+    Publishing(settings.of_site(preview_of(settings.site)), asked_of(options, False), output).run()
 
 
 def run_of(name):

@@ -11,16 +11,18 @@ MOST_FILES = 10_000
 LONGEST_PATH = 1_024
 LAST_NUMBER = 1_000_000
 PREVIEW = "-preview"
+NO_SEGMENTS = frozenset(("", ".", ".."))
 
 SITE = re.compile(r"[a-z0-9-]{1,63}", re.ASCII)
 PLAIN = re.compile(r"[A-Za-z0-9_.~/-]+", re.ASCII)
 DIGEST = re.compile(r"[0-9a-f]{40}", re.ASCII)
-UNSAFE = re.compile(r"[\x00-\x1f\x7f-\x9f\u2028\u2029\ud800-\udfff]")
+# Compiled for the first text that needs it: this takes longer than to compile all the others.
+UNSAFE = r"[\x00-\x1f\x7f-\x9f\u2028\u2029\ud800-\udfff]"
 
 
 def shown(text):
     """The text in one line: without characters that a terminal obeys or can't print."""
-    return UNSAFE.sub(lambda found: repr(found[0])[1:-1], text)
+    return text if text.isprintable() else re.sub(UNSAFE, lambda found: repr(found[0])[1:-1], text)
 
 
 def number_of(count, word, words=None):
@@ -52,7 +54,7 @@ def fault_of_path(path):
         return f"its path has {length:,} bytes, and a path has at most {LONGEST_PATH:,}: shorten its name or move it up"
     if wrong := re.search(r"[#?\\]", path):
         return f"its name has a {wrong[0]}, which no path on a site has: rename it"
-    if "\0" in path or any(segment in ("", ".", "..") for segment in path[1:].split("/")):
+    if "\0" in path or not NO_SEGMENTS.isdisjoint(path[1:].split("/")):
         return "it isn't a path: no part of one is empty, . or .."
     return None
 

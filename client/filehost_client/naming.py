@@ -1,7 +1,5 @@
 """The two numbers of a publishing, that of the deploy and that of the change, and a hint where one was given for the other."""
 
-from __future__ import annotations
-
 from .changes import parse_changes
 from .errors import Refused, SiteError
 from .records import consistent

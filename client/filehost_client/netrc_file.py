@@ -1,8 +1,5 @@
 """The logins of a netrc file. Python's own reader takes no letters but those of ASCII before its version 3.11."""
 
-from __future__ import annotations
-
-import os
 import re
 
 from .addresses import Login
@@ -46,11 +43,8 @@ def login_of(text, name):
     return Login(entry.get("login", ""), entry.get("password", "")) if entry is not None else None
 
 
-def netrc_login(name):
-    """The login that the netrc file has for a host's name, or None. Raises WrongWords if the file can't be read."""
-    file = os.environ.get("NETRC") or os.path.expanduser("~/.netrc")
-    if not os.path.isfile(file):
-        return None
+def login_in_file(file, name):
+    """The same, of the text in a file. Raises WrongWords if it can't be read."""
     try:
         with open(file, encoding="utf-8") as source:
             return login_of(source.read(LARGEST), name)

@@ -1,7 +1,5 @@
 """What a command prints: results on standard output, as lines or as one JSON object; notices and errors on standard error."""
 
-from __future__ import annotations
-
 import json
 import select
 import sys

@@ -1,7 +1,5 @@
 """The words that `site` is called with. They are read here and not by argparse, which takes longer to load than most commands to run."""
 
-from __future__ import annotations
-
 from types import SimpleNamespace
 
 from .command_table import BY_NAME, COMMON, VERSION

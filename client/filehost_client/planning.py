@@ -1,14 +1,12 @@
 """What a push or a deploy of a folder would send: the folder's files compared with what the site serves."""
 
-from __future__ import annotations
-
-from typing import NamedTuple
+from collections import namedtuple
 
 from .errors import Unfit, WrongWords
 from .names import LARGEST_LISTING, MOST_FILES, check_path, listing_size, number_of, shown
 
 
-class Comparison(NamedTuple):
+class Comparison(namedtuple("Comparison", "new changed unchanged gone replaced lost served")):
     """A folder compared with what a site serves.
 
     new, changed, unchanged  paths of the folder
@@ -18,13 +16,7 @@ class Comparison(NamedTuple):
     served                   the digest of each path that was asked for and is served
     """
 
-    new: list[str]
-    changed: list[str]
-    unchanged: list[str]
-    gone: list[str]
-    replaced: list[str]
-    lost: list[str]
-    served: dict[str, str]
+    __slots__ = ()
 
 
 def compare(served, digests, put):
@@ -38,17 +30,17 @@ def compare(served, digests, put):
     return found
 
 
-class Plan(NamedTuple):
-    """What is to be opened: the listing, whether it is a patch, which paths are sent and removed, and which stay though the folder doesn't have them."""
+class Plan(namedtuple("Plan", "listing is_patch new changed removed unchanged stays replaced")):
+    """What is to be opened.
 
-    listing: dict[str, str | None]
-    is_patch: bool
-    new: list[str]
-    changed: list[str]
-    removed: list[str]
-    unchanged: int
-    stays: list[str]
-    replaced: list[str]
+    listing                the digest of each path, None for one that is removed
+    is_patch               whether other paths stay as they are
+    new, changed, removed  the paths of the listing, by what comes of them
+    unchanged              how many files are served already
+    stays, replaced        paths that stay though the folder doesn't have them: files that this client put there, and those of others
+    """
+
+    __slots__ = ()
 
     def listed(self):
         """A line for each path that differs."""

@@ -1,7 +1,5 @@
 """How far a command is: one line that is drawn again and again on a terminal, and elsewhere a line each ten seconds."""
 
-from __future__ import annotations
-
 import collections
 import os
 import threading
@@ -60,9 +58,11 @@ class Progress:
         with self.lock:
             self.done_bytes += count
 
-    def file_done(self):
+    def file_done(self, count=0):
+        """Counts a file, and those of its bytes that `add` wasn't told."""
         with self.lock:
             self.done_files += 1
+            self.done_bytes += count
 
     def go(self):
         while not self.stop.wait(REDRAW_SECONDS if self.is_terminal else LINE_SECONDS):

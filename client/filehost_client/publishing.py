@@ -1,14 +1,12 @@
 """A push, a deploy or a preview of a folder, from its first look at the files to the line that says what happened."""
 
-from __future__ import annotations
-
 import os
 import time
-from typing import NamedTuple
+from collections import namedtuple
 
 from .changes import made_since
 from .deploy import Deploy
-from .digests import DigestCache, hash_files
+from .digests import Contents, DigestCache, hash_files
 from .errors import SiteError, UnknownOutcome, Unreachable
 from .folder import check_folder, read_folder
 from .kept_files import KeptFile, cache_folder, key_of
@@ -24,20 +22,11 @@ CANCEL_SECONDS = 10
 NAMED = 10
 
 
-class Asked(NamedTuple):
-    """What a command asks for: the folder, whether it is a push, and its options."""
+class Asked(namedtuple("Asked", "place is_push is_draft is_dry_run deletes removes alias uses_cache jobs again",
+                       defaults=(False, False, False, (), None, True, 8, None))):
+    """What a command asks for: the folder, whether it is a push, its options, and a function that tells the command by which it can go on."""
 
-    place: str
-    is_push: bool
-    is_draft: bool = False
-    is_dry_run: bool = False
-    deletes: bool = False
-    removes: tuple[str, ...] = ()
-    alias: str | None = None
-    uses_cache: bool = True
-    jobs: int = 8
-    # The command by which it can go on.
-    again: str = ""
+    __slots__ = ()
 
 
 class Publishing:
@@ -51,6 +40,8 @@ class Publishing:
         self.site = self.host.site(settings.site)
         # What `read` finds: the folder, the paths of --remove, the digest and the size of each file, and the records.
         self.folder = self.named = self.digests = self.sizes = self.record = self.site_record = None
+        # The bytes of small files that are to be uploaded.
+        self.contents = Contents()
         self.deploy = None
         # The number of the last change before the deploy was opened, as soon as it is being opened.
         self.before = None
@@ -95,13 +86,9 @@ class Publishing:
             store = KeptFile(os.path.join(cache_folder(), f"digests-{key_of(folder.root)}.json"), self.output.note)
         progress = self.output.progress
         progress.begin("hashing", len(folder.files), sum(file.size for file in folder.files.values()))
-
-        def hashed(size):
-            progress.add(size)
-            progress.file_done()
-
         try:
-            return hash_files(folder.files, DigestCache(store), self.host.waiting.ended, hashed)
+            contents = None if self.asked.is_dry_run else self.contents
+            return hash_files(folder.files, DigestCache(store), self.host.waiting.ended, progress.file_done, contents)
         finally:
             progress.end()
 
@@ -159,7 +146,7 @@ class Publishing:
             self.deploy = self.site.open(plan.listing, plan.is_patch, asked.is_draft, self.before)
             self.record.note_open(self.deploy.number)
             sources = sources_of(self.deploy, self.folder.files, self.sizes)
-            upload_all(self.deploy, sources, asked.jobs, self.output.progress)
+            upload_all(self.deploy, sources, self.contents, asked.jobs, self.output.progress)
             self.deploy.finish()
         except BaseException as error:
             self.end(error)
@@ -194,7 +181,7 @@ class Publishing:
         """Cancels the deploy after an error or an interrupt, and says so. If the host is away, the next run does it."""
         if isinstance(error, (Unreachable, UnknownOutcome)):
             if self.deploy:
-                self.output.note(f"deploy {self.deploy.number} is open; what was uploaded isn't sent again. Go on: {self.asked.again}")
+                self.output.note(f"deploy {self.deploy.number} is open; what was uploaded isn't sent again. Go on: {self.asked.again()}")
             return
         self.host.cut()
         try:

@@ -1,7 +1,5 @@
 """What this client knows of a site and of a folder that it deploys there, from its own runs. The host is asked before anything here is relied on."""
 
-from __future__ import annotations
-
 import os
 
 from .kept_files import KeptFile, key_of, state_folder

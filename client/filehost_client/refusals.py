@@ -1,7 +1,5 @@
 """What a host, or a proxy in front of it, says when it doesn't do what it is asked, in words that say what to do."""
 
-from __future__ import annotations
-
 import re
 
 from .errors import BadReply, Refused, WrongWords

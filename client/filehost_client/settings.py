@@ -1,32 +1,24 @@
 """Where a command goes: from its options, the environment and the file `.site.json`, in this order."""
 
-from __future__ import annotations
-
 import os
 import sys
-from typing import NamedTuple
+from collections import namedtuple
 
-from .addresses import Address, Login, parse_address
+from .addresses import Login, parse_address
 from .command_table import RETRY_SECONDS
 from .errors import WrongWords
 from .host import Host
 from .names import PREVIEW, check_site
-from .netrc_file import netrc_login
 from .patience import Waiting
 from .settings_file import NAME as FILE
 from .settings_file import find_settings
 
 
-class Settings(NamedTuple):
-    """The host, the site, where sites are read, the certificates that are trusted, a login as (name, password), and for how many seconds a host that
-    doesn't answer is asked again."""
+class Settings(namedtuple("Settings", "host site read ca login retry")):
+    """The Address of the host, the name of the site, the Address where sites are read, the file of certificates that are trusted, the Login, each of these
+    three or None, and for how many seconds a host that doesn't answer is asked again."""
 
-    host: Address
-    site: str
-    read: Address | None
-    ca: str | None
-    login: Login | None
-    retry: float
+    __slots__ = ()
 
     def of_site(self, name):
         """The same for another site."""
@@ -63,16 +55,25 @@ def preview_of(site):
 def login_of(user, address):
     """The login for a host: from --user, with a password out of SITE_PASSWORD, a netrc file or a question; or from netrc alone; or from the URL."""
     if not user:
-        return address.login or netrc_login(address.name)
+        return address.login or kept_login(address.name)
     name, colon, password = user.partition(":")
     if colon:
         return Login(name, password)
     if "SITE_PASSWORD" in os.environ:
         return Login(name, os.environ["SITE_PASSWORD"])
-    kept = netrc_login(address.name)
+    kept = kept_login(address.name)
     if kept and kept[0] == name:
         return kept
     if sys.stdin.isatty() and sys.stderr.isatty():
         import getpass
         return Login(name, getpass.getpass(f"password of {name} at {address}: "))
     raise WrongWords(f"--user {name} has no password: give it in SITE_PASSWORD, in ~/.netrc, or as --user {name}:PASSWORD", "NoPassword")
+
+
+def kept_login(name):
+    """The login that the netrc file has for a host's name, or None. Raises WrongWords if the file can't be read."""
+    file = os.environ.get("NETRC") or os.path.expanduser("~/.netrc")
+    if not os.path.isfile(file):
+        return None
+    from .netrc_file import login_in_file  # Most users have no such file.
+    return login_in_file(file, name)

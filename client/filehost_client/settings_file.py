@@ -1,7 +1,5 @@
 """The file `.site.json`, which says where a folder is deployed."""
 
-from __future__ import annotations
-
 import json
 import os
 

@@ -1,7 +1,5 @@
 """A site of a host: what it serves, and each change of it."""
 
-from __future__ import annotations
-
 from .changes import last_number, made_since, parse_changes, publishing_of, undo_of
 from .deploy import Deploy
 from .errors import BadReply, Refused, UnknownOutcome, WrongWords

@@ -1,7 +1,5 @@
 """The uploads of a deploy, over several connections at once."""
 
-from __future__ import annotations
-
 import os
 
 from .errors import BadReply, ChangedMeanwhile, WrongWords
@@ -14,7 +12,7 @@ class CountedFile:
 
     def __init__(self, place, count):
         # Each call of the system lets another thread go on first, so there are as few as can be.
-        self.descriptor = os.open(place, os.O_RDONLY | os.O_CLOEXEC)
+        self.descriptor = os.open(place, os.O_RDONLY)
         self.count = count
 
     def read(self, most):
@@ -41,31 +39,41 @@ def sources_of(deploy, files, sizes):
     return [(path, files[path].place, sizes[path]) for path in paths]
 
 
-def upload_all(deploy, sources, jobs, progress):
-    """Uploads each source. Raises the first error of an upload; no other is begun after that."""
+def upload_file(deploy, path, place, size, add):
+    """Uploads a file as it is read. `add` is told how many bytes were read."""
+    counted = 0
+
+    def count(length):
+        nonlocal counted
+        counted += length
+        add(length)
+
+    def open_file():
+        # An upload that is sent again begins at its first byte.
+        count(-counted)
+        try:
+            return CountedFile(place, count)
+        except FileNotFoundError:
+            raise ChangedMeanwhile(path, f"{shown(path)} was removed while it was being deployed") from None
+        except OSError as error:
+            raise WrongWords(f"{shown(path)} can't be read: {error.strerror}") from None
+
+    deploy.upload(path, size, open_file)
+
+
+def upload_all(deploy, sources, contents, jobs, progress):
+    """Uploads each source, out of the kept contents if it is there. Raises the first error of an upload; no other is begun after that."""
     progress.begin("uploading", len(sources), sum(size for _, _, size in sources))
 
     def upload(source):
         path, place, size = source
-        counted = 0
-
-        def count(length):
-            nonlocal counted
-            counted += length
-            progress.add(length)
-
-        def open_file():
-            # An upload that is sent again begins at its first byte.
-            count(-counted)
-            try:
-                return CountedFile(place, count)
-            except FileNotFoundError:
-                raise ChangedMeanwhile(path, f"{shown(path)} was removed while it was being deployed") from None
-            except OSError as error:
-                raise WrongWords(f"{shown(path)} can't be read: {error.strerror}") from None
-
-        deploy.upload(path, size, open_file)
-        progress.file_done()
+        content = contents.take(path, place)
+        if content is None:
+            upload_file(deploy, path, place, size, progress.add)
+            progress.file_done()
+        else:
+            deploy.upload(path, content)
+            progress.file_done(size)
 
     try:
         each(sources, upload, jobs, deploy.host.waiting.ended)

@@ -1,10 +1,8 @@
 """Requests and replies of HTTP/1.1 as bytes (RFC 9112)."""
 
-from __future__ import annotations
-
 import json
 import re
-from typing import NamedTuple
+from collections import namedtuple
 
 from .errors import BadReply
 
@@ -25,12 +23,10 @@ class Ended(Exception):
         self.began = began
 
 
-class Reply(NamedTuple):
+class Reply(namedtuple("Reply", "status fields body", defaults=(b"",))):
     """A reply: its status, its fields by their names in lower case, and its body, if that was read."""
 
-    status: int
-    fields: dict[str, str]
-    body: bytes = b""
+    __slots__ = ()
 
     def members(self):
         """The members of a body that is a JSON object, or None if it isn't one."""
@@ -47,13 +43,10 @@ class Reply(NamedTuple):
         return found and found[1]
 
 
-class Head(NamedTuple):
-    """The head of a reply."""
+class Head(namedtuple("Head", "status fields closes")):
+    """The head of a reply: its status, its fields, and whether the connection ends after it."""
 
-    status: int
-    fields: dict[str, str]
-    # Whether the connection ends after this reply.
-    closes: bool
+    __slots__ = ()
 
     def has_body(self, method):
         return method != "HEAD" and self.status not in (204, 304)
