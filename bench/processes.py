@@ -63,14 +63,31 @@ def memory_of(program, field):
     return 1024 * int(told.partition(f"{field}:")[2].split()[0])
 
 
-def ask(program, method, length):
-    """Lets a running program answer this request for its file, and reads the reply, whose body has this length."""
-    program.stdin.write(head(method, "/s/one/file"))
+def begin_reply(program, method, target):
+    """Lets a running program answer this request, and reads the head of the reply, and what comes of the body with it."""
+    program.stdin.write(head(method, target))
     program.stdin.flush()
     reply = b""
     while b"\r\n\r\n" not in reply:
         reply += os.read(program.stdout.fileno(), MEBIBYTE)
     require(reply.startswith(b"HTTP/1.1 200 "), reply[:100])
-    left = length - len(reply.partition(b"\r\n\r\n")[2])
+    told, _, body = reply.partition(b"\r\n\r\n")
+    return told, body
+
+
+def ask(program, method, length):
+    """Lets a running program answer this request for its file, and reads the reply, whose body has this length."""
+    _, body = begin_reply(program, method, "/s/one/file")
+    left = length - len(body)
     while left > 0:
         left -= len(os.read(program.stdout.fileno(), MEBIBYTE))
+
+
+def list_changes(program, site):
+    """Lets a running program list the changes of a site, and returns the body of its reply and the seconds from the request to its end."""
+    begun = time.perf_counter()
+    told, body = begin_reply(program, "GET", f"/api/v1/sites/{site}/changes")
+    length = int(told.partition(b"Content-Length: ")[2].split(b"\r\n")[0])
+    while len(body) < length:
+        body += os.read(program.stdout.fileno(), MEBIBYTE)
+    return body, time.perf_counter() - begun

@@ -157,7 +157,7 @@ class Map(unittest.TestCase):
 
     def test_names_definitions_and_calls_of_each_section_of_the_interface_and_the_wire(self):
         wire = ("http_wire", "host_api", "host_replies", "host_answers", "host_connection", "host_server", "range_spec", "range_reply")
-        crates = (*wire, "event_loop", "site_change", "host_names", "journaled_history")
+        crates = (*wire, "connection_rules", "event_loop", "host_nodes", "operator_notices", "peer_link", "shared_house", "site_change", "host_names", "journaled_history")
         files = [file for crate in crates for folder in ("specs", "src") for file in (TOP / "crates" / crate / folder).rglob("*.*")]
         text = "\n".join(file.read_text() for file in files)
         for page in ("HTTP.md", "WIRE.md"):

@@ -9,7 +9,7 @@ import subprocess
 import time
 import unittest
 
-from lib.client import HEAP, HELP, PATIENCE
+from lib.client import HELP, PATIENCE
 from lib.sandbox import LAUNCHER, TOP, Sandbox
 
 CRATES = """\
@@ -332,12 +332,6 @@ class Launcher(unittest.TestCase):
         program = self.start("pid")
         out, _ = program.communicate(timeout=60)
         self.assertEqual(out.decode(), str(program.pid))
-
-    def test_lets_large_blocks_of_memory_go_back_to_the_system(self):
-        """Unless it is told otherwise."""
-        self.add_built_program()
-        self.assertEqual(self.call("heap")[1], HEAP["MALLOC_MMAP_THRESHOLD_"])
-        self.assertEqual(self.call("heap", MALLOC_MMAP_THRESHOLD_="131072")[1], "131072")
 
     def test_builds_once_for_two_calls_at_once(self):
         self.sandbox.add_crates(CRATES)

@@ -32,12 +32,6 @@ class Release(Served, Program):
         self.sandbox.add_crates(CRATES)
         self.sandbox.let_time_pass()
 
-    def put_program(self):
-        """Does what a build does, but for the proofs: the program is there, and known as proved."""
-        self.out.mkdir(exist_ok=True)
-        shutil.copy(PROGRAM, self.out / "filehost")
-        (self.out / "proved.sha256").write_text(f"{digest(PROGRAM)}\n")
-
     def release(self, **how):
         return self.sandbox.run(str(self.top / "scripts/release"), **how)
 
@@ -45,7 +39,7 @@ class Release(Served, Program):
         return self.sandbox.run(str(self.top / "filehost"), *words, **how)
 
     def put_release(self):
-        self.put_program()
+        self.sandbox.put_program(PROGRAM)
         self.assertEqual(self.release()[0], 0)
         shutil.rmtree(self.out)
         self.sandbox.let_time_pass()
@@ -70,7 +64,7 @@ class Release(Served, Program):
             self.assertIn(word, err)
 
     def test_writes_the_program_its_sum_and_those_of_its_sources(self):
-        self.put_program()
+        self.sandbox.put_program(PROGRAM)
         status, _, err = self.release()
         self.assertEqual((status, err), (0, f"filehost: dist/filehost is {digest(PROGRAM)}, of 4 sources\n"))
         self.assertEqual((self.top / RELEASED).read_bytes(), PROGRAM.read_bytes())
@@ -82,16 +76,16 @@ class Release(Served, Program):
 
     def test_releases_nothing_but_a_program_that_was_proved_from_these_sources(self):
         self.assert_refused(self.release(), "nothing is released", "isn't built from these sources")
-        self.put_program()
+        self.sandbox.put_program(PROGRAM)
         (self.out / "filehost").write_bytes(PROGRAM.read_bytes() + b"x")
         self.assert_refused(self.release(), "nothing is released", "isn't what")
-        self.put_program()
+        self.sandbox.put_program(PROGRAM)
         self.sandbox.write("crates/low/src/lib.rt", "second")
         self.assert_refused(self.release(), "nothing is released", "isn't built from these sources")
         self.assertFalse((self.top / "dist").exists())
 
     def test_releases_no_program_that_needs_another_c_library_than_is_said(self):
-        self.put_program()
+        self.sandbox.put_program(PROGRAM)
         shared = self.top / "scripts/program_sources.sh"
         text = shared.read_text()
         self.assertIn("least_libc=2.34\n", text)

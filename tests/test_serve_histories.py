@@ -5,7 +5,9 @@ worked runs with `solo` too, as those of test_changes.py, test_undos.py and test
 """
 
 import collections
+import json
 import socket
+import time
 import unittest
 
 from lib.client import ABC, EXAMPLES, HELLO, REQUESTS, digest_of, done, opened, opening, refused, request, sent, to_head, upload, uploaded
@@ -13,7 +15,8 @@ from lib.generated_histories import Generator, Run, views
 from lib.hopping import Hopping
 from lib.range_replies import TWO_PARTS, none_of, part
 from lib.sample_site import TEXTS, WORLD
-from lib.stores import as_bytes
+from lib.served import Served, ask
+from lib.stores import as_bytes, opening_of, write_store
 from lib.wire import FAULTS, INTERIM, NEXT, NO_FILE, expecting
 from lib.worked_runs import (
     CHANGED, CHANGED_AGAIN, LISTING, NO_CHANGE, NO_DEPLOY, REFUSED, Worked, clash, deployed, entry, first_deployed, patching, reading, removing, renaming,
@@ -21,6 +24,8 @@ from lib.worked_runs import (
 )
 
 HISTORIES = 40
+# How many entries of another site a history has.
+OTHERS, ABC_TEXT = 20_000, b"abc"
 TEXT = "text/plain; charset=utf-8"
 
 
@@ -166,6 +171,33 @@ class Wire(Hopping):
             plug.shutdown(socket.SHUT_WR)
             self.assertEqual(self.received(plug, 1), b"")
         self.assert_receives(self.plug(LISTING), done(changes=[]))
+
+
+class Lists(Served):
+    """How long a list of changes takes. A bound is coarse: it is for the kind of search, and not for the machine."""
+
+    def quickest(self, *words):
+        """The shortest time for the list of a site that was never named, and for that of a site with one entry, in seconds."""
+        self.serve(*words)
+        client, found = self.client(), []
+        for site in ("never", "once"):
+            took = []
+            for _ in range(REQUESTS // 3):
+                began = time.perf_counter()
+                status, listed = ask(client, "GET", f"/api/v1/sites/{site}/changes")
+                took.append(time.perf_counter() - began)
+                self.assertEqual((status, len(json.loads(listed)["changes"])), (200, site == "once" and bool(words)))
+            found.append(min(took))
+        return found
+
+    def test_entries_of_other_sites_make_none_longer(self):
+        folder = self.folder() / "store"
+        entries = [opening_of({"/a": ABC_TEXT}, "once")]
+        for number in range(2, OTHERS + 2, 2):
+            entries += [opening_of({"/a": ABC_TEXT}, "other"), ("publish", "other", number)]
+        write_store(folder, entries, ABC_TEXT)
+        for long, short in zip(self.quickest("--store", str(folder)), self.quickest()):
+            self.assertLess(long, 4 * short)
 
 
 if __name__ == "__main__":

@@ -11,7 +11,7 @@ import time
 import unittest
 
 from lib.client import PATIENCE, request
-from lib.crowds import FILES, TRANSFER, WHOLE, Crowds, drip
+from lib.crowds import FILES, REPLY, SHORT, WHOLE, Crowds, drip
 from lib.served import FILE, ask, publish, seconds_until_closed
 
 # A connection whose place is wanted has gone before this time; that is long before it would be late.
@@ -53,10 +53,10 @@ class Hostile(Crowds):
 
     def test_clients_that_read_nothing_go_in_time(self):
         """Each has then only a part of what it asked for."""
-        self.begin()
+        self.begin(second=SHORT)
         plugs = self.crowd(50, request("GET", "/s/one/large") * 8, room=4_096)
         with self.beside_honest():
-            self.assert_unread_go(plugs, TRANSFER)
+            self.assert_unread_go(plugs, REPLY)
         for plug in plugs:
             came = 0
             with contextlib.suppress(ConnectionError):

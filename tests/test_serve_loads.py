@@ -116,6 +116,16 @@ class Loads(Held):
         self.assert_receives(second, reply_with("/z.txt"))
         self.assert_goes_on(first)
 
+    def test_holds_no_read_from_the_caches_though_more_wait_for_it_than_threads_may_wait(self):
+        """A node of one worker answers each read that its caches have, and each list of changes."""
+        self.begin(workers=1)
+        first = self.hold()
+        others = [self.plug(asking_for("/x.txt")) for _ in range(4)]
+        for _ in range(10):
+            second = self.plug(asking_for("/y.txt") + request("GET", "/api/v1/sites/none/changes") + asking_for("/y.txt"))
+            self.assert_receives(second, reply_with("/y.txt") + done(changes=[]) + reply_with("/y.txt"))
+        self.assert_goes_on(first, *others)
+
     def test_holds_no_upload(self):
         """Nor the first read of what was uploaded."""
         self.begin(workers=2)

@@ -1,7 +1,7 @@
 """Crowds at the port for other nodes of one of two nodes: what both have in their caches is answered at once, and what one has to fetch is right, in time.
 
-What is expected follows from docs/WIRE.md, "Deadlines and places", and docs/DECISIONS.md, "Serving over TCP": two connections each at a time, and at most two
-seconds for a fetch. A second of the deadlines is shorter here, but not those of a fetch.
+What is expected follows from docs/WIRE.md, "Deadlines and places", and docs/DECISIONS.md, "Serving over TCP": sixteen places each, and at most two seconds for
+the fetches of a request. A second of the deadlines is shorter here, but not those of a fetch.
 """
 
 import bisect
@@ -18,13 +18,13 @@ import time
 import unittest
 
 from lib.client import PATIENCE, REQUESTS, digest_of
-from lib.crowds import FILES, HEAD, IDLE, LONGEST, LOOK, TRANSFER, Crowds, drip, for_seconds, reset
+from lib.crowds import FILES, HEAD, IDLE, LONGEST, LOOK, REPLY, SECOND, SHORT, Crowds, drip, for_seconds, reset
 from lib.served import HOST
 
 # The port for other nodes of the second node.
 PEERS = 9
-# How many connections are served there at once, and how many come that wait in line.
-AT_ONCE, WAITING = 2, 100
+# How many connections are served there at once, and how many come that are too many.
+AT_ONCE, WAITING = 16, 100
 # After so many milliseconds a connection that isn't there has no room in the line.
 NO_ROOM = 200
 # How many descriptors are for other things than the connections that fill the line.
@@ -49,11 +49,13 @@ def asking_for(content):
     return f"GET /_groupcache/chunks/{digest_of(content)} HTTP/1.1\r\nHost: peer\r\n\r\n".encode()
 
 
-class Peers(Crowds):
-    """Each kind comes to the port first as many as are served at once, and then as many as wait in line."""
+class AtPeers(Crowds):
+    """Each kind comes to the port first as many as are served at once, and then more than there are places for."""
+
+    milliseconds = SECOND
 
     def setUp(self):
-        self.begin(nodes=2)
+        self.begin(nodes=2, second=self.milliseconds)
         drawn = random.Random(1)
         contents = [drawn.randbytes(65_536) for _ in range(60)]
         owned = [content for content in contents if owner(self.port, digest_of(content)) == 1][:12]
@@ -115,6 +117,17 @@ class Peers(Crowds):
             self.assert_answers_again()
         self.assert_alone()
 
+
+class Unread(AtPeers):
+    milliseconds = SHORT
+
+    def test_that_read_nothing(self):
+        given = asking_for(self.chunk) * REQUESTS
+        self.assert_unread_go(self.come(given, room=4_096), REPLY, beside=0)
+        self.assert_fetches_beside(given, room=4_096)
+
+
+class Peers(AtPeers):
     def test_that_say_nothing(self):
         self.assert_go(self.come(b""), IDLE)
         self.assert_fetches_beside(b"")
@@ -127,11 +140,6 @@ class Peers(Crowds):
         plugs = self.come(b"GET /")
         self.assert_go(list(plugs), HEAD, lambda: drip(plugs, b"a"))
         self.assert_fetches_beside(b"GET /", b"a")
-
-    def test_that_read_nothing(self):
-        given = asking_for(self.chunk) * REQUESTS
-        self.assert_unread_go(self.come(given, room=4_096), TRANSFER, beside=0)
-        self.assert_fetches_beside(given, room=4_096)
 
     def has_room(self, plug):
         """Whether a connection that was begun is there soon."""

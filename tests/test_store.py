@@ -240,6 +240,16 @@ class Examples(Stored):
         (self.folder / "journal").write_bytes(b"none")
         self.assertEqual(self.show(), (1, [], "show-store: `journal` is not a filehost journal\n"))
 
+    def test_show_nothing_that_a_terminal_obeys(self):
+        """Escapes are shown in place of the controls C0, DEL and C1, of marks that turn the direction of text, and of bytes that are no UTF-8."""
+        paths = ("/\x01\x1b[31m", "/\x7f\x9b1m", "/\u00e9 \u4e16", "/\u202etxt")
+        self.write([("open", "one", ("patch",), tuple((path, None) for path in paths)), ("rename", "one", "/\x1b]0;x\x07", "/b")])
+        (self.folder / "t-\x1b[2J\udcff").write_bytes(b"")
+        self.assertEqual(self.show(), (0, [
+            "1 open one patch", r"    /\x01\x1b[31m removed", r"    /\x7f\x9b1m removed", "    /\u00e9 \u4e16 removed", r"    /\u202etxt removed",
+            r"2 rename one /\x1b]0;x\x07 /b", r"not listed: t-\x1b[2J\udcff damaged",
+        ], ""))
+
 
 if __name__ == "__main__":
     unittest.main()

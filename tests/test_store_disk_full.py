@@ -4,11 +4,10 @@ A limit on the size of files acts as a full disk, as does a small file system wh
 """
 
 import contextlib
-import subprocess
 import unittest
 
 from lib.client import HELLO, asking, done, opened, opening, refused, request, sent, upload, uploaded
-from lib.stores import Conversation, Stored, limited, opening_of, write_store
+from lib.stores import Conversation, Stored, limited, opening_of, small_file_system, write_store
 from lib.worked_runs import (
     LISTING, NO_DEPLOY, NO_FILE, aliasing, cancelling, deleting, entry, patching, reading, removing, renaming, restoring, serves,
     showing, stands, unaliasing, undoing,
@@ -39,18 +38,6 @@ READS = [
     (showing(1), stands(1, "kept")), (showing(2), NO_DEPLOY), (LISTING, done(changes=[
         {"entry": 1, "kind": "open", "live": True}, {"entry": 2, "kind": "publish", "live": True}])),
 ]
-
-
-@contextlib.contextmanager
-def small_file_system(folder, size):
-    """Whether a file system of `size` bytes could be mounted on the folder."""
-    mounted = subprocess.run(["mount", "-t", "tmpfs", "-o", f"size={size}", "tmpfs", folder], capture_output=True).returncode == 0
-    try:
-        yield mounted
-    finally:
-        if mounted:
-            # lazily, since after a failed test a program may still have it open
-            subprocess.run(["umount", "--lazy", folder], check=True)
 
 
 class FullDisk(Stored):

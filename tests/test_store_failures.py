@@ -57,7 +57,7 @@ class Possible:
 class Failures(Stored):
     """Runs with one of their calls on the store's files refused, from the first to the last."""
 
-    first, second = (bytes([place]) * 70_000 for place in (1, 2))
+    first, second, third = (bytes([place]) * 70_000 for place in (1, 2, 3))
 
     def setUp(self):
         super().setUp()
@@ -115,6 +115,11 @@ class Failures(Stored):
             raise fault
         self.assert_answers_as(found, looks(found))
 
+    def assert_tidy(self, possible, end):
+        """If uploads were tried, there is no temporary file, neither theirs nor one that a stop had left."""
+        if end not in FAULTS and not all(is_broken for _, is_broken in possible.hosts):
+            self.assertFalse((self.folder / "blob.tmp").exists())
+
     def assert_swept(self, prepare, requests):
         """Each of the calls of such a run is refused, early or late, and a reply or the end of the program tells it."""
         possible, end = self.converse(prepare(), requests, 0, False)
@@ -126,6 +131,7 @@ class Failures(Stored):
                 with self.subTest(place=place, is_late=is_late):
                     possible, end = self.converse(prepare(), requests, place, is_late)
                     self.assertTrue(end in FAULTS or end == (0, b"", b"") and possible.in_hand, f"the failure is told, and not {end}")
+                    self.assert_tidy(possible, end)
                     self.assert_found(possible)
 
     def prepare_nothing(self):
@@ -134,13 +140,14 @@ class Failures(Stored):
         return Model()
 
     def prepare_store(self):
-        """A store with two deploys, after whose journal a stop has left some bytes."""
+        """A store with two deploys, after whose journal a stop has left some bytes, and a piece without its name."""
         model = Model()
         for asked in self.requests():
             model.answer(asked)
         self.write(list(map(told, model.entries)), self.first, self.second)
         with (self.folder / "journal").open("ab") as file:
             file.write(b"the front of an entry")
+        (self.folder / "blob.tmp").write_bytes(b"the front of a piece")
         return model
 
     def test_no_failure_in_a_new_store_loses_what_was_acknowledged(self):
@@ -150,6 +157,9 @@ class Failures(Stored):
         self.assert_swept(self.prepare_store, [
             Request("GET", "/d/two/5/b"), self.opening("one", draft=True), Request("POST", "/api/v1/sites/one/deploys/8/restore"),
             Request("GET", "/s/one/b"),
+            Request("POST", "/api/v1/sites/two/deploys", body=in_json(files={"/c": digest_of(self.third)})),
+            Request("PUT", "/api/v1/deploys/7/files/c", body=self.third),
+            Request("GET", "/s/two/c"),
         ])
 
 

@@ -18,7 +18,7 @@ HERE = pathlib.Path(__file__).resolve().parent
 TOP = HERE.parent.parent
 CRATE = TOP / "crates/filehost"
 # What the launcher adds to the environment of the program.
-HEAP = {"MALLOC_MMAP_THRESHOLD_": "65536"}
+HEAP = {"MALLOC_MMAP_THRESHOLD_": "65536", "GLIBC_TUNABLES": "glibc.malloc.mxfast=0:glibc.malloc.tcache_count=0"}
 EXAMPLES = TOP / "examples"
 
 REQUESTS = 100

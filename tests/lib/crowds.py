@@ -21,7 +21,9 @@ from lib.stalls import Stalls
 
 # How many milliseconds a second of the deadlines has, unless a test says otherwise, and the deadlines in these seconds (docs/WIRE.md, "Deadlines and places").
 SECOND = 100
-HEAD, IDLE, TRANSFER, CLOSING = 10, 15, 60, 5
+HEAD, IDLE, TRANSFER, REPLY, CLOSING = 10, 15, 60, 360, 5
+# The same where replies are to be late, in milliseconds.
+SHORT = 20
 # A second where no deadline is to pass: it is a real one.
 WHOLE = 1_000
 # How many seconds later than its deadline a connection is gone at the latest: the program looks through its connections once in a second of the deadlines.
@@ -40,16 +42,16 @@ FILES = {"/a.txt": b"hello", "/large": bytes(1_048_576)}
 class Honest:
     """An honest client, in a process of its own: what others do takes nothing of its time."""
 
-    def __init__(self, port, kind, process, late):
-        words = [sys.executable, HERE / "honest_client.py", str(port), kind, str(process), str(ASKED), str(late)]
+    def __init__(self, port, kind, process, late, asked):
+        words = [sys.executable, HERE / "honest_client.py", str(port), kind, str(process), str(asked), str(late)]
         self.client = subprocess.Popen(words, stdin=subprocess.PIPE, stdout=subprocess.PIPE, stderr=subprocess.PIPE, text=True)
         self.first = self.client.stdout.readline()
 
     def end(self):
-        """The longest that the program let it wait. No request was refused."""
-        longest, errors = self.client.communicate(timeout=SECONDS)
+        """The longest that the program let it wait, and the longest but for one request in a hundred. No request was refused."""
+        waits, errors = self.client.communicate(timeout=SECONDS)
         assert (self.client.returncode, self.first, errors) == (0, "answered\n", ""), errors
-        return float(longest)
+        return tuple(map(float, waits.split()))
 
     def stop(self):
         self.client.kill()
@@ -75,7 +77,10 @@ class Plug(socket.socket):
 
 
 class Crowds(Served):
-    """A crowd at a port of a program, and honest clients beside it."""
+    """A crowd at a port of a program, and honest clients beside it. They ask so often at least, and all but one request in a hundred is answered within so
+    many seconds."""
+
+    asked, usual = ASKED, LONGEST
 
     def begin(self, *words, nodes=1, files=FILES, second=SECOND, **how):
         """Serves some files. Then the program has the sockets of its ports alone."""
@@ -124,8 +129,10 @@ class Crowds(Served):
             client.close()
 
     def sockets(self):
-        """How many sockets the program has, apart from those of its ports."""
-        return sockets_of(self.started) - self.alone
+        """How many sockets the program has, apart from those of its ports. It hasn't ended."""
+        count = sockets_of(self.started)
+        self.assertIsNone(self.started.poll())
+        return count - self.alone
 
     def assert_in_time(self, is_done, seconds, turn=None):
         """Does a turn now and then until something is done, which is so before these seconds have passed, without those that the machine took."""
@@ -182,12 +189,14 @@ class Crowds(Served):
     @contextlib.contextmanager
     def beside_honest(self, *nodes, kind="reads"):
         """Honest clients of these nodes, or of the first, ask meanwhile. Each is answered at once. Then no connection is left."""
-        honest = [Honest(self.port + node, kind, self.started.pid, self.seconds(IDLE) / 2) for node in nodes or (0,)]
+        honest = [Honest(self.port + node, kind, self.started.pid, self.seconds(IDLE) / 2, self.asked) for node in nodes or (0,)]
         for client in honest:
             self.addCleanup(client.stop)
         yield
         for client in honest:
-            self.assertLess(client.end(), self.longest)
+            longest, usual = client.end()
+            self.assertLess(longest, self.longest)
+            self.assertLess(usual, max(self.usual, self.longest - LONGEST))
 
     def crowd(self, count, given=b"", node=0, room=None, pause=0):
         """Connections over which these bytes were sent, with so many bytes of room for what comes, and a pause after each."""

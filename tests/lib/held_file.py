@@ -1,4 +1,4 @@
-"""Reads and syncs of one file of a shelf, each held by a library in C (hold_file.c) until a gate is opened."""
+"""Reads and syncs of one file of a store, each held by a library in C (hold_file.c) until a gate is opened."""
 
 import subprocess
 import time

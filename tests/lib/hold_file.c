@@ -72,3 +72,8 @@ int fsync(int fd) {
     if (is_held_descriptor(fd)) hold();
     return NEXT(fsync)(fd);
 }
+
+int fdatasync(int fd) {
+    if (is_held_descriptor(fd)) hold();
+    return NEXT(fdatasync)(fd);
+}

@@ -4,9 +4,10 @@
     tests/lib/honest_client.py PORT reads|uploads PROCESS COUNT LATE
 
 It reads /s/one/a.txt, which has to be `hello`, on a new connection and on one that it keeps, in turn; or it also uploads files to a deploy, each in a new
-connection. It prints a line once it was answered. When its input ends, and it has asked COUNT times, it prints the longest wait in seconds, less what the
-machine held up it and the process of the program meanwhile; or, with status 1, the first reply that isn't right, or why there was none. Where the machine held
-them up for LATE seconds during a request, the program may have cut the connection since it was late: then the client asks again.
+connection. It prints a line once it was answered. When its input ends, and it has asked COUNT times, it prints the longest wait in seconds, and the longest but
+for one in a hundred, less what the machine held up it and the process of the program meanwhile; or, with status 1, the first reply that isn't right, or why
+there was none. Where the machine held them up for LATE seconds during a request, the program may have cut the connection since it was late: then the client
+asks again.
 """
 
 import hashlib
@@ -21,7 +22,7 @@ from stalls import Stalls
 PAUSE = 0.01
 PATIENCE = 60
 FILES = 3_000
-# After how many seconds without a request a kept connection isn't used again: the program may end it, where a second of the deadlines is short.
+# After how many seconds without a request a kept connection isn't used again at the latest: the program may end it, where a second of the deadlines is short.
 OLD = 0.3
 
 
@@ -31,6 +32,7 @@ class Honest:
         self.kept, self.asked = self.client(), time.monotonic()
         self.stalls = Stalls(process)
         self.waits = []
+        self.old = min(OLD, late)
 
     def client(self):
         return http.client.HTTPConnection("127.0.0.1", self.port, timeout=PATIENCE)
@@ -61,7 +63,7 @@ class Honest:
 
     def ask_kept(self, *words):
         mark, began = self.stalls.mark(), time.monotonic()
-        if began - self.asked > OLD:
+        if began - self.asked > self.old:
             self.kept.close()
         answer = self.ask(self.kept, *words, mark=mark)
         # The program has waited for the next request since then at the earliest.
@@ -99,7 +101,8 @@ def main():
         honest.read()
         if upload := next(turns, None):
             honest.upload(*upload)
-    print(max(honest.waits))
+    waits = sorted(honest.waits)
+    print(waits[-1], waits[-1 - len(waits) // 100])
 
 
 if __name__ == "__main__":

@@ -48,8 +48,10 @@ class Journals(unittest.TestCase):
         return self.run_program("open", path or self.file, "1").partition(" ")[2]
 
     def opened(self, file, number):
-        """What the program says of a file with these bytes, which gets a number for its name, and what it then is."""
-        path = self.folder / str(number)
+        """What the program says of a file with these bytes, and what it then is. Its folder has a number for its name, and no other program in it."""
+        folder = self.folder / str(number)
+        folder.mkdir(exist_ok=True)
+        path = folder / "journal"
         path.write_bytes(file)
         return self.open(path), path.read_bytes()
 

@@ -110,6 +110,10 @@ int rename(const char *from, const char *to) {
     CALL(is_refused_at(to), NEXT(rename)(from, to));
 }
 
+int unlink(const char *path) {
+    CALL(is_refused_at(path), NEXT(unlink)(path));
+}
+
 __attribute__((destructor)) static void tell(void) {
     const char *name = getenv("CALLS_FILE");
     FILE *file = name ? fopen(name, "w") : NULL;

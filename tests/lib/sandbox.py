@@ -3,6 +3,7 @@
 Its crates hold no code, and the toolchain is a stand-in, `fake_rt`, so that a build takes no time.
 """
 
+import hashlib
 import os
 import pathlib
 import shutil
@@ -14,8 +15,8 @@ TOP = pathlib.Path(__file__).resolve().parents[2]
 FAKE_RT = pathlib.Path(__file__).resolve().parent / "fake_rt"
 
 # What the scripts may call besides rt. A PATH of these alone has no toolchain on it, wherever that is installed.
-TOOLS = ("bash cat chmod cp cut dirname env find flock getconf grep head mkdir mktemp mv nproc readlink rm rmdir sed sha256sum sleep sort tail tee touch uname"
-         " wc xargs").split()
+TOOLS = ("bash cat chmod cp cut dirname env find flock getconf grep head mkdir mktemp mv nproc readlink rm rmdir sed sha256sum sleep sort tail tee touch true"
+         " uname wc xargs").split()
 # The launcher, and what it calls to build.
 LAUNCHER = "filehost scripts/program_sources.sh scripts/build scripts/prove_program.py scripts/prover_times.py scripts/arguments.py".split()
 
@@ -68,6 +69,13 @@ class Sandbox:
                 self.write(f"crates/{name}/src/lib.rt", "first")
                 self.write(f"crates/{name}/specs/Lib.antt")
                 self.write(f"crates/{name}/proofs/Lib.antt")
+
+    def put_program(self, program):
+        """Does what a build does, but for the proofs: this program is there, and known as proved."""
+        out = self.top / "crates/filehost/out"
+        out.mkdir(exist_ok=True)
+        shutil.copy(program, out / "filehost")
+        (out / "proved.sha256").write_text(f"{hashlib.sha256(program.read_bytes()).hexdigest()}\n")
 
     def let_time_pass(self):
         """Makes all that is there older, in the order that it has, so that what is written next is newer."""

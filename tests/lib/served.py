@@ -52,23 +52,42 @@ def free_ports(count=PORTS):
     raise AssertionError("no ports are free")
 
 
+def ports_of_several(programs):
+    """The first of the ports of each of so many programs that are started at once."""
+    with contextlib.ExitStack() as held:
+        firsts = []
+        for _ in range(programs):
+            firsts.append(free_ports())
+            # So the next look finds others.
+            held.enter_context(socket.create_server((HOST, firsts[-1])))
+        return firsts
+
+
 class Served(unittest.TestCase):
     """Tests of a program that serves."""
+
+    # What starts the program, and what the launcher would add to its environment.
+    command, heap = (PROGRAM,), HEAP
 
     def folder(self):
         folder = tempfile.TemporaryDirectory()
         self.addCleanup(folder.cleanup)
         return pathlib.Path(folder.name)
 
-    def serve(self, *words, nodes=1, port=None, second=None, environment=None, **how):
-        """Starts a program, and waits until its nodes listen. The port of the first is `self.port`."""
+    def start(self, *words, nodes=1, port=None, second=None, environment=None, **how):
+        """Starts a program, whose first node has the port `self.port`."""
         self.port = port or free_ports()
-        environment = os.environ | HEAP | (environment or {})
+        environment = os.environ | self.heap | (environment or {})
         if second is not None:
             environment["FILEHOST_DEADLINE_SECOND"] = str(second)
         words = ["serve", "--listen", f"{HOST}:{self.port}", "--nodes", str(nodes), *words]
-        started = subprocess.Popen([PROGRAM, *words], stdout=subprocess.PIPE, stderr=subprocess.PIPE, env=environment, **how)
+        started = subprocess.Popen([*self.command, *words], stdout=subprocess.PIPE, stderr=subprocess.PIPE, env=environment, **how)
         self.addCleanup(self.end, started)
+        return started
+
+    def serve(self, *words, nodes=1, **how):
+        """Starts a program, and waits until its nodes listen."""
+        started = self.start(*words, nodes=nodes, **how)
         for node in range(nodes):
             self.assertEqual(started.stdout.readline().decode(), f"node {node} listening on {HOST}:{self.port + node}\n")
         return started

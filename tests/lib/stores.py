@@ -5,6 +5,7 @@ import pathlib
 import resource
 import shutil
 import signal
+import subprocess
 import tempfile
 
 from lib.client import Client, Program, content_length, digest_of, request, run
@@ -200,3 +201,15 @@ def limited(size):
         resource.setrlimit(resource.RLIMIT_FSIZE, (size, size))
 
     return {"preexec_fn": limit}
+
+
+@contextlib.contextmanager
+def small_file_system(folder, size):
+    """Whether a file system of `size` bytes could be mounted on the folder."""
+    mounted = subprocess.run(["mount", "-t", "tmpfs", "-o", f"size={size}", "tmpfs", folder], capture_output=True).returncode == 0
+    try:
+        yield mounted
+    finally:
+        if mounted:
+            # lazily, since after a failed test a program may still have it open
+            subprocess.run(["umount", "--lazy", folder], check=True)

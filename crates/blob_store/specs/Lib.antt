@@ -8,3 +8,4 @@ pub mod Shelves
 pub mod Openings
 pub mod Keeping
 pub mod Folders
+pub mod FileFaults

@@ -1,11 +1,13 @@
 //! Files kept in pieces of 64 KiB on a shelf that is not trusted.
 #![tactic(auto)]
 
+mod access_faults;
 mod blob_indexes;
 mod blobs;
 mod call_logs;
 mod dir_shelf;
 mod files;
+mod folder_files;
 pub mod laws;
 mod lent_shelf;
 mod mem_shelf;
@@ -20,6 +22,7 @@ mod stored_pieces;
 mod tables;
 mod temporary_names;
 
+pub use access_faults::AccessFault;
 pub use blob_indexes::BlobIndex;
 pub use blobs::{Blobs, NotOpened, UploadFault};
 pub use dir_shelf::DirShelf;

@@ -2,6 +2,7 @@
 ghost use Rattle.std.specs.Prelude.{◌≡◌, []};
 ghost use Rattle.blob_store.specs.Folders.{calls_of};
 
+use crate::access_faults::AccessFault;
 use crate::call_logs::{CallLog, logged_get, logged_put};
 use crate::shelf_access::ShelfAccess;
 use crate::shelf_files::Files;
@@ -9,7 +10,7 @@ use crate::shelves::{Shelf, ShelfFault, ShelfName};
 use std::sync::{Mutex, Wait};
 
 /// The shelf of files that threads share. Each call reaches them by a `ShelfAccess`, and calls of other threads come in between. So nothing is
-/// known of the shelf: contracts see the calls that were made by this value.
+/// known of the shelf: contracts see the calls that were made by this value. The lack of a descriptor is a failure of its device.
 #[derive(Drop)]
 pub struct SharedShelf<'a, R, S, A> {
     rt: &'a R,
@@ -41,12 +42,18 @@ impl<R: Wait, S, A: ShelfAccess<S>> Shelf for SharedShelf<'_, R, S, A> {
     ghost did = { λ old call new. calls_of new.log ≡ call ∷ calls_of old.log };
 
     fn put(&mut self, name: ShelfName, bytes: &[u8]) -> Result<(), ShelfFault> {
-        let outcome = self.access.put(self.rt, self.files, name, bytes);
+        let outcome = self
+            .access
+            .put(self.rt, self.files, name, bytes)
+            .map_err(AccessFault::on_shelf);
         logged_put(&mut self.log, name, bytes, outcome)
     }
 
     fn get(&mut self, name: ShelfName) -> Result<Option<Vec<u8>>, ShelfFault> {
-        let outcome = self.access.get(self.rt, self.files, name);
+        let outcome = self
+            .access
+            .get(self.rt, self.files, name)
+            .map_err(AccessFault::on_shelf);
         logged_get(&mut self.log, name, outcome)
     }
 }

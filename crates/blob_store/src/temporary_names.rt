@@ -1,5 +1,4 @@
 //! The names under which threads write files at first.
-use crate::shelves::ShelfFault;
 use std::alloc::{AllocError, Global};
 use std::path::{Path, PathBuf};
 
@@ -32,10 +31,10 @@ impl TemporaryNames {
     }
 
     /// Takes a path in a folder that nobody has.
-    pub(crate) fn take(&mut self, folder: &str) -> Result<PathBuf, ShelfFault> {
+    pub(crate) fn take(&mut self, folder: &str) -> Result<PathBuf, AllocError> {
         match self.free.pop() {
             Some(path) => Ok(path),
-            None => self.make(folder).map_err(|_| ShelfFault::OutOfMemory),
+            None => self.make(folder),
         }
     }
 

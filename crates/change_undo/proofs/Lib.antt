@@ -14,6 +14,7 @@ pub mod Sites
 pub mod WithMarks
 pub mod KeptClash
 pub mod Indexed
+pub mod Chains
 pub mod NextTouch
 pub mod LeavingOut
 pub mod WritingBack

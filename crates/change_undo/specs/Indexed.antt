@@ -1,5 +1,6 @@
--- What the index of a history tells of its plans.
+-- What the indexes of a history tell of its plans and of its sites.
 use Rattle.std.specs.Prelude.{◌≡◌, ℕ, Bool, false, List, length, Option, Some, None}
+use Rattle.host_names.specs.declared.names.SiteName.{SiteName}
 use Rattle.site_change.specs.declared.plans.Plan.{Plan}
 use Rattle.touch_index.specs.Keys.{touched_keys}
 use Rattle.touch_index.specs.Postings.{Postings, is_among, is_posted}
@@ -7,6 +8,7 @@ use Rattle.change_undo.specs.declared.entries.Entry.{Entry}
 use Rattle.change_undo.specs.declared.marks.Mark.{Mark}
 use Rattle.change_undo.specs.Kept.{plan_of}
 use Rattle.change_undo.specs.PlannedEntries.{PlannedEntry, with_marks}
+use Rattle.change_undo.specs.SiteIndexes.{AreChained}
 
 -- whether what the plan touches has the key
 abbrev pub has_key : Option Plan → ℕ → Bool
@@ -17,7 +19,8 @@ has_key (Some plan) key = is_among key (touched_keys plan.touched)
 abbrev pub IsIndexOf : List PlannedEntry → Postings → Type 0
 IsIndexOf logged index = (key i : ℕ) → is_posted index key i ≡ has_key (plan_of logged i) key
 
--- Each entry has its mark, and the index is that of both.
-pub record BelongTogether (log : List Entry) (marks : List Mark) (index : Postings) : Type 0 where
+-- Each entry has its mark, the index is that of both, and the entries of each site are chained.
+pub record BelongTogether (log : List Entry) (marks : List Mark) (index : Postings) (earlier : List ℕ) (last : List (SiteName × ℕ)) : Type 0 where
   pub lengths : length log ≡ length marks
   pub indexed : IsIndexOf (with_marks log marks) index
+  pub chained : AreChained log earlier last

@@ -1,5 +1,5 @@
 //! Histories: changes are committed at their end, and undone by an entry of their own.
-ghost use Rattle.std.specs.Prelude.{◌≡◌, ◌≤◌, [], nat_le, Some, IfOk, OnOk, OnErr, option_copied, option_map};
+ghost use Rattle.std.specs.Prelude.{◌≡◌, ◌≤◌, [], nat_le, reverse, Some, IfOk, OnOk, OnErr, option_copied, option_map};
 ghost use Rattle.std.specs.FinMap as map;
 ghost use Rattle.byte_view.specs.Contents.{Contents};
 ghost use Rattle.site_change.specs.Refusals.{IsRefusedBy};
@@ -12,10 +12,12 @@ ghost use Rattle.change_undo.specs.Histories;
 ghost use Rattle.change_undo.specs.Logs;
 ghost use Rattle.change_undo.specs.Logs.{empty_log, last_number, next_number, with_entry};
 ghost use Rattle.change_undo.specs.Plans.{IsHistoryOver, IsRecorded};
+ghost use Rattle.change_undo.specs.SiteEntries.{numbers_of};
 
 use crate::entries::Entry;
 use crate::logs::Log;
 use crate::records::Records;
+use crate::site_entries::SiteEntries;
 use byte_view::Uploads;
 use host_names::{Cell, SiteName};
 use site_change::{ChangeError, ChangeRefusal, Command, Plan, decide, uploads_are_digested};
@@ -123,6 +125,14 @@ impl History {
         Some((entry, mark.is_undone))
     }
 
+    /// The numbers of the entries of a site, the newest first; none if no entry names the site. Takes no memory. The work is a look-up of the
+    /// site among those that have entries, and one in a list for each number that is taken.
+    pub fn entries_of(&self, site: &SiteName) -> SiteEntries<'_>
+        ensures { result ≡ reverse (numbers_of self.now.entries site.now) }
+    {
+        self.records.entries_of(site)
+    }
+
     /// The clash of the change with this number: the first later change that was not undone and reads or writes a cell which that change
     /// changed, and the first such cell in the order of cells. None if no later change does so, and none for a number that is not that of a
     /// change, or whose change was undone. Numbers count over all sites. The work is two look-ups in an index for each changed cell, and
@@ -200,7 +210,8 @@ impl History {
             return Err(ChangeError::Refused(reason));
         }
         let number = self.len() + 1;
-        self.records.append_undo(site, change, &mut self.state)?;
+        self.records
+            .append_undo(number, site, change, &mut self.state)?;
         Ok(number)
     }
 

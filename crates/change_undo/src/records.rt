@@ -1,5 +1,5 @@
 //! The entries of a history with their marks.
-ghost use Rattle.std.specs.Prelude.{◌≡◌, ◌+◌, ◌-◌, ◌<◌, ◌≤◌, [], ◌∷◌, ◌++◌, length, false, None, Some, IfOk, OnOk, OnErr, option_copied, slice_get};
+ghost use Rattle.std.specs.Prelude.{◌≡◌, ◌+◌, ◌-◌, ◌<◌, ◌≤◌, [], ◌∷◌, ◌++◌, length, reverse, false, None, Some, IfOk, OnOk, OnErr, option_copied, slice_get};
 ghost use Rattle.site_state.specs.Changes.{writes};
 ghost use Rattle.site_state.specs.States.{with_cells};
 ghost use Rattle.site_state.specs.declared.changes.Side.TheVariants.{After, Before};
@@ -7,11 +7,13 @@ ghost use Rattle.change_undo.specs.declared.entries.Entry.TheVariants as entry;
 ghost use Rattle.change_undo.specs.Indexed.{IsIndexOf};
 ghost use Rattle.change_undo.specs.Kept.{AreWritable, changes_of, plan_at, plan_of};
 ghost use Rattle.change_undo.specs.PlannedEntries.{entries_of, mark_at, marks_of, plan_in, with_undone};
+ghost use Rattle.change_undo.specs.SiteEntries.{numbers_of};
 
 use crate::entries::Entry;
 use crate::logs::Log;
 use crate::marks::Mark;
 use crate::shared::Shared;
+use crate::site_entries::{SiteEntries, SiteIndex};
 use host_names::SiteName;
 use persistent_collections::SharedList;
 use site_change::{Command, Plan};
@@ -21,7 +23,7 @@ use std::marker::Model;
 use touch_index::Index;
 
 /// Entries, numbered from 1, each with its mark. Contracts see them together. The index finds the live changes that may touch a cell,
-/// without a look at each change. Copies share all three.
+/// and that of the sites the entries of a site, without a look at each entry. Copies share all of it.
 ///
 /// The marks are in a list of their own: an undo changes one mark and no entry. So the entries can be lent as they are (`History::log`),
 /// and none is ever copied.
@@ -30,6 +32,7 @@ pub(crate) struct Records {
     log: Log,
     marks: SharedList<Mark>,
     index: Index,
+    sites: SiteIndex,
 }
 
 impl Model for Records {
@@ -45,7 +48,7 @@ impl Model for Records {
 
     ghost view = { λ r. with_marks r.log r.marks.items };
 
-    ghost invariant = { λ r. BelongTogether r.log r.marks.items r.index };
+    ghost invariant = { λ r. BelongTogether r.log r.marks.items r.index r.sites.earlier.items r.sites.last };
 }
 
 /// What the change with this number, from 1 on, changes in its place; nothing if it has no plan.
@@ -68,6 +71,7 @@ impl Records {
             log: Log::new(alloc),
             marks: SharedList::new(alloc),
             index: Index::new(alloc),
+            sites: SiteIndex::new(alloc),
         }
     }
 
@@ -117,6 +121,13 @@ impl Records {
         &self.index
     }
 
+    /// The numbers of the entries of a site, the newest first.
+    pub(crate) fn entries_of(&self, site: &SiteName) -> SiteEntries<'_>
+        ensures { result ≡ reverse (numbers_of (entries_of self.now) site.now) }
+    {
+        self.sites.entries_of(site)
+    }
+
     /// Appends a change under the next number, with its plan, and writes into the state what the plan leaves. If memory runs out, nothing
     /// changes.
     pub(crate) fn append_change(
@@ -136,11 +147,13 @@ impl Records {
         let index = self.index.with(alloc, &plan.touched, number)?;
         let plan = Shared::new(alloc, plan)?;
         self.marks.reserve()?;
+        let addition = self.sites.prepare(command.site(), number)?;
         let changes = plan.get().changes.as_slice();
         self.log
             .append(Entry::Change(command), state, changes, Side::After)?;
         self.marks.push_reserved(Mark::of_change(plan));
         self.index = index;
+        self.sites.add(addition);
         Ok(())
     }
 
@@ -168,14 +181,16 @@ impl Records {
         }
     }
 
-    /// Appends the undo of the change with this number, marks that change, and gives each cell that it changed what the cell had before. If
-    /// memory runs out, nothing changes.
+    /// Appends the undo of a change under the next number, marks that change, and gives each cell that it changed what the cell had before.
+    /// If memory runs out, nothing changes.
     pub(crate) fn append_undo(
         &mut self,
+        number: u64,
         site: &SiteName,
         change: u64,
         state: &mut State,
     ) -> Result<(), AllocError>
+        requires next { number ≡ length self.old + 1 }
         requires some { 0 < change }
         requires within { change ≤ length self.old }
         requires writable { AreWritable state.old Before (changes_of (plan_at self.old (change - 1))) }
@@ -185,6 +200,7 @@ impl Records {
     {
         let marks = self.marks_after_undo(change)?;
         let index = self.index_after_undo(change)?;
+        let addition = self.sites.prepare(site, number)?;
         let entry = Entry::Undo {
             site: site.copied(),
             change,
@@ -193,10 +209,11 @@ impl Records {
         self.log.append(entry, state, changes, Side::Before)?;
         self.marks = marks;
         self.index = index;
+        self.sites.add(addition);
         Ok(())
     }
 
-    /// A copy, which shares the entries, the marks and the index.
+    /// A copy, which shares the entries, the marks and both indexes.
     pub(crate) fn copy(&self) -> Result<Records, AllocError>
         ensures { IfOk result (λ copy. copy ≡ self.now) }
     {
@@ -204,6 +221,7 @@ impl Records {
             log: self.log.copy()?,
             marks: self.marks.copy()?,
             index: self.index.copy()?,
+            sites: self.sites.copy()?,
         })
     }
 }

@@ -3,6 +3,7 @@ pub mod Faults
 pub mod Owners
 pub mod Loads
 pub mod Kept
+pub mod Looks
 pub mod Fills
 pub mod Outcomes
 pub mod Holding

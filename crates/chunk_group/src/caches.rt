@@ -1,15 +1,19 @@
 //! The caches of a node, and what is kept in them.
-ghost use Rattle.std.specs.Prelude.{◌≡◌, IfOk, IfSome, IsOk, None, OnErr, OnOk, option_map};
+ghost use Rattle.std.specs.Prelude.{◌≡◌, ◌<◌, ◌≤◌, IfOk, IfSome, IsOk, None, MatchOption, OnErr, OnOk, length, option_map};
 ghost use Rattle.host_names.specs.Digests.{digest_of};
 ghost use Rattle.chunk_lru.specs.Rules.{held, looked_up};
+ghost use Rattle.chunk_reads.specs.declared.faults.ReadFault.{ReadFault as Fault};
+ghost use Rattle.chunk_reads.specs.Reading.{IsNotHeld, ReadsInTurn};
 ghost use Rattle.chunk_group.specs.Kept.{IsKept, KeptIn};
+ghost use Rattle.chunk_group.specs.Looks.{LooksUp};
 
 use crate::coins::Coin;
 use crate::loads::Giver;
-use byte_view::Chunk;
+use byte_view::{BlobInfo, Chunk, Hold};
 use chunk_lru::{ChunkCache, Which};
+use chunk_reads::{ChunkReader, ReadFault, hold_stretch};
 use host_names::Digest;
-use std::alloc::AllocError;
+use std::alloc::{AllocError, Global};
 use std::sync::Arc;
 
 /// The two caches, and the coin that says which chunks from peers are kept.
@@ -61,6 +65,41 @@ impl<C: Coin> Caches<C> {
                     self.add(Which::Hot, chunk);
                 }
             }
+        }
+    }
+
+    /// A stretch of a file, from its first to its last byte, if each chunk that it meets is in the caches, and there is memory for it.
+    pub(crate) fn hold(
+        &mut self,
+        alloc: Global,
+        info: Arc<BlobInfo>,
+        first: usize,
+        last: usize,
+    ) -> Option<Hold>
+        requires ordered { first ≤ last }
+        requires within { last < length info.value }
+        ensures stretch { IfSome result (λ hold. (hold.file ≡ info.value) × (hold.first ≡ first) × (hold.last ≡ last)) }
+        ensures looks { MatchOption result ((why : Fault) × IsNotHeld LooksUp self.old info.value first last why self.new)
+            (λ hold. ReadsInTurn LooksUp self.old hold.chunks self.new) }
+    {
+        match hold_stretch(alloc, self, info, first, last) {
+            Ok(hold) => Some(hold),
+            Err(_) => None,
+        }
+    }
+}
+
+/// Reads what is in the caches. What isn't there is missing: nobody is asked for it.
+impl<C: Coin> ChunkReader for Caches<C> {
+    ghost use Rattle.chunk_group.specs.Looks.{LooksUp};
+
+    ghost reads = { LooksUp };
+
+    fn read(&mut self, name: &Digest) -> Result<Arc<Chunk>, ReadFault> {
+        match self.get(name) {
+            Ok(Some(chunk)) => Ok(chunk),
+            Ok(None) => Err(ReadFault::Missing),
+            Err(_) => Err(ReadFault::OutOfMemory),
         }
     }
 }

@@ -20,7 +20,8 @@ use single_flight::{Flights, Loads};
 use std::alloc::{AllocError, Global};
 use std::sync::{Arc, Mutex, Wait};
 
-/// A node of a group that threads read chunks through. Each call works with a copy of the source and of the link.
+/// A node of a group that threads read chunks through. Each call works with a copy of the source, and with the link that it is given or a copy of the
+/// node's own.
 #[derive(Drop)]
 pub struct Group<H: RingHash + Drop, S: Source, L, C>
 where
@@ -62,6 +63,13 @@ impl<H: RingHash + Copy + Drop, S: Source + Copy, L: PeerLink + Copy, C: Coin + 
         })
     }
 
+    /// A copy of the node's link, as it was given: nothing was fetched through it.
+    pub fn link(&self) -> L
+        ensures { result ≡ self.now.suppliers.link }
+    {
+        self.suppliers.link
+    }
+
     /// A share of a chunk that is in the caches.
     fn look<R: Wait>(&self, rt: &R, key: &Digest) -> Result<Option<Arc<Chunk>>, ReadFault>
         ensures named { IfOk result (λ share. IfSome share (λ chunk. digest_of chunk.value ≡ key.now)) }
@@ -85,15 +93,20 @@ impl<H: RingHash + Copy + Drop, S: Source + Copy, L: PeerLink + Copy, C: Coin + 
     ///
     /// Between the caller's look and its lead, the key's last flight may have ended. Its leader keeps a chunk before it ends the flight, so this
     /// look finds a chunk that was kept, and doesn't load it again.
-    fn fill<R: Wait>(&self, rt: &R, key: &Digest) -> Outcome
+    fn fill<R: Wait>(&self, rt: &R, link: &mut L, key: &Digest) -> Outcome
         ensures named { IfOk result (λ chunk. digest_of chunk.value ≡ key.now) }
         ensures fault { IfErr result (λ fault. may_answer S.allows key.now fault ≡ true) }
     {
         if let Some(chunk) = self.look(rt, key)? {
             return Ok(chunk);
         }
-        let mut suppliers = self.suppliers;
-        let Given { chunk, giver } = suppliers.ask(&self.place, key)?;
+        let mut suppliers = Suppliers {
+            source: self.suppliers.source,
+            link: *link,
+        };
+        let asked = suppliers.ask(&self.place, key);
+        *link = suppliers.link;
+        let Given { chunk, giver } = asked?;
         self.share(rt, giver, chunk)
     }
 
@@ -116,10 +129,21 @@ impl<H: RingHash + Copy + Drop, S: Source + Copy, L: PeerLink + Copy, C: Coin + 
         ensures named { IfOk result (λ chunk. digest_of chunk.value ≡ key.now) }
         ensures fault { IfErr result (λ fault. may_answer S.allows key.now fault ≡ true) }
     {
+        let mut link = self.link();
+        self.get_by(rt, &mut link, key)
+    }
+
+    /// The same by this link, if a peer is asked.
+    fn get_by<R: Wait>(&self, rt: &R, link: &mut L, key: &Digest) -> Result<Arc<Chunk>, ReadFault>
+        ensures named { IfOk result (λ chunk. digest_of chunk.value ≡ key.now) }
+        ensures fault { IfErr result (λ fault. may_answer S.allows key.now fault ≡ true) }
+    {
         if let Some(chunk) = self.look(rt, key)? {
             return Ok(chunk);
         }
-        let run: Result<Outcome, AllocError> = self.flights.run(rt, key, || self.fill(rt, key));
+        let run: Result<Outcome, AllocError> = self
+            .flights
+            .run(rt, key, || self.fill(rt, link, key));
         match run {
             Ok(outcome) => outcome,
             Err(_) => Err(ReadFault::OutOfMemory),
@@ -144,10 +168,14 @@ impl<H: RingHash + Copy + Drop, S: Source + Copy, L: PeerLink + Copy, C: Coin + 
     }
 
     /// A stretch of a file, from its first to its last byte, with the chunks that it meets. Each chunk is read once, and has the name and
-    /// the length of its piece. The call may wait, and takes a handle for that; so a `Group` is no `Holder`.
+    /// the length of its piece. Peers are asked by this link. A caller that reads several stretches for one purpose reads them all by one link, so that what
+    /// the link keeps of its calls, such as the time that they took, is of all of them.
+    ///
+    /// The call may wait, and takes a handle for that; so a `Group` is no `Holder`.
     pub fn hold<R: Wait>(
         &self,
         rt: &R,
+        link: &mut L,
         info: Arc<BlobInfo>,
         first: usize,
         last: usize,
@@ -157,8 +185,30 @@ impl<H: RingHash + Copy + Drop, S: Source + Copy, L: PeerLink + Copy, C: Coin + 
         ensures stretch { IfOk result (λ hold. (hold.file ≡ info.value) × (hold.first ≡ first) × (hold.last ≡ last)) }
         ensures fault { IfErr result (λ fault. MayNotHold S.allows info.value first last fault) }
     {
-        let mut reading = Reading { rt, group: self };
-        hold_stretch(self.alloc, &mut reading, info, first, last)
+        let mut reading = Reading {
+            rt,
+            group: self,
+            link: *link,
+        };
+        let held = hold_stretch(self.alloc, &mut reading, info, first, last);
+        *link = reading.link;
+        held
+    }
+
+    /// The same if each chunk is in the caches by now, and there is memory for it; else nothing. Nobody is asked, and no flight is joined. It takes the lock of
+    /// the caches once.
+    pub fn hold_cached<R: Wait>(
+        &self,
+        rt: &R,
+        info: Arc<BlobInfo>,
+        first: usize,
+        last: usize,
+    ) -> Option<Hold>
+        requires ordered { first ≤ last }
+        requires within { last < length info.value }
+        ensures { IfSome result (λ hold. (hold.file ≡ info.value) × (hold.first ≡ first) × (hold.last ≡ last)) }
+    {
+        self.caches.lock(rt).hold(self.alloc, info, first, last)
     }
 }
 
@@ -171,14 +221,15 @@ impl<H: RingHash + Copy + Drop, S: Source + Copy, L: PeerLink + Copy, C: Coin + 
     }
 }
 
-/// A group that one thread reads through. The thread may wait.
+/// A group that one thread reads through, and by which link it asks peers. The thread may wait.
 #[derive(Drop)]
-struct Reading<'a, R, H: RingHash + Drop, S: Source, L, C>
+struct Reading<'a, R, H: RingHash + Drop, S: Source, L: Drop, C>
 where
     Loading<S>: Loads<Outcome>,
 {
     rt: &'a R,
     group: &'a Group<H, S, L, C>,
+    link: L,
 }
 
 impl<
@@ -191,6 +242,6 @@ impl<
     ghost reads = { λ _ name answer _. MatchResult answer (λ chunk. digest_of chunk ≡ name) (λ fault. may_answer S.allows name fault ≡ true) };
 
     fn read(&mut self, name: &Digest) -> Result<Arc<Chunk>, ReadFault> {
-        self.group.get(self.rt, name)
+        self.group.get_by(self.rt, &mut self.link, name)
     }
 }

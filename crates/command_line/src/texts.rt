@@ -63,10 +63,18 @@ Whoever reaches a client's port may deploy. Let nothing but the nodes reach the 
 Without --store the host starts empty, and all it holds is gone when the program ends. Its journal
 has 64 MiB of memory; once that is full, each change is refused until the program is started again.
 
-A head has 10 seconds from its first byte, an idle connection 15 seconds, and each 60 KiB of a body
-or a reply 60 seconds. A node has 1024 connections. Where one more comes, one ends: first one that
-closes, then one that was never answered, then the one on which nothing has moved for longest.
+A node's workers answer reads of what is in its cache. Four more threads of a node read and write
+files, put changes into the journal, ask other nodes and answer them.
 
-Exit status: 0 if each node has had the clients that --conns gives it, 1 for arguments that are not
-taken, 2 if a port can't be listened on or memory failed, 3 if the journal in DIR can't be opened,
-4 if a file in DIR is missing or damaged, or can't be read.";
+A head has 10 seconds from its first byte, an idle connection 15 seconds, each 60 KiB of a body
+60 seconds, and each 60 KiB of a reply 6 minutes. A node has 1024 connections, or fewer if the limit
+of descriptors is low. Where one more comes, one ends: first one that closes, then one that was
+never answered, then the one on which nothing has moved for longest.
+
+Once ./filehost serve is sent SIGTERM or SIGINT, it takes no more clients, and what has begun has
+10 seconds to end; a second signal, of the other kind, ends it at once. What its operator is to know
+goes to standard error (docs/WIRE.md).
+
+Exit status: 0 if each node has had the clients that --conns gives it, or once a signal has ended it,
+1 for arguments that are not taken, 2 if a port can't be listened on or memory failed, 3 if the
+journal in DIR can't be opened, 4 if a file in DIR is missing or damaged, or can't be read.";

@@ -34,10 +34,10 @@ pub(crate) fn read_lines(rt: &HostRuntime) -> Result<Vec<String>> {
 pub(crate) fn open_folder<'a>(
     rt: &'a HostRuntime,
     folder: &str,
-) -> Result<(FileDisk, DirShelf<'a, HostRuntime>)> {
+) -> Result<(FileDisk<'a, HostRuntime>, DirShelf<'a, HostRuntime>)> {
     let alloc = rt.alloc();
     let path = PathBuf::from_str(alloc, folder)?.join(alloc, "journal")?;
-    let disk = FileDisk::open(rt, path.as_str())?;
+    let disk = FileDisk::open(rt, path)?;
     Ok((disk, DirShelf::new(rt, alloc, folder)?))
 }
 

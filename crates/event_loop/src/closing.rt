@@ -2,9 +2,9 @@
 ghost use Rattle.std.specs.Prelude.{◌≤◌};
 
 use crate::holdings::Holding;
-use crate::paces::Stage;
 use crate::ready_sets::Interest;
 use crate::steps::{Next, Step};
+use connection_rules::Stage;
 use std::io::{Error, ErrorKind, Read};
 use std::net::TcpStream;
 

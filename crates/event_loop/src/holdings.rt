@@ -1,5 +1,5 @@
 //! What a connection holds.
-use crate::replies::HeldReply;
+use connection_rules::HeldReply;
 
 /// What a connection holds between two steps, beside its buffers.
 #[derive(Clone, Copy, Debug, PartialEq, Eq)]

@@ -1,21 +1,20 @@
 //! What the workers of a node share.
-use crate::bodies::Bodies;
 use crate::clients::Client;
-use crate::least::Least;
-use crate::limits::Limits;
+use crate::errands::Errands;
 use crate::ready_sets::{Interest, ReadySet};
-use crate::replies::Replies;
+use connection_rules::{Bodies, Limits, Replies};
+use operator_notices::{Kind as About, Notices};
 use std::alloc::{AllocError, Global};
 use std::net::TcpListener;
-use std::sync::atomic::{AtomicU64, Ordering};
-use std::sync::{Mutex, Wait};
+use std::sync::atomic::{AtomicBool, AtomicU64, Ordering};
+use std::sync::{Arc, Mutex, Wait};
 use std::time::Clock;
 
-/// How many connections a node has at most.
-const PLACES: usize = 1024;
-
-/// How often it is looked for the connection that is to go, where that goes on meanwhile.
+/// How often to look again if the connection that was chosen became busy.
 pub(crate) const MOST_LOOKS: u32 = 8;
+
+/// The time of a drain that was not asked for.
+pub(crate) const NEVER: u64 = u64::MAX;
 
 /// The number of the listener in the set; the connections have those of their places.
 pub(crate) const LISTENER: u64 = u64::MAX;
@@ -32,17 +31,40 @@ pub struct Node<C: Drop> {
     pub(crate) listener: TcpListener,
     pub(crate) ready: ReadySet,
     pub(crate) places: Vec<Mutex<Place<C>>>,
-    free: Mutex<Vec<usize>>,
+    pub(crate) free: Mutex<Vec<usize>>,
     pub(crate) limits: Limits,
+    pub(crate) notices: Arc<Notices>,
+    // The connections that threads for errands are to go on with, and the number of the next connection.
+    pub(crate) errands: Errands<C>,
+    next_number: AtomicU64,
     // What the bodies and the replies of the connections hold, how many bodies wait for room, and when one went to give it.
     pub(crate) bodies: Mutex<Bodies>,
     pub(crate) replies: Mutex<Replies>,
     pub(crate) waiting: AtomicU64,
     pub(crate) given_room: AtomicU64,
+    // Behind which place bodies that wait are let go on next.
+    pub(crate) woken: AtomicU64,
     // How many clients are still accepted, how many connections are still to end, and when the connections were looked through last.
     to_accept: AtomicU64,
-    to_end: AtomicU64,
+    pub(crate) to_end: AtomicU64,
     swept: AtomicU64,
+    // How many places have a connection, and by when the node ends if it drains.
+    pub(crate) taken: AtomicU64,
+    pub(crate) drained_by: AtomicU64,
+    // Whether the listener couldn't be armed.
+    is_deaf: AtomicBool,
+}
+
+/// What a node is made with.
+#[derive(Drop)]
+pub struct NodePlan {
+    /// How many connections it has at most.
+    pub places: usize,
+    pub limits: Limits,
+    /// After how many clients it ends.
+    pub clients: u64,
+    /// Where its operator is told what happens.
+    pub notices: Arc<Notices>,
 }
 
 /// The time of a clock, in milliseconds; 0 where it can't be told.
@@ -54,19 +76,24 @@ pub(crate) fn milliseconds<R: Clock>(rt: &R) -> u64 {
 }
 
 impl<C: Drop> Node<C> {
-    /// A node that serves the clients of a listener that doesn't block, and ends after so many of them.
+    /// A node that serves the clients of a listener that doesn't block.
     pub fn new(
         alloc: Global,
         listener: TcpListener,
         ready: ReadySet,
-        limits: Limits,
-        clients: u64,
+        plan: NodePlan,
     ) -> Result<Node<C>, AllocError> {
+        let NodePlan {
+            places: count,
+            limits,
+            clients,
+            notices,
+        } = plan;
         let mut places = Vec::new(alloc);
         let mut free = Vec::new(alloc);
-        for at in 0..PLACES {
+        for at in 0..count {
             places.push(Mutex::new(Place { client: None }))?;
-            free.push(PLACES - 1 - at)?;
+            free.push(count - 1 - at)?;
         }
         Ok(Node {
             listener,
@@ -74,13 +101,20 @@ impl<C: Drop> Node<C> {
             places,
             free: Mutex::new(free),
             limits,
+            notices,
+            errands: Errands::new(alloc),
+            next_number: AtomicU64::new(0),
             bodies: Mutex::new(Bodies::new()),
             replies: Mutex::new(Replies::new(alloc)),
             waiting: AtomicU64::new(0),
             given_room: AtomicU64::new(0),
+            woken: AtomicU64::new(0),
             to_accept: AtomicU64::new(clients),
             to_end: AtomicU64::new(clients),
             swept: AtomicU64::new(0),
+            taken: AtomicU64::new(0),
+            drained_by: AtomicU64::new(NEVER),
+            is_deaf: AtomicBool::new(false),
         })
     }
 
@@ -89,20 +123,21 @@ impl<C: Drop> Node<C> {
         self.ready.add(&self.listener, LISTENER, Interest::Read)
     }
 
-    /// Whether all the clients that it serves have come and gone.
-    pub(crate) fn is_over(&self) -> bool {
-        self.to_end.load(Ordering::SeqCst) == 0
-    }
-
     /// A client was accepted.
     pub(crate) fn count_accepted(&self) {
         self.to_accept.fetch_sub(1, Ordering::SeqCst);
     }
 
-    /// Waits for the next client, if there is to be one.
+    /// Waits for the next client, if there is to be one. If that can't be done, it is tried again at the next look through the connections.
     pub(crate) fn listen_again(&self) {
-        if self.to_accept.load(Ordering::SeqCst) > 0 {
-            self.ready.rearm(&self.listener, LISTENER, Interest::Read);
+        if self.to_accept.load(Ordering::SeqCst) == 0 || self.drains() {
+            return;
+        }
+        let is_armed = self.ready.rearm(&self.listener, LISTENER, Interest::Read);
+        self.is_deaf.store(!is_armed, Ordering::SeqCst);
+        if !is_armed {
+            let text = "clients can't be waited for, and it is tried again each second";
+            self.notices.tell(About::Listener, text, "");
         }
     }
 
@@ -119,9 +154,14 @@ impl<C: Drop> Node<C> {
         is_added
     }
 
-    /// Waits for the connection in a place again.
-    pub(crate) fn wait_again(&self, client: &Client<C>, at: usize, interest: Interest) {
-        self.ready.rearm(&client.stream, at as u64, interest);
+    /// Waits for the connection in a place again. Answers whether that can be done.
+    pub(crate) fn wait_again(&self, client: &Client<C>, at: usize, interest: Interest) -> bool {
+        self.ready.rearm(&client.stream, at as u64, interest)
+    }
+
+    /// A number that no other connection of the node has.
+    pub(crate) fn number(&self) -> u64 {
+        self.next_number.fetch_add(1, Ordering::SeqCst)
     }
 
     /// A client has gone that had no place.
@@ -132,54 +172,8 @@ impl<C: Drop> Node<C> {
     /// A connection has ended, and its place is free.
     pub(crate) fn release<R: Wait>(&self, rt: &R, at: usize) {
         let _ = self.free.lock(rt).push(at);
+        self.taken.fetch_sub(1, Ordering::SeqCst);
         self.count_gone();
-    }
-
-    /// A free place: if there is none, that of the connection that is to go first, which ends. One worker at a time looks for it: else a second one could end
-    /// the connection that the first put into the place.
-    pub(crate) fn claim<R: Wait>(&self, rt: &R) -> Option<usize> {
-        let mut free = self.free.lock(rt);
-        if let Some(at) = free.pop() {
-            return Some(at);
-        }
-        let at = self.end_first(rt)?;
-        self.count_gone();
-        Some(at)
-    }
-
-    /// Gives up the connection that is to go first, for its descriptor. Answers whether there was one.
-    pub(crate) fn give_up_first<R: Wait>(&self, rt: &R) -> bool {
-        let mut free = self.free.lock(rt);
-        let Some(at) = self.end_first(rt) else {
-            return false;
-        };
-        let _ = free.push(at);
-        self.count_gone();
-        true
-    }
-
-    /// Ends the connection that is to go first, of those that no worker has, and answers its place.
-    fn end_first<R: Wait>(&self, rt: &R) -> Option<usize> {
-        for _ in 0..MOST_LOOKS {
-            let (at, turn) = self.first()?;
-            if self.ends_idle(rt, at, turn) {
-                return Some(at);
-            }
-        }
-        None
-    }
-
-    /// The place of the connection that is to go first, of those that no worker has, and its number among them.
-    fn first(&self) -> Option<(usize, u64)> {
-        let mut least = Least::new();
-        for at in 0..self.places.len() {
-            if let Some(place) = self.places[at].try_lock() {
-                if let Some(client) = &place.client {
-                    least.look(at, client.turn());
-                }
-            }
-        }
-        least.found()
     }
 
     /// Ends the connections that are late, if the connections weren't looked through for a while.
@@ -201,27 +195,14 @@ impl<C: Drop> Node<C> {
                 self.release(rt, at);
             }
         }
-        self.make_room(rt, now);
-    }
-
-    /// Ends the connection in a place if no worker has it and it still has this number. Answers whether it did.
-    fn ends_idle<R: Wait>(&self, rt: &R, at: usize, turn: u64) -> bool {
-        let Some(place) = self.places.get(at) else {
-            return false;
-        };
-        let Some(mut place) = place.try_lock() else {
-            return false;
-        };
-        match &place.client {
-            Some(client) if client.turn() == turn => {
-                self.end(rt, at, &mut place);
-                true
-            }
-            _ => false,
+        if self.is_deaf.load(Ordering::SeqCst) {
+            self.listen_again();
         }
+        self.make_room(rt, now);
+        self.end_slow_replies(rt);
     }
 
-    /// Ends the connection in a place if no worker has it and it is late. Answers whether it did.
+    /// Ends the connection in a place if no worker has it and it is late, or idle while the node drains. Answers whether it did.
     fn ends_late<R: Wait>(&self, rt: &R, at: usize, now: u64) -> bool {
         let Some(place) = self.places.get(at) else {
             return false;
@@ -230,8 +211,9 @@ impl<C: Drop> Node<C> {
             return false;
         };
         match &place.client {
-            Some(client) if client.is_late(&self.limits, now) => {
-                self.end(rt, at, &mut place);
+            Some(client)
+                if client.is_late(&self.limits, now) || self.drains() && client.is_idle() => {
+                self.end(rt, &mut place);
                 true
             }
             _ => false,

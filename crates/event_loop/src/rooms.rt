@@ -1,9 +1,10 @@
 //! How much the connections of a node may hold: who waits for room, and who goes if there is none.
 use crate::clients::Client;
 use crate::holdings::{Holding, Kind};
-use crate::least::Least;
 use crate::nodes::{MOST_LOOKS, Node, Place, milliseconds};
 use crate::ready_sets::Interest;
+use connection_rules::Least;
+use operator_notices::Kind as About;
 use std::sync::Wait;
 use std::sync::atomic::Ordering;
 use std::time::Clock;
@@ -15,16 +16,11 @@ impl<C: Drop> Node<C> {
     }
 
     /// Whether a connection may take a step. A body may only if there is room for it. Else it waits for room, and has no deadline meanwhile.
-    pub(crate) fn admits<R: Wait + Clock>(
-        &self,
-        rt: &R,
-        at: usize,
-        client: &mut Client<C>,
-    ) -> bool {
+    pub(crate) fn admits<R: Wait + Clock>(&self, rt: &R, client: &mut Client<C>) -> bool {
         let Holding::Body(held) = client.holds else {
             return true;
         };
-        let has_room = self.bodies.lock(rt).reserve(at, held);
+        let has_room = self.bodies.lock(rt).reserve(client.number, held);
         match (has_room, client.waits_since) {
             (true, Some(_)) => {
                 self.waiting.fetch_sub(1, Ordering::SeqCst);
@@ -33,6 +29,8 @@ impl<C: Drop> Node<C> {
             (false, None) => {
                 self.waiting.fetch_add(1, Ordering::SeqCst);
                 client.waits_since = Some(milliseconds(rt));
+                let text = "bodies wait, since others hold as much as they may";
+                self.notices.tell(About::Bodies, text, "");
             }
             _ => {}
         }
@@ -40,23 +38,18 @@ impl<C: Drop> Node<C> {
     }
 
     /// Counts what a connection holds after a step. Answers whether there was memory for that.
-    pub(crate) fn count<R: Wait>(
-        &self,
-        rt: &R,
-        at: usize,
-        client: &mut Client<C>,
-        after: Holding,
-    ) -> bool {
+    pub(crate) fn count<R: Wait>(&self, rt: &R, client: &mut Client<C>, after: Holding) -> bool {
         let before = client.holds;
+        let number = client.number;
         client.holds = Holding::Nothing;
         match (before, after) {
             (Holding::Body(held), Holding::Body(now)) if held <= now => {
-                self.bodies.lock(rt).settle(at, held, now);
+                self.bodies.lock(rt).settle(number, held, now);
             }
             (Holding::Body(held), _) => {
                 let mut bodies = self.bodies.lock(rt);
-                bodies.settle(at, held, 0);
-                bodies.leave(at, 0);
+                bodies.settle(number, held, 0);
+                bodies.leave(number, 0);
             }
             (Holding::Reply(old), Holding::Reply(new)) if old == new => {
                 client.holds = after;
@@ -74,13 +67,34 @@ impl<C: Drop> Node<C> {
         true
     }
 
-    /// Ends the connection in a place, if there is one, and counts no longer what it held.
-    pub(crate) fn end<R: Wait>(&self, rt: &R, at: usize, place: &mut Place<C>) {
+    /// Counts what a connection holds that comes back from a thread for errands, which had a body of so many bytes. Answers whether there was memory for
+    /// that.
+    pub(crate) fn count_back<R: Wait>(
+        &self,
+        rt: &R,
+        client: &mut Client<C>,
+        held: u64,
+        after: Holding,
+    ) -> bool {
+        self.bodies.lock(rt).leave(client.number, held);
+        client.holds = Holding::Nothing;
+        if let Holding::Reply(new) = after {
+            if self.replies.lock(rt).add(&new).is_err() {
+                return false;
+            }
+        }
+        client.holds = after;
+        true
+    }
+
+    /// Ends the connection in a place, if there is one, and counts no longer what it held. What a thread for errands has of it counts until that is back.
+    pub(crate) fn end<R: Wait>(&self, rt: &R, place: &mut Place<C>) {
         let Some(client) = place.client.take() else {
             return;
         };
         match client.holds {
-            Holding::Body(held) => self.bodies.lock(rt).leave(at, held),
+            _ if client.is_away() => {}
+            Holding::Body(held) => self.bodies.lock(rt).leave(client.number, held),
             Holding::Reply(reply) => self.replies.lock(rt).remove(&reply),
             Holding::Nothing => {}
         }
@@ -94,7 +108,7 @@ impl<C: Drop> Node<C> {
     pub(crate) fn balance<R: Wait + Clock>(&self, rt: &R, before: Holding, after: Holding) {
         match (before, after) {
             (Holding::Body(_), Holding::Body(_)) => {}
-            (Holding::Body(_), _) => self.wake_waiting(),
+            (Holding::Body(_), _) => self.wake_waiting(rt),
             _ => {}
         }
         match after {
@@ -103,19 +117,39 @@ impl<C: Drop> Node<C> {
         }
     }
 
-    /// Lets each body that waits for room try again.
-    fn wake_waiting(&self) {
+    /// Lets bodies that wait for room try again: as many as there is room for steps, and each time others first.
+    pub(crate) fn wake_waiting<R: Wait>(&self, rt: &R) {
         if self.waiting.load(Ordering::SeqCst) == 0 {
             return;
         }
-        for at in 0..self.places.len() {
-            if let Some(place) = self.places[at].try_lock() {
-                if let Some(client) = &place.client {
-                    if client.waits_since.is_some() {
-                        self.wait_again(client, at, Interest::Either);
-                    }
-                }
+        let mut steps = self.bodies.lock(rt).steps();
+        let count = self.places.len();
+        let first = self.woken.load(Ordering::SeqCst) as usize;
+        for offset in 0..count {
+            let at = first.saturating_add(offset).checked_rem(count).unwrap_or(0);
+            if steps == 0 {
+                return;
             }
+            if self.wakes(at) {
+                self.woken.store(at as u64 + 1, Ordering::SeqCst);
+                steps -= 1;
+            }
+        }
+    }
+
+    /// Lets the body of the connection in a place try again, if it waits for room and no worker has it. Answers whether it does.
+    fn wakes(&self, at: usize) -> bool {
+        let Some(place) = self.places.get(at) else {
+            return false;
+        };
+        let Some(place) = place.try_lock() else {
+            return false;
+        };
+        match &place.client {
+            Some(client) if client.waits_since.is_some() => {
+                self.wait_again(client, at, Interest::Either)
+            }
+            _ => false,
         }
     }
 
@@ -129,7 +163,7 @@ impl<C: Drop> Node<C> {
         if waited.min(given) >= self.limits.wait && self.end_slowest(rt, Kind::Bodies, now) {
             self.given_room.store(now, Ordering::SeqCst);
         }
-        self.wake_waiting();
+        self.wake_waiting(rt);
     }
 
     /// Since when the body waits that has waited for room longest, of those that no worker has.
@@ -146,12 +180,14 @@ impl<C: Drop> Node<C> {
     }
 
     /// Ends replies that moved least of late, as long as all together hold too much.
-    fn end_slow_replies<R: Wait + Clock>(&self, rt: &R) {
+    pub(crate) fn end_slow_replies<R: Wait + Clock>(&self, rt: &R) {
         for _ in 0..self.places.len() {
             let are_too_many = self.replies.lock(rt).are_too_many();
             if !are_too_many || !self.end_slowest(rt, Kind::Replies, milliseconds(rt)) {
                 return;
             }
+            let text = "they hold more than they may, so the slowest one ends";
+            self.notices.tell(About::Replies, text, "");
         }
     }
 
@@ -195,7 +231,7 @@ impl<C: Drop> Node<C> {
         };
         match &place.client {
             Some(client) if client.may_go_for(kind, &self.limits, now) => {
-                self.end(rt, at, &mut place);
+                self.end(rt, &mut place);
                 true
             }
             _ => false,

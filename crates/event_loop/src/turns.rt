@@ -1,7 +1,7 @@
 //! The turns of a node's workers.
 ghost use Rattle.std.specs.Prelude.{◌≡◌, None, true};
 
-use crate::nodes::{LISTENER, Node};
+use crate::nodes::{LISTENER, Node, milliseconds};
 use crate::ready_sets::Event;
 use crate::workers::Turns;
 use std::sync::Wait;
@@ -59,7 +59,7 @@ impl<R: Wait + Clock, C: Drop> NodeTurns<'_, R, C> {
         let rt = self.rt;
         let tick = i32::try_from(self.node.limits.sweep).unwrap_or(LONGEST_TICK);
         for _ in rt.forever() {
-            if self.node.is_over() {
+            if self.node.is_over(milliseconds(rt)) {
                 return None;
             }
             self.node.sweep(rt);

@@ -5,8 +5,11 @@ ghost use Rattle.http_wire.specs.Timing.{Moves};
 
 use byte_slices::Slices;
 use http_wire::{Duplex, Halt, ReadFailed, Reading, Sink, Source, Steady, WriteFailed, Writing};
+use libc::STDERR_FILENO;
+use libc::net::{POLLOUT, poll};
+use libc::types::pollfd;
 use std::os::fd::AsRawFd;
-use std::rt::{Stdin, Stdout};
+use std::rt::{Stderr, Stdin, Stdout};
 
 /// The standard input and output. What comes in and goes out is not known here, so contracts see nothing of it. Several slices are written in one
 /// call of the system.
@@ -70,4 +73,32 @@ impl Duplex for StandardStreams {
 
 impl Steady for StandardStreams {
     ghost never_waits = { λ _ never. never };
+}
+
+/// The standard error, to which nothing is written that would have to wait. So whoever leaves its lines unread holds up nobody.
+#[derive(Drop)]
+pub(crate) struct ReadyErrors(pub Stderr);
+
+/// Whether the standard error takes a line at once.
+fn is_ready() -> bool {
+    let mut errors = [pollfd {
+        fd: STDERR_FILENO,
+        events: POLLOUT,
+        revents: 0,
+    }];
+    poll(&mut errors, 0) > 0
+}
+
+impl Sink for ReadyErrors {
+    ghost held = { λ _. None };
+
+    ghost may_fail = { ⊤ };
+
+    fn write_some(&mut self, bytes: &[u8]) -> Result<usize, WriteFailed> {
+        if is_ready() {
+            Writing(self.0).write_some(bytes)
+        } else {
+            Err(WriteFailed)
+        }
+    }
 }

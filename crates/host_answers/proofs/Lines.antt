@@ -1,17 +1,21 @@
--- The lines of the last entries, found from the newest on.
-use Rattle.std.proofs.Common.{◌≡◌, ◌⊎◌, inl, inr, ℕ, zero, suc, ◌+◌, ◌-◌, ◌<◌, ◌≤◌, ◌==◌, List, [], ◌∷◌, ◌++◌, length, take, drop, reverse, slice_get, true, false, cond, Some, None, refl, sym, ap, subst, ◌∙◌, arith}
+-- The lines of the last entries of a site, found from the newest on.
+use Rattle.std.proofs.Common.{◌≡◌, ◌⊎◌, inl, inr, ℕ, zero, suc, ◌+◌, ◌-◌, ◌<◌, ◌≤◌, ◌==◌, Bool, List, [], ◌∷◌, ◌++◌, append_assoc, length, map, filter, take, drop, reverse, slice_get, true, false, cond, Option, Some, None, refl, sym, ap, subst, ◌∙◌, arith}
 use Rattle.std.specs.Prelude.{option_and_then}
-use Rattle.std.specs.List.{cons_option, enumerate_from, filter_map}
+use Rattle.std.specs.List.{AllByRecursion, cons_option, enumerate_from, filter_map}
 use Rattle.std.proofs.lemmas.Bool.{eqb-true}
 use Rattle.std.proofs.Math.Seq.{drop-append_seam}
-use Rattle.std.proofs.lemmas.List.{take-append-drop, length-append, length-reverse, reverse-append}
+use Rattle.std.proofs.lemmas.List.{append-nil, take_all, take_at, take-append-drop, length-append, length-reverse, length-take-le, reverse-append, reverse-reverse}
 use Rattle.std.proofs.lemmas.List.Elements.{filter_map-append}
 use Rattle.host_names.specs.declared.names.SiteName.{SiteName}
 use Rattle.change_undo.specs.declared.entries.Entry.{Entry}
-use Rattle.change_undo.specs.Histories.{entry_at, undone}
+use Rattle.change_undo.specs.Histories.{entry_at, same_site, site_of_entry, undone}
 use Rattle.change_undo.specs.Logs.{Log}
+use Rattle.change_undo.specs.SiteEntries.{numbers_of}
 use Rattle.host_api.specs.declared.change_lines.ChangeLine.{ChangeLine}
-use Rattle.host_answers.specs.ChangeLists.{line_in, line_at, lines_of, shown_lines}
+use Rattle.host_answers.specs.ChangeLists.{line_of, line_in, line_at, lines_of}
+
+few_or_many : (m n : ℕ) → (m ≤ n) ⊎ (n < m)
+few_or_many m n = grind arith
 
 -- ---- the last so many
 
@@ -34,103 +38,112 @@ last_of_back n front back some =
     let at : length (front ++ back) - n ≡ length front = omega (arith, long) in
     ap (λ k. drop k (front ++ back)) at ∙ drop-append_seam front back
 
--- ---- one entry more
+-- the last so many, found from the end on
+pub turned : {A : Type 0} (n : ℕ) (xs : List A) → reverse (take n (reverse xs)) ≡ last_of n xs
+turned n xs = elim (few_or_many (length xs) n) [
+  | inl few ↦
+      let long = length-reverse xs in
+      ap reverse (take_all n (reverse xs) (omega (arith, long, few))) ∙ reverse-reverse xs ∙ sym (last_of_few n xs few)
+  | inr many ↦
+      let front = reverse (drop n (reverse xs)) in
+      let back = reverse (take n (reverse xs)) in
+      let parts : xs ≡ front ++ back =
+      sym (reverse-reverse xs) ∙ ap reverse (sym (take-append-drop n (reverse xs))) ∙ reverse-append (take n (reverse xs)) (drop n (reverse xs)) in
+      let long = length-reverse xs in
+      let some = length-reverse (take n (reverse xs)) in
+      let taken = length-take-le n (reverse xs) (omega (arith, long, many)) in
+      sym (ap (last_of n) parts ∙ last_of_back n front back (omega (arith, some, taken)))
+]
 
-places_drop : (n i : ℕ) (entries : List Entry) (e : Entry) → slice_get entries i ≡ Some e → drop i (enumerate_from n entries) ≡ (n + i, e) ∷ drop (i + 1) (enumerate_from n entries)
-places_drop n i [] e at = absurd (cc at)
-places_drop n zero (x ∷ entries) e at =
-    let same : x ≡ e = cc at in
-    let first : n ≡ n + 0 = omega arith in
-    ap (λ y. (n, y) ∷ enumerate_from (n + 1) entries) same ∙ ap (λ m. (m, e) ∷ enumerate_from (n + 1) entries) first
-places_drop n (suc i) (x ∷ entries) e at =
-    let number : n + 1 + i ≡ n + suc i = omega arith in
-    let place : suc (i + 1) ≡ suc i + 1 = omega arith in
-    places_drop (n + 1) i entries e at
-    ∙ ap (λ m. (m, e) ∷ drop (i + 1) (enumerate_from (n + 1) entries)) number
-    ∙ ap (λ k. (n + suc i, e) ∷ drop k (enumerate_from n (x ∷ entries))) place
+-- ---- the entries of a site
 
-found_at : (entries : List Entry) (i : ℕ) → i < length entries → (e : Entry) × (slice_get entries i ≡ Some e)
-found_at [] i within = absurd (omega (arith, within))
-found_at (x ∷ entries) zero within = (x, refl)
-found_at (x ∷ entries) (suc i) within = found_at entries i (omega (arith, within))
+-- the entries have these numbers in the log
+AreEntriesOf : Log → List (ℕ × Entry) → Type 0
+AreEntriesOf log entries = AllByRecursion (λ e. entry_at log e.0 ≡ Some e.1) entries
+
+slice_get-next : (front : List Entry) (e : Entry) (entries : List Entry) (i : ℕ) → i ≡ length front → slice_get (front ++ e ∷ entries) i ≡ Some e
+slice_get-next [] e entries zero at = refl
+slice_get-next [] e entries (suc i) at = absurd (omega (arith, at))
+slice_get-next (x ∷ front) e entries zero at = absurd (omega (arith, at))
+slice_get-next (x ∷ front) e entries (suc i) at = slice_get-next front e entries i (omega (arith, at))
 
 nonzero : (k : ℕ) → 0 < k → (k == 0) ≡ false
 nonzero k h = elim (k == 0) as (λ t. (k == 0) ≡ t → t ≡ false) [ true ↦ λ e. absurd (omega (arith, eqb-true k 0 e, h)) | false ↦ λ e. refl ] refl
 
--- the lines from an entry on
-abbrev pub lines_from : Log → SiteName → ℕ → List ChangeLine
-lines_from log site k = filter_map (line_in site (undone log)) (drop k (enumerate_from 1 log))
+entries_from : (log front entries : List Entry) (n : ℕ) → log ≡ front ++ entries → n ≡ length front + 1 → AreEntriesOf log (enumerate_from n entries)
+unfolding AreEntriesOf
+entries_from log front [] n parts next = tt
+entries_from log front (e ∷ entries) n parts next =
+    let long = length-append front (e ∷ []) in (
+      ap (λ t. cond t None (slice_get log (n - 1))) (nonzero n (omega (arith, next)))
+          ∙ ap (λ (es : List Entry). slice_get es (n - 1)) parts ∙ slice_get-next front e entries (n - 1) (omega (arith, next)),
+      entries_from log (front ++ e ∷ []) entries (n + 1) (parts ∙ sym (append_assoc front (e ∷ []) entries)) (omega (arith, next, long)),
+    )
 
--- with one entry more
-one_more : (log : Log) (site : SiteName) (k : ℕ) → 0 < k → k ≤ length log
-    → lines_from log site (k - 1) ≡ cons_option (line_at log site k) (lines_from log site k)
-one_more log site k some within =
+-- each number of an entry of the site has a line, and these are all
+lines-of : (log : Log) (site : SiteName) (entries : List (ℕ × Entry)) → AreEntriesOf log entries
+    → filter_map (line_at log site) (map (λ e. e.0) (filter (λ e. same_site (site_of_entry e.1) site) entries)) ≡ filter_map (line_in site (undone log)) entries
+unfolding AreEntriesOf
+lines-of log site [] are = refl
+lines-of log site (e ∷ entries) are =
     let f = line_in site (undone log) in
-    let found = found_at log (k - 1) (omega (arith, some, within)) in
-    let e = found.0 in
-    let number : 1 + (k - 1) ≡ k = omega (arith, some) in
-    let place : k - 1 + 1 ≡ k = omega (arith, some) in
-    let at : entry_at log k ≡ Some e = ap (λ t. cond t None (slice_get log (k - 1))) (nonzero k some) ∙ found.1 in
-    ap (filter_map f) (places_drop 1 (k - 1) log e found.1
-    ∙ ap (λ m. (m, e) ∷ drop (k - 1 + 1) (enumerate_from 1 log)) number ∙ ap (λ m. (k, e) ∷ drop m (enumerate_from 1 log)) place)
-    ∙ ap (λ o. cons_option (option_and_then (λ (x : Entry). f (k, x)) o) (lines_from log site k)) (sym at)
+    let test : ℕ × Entry → Bool = λ e. same_site (site_of_entry e.1) site in
+    let rest = filter test entries in
+    elim (test e) as (λ b. test e ≡ b → filter_map (line_at log site) (map (λ p. p.0) (cond b (e ∷ rest) rest)) ≡ cons_option (f e) (filter_map f entries)) [
+      | true ↦ λ it.
+          ap (λ (o : Option Entry). cons_option (option_and_then (λ (x : Entry). f (e.0, x)) o) (filter_map (line_at log site) (map (λ p. p.0) rest))) are.0
+          ∙ ap (cons_option (f e)) (lines-of log site entries are.1)
+      | false ↦ λ other.
+          lines-of log site entries are.1
+          ∙ sym (ap (λ b. cons_option (cond b (Some (line_of (undone log) e.0 e.1)) None) (filter_map f entries)) other)
+    ] refl
+
+-- ---- the newest first
+
+last_one : {Y : Type 0} (o : Option Y) (ys : List Y) → reverse ys ++ cons_option o [] ≡ reverse (cons_option o ys)
+last_one None ys = append-nil (reverse ys)
+last_one (Some y) ys = sym (reverse-append (y ∷ []) ys)
+
+filter_map-reverse : {X Y : Type 0} (h : X → Option Y) (xs : List X) → filter_map h (reverse xs) ≡ reverse (filter_map h xs)
+filter_map-reverse h [] = refl
+filter_map-reverse h (x ∷ xs) =
+    ap (filter_map h) (reverse-append (x ∷ []) xs) ∙ filter_map-append h (reverse xs) (x ∷ [])
+    ∙ ap (λ ys. ys ++ cons_option (h x) []) (filter_map-reverse h xs) ∙ last_one (h x) (filter_map h xs)
+
+newest_lines : (log : Log) (site : SiteName) → filter_map (line_at log site) (reverse (numbers_of log site)) ≡ reverse (lines_of log site)
+newest_lines log site =
+    filter_map-reverse (line_at log site) (numbers_of log site) ∙ ap reverse (lines-of log site (enumerate_from 1 log) (entries_from log [] log 1 refl refl))
 
 -- ---- the loop
 
--- these lines, the newest first, are all from the entry after this number on, and not too many
-abbrev pub AreFound : Log → SiteName → List ChangeLine → ℕ → Type 0
-AreFound log site items k = (reverse items ≡ lines_from log site k) × (length items ≤ most_lines) × (k ≤ length log)
+-- these lines, the newest first, and those of the numbers that are left are all, and these are not too many
+abbrev pub AreFound : Log → SiteName → List ChangeLine → List ℕ → Type 0
+AreFound log site items left = (items ++ filter_map (line_at log site) left ≡ reverse (lines_of log site)) × (length items ≤ most_lines)
 
-none_left : (n : ℕ) (entries : List Entry) → drop (length entries) (enumerate_from n entries) ≡ []
-none_left n [] = refl
-none_left n (e ∷ entries) = none_left (n + 1) entries
-
-pub none_found : (log : Log) (site : SiteName) (items : List ChangeLine) (k : ℕ) → items ≡ [] → k ≡ length log → AreFound log site items k
-none_found log site items k none all =
-    let f = line_in site (undone log) in
+pub none_found : (log : Log) (site : SiteName) (items : List ChangeLine) (left : List ℕ) → items ≡ [] → left ≡ reverse (numbers_of log site) → AreFound log site items left
+none_found log site items left none all =
     let short : length items ≤ most_lines = subst (λ (ls : List ChangeLine). length ls ≤ most_lines) (sym none) (omega arith) in (
-      ap reverse none ∙ sym (ap (filter_map f) (none_left 1 log)) ∙ ap (lines_from log site) (sym all),
+      ap (λ (ls : List ChangeLine). ls ++ filter_map (line_at log site) left) none ∙ ap (filter_map (line_at log site)) all ∙ newest_lines log site,
       short,
-      omega (arith, all),
     )
 
-pub line_found : (log : Log) (site : SiteName) (items new : List ChangeLine) (line : ChangeLine) (k : ℕ) → AreFound log site items k → 0 < k
-    → length items < most_lines → line_at log site k ≡ Some line → new ≡ items ++ line ∷ [] → AreFound log site new (k - 1)
-line_found log site items new line k found some room is pushed =
-    let long = length-append items (line ∷ []) in
-    let long_new : length new ≡ length (items ++ line ∷ []) = ap length pushed in (
-      ap reverse pushed ∙ reverse-append items (line ∷ []) ∙ ap (λ ls. line ∷ ls) found.0 ∙ ap (λ o. cons_option o (lines_from log site k)) (sym is)
-          ∙ sym (one_more log site k some found.2),
-      omega (arith, long, long_new, room),
-      omega (arith, found.2),
+pub no_line_found : (log : Log) (site : SiteName) (items : List ChangeLine) (n : ℕ) (left rest : List ℕ) → AreFound log site items left
+    → left ≡ n ∷ rest → line_at log site n ≡ None → AreFound log site items rest
+no_line_found log site items n left rest found first is =
+    let f = line_at log site in (
+      ap (λ o. items ++ cons_option o (filter_map f rest)) (sym is) ∙ ap (λ ns. items ++ filter_map f ns) (sym first) ∙ found.0,
+      found.1,
     )
 
-pub no_line_found : (log : Log) (site : SiteName) (items : List ChangeLine) (k : ℕ) → AreFound log site items k → 0 < k
-    → line_at log site k ≡ None → AreFound log site items (k - 1)
-no_line_found log site items k found some is = (
-  found.0 ∙ ap (λ o. cons_option o (lines_from log site k)) (sym is) ∙ sym (one_more log site k some found.2),
-  found.1,
-  omega (arith, found.2),
-)
+-- where no number is left
+pub all_found : (log : Log) (site : SiteName) (items : List ChangeLine) (left : List ℕ) → AreFound log site items left → left ≡ []
+    → items ≡ take most_lines (reverse (lines_of log site))
+all_found log site items left found none =
+    let whole : items ≡ reverse (lines_of log site) =
+    sym (append-nil items) ∙ ap (λ ns. items ++ filter_map (line_at log site) ns) (sym none) ∙ found.0 in
+    sym (take_all most_lines items found.1) ∙ ap (take most_lines) whole
 
-lines_shown : (log : Log) (site : SiteName) (k : ℕ) (lines : List ChangeLine) → lines ≡ lines_from log site k → length lines ≤ most_lines
-    → (k ≡ 0) ⊎ (length lines ≡ most_lines) → lines ≡ shown_lines log site
-lines_shown log site k lines is few (inl all) =
-    let whole : lines ≡ lines_of log site = is ∙ ap (lines_from log site) all in
-    whole ∙ sym (last_of_few most_lines (lines_of log site) (subst (λ (ls : List ChangeLine). length ls ≤ most_lines) whole few))
-lines_shown log site k lines is few (inr full) =
-    let f = line_in site (undone log) in
-    let all = enumerate_from 1 log in
-    let parts : lines_of log site ≡ filter_map f (take k all) ++ lines =
-    ap (filter_map f) (sym (take-append-drop k all)) ∙ filter_map-append f (take k all) (drop k all) ∙ ap (λ ls. filter_map f (take k all) ++ ls) (sym is) in
-    sym (ap (last_of most_lines) parts ∙ last_of_back most_lines (filter_map f (take k all)) lines full)
-
--- where no entry is left, or no more lines are wanted
-pub all_shown : (log : Log) (site : SiteName) (items : List ChangeLine) (k : ℕ) → AreFound log site items k → (k ≡ 0) ⊎ (most_lines ≤ length items)
-    → reverse items ≡ shown_lines log site
-all_shown log site items k found (inl none) =
-    let long = length-reverse items in
-    lines_shown log site k (reverse items) found.0 (omega (arith, long, found.1)) (inl none)
-all_shown log site items k found (inr full) =
-    let long = length-reverse items in
-    lines_shown log site k (reverse items) found.0 (omega (arith, long, found.1)) (inr (omega (arith, long, found.1, full)))
+-- where no more lines are wanted
+pub enough_found : (log : Log) (site : SiteName) (items : List ChangeLine) (left : List ℕ) → AreFound log site items left → length items ≡ most_lines
+    → items ≡ take most_lines (reverse (lines_of log site))
+enough_found log site items left found full = sym (take_at items (filter_map (line_at log site) left) most_lines full) ∙ ap (take most_lines) found.0

@@ -2,7 +2,6 @@
 ghost use Rattle.host_replies.specs.Bodies.{answer_of};
 ghost use Rattle.host_answers.specs.Answers.{AnswersBy, DoesBy};
 
-use crate::asking::asked_for;
 use crate::change_lists::show_changes;
 use crate::commands::{cancel, change, remove_deploy, undo};
 use crate::deploys::show;
@@ -23,7 +22,7 @@ pub fn answer<H: House>(alloc: Global, house: &mut H, head: &Head, body: &[u8]) 
     ensures replied { H.answers house.old head.now body.now (answer_of result) house.new }
     ensures grows { H.grows house.old house.new }
 {
-    let ask = match asked_for(alloc, head, body) {
+    let ask = match house.asked_for(alloc, head, body) {
         Ok(ask) => ask,
         Err(why) => return refuse(alloc, why),
     };

@@ -8,7 +8,7 @@ use http_wire::Head;
 use std::alloc::Global;
 
 /// What a request asks for, or the first reason why it asks for nothing.
-pub(crate) fn asked_for(alloc: Global, head: &Head, body: &[u8]) -> Result<Ask, Refusal>
+pub fn asked_for(alloc: Global, head: &Head, body: &[u8]) -> Result<Ask, Refusal>
     ensures ok { IfOk result (λ ask. spec.asked_for head.now body.now ≡ Ok ask) }
     ensures refused { IfErr result (λ reason.
         ((reason ≡ Refusal.OutOfMemory) × IsTrue (asking_takes head.now body.now))

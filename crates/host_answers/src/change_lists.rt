@@ -1,5 +1,5 @@
 //! The list of the changes of a site.
-ghost use Rattle.std.specs.Prelude.{◌≡◌, IfOk};
+ghost use Rattle.std.specs.Prelude.{◌≡◌, IfOk, reverse, take};
 ghost use Rattle.host_api.specs.declared.texts.Told.TheVariants.{Changes};
 ghost use Rattle.host_replies.specs.Bodies.{answer_of};
 ghost use Rattle.host_replies.specs.Replies.{Tells};
@@ -36,7 +36,28 @@ fn line<H: House>(house: &H, site: &SiteName, number: u64) -> Option<ChangeLine>
     })
 }
 
-/// The lines of the last entries of a site, the oldest first.
+/// The lines of the last entries of a site, the newest first.
+fn newest_lines<H: House>(
+    alloc: Global,
+    house: &H,
+    site: &SiteName,
+) -> Result<Vec<ChangeLine>, AllocError>
+    ensures { IfOk result (λ lines.
+        lines.items ≡ take 1000 (reverse (spec.lines_of (H.calls.seen house.now).entries site.now))) }
+{
+    let mut lines = Vec::new(alloc);
+    for number in house.entries_of(site) {
+        if lines.len() == MOST_LINES {
+            return Ok(lines);
+        }
+        if let Some(line) = line(house, site, number) {
+            lines.push(line)?;
+        }
+    }
+    Ok(lines)
+}
+
+/// The same lines, the oldest first.
 fn list_changes<H: House>(
     alloc: Global,
     house: &H,
@@ -44,14 +65,7 @@ fn list_changes<H: House>(
 ) -> Result<Items<ChangeLine>, AllocError>
     ensures { IfOk result (λ lines. lines ≡ spec.shown_lines (H.calls.seen house.now).entries site.now) }
 {
-    let mut lines = Vec::new(alloc);
-    let mut number = house.log().len();
-    'entries: while number > 0 && lines.len() < MOST_LINES {
-        if let Some(line) = line(house, site, number) {
-            lines.push(line)?;
-        }
-        number -= 1;
-    }
+    let mut lines = newest_lines(alloc, house, site)?;
     lines.reverse();
     Ok(Items::from(lines))
 }

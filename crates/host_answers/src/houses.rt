@@ -1,18 +1,22 @@
 //! Houses: what requests are answered over.
-ghost use Rattle.std.specs.Prelude.{◌≡◌, ℕ, List, Some, IfOk, option_map, true};
+ghost use Rattle.std.specs.Prelude.{◌≡◌, ◌⊎◌, ℕ, List, Some, Ok, Err, IfErr, IfOk, IsTrue, option_map, reverse, true};
 ghost use Rattle.http_wire.specs.Requests.{RequestParts};
 ghost use Rattle.change_undo.specs.Histories.{entry_at, marked_entry};
+ghost use Rattle.change_undo.specs.SiteEntries.{numbers_of};
 ghost use Rattle.change_undo.specs.declared.entries.Entry.TheVariants as entry;
 ghost use Rattle.host_replies.specs.Replies.{Answer, is_head};
+ghost use Rattle.host_api.specs.declared.refusals.Refusal.TheVariants as reason;
 ghost use Rattle.host_answers.specs.Answers.{AnswersBy};
+ghost use Rattle.host_answers.specs.Asking as asking;
 ghost use Rattle.host_answers.specs.Houses.{Calls};
 
 use crate::stops::Stop;
 use crate::uploads::Uploaded;
-use change_undo::{Entry, Log};
+use change_undo::{Entry, Log, SiteEntries};
 use chunk_reads::Holder;
-use host_api::{Items, Refusal};
+use host_api::{Ask, Items, Refusal};
 use host_names::{Digest, FilePath, SiteName};
+use http_wire::Head;
 use site_change::Command;
 use site_state::{Listing, State};
 use std::alloc::{AllocError, Global};
@@ -34,6 +38,13 @@ pub trait House: Holder {
     // What stays of a house, whatever is asked of it.
     ghost grows: { Self → Self → Type 0 };
 
+    /// What a request asks for, as the function `asked_for` finds it. A house may let requests with long bodies wait for each other first.
+    fn asked_for(&self, alloc: Global, head: &Head, body: &[u8]) -> Result<Ask, Refusal>
+        ensures ok { IfOk result (λ ask. asking.asked_for head.now body.now ≡ Ok ask) }
+        ensures refused { IfErr result (λ why.
+            ((why ≡ reason.OutOfMemory) × IsTrue (asking.asking_takes head.now body.now))
+            ⊎ (asking.asked_for head.now body.now ≡ Err why)) };
+
     /// Looks at the history: what is there is shown from then on. On an error it may have looked or not.
     fn look(&mut self) -> Result<(), AllocError>
         ensures { calls.looks self.old result self.new };
@@ -50,6 +61,11 @@ pub trait House: Holder {
     fn marked_entry(&self, number: u64) -> Option<(&Entry, bool)>
         ensures { option_map (λ found. (found.0.now, found.1)) result
             ≡ marked_entry (calls.seen self.now).entries number };
+
+    /// The numbers of the entries of a site that are shown, the newest first. The work is a look-up of the site, and one in a list for each
+    /// number that is taken.
+    fn entries_of(&self, site: &SiteName) -> SiteEntries<'_>
+        ensures { result ≡ reverse (numbers_of (calls.seen self.now).entries site.now) };
 
     /// The listed digests that aren't uploaded.
     fn missing(&self, alloc: Global, files: &Listing) -> Result<Items<Digest>, AllocError>

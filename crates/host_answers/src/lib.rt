@@ -14,6 +14,7 @@ mod telling;
 mod uploads;
 
 pub use answers::answer;
+pub use asking::asked_for;
 pub use houses::House;
 pub use stops::Stop;
 pub use uploads::Uploaded;

@@ -19,3 +19,8 @@ asked_on answers old mid new gone_through p q (inr asked) few (inr by) = absurd 
 pub asked_in_all : {H : Type 0} (answers : Answering H) (old new : H) (gone_through : ℕ) (p : Phase) → AskedOnce answers old new gone_through p → AnswersOnce answers old new
 asked_in_all answers old new gone_through p (inl same) = inl same
 asked_in_all answers old new gone_through p (inr asked) = inr asked.0
+
+-- before a phase in which the service may be asked it was not: else no phase of the step is left for that
+pub not_asked : {H : Type 0} (answers : Answering H) (old new : H) (gone_through : ℕ) (p : Phase) → AskedOnce answers old new gone_through p → gone_through < 3 → until_asked p ≡ 0 → new ≡ old
+not_asked answers old new gone_through p (inl same) few asks = same
+not_asked answers old new gone_through p (inr asked) few asks = absurd (omega (arith, asked.1, few, asks))

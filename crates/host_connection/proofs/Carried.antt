@@ -34,7 +34,7 @@ use Rattle.host_connection.specs.Phases.{InviteSoFar, BodySoFar, RefusalSoFar}
 use Rattle.host_connection.specs.Serving.{Answering, IsSent, is_last_at, limit_of}
 use Rattle.host_connection.specs.Stopping.{stop_of_body, stop_of_head}
 use Rattle.host_connection.specs.Timing.{AwaitsRequest, Connects, IsCaughtUp, ReadsHeadAs}
-use Rattle.host_connection.proofs.InPhases.{Missed, head_begins, head_waits, head_comes, head_fails, length_refused, invite_begins, invite_waits, invite_out, invite_fails, body_begins, body_waits, body_comes, body_fails, reply_begins, reply_waits, reply_out, reply_fails, refusal_begins, refusal_waits, refusal_out, refusal_fails, missed_silently}
+use Rattle.host_connection.proofs.InPhases.{Missed, head_begins, head_waits, head_comes, head_fails, length_refused, invite_begins, invite_waits, invite_out, invite_fails, body_begins, body_waits, body_size, body_kept, body_comes, body_fails, reply_begins, reply_waits, reply_out, reply_fails, refusal_begins, refusal_waits, refusal_out, refusal_fails, missed_silently}
 use Rattle.host_connection.proofs.Turns.{is_end}
 use Rattle.host_connection.proofs.TimedConnections.{none_yet, turn_more, turn_last, turn_failed}
 use Rattle.host_connection.proofs.TurnParts.{Next, Exchange, End, RefusesAs, TurnsAs}
@@ -271,6 +271,25 @@ answered {H = H} {A = A} answers saw waits start now new first host next n buffe
       some_first s new_out fresh,
     )
 answered {A = A} answers saw waits start now new first host next n buffer rest out new_out b body request (phase.Ended result) c same ran head items last answering fresh = absurd answering
+
+-- the request is left for later: its body stays as it is, whole
+pub kept : {S H A : Type 0} (answers : Answering H) (saw : S → Event → S → Type 0) (start now new : S) (first host next : H) (n : ℕ) (buffer rest : List ℕ) (parts : RequestParts) (size : ℕ) (part : List ℕ) (body : Vec ℕ A)
+    (b : BodyPart) → AtBody answers saw start first now host buffer n parts size part
+    → Ran saw (AwaitsBody (part ++ buffer) size) now new (TriesBody {A = A} (Ok tt) size (part ++ buffer) body rest)
+    → b.head ≡ parts → b.size ≡ vec_len body → b.body.items ≡ body.items → next ≡ host → AtBody answers saw start first new next rest n b.head b.size b.body.items
+kept {A = A} answers saw start now new first host next n buffer rest parts size part body b c ran head sized items same =
+    let whole : b.size ≡ size = sized ∙ body_size {A = A} saw now new size body (part ++ buffer) rest ran in
+    let so = body_kept {A = A} saw c.began now new parts size body c.begun part buffer rest c.turn.0 ran in
+    let P : RequestParts → Type 0 = λ h. BodySoFar saw c.began new h b.size c.begun b.body.items rest in
+    let Q : ℕ → Type 0 = λ s. BodySoFar saw c.began new parts s c.begun b.body.items rest in
+    let R : List ℕ → Type 0 = λ l. BodySoFar saw c.began new parts size c.begun l rest in
+    record {
+      began = c.began;
+      before = c.before;
+      begun = c.begun;
+      so = c.so;
+      turn = (subst P (sym head) (subst Q (sym whole) (subst R (sym items) so)), same ∙ c.turn.1);
+    }
 
 -- ---- in a reply
 

@@ -45,10 +45,12 @@ pub falls_at_most : (result : Progress) (old new : ℕ) → Falls result old new
 falls_at_most (progress.Waits w) old new falls = falls
 falls_at_most progress.More old new falls = omega (arith, falls)
 falls_at_most (progress.Body size) old new falls = omega (arith, falls)
+falls_at_most progress.Postponed old new falls = falls
 falls_at_most (progress.Ended result) old new falls = falls
 
 pub falls_twice : (result : Progress) (old mid new : ℕ) → mid < old → Falls result mid new → Falls result old new
 falls_twice (progress.Waits w) old mid new fell falls = omega (arith, fell, falls)
 falls_twice progress.More old mid new fell falls = omega (arith, fell, falls)
 falls_twice (progress.Body size) old mid new fell falls = omega (arith, fell, falls)
+falls_twice progress.Postponed old mid new fell falls = omega (arith, fell, falls)
 falls_twice (progress.Ended result) old mid new fell falls = omega (arith, fell, falls)

@@ -1,5 +1,5 @@
 -- A turn in phases is a turn.
-use Rattle.std.proofs.Common.{◌≡◌, ℕ, inl, List, [], ◌++◌, length, take, drop, Bool, Some, Result, Ok, Err, codes, refl, sym, ap, ◌∙◌, append-nil, arith}
+use Rattle.std.proofs.Common.{◌≡◌, ℕ, inl, List, [], ◌++◌, length, take, drop, Bool, Some, None, Result, Ok, Err, codes, refl, sym, ap, ◌∙◌, append-nil, arith}
 use Rattle.std.specs.Prelude.{vec_len}
 use Rattle.std.specs.declared.vec.Vec.{Vec}
 use Rattle.std.specs.Str.{bytes_eq}
@@ -13,7 +13,7 @@ use Rattle.http_wire.specs.Expectations.{ExpectsContinue, continue_text}
 use Rattle.http_wire.specs.Fields.{AnnouncesBody}
 use Rattle.http_wire.specs.Halting.{KeepsOn, TriesBody, TriesHead, WritesFrom}
 use Rattle.http_wire.specs.Requests.{RequestParts}
-use Rattle.http_wire.specs.Timing.{Event, WriteFails, all_put, IsLatest, GoesOn, NoRead, Ran}
+use Rattle.http_wire.specs.Timing.{Event, WriteFails, all_got, all_put, IsLatest, GoesOn, NoRead, Ran}
 use Rattle.http_wire.specs.Wires.{AwaitsHead, AwaitsBody, ReadsHead, ReadsBody}
 use Rattle.http_wire.proofs.HeadReads.{ran_as}
 use Rattle.http_wire.proofs.Resumed.{head_goes_on, body_goes_on}
@@ -191,6 +191,28 @@ body_waits {A = A} saw mid now new parts size body begun part buffer rest so ran
   invites = so.invites;
   came = body_goes_on {A = A} saw so.invited now new size so.behind (part ++ buffer) rest body (Err WouldWait) so.came ran;
 }
+
+-- all of it came: with what is left in the buffer that is all that was there and came
+kept_whole : {A : Type 0} (size : ℕ) (body : Vec ℕ A) (before rest : List ℕ) (events : List Event) → ReadsBody {A = A} (Ok body) size before rest events → KeepsOn before (body.items ++ rest) events
+kept_whole size body before rest events reads =
+    let got = all_got events in
+    let whole : before ++ got ≡ body.items ++ (rest ++ []) =
+    (reads.of_stream (Some got) (Some []) (record { taken = sym (append-nil got); end = λ latest. refl })).1 in
+    record { nothing_put = reads.nothing_put; goes_on = reads.ends; grown = ap (λ u. body.items ++ u) (sym (append-nil rest)) ∙ sym whole }
+
+-- it has as many bytes as its head announces
+pub body_size : {S A : Type 0} (saw : S → Event → S → Type 0) (now new : S) (size : ℕ) (body : Vec ℕ A) (before rest : List ℕ)
+    → Ran saw (AwaitsBody before size) now new (TriesBody {A = A} (Ok tt) size before body rest) → vec_len body ≡ size
+body_size saw now new size body before rest ran = (ran.claimed.of_stream None None (record { taken = tt; end = λ latest. tt })).0
+
+-- and is kept as it is
+pub body_kept : {S A : Type 0} (saw : S → Event → S → Type 0) (mid now new : S) (parts : RequestParts) (size : ℕ) (body : Vec ℕ A) (begun part buffer rest : List ℕ)
+    → BodySoFar saw mid now parts size begun part buffer
+    → Ran saw (AwaitsBody (part ++ buffer) size) now new (TriesBody {A = A} (Ok tt) size (part ++ buffer) body rest) → BodySoFar saw mid new parts size begun body.items rest
+body_kept {A = A} saw mid now new parts size body begun part buffer rest so ran =
+    body_waits {A = A} saw mid now new parts size body begun part buffer rest so
+    (ran_as saw (AwaitsBody (part ++ buffer) size) now new (ReadsBody {A = A} (Ok body) size (part ++ buffer) rest) (KeepsOn (part ++ buffer) (body.items ++ rest))
+    (kept_whole {A = A} size body (part ++ buffer) rest) ran)
 
 pub body_comes : {S A : Type 0} (saw : S → Event → S → Type 0) (mid now new : S) (parts : RequestParts) (size : ℕ) (body : Vec ℕ A) (request : Request) (is_last : Bool) (begun part buffer rest : List ℕ)
     → BodySoFar saw mid now parts size begun part buffer → vec_len body ≡ length body.items

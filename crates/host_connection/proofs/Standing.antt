@@ -117,6 +117,7 @@ comes : {S H K : Type 0} (narrow : Answering H) (wide : Answering K) (R : H → 
 comes narrow wide R stands saw leaves waits start now note host seen c (progress.Waits w) r leads = comes_so_far narrow wide R stands saw leaves start now note host seen c r leads.0
 comes narrow wide R stands saw leaves waits start now note host seen c progress.More r leads = comes_so_far narrow wide R stands saw leaves start now note host seen c r leads
 comes narrow wide R stands saw leaves waits start now note host seen c (progress.Body size) r leads = comes_so_far narrow wide R stands saw leaves start now note host seen c r leads.0
+comes narrow wide R stands saw leaves waits start now note host seen c progress.Postponed r leads = comes_so_far narrow wide R stands saw leaves start now note host seen c r leads.0
 comes narrow wide R stands saw leaves waits start now note host seen c (progress.Ended result) r leads =
     let ran = leads.0 in
     record {

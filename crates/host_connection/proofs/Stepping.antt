@@ -69,6 +69,7 @@ pub step_else : {S H : Type 0} (answers : Answering H) (saw : S → Event → S 
 step_else answers saw waits start begin new first host c (progress.Waits w) same not leads = absurd (not w refl)
 step_else answers saw waits start begin new first host c progress.More same not leads = from_metered answers saw waits start begin new first host c same leads
 step_else answers saw waits start begin new first host c (progress.Body size) same not leads = (from_metered answers saw waits start begin new first host c same leads.0, leads.1, leads.2)
+step_else answers saw waits start begin new first host c progress.Postponed same not leads = (from_metered answers saw waits start begin new first host c same leads.0, leads.1)
 step_else answers saw waits start begin new first host c (progress.Ended result) same not leads =
     (ended answers saw start begin new first (Connects answers result first host) same leads.0, leads.1)
 

@@ -18,6 +18,7 @@ pub carried_on : {S H : Type 0} (answers : Answering H) (saw : S → Event → S
 carried_on answers saw leaves waits start now first host c (progress.Waits w) leads = leads.0
 carried_on answers saw leaves waits start now first host c progress.More leads = leads
 carried_on answers saw leaves waits start now first host c (progress.Body size) leads = leads.0
+carried_on answers saw leaves waits start now first host c progress.Postponed leads = leads.0
 carried_on answers saw leaves waits start now first host c (progress.Ended result) leads =
     subst (λ (q : Phase). Carried answers saw leaves start first now host c.wire c.out c.number q) (sym leads.1) leads.0
 
@@ -27,6 +28,7 @@ pub leads_else : {S H : Type 0} (answers : Answering H) (saw : S → Event → S
 leads_else answers saw leaves waits others start now first host c (progress.Waits w) not leads = absurd (not w refl)
 leads_else answers saw leaves waits others start now first host c progress.More not leads = leads
 leads_else answers saw leaves waits others start now first host c (progress.Body size) not leads = leads
+leads_else answers saw leaves waits others start now first host c progress.Postponed not leads = leads
 leads_else answers saw leaves waits others start now first host c (progress.Ended result) not leads = leads
 
 never_left : {S : Type 0} (waits : S → Type 0) (out : Gathered) → ((stream : S) → waits stream → ⊥) → (IsCounted out ⊎ MayWait waits) → ¬ (IsCounted out) → ⊥

@@ -27,6 +27,7 @@ abbrev pub Falls : Progress → (old_left new_left : ℕ) → Type 0
 Falls (progress.Waits w) old_left new_left = new_left ≤ old_left
 Falls progress.More old_left new_left = new_left < old_left
 Falls (progress.Body size) old_left new_left = new_left < old_left
+Falls progress.Postponed old_left new_left = new_left ≤ old_left
 Falls (progress.Ended result) old_left new_left = new_left ≤ old_left
 
 -- What a step did on its stream: it moved 262,144 bytes at most. Where it may go on at once, fewer phases are left, or it moved some bytes.
@@ -63,6 +64,7 @@ abbrev pub told_size : Progress → ℕ
 told_size (progress.Waits w) = 0
 told_size progress.More = 0
 told_size (progress.Body size) = size
+told_size progress.Postponed = 0
 told_size (progress.Ended result) = 0
 
 -- A step that comes to a body tells how long it is, unless it is empty; and no other step tells of it.

@@ -1,5 +1,5 @@
 -- A connection that goes on where it left off: what it has done so far, and what a step of it leads to.
-use Rattle.std.specs.Prelude.{◌≡◌, ◌⊎◌, ℕ, ◌+◌, ◌<◌, ◌≤◌, List, [], ◌++◌, length, Bool, true, false, Some, Ok, Err}
+use Rattle.std.specs.Prelude.{◌≡◌, ◌⊎◌, ℕ, ◌+◌, ◌<◌, ◌≤◌, List, [], ◌++◌, length, Bool, true, false, Some, Ok, Err, vec_len}
 use Rattle.std.specs.Io.KnownBytes.{Appends, prepend_known}
 use Rattle.std.specs.List.{concat}
 use Rattle.http_wire.specs.Expectations.{ExpectsContinue, continue_text}
@@ -135,14 +135,23 @@ AwaitsBodyOf size (phase.Body b) = (b.size ≡ size) × (b.body.items ≡ [])
 AwaitsBodyOf size (phase.Reply s) = ⊥
 AwaitsBodyOf size (phase.Ended result) = ⊥
 
+-- a request is whole, and isn't answered yet
+abbrev pub IsAsked : Phase → Type 0
+IsAsked phase.Head = ⊥
+IsAsked (phase.Invite i) = ⊥
+IsAsked (phase.Body b) = vec_len b.body ≡ b.size
+IsAsked (phase.Reply s) = ⊥
+IsAsked (phase.Ended result) = ⊥
+
 -- What a step leads to: a connection that is still carried; it waits only where the stream has to, and as its phase says; it tells of a body before
--- it reads it. Once it ends, that is the theorem of the whole connection.
+-- it reads it; it is postponed with the whole request alone. Once it ends, that is the theorem of the whole connection.
 abbrev pub Leads : {S H : Type 0} → Answering H → (saw : S → Event → S → Type 0) → (leaves : Type 0) → (waits : S → Type 0) → (start : S) → (first : H) → (now : S) → (host : H) → Connection → Progress → Type 0
 Leads answers saw leaves waits start first now host c (progress.Waits w) =
     Carries answers saw leaves start first now host c × IsHeld (waits now) c.out c.phase × Awaits w c.wire c.out c.phase
 Leads answers saw leaves waits start first now host c progress.More = Carries answers saw leaves start first now host c
 Leads answers saw leaves waits start first now host c (progress.Body size) =
     Carries answers saw leaves start first now host c × AwaitsBodyOf size c.phase × (0 < size)
+Leads answers saw leaves waits start first now host c progress.Postponed = Carries answers saw leaves start first now host c × IsAsked c.phase
 Leads answers saw leaves waits start first now host c (progress.Ended result) =
     Ran saw (IsCaughtUp answers first) start now (Connects answers result first host) × (c.phase ≡ phase.Ended result)
 

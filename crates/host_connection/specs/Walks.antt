@@ -52,6 +52,7 @@ abbrev pub Comes : {S H : Type 0} → Answering H → (saw : S → Event → S �
 Comes answers saw start first now (progress.Waits w) = Ran saw (IsCaughtUp answers first) start now Anything
 Comes answers saw start first now progress.More = Ran saw (IsCaughtUp answers first) start now Anything
 Comes answers saw start first now (progress.Body size) = Ran saw (IsCaughtUp answers first) start now Anything
+Comes answers saw start first now progress.Postponed = Ran saw (IsCaughtUp answers first) start now Anything
 Comes answers saw start first now (progress.Ended result) = Ran saw (IsCaughtUp answers first) start now (ConnectsAnyhow answers result first)
 
 -- the same after the last of these steps

@@ -5,7 +5,7 @@ ghost use Rattle.host_connection.specs.Carrying.{IsFresh};
 ghost use Rattle.host_connection.specs.Serving.{Serves};
 ghost use Rattle.host_connection.specs.Timing.{IsCaughtUp, Connects};
 
-use crate::services::Service;
+use crate::services::Prompt;
 use crate::steps::{Connection, Progress};
 use http_wire::Steady;
 use std::alloc::Global;
@@ -26,7 +26,7 @@ pub enum ConnectionFault {
 }
 
 // Goes through the phases of a new connection until it ends.
-fn serve<D: Steady, S: Service>(
+fn serve<D: Steady, S: Prompt>(
     alloc: Global,
     connection: &mut Connection,
     duplex: &mut D,
@@ -43,6 +43,7 @@ fn serve<D: Steady, S: Service>(
             Progress::Body(_) => {}
             Progress::Ended(result) => return result,
             Progress::Waits(_) => unreachable!(),
+            Progress::Postponed => unreachable!(),
         }
     }
 }
@@ -55,7 +56,7 @@ fn serve<D: Steady, S: Service>(
 ///
 /// It reads only where all whole requests that came are answered, no head is refused, and all that is sent for them is
 /// written by then; nothing is read or written after the end of the stream, a fault or a reply that ends the connection.
-pub fn serve_connection<D: Steady, S: Service>(
+pub fn serve_connection<D: Steady, S: Prompt>(
     alloc: Global,
     duplex: &mut D,
     service: &mut S,

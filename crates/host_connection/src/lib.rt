@@ -13,5 +13,5 @@ mod stops;
 pub use connections::{ConnectionFault, serve_connection};
 pub use meters::Metered;
 pub use requests::Request;
-pub use services::Service;
+pub use services::{Prompt, Service};
 pub use steps::{Connection, Progress, Stage, Wants};

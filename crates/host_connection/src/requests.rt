@@ -1,4 +1,5 @@
 //! A request, once it is read.
+use crate::phases::BodyPart;
 use http::Version as HttpVersion;
 use http_wire::Head;
 
@@ -11,7 +12,7 @@ pub struct Request {
 }
 
 impl Request {
-    ghost use Rattle.std.specs.Prelude.{◌≡◌};
+    ghost use Rattle.std.specs.Prelude.{◌≡◌, vec_len};
     ghost use Rattle.host_replies.specs.Replies as replies;
 
     /// Whether the connection ends after the reply (RFC 9112, section 9.6).
@@ -19,5 +20,15 @@ impl Request {
         ensures { result ≡ replies.closes self.now.head self.now.is_last }
     {
         self.is_last || self.head.version() == HttpVersion::HTTP_10 || self.head.asks_close()
+    }
+    /// Its body as it is read, once all of it came.
+    pub(crate) fn into_part(self) -> BodyPart
+        ensures head { result.head ≡ self.head }
+        ensures size { result.size ≡ vec_len self.body }
+        ensures body { result.body ≡ self.body }
+    {
+        let Request { head, body, .. } = self;
+        let size = body.len();
+        BodyPart { head, size, body }
     }
 }

@@ -1,5 +1,5 @@
 //! What answers the requests of a connection.
-ghost use Rattle.std.specs.Prelude.{◌≡◌, ℕ, List, true};
+ghost use Rattle.std.specs.Prelude.{◌≡◌, ℕ, List, true, IfNone, IfSome};
 ghost use Rattle.http_wire.specs.Requests.{RequestParts};
 ghost use Rattle.host_replies.specs.Bodies.{answer_of};
 ghost use Rattle.host_replies.specs.Replies.{Answer, is_head};
@@ -8,7 +8,7 @@ use crate::requests::Request;
 use host_replies::Reply;
 use std::alloc::Global;
 
-/// Answers requests, one after another.
+/// Answers requests, one after another. It may leave a request for later, and is asked again then.
 pub trait Service {
     // What a request of these parts and this body is answered, and what the service has then.
     ghost answers: { Self → RequestParts → List ℕ → Answer → Self → Type 0 };
@@ -16,9 +16,14 @@ pub trait Service {
     // What stays of a service, whatever it answers.
     ghost grows: { Self → Self → Type 0 };
 
-    /// The reply to a request.
-    fn answer(&mut self, alloc: Global, request: Request) -> Reply
-        ensures replied { answers self.old request.head request.body.items (answer_of result) self.new }
+    // Whether it may leave a request to be answered later.
+    ghost postpones: { Type 0 };
+
+    /// The reply to a request; or none yet, where the service answers it later, and is what it was.
+    fn answer(&mut self, alloc: Global, request: &Request) -> Option<Reply>
+        ensures replied { IfSome result (λ reply.
+            answers self.old request.now.head request.now.body.items (answer_of reply) self.new) }
+        ensures later { IfNone result (postpones × (self.new ≡ self.old)) }
         ensures grows { grows self.old self.new };
 
     // Only to HEAD is a body told by its length alone.
@@ -29,4 +34,9 @@ pub trait Service {
     ghost stays: { (service : Self) → grows service service };
 
     ghost goes_on: { (first mid last : Self) → grows first mid → grows mid last → grows first last };
+}
+
+/// A service that answers each request at once.
+pub trait Prompt: Service {
+    ghost at_once: { Self.Service.postpones → ⊥ };
 }

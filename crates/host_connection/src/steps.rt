@@ -3,7 +3,7 @@ ghost use Rattle.std.specs.Prelude.{◌≡◌, List, IfOk};
 ghost use Rattle.http_wire.specs.Gathering.{nothing};
 ghost use Rattle.http_wire.specs.Timing.{Event, Steps};
 ghost use Rattle.host_connection.specs.Advancing.{phases_left, Advances, Goes, IsBody, RemembersMemory, TellsBody};
-ghost use Rattle.host_connection.specs.Carrying.{AnswersOnce, Asks, Carries, IsFresh, Leads, MayWait};
+ghost use Rattle.host_connection.specs.Carrying.{until_asked, AnswersOnce, Asks, Carries, IsFresh, Leads, MayWait};
 
 mod stages;
 mod turns;
@@ -38,6 +38,8 @@ pub enum Progress {
     More,
     /// It may go on at once, with a body of this many bytes, of which it has taken none.
     Body(u64),
+    /// The request is whole, and the service answers it later. A further step asks again.
+    Postponed,
     /// The connection ended. Further steps do nothing.
     Ended(Result<(), ConnectionFault>),
 }
@@ -69,7 +71,8 @@ impl Connection {
     /// most, and moves 262,144 bytes at most. Then it may go on at once: but only finitely often without a byte that is read or written.
     ///
     /// Before it reads a body that isn't empty, it tells once how long that is. It waits only where the stream has to, to read while no whole head
-    /// or body has come, and to write while some of a reply is left.
+    /// or body has come, and to write while some of a reply is left. Where the service leaves a request for later, the step ends so, with the request
+    /// whole; each further step asks the service again, and reads and writes nothing before.
     pub fn go_on<D: Duplex, S: Service>(
         &mut self,
         alloc: Global,
@@ -84,6 +87,7 @@ impl Connection {
         ensures tells { TellsBody result self.old.number self.old.phase self.new.number self.new.phase }
         ensures memory { RemembersMemory self.old.phase self.new.phase }
         ensures asks { AnswersOnce S.answers service.old service.new }
+        ensures later { result ≡ Progress.Postponed → S.postpones × (service.new ≡ service.old) }
         ensures grows { S.grows service.old service.new }
     {
         duplex.begin();
@@ -112,6 +116,7 @@ impl Connection {
         ensures led { (events : List Event) × Steps D.saw duplex.old events duplex.new }
         ensures advances { Advances result self.old.number self.old.phase self.new.number self.new.phase }
         ensures asks { AnswersOnce S.answers service.old service.new }
+        ensures later { result ≡ Progress.Postponed → S.postpones × (service.new ≡ service.old) }
         ensures grows { S.grows service.old service.new }
     {
         'phases: for _ in 0..PHASES {
@@ -136,6 +141,8 @@ impl Connection {
         ensures led { (events : List Event) × Steps D.saw duplex.old events duplex.new }
         ensures advances { Advances result self.old.number self.old.phase self.new.number self.new.phase }
         ensures asks { Asks S.answers service.old service.new self.old.phase self.new.phase }
+        ensures later { result ≡ Progress.Postponed
+            → S.postpones × (service.new ≡ service.old) × (until_asked self.old.phase ≡ 0) }
         ensures grows { S.grows service.old service.new }
     {
         match &self.phase {
@@ -161,6 +168,8 @@ impl Connection {
         ensures led { (events : List Event) × Steps D.saw duplex.old events duplex.new }
         ensures advances { Advances result self.old.number self.old.phase self.new.number self.new.phase }
         ensures asks { Asks S.answers service.old service.new self.old.phase self.new.phase }
+        ensures later { result ≡ Progress.Postponed
+            → S.postpones × (service.new ≡ service.old) × (until_asked self.old.phase ≡ 0) }
         ensures grows { S.grows service.old service.new }
     {
         match mem::replace(&mut self.phase, Phase::Head) {

@@ -1,206 +1,28 @@
-//! The desk of the nodes, and what each works with.
-use crate::groups::{HostGroup, groups_of, peer_addresses};
-use crate::guests::Noted;
-use crate::lines::{Failure, say};
-use crate::nodes::Shared;
-use crate::ports::{Bound, Ports};
+//! The desk of the nodes, and how they serve from it.
+use crate::groups::{HostGroup, View, groups_of, views_of};
+use crate::lines::Failure;
+use crate::nodes::{Shared, share_out};
+use crate::overseeing::Overseen;
+use crate::ports::Ports;
+use crate::posts::{Places, Posts};
 use crate::runtimes::Serving;
-use crate::stopping::Stop;
-use crate::tasks::{HostShared, Task, do_tasks, tasks_of};
+use crate::task_lists::Task;
+use crate::tasks::{HostShared, Means, work_on};
 use blob_store::{Shelf, ShelfAccess};
 use byte_view::BlobInfo;
 use change_undo::Entry;
-use event_loop::{Limits, Node, ReadySet};
 use host_disk::Disk;
 use http_wire::Sink;
 use left_right::Absorb;
+use node_process::{Process, Start, Surroundings};
 use seen_lists::ListName;
 use shared_desk::Desk;
-use shared_house::DeskVisitor;
-use site_desk::{DeskName, Notice, Seat, Seats};
-use std::alloc::{AllocError, Global};
-use std::net::{SocketAddr, TcpListener};
+use site_desk::{DeskName, Notice};
+use std::alloc::Global;
 use std::sync::Mutex;
 
-/// A seat for each node, behind a lock.
-fn seats_of<J: DeskName>(
-    alloc: Global,
-    seats: Seats<J>,
-    nodes: usize,
-) -> Result<Vec<Mutex<Seat<J>>>, AllocError> {
-    let mut seats = seats;
-    let mut taken = Vec::new(alloc);
-    for _ in 0..nodes {
-        let Some(seat) = seats.take() else {
-            return Ok(taken);
-        };
-        taken.push(Mutex::new(seat))?;
-    }
-    Ok(taken)
-}
-
-/// The nodes of these listeners, which take no client yet.
-fn nodes_of<J: DeskName>(
-    alloc: Global,
-    listeners: Vec<TcpListener>,
-    limits: Limits,
-    clients: u64,
-) -> Result<Vec<Node<Noted<J>>>, Failure> {
-    let mut nodes = Vec::new(alloc);
-    for listener in listeners {
-        let ready = ReadySet::new().map_err(|_| Failure::CannotListen)?;
-        let node = Node::new(alloc, listener, ready, limits, clients)?;
-        nodes.push(node).map_err(|_| AllocError)?;
-    }
-    Ok(nodes)
-}
-
-/// Begins to take clients at each node, and says so.
-fn open_all<N: Drop, O: Sink>(
-    alloc: Global,
-    nodes: &[Node<N>],
-    ports: &[Ports],
-    lines: &mut O,
-) -> Result<(), Failure> {
-    for (number, (node, ports)) in nodes.iter().zip(ports.iter()).enumerate() {
-        if !node.open() {
-            return Err(Failure::CannotListen);
-        }
-        let address = ports.client_address;
-        let line = format!(in alloc; "node {number} listening on {address}\n")?;
-        say(lines, line.as_str());
-    }
-    Ok(())
-}
-
-/// What is asked of each node.
-#[derive(Drop)]
-pub(crate) struct Plan {
-    pub(crate) workers: usize,
-    pub(crate) limits: Limits,
-    pub(crate) clients: u64,
-}
-
-/// Opens these nodes, and serves clients and other nodes, until each node has served as many clients as it is to serve.
+/// Does these tasks, and oversees them.
 fn serve_nodes<
-    J: DeskName + Send + Sync,
-    K: ListName<BlobInfo> + Send + Sync,
-    D: Disk + Send,
-    S: Shelf + Send,
-    T: Absorb<Notice<J>, State = [Entry; 0]> + Drop + Send + Sync,
-    R: Serving,
-    Q: ShelfAccess<S> + Send + Sync,
-    O: Sink,
->(
-    alloc: Global,
-    shared: &HostShared<'_, '_, '_, J, K, D, S, T, R, Q>,
-    access: &Q,
-    ports: &[Ports],
-    tasks: Vec<Task<J>>,
-    plan: &Plan,
-    lines: &mut O,
-) -> Result<(), Failure> {
-    open_all(alloc, shared.nodes, ports, lines)?;
-    let stop = Stop::new((shared.nodes.len() as u64).saturating_mul(plan.workers as u64));
-    do_tasks(alloc, shared, access, ports, tasks, plan.limits, &stop)?;
-    Ok(())
-}
-
-/// Who works at a desk: the seats of the nodes, and the first visitor.
-#[derive(Drop)]
-pub(crate) struct Staff<J: DeskName> {
-    pub(crate) seats: Seats<J>,
-    pub(crate) visitor: DeskVisitor<J>,
-}
-
-/// What each node has of its own: a seat, the clients that it serves, and its ports.
-#[derive(Drop)]
-struct Places<J: DeskName> {
-    seats: Vec<Mutex<Seat<J>>>,
-    nodes: Vec<Node<Noted<J>>>,
-    ports: Vec<Ports>,
-}
-
-/// A place for each of these ports.
-fn places_of<J: DeskName>(
-    alloc: Global,
-    seats: Seats<J>,
-    bound: Bound,
-    plan: &Plan,
-) -> Result<Places<J>, Failure> {
-    let Bound { clients, ports } = bound;
-    let seats = seats_of(alloc, seats, ports.len())?;
-    let nodes = nodes_of::<J>(alloc, clients, plan.limits, plan.clients)?;
-    Ok(Places {
-        seats,
-        nodes,
-        ports,
-    })
-}
-
-/// The places of the nodes, and what is to be done there.
-#[derive(Drop)]
-pub(crate) struct Posts<J: DeskName> {
-    places: Places<J>,
-    tasks: Vec<Task<J>>,
-}
-
-/// The posts of these who work at a desk, at these ports.
-pub(crate) fn posts_of<J: DeskName>(
-    alloc: Global,
-    staff: Staff<J>,
-    bound: Bound,
-    plan: &Plan,
-) -> Result<Posts<J>, Failure> {
-    let Staff { seats, visitor } = staff;
-    let tasks = tasks_of(alloc, bound.ports.len(), plan.workers, visitor)?;
-    Ok(Posts {
-        places: places_of(alloc, seats, bound, plan)?,
-        tasks,
-    })
-}
-
-/// Serves at these places, with this group.
-fn serve_places<
-    J: DeskName + Send + Sync,
-    K: ListName<BlobInfo> + Send + Sync,
-    D: Disk + Send,
-    S: Shelf + Send,
-    T: Absorb<Notice<J>, State = [Entry; 0]> + Drop + Send + Sync,
-    R: Serving,
-    Q: ShelfAccess<S> + Send + Sync,
-    O: Sink,
->(
-    rt: &R,
-    alloc: Global,
-    desk: &Desk<J, K, D, S, T, R>,
-    groups: &[HostGroup<'_, '_, R, S, Q>],
-    places: &Places<J>,
-    tasks: Vec<Task<J>>,
-    access: &Q,
-    plan: &Plan,
-    lines: &mut O,
-) -> Result<(), Failure> {
-    let shared = Shared {
-        rt,
-        desk,
-        seats: places.seats.as_slice(),
-        groups,
-        nodes: places.nodes.as_slice(),
-    };
-    serve_nodes(
-        alloc,
-        &shared,
-        access,
-        places.ports.as_slice(),
-        tasks,
-        plan,
-        lines,
-    )
-}
-
-/// Serves at these places, with a group of nodes that ask each other at these addresses.
-fn serve_group<
     'a,
     J: DeskName + Send + Sync,
     K: ListName<BlobInfo> + Send + Sync,
@@ -209,34 +31,52 @@ fn serve_group<
     T: Absorb<Notice<J>, State = [Entry; 0]> + Drop + Send + Sync,
     R: Serving,
     Q: ShelfAccess<S> + Send + Sync,
+    P: Process,
     O: Sink,
+    E: Sink,
 >(
-    rt: &'a R,
     alloc: Global,
-    desk: &'a Desk<J, K, D, S, T, R>,
-    peers: &'a [SocketAddr],
-    places: &Places<J>,
+    shared: &HostShared<'a, '_, '_, J, K, D, S, T, R, Q>,
+    ports: &'a [Ports],
     tasks: Vec<Task<J>>,
-    access: &'a Q,
-    plan: &Plan,
+    around: &Surroundings<'a, R, P, Q, E>,
     lines: &mut O,
 ) -> Result<(), Failure> {
-    let groups = groups_of(rt, alloc, desk.files(), access, peers)?;
-    serve_places(
-        rt,
-        alloc,
-        desk,
-        groups.as_slice(),
-        places,
+    let start = Start::new(tasks.len() as u64);
+    let parsing = Mutex::new(());
+    let means = Means::new(around.access, &parsing, around.stop);
+    let overseen = Overseen {
+        nodes: shared.nodes,
+        peers: shared.peers,
+        ports,
+        stop: around.stop,
+        notices: around.notices,
+    };
+    let (done, overseen) = share_out(
+        shared,
         tasks,
-        access,
-        plan,
-        lines,
-    )
+        &start,
+        &|shared, task| work_on(alloc, shared, &means, task),
+        || overseen.oversee(shared.rt, alloc, &start, around.process, around.told, lines),
+    );
+    overseen?;
+    Ok(done?)
 }
 
-/// Serves at these posts, with a group of nodes that ask each other at these addresses.
-fn serve_posts<
+/// How many of these tasks are those of workers.
+fn workers_in<J: DeskName>(tasks: &[Task<J>]) -> u64 {
+    let mut workers = 0_u64;
+    for task in tasks {
+        if matches!(task, Task::Serve(_, _)) {
+            workers = workers.saturating_add(1);
+        }
+    }
+    workers
+}
+
+/// Serves at these places, with these parts of the group.
+fn serve_places<
+    'a,
     J: DeskName + Send + Sync,
     K: ListName<BlobInfo> + Send + Sync,
     D: Disk + Send,
@@ -244,19 +84,64 @@ fn serve_posts<
     T: Absorb<Notice<J>, State = [Entry; 0]> + Drop + Send + Sync,
     R: Serving,
     Q: ShelfAccess<S> + Send + Sync,
+    P: Process,
     O: Sink,
+    E: Sink,
+>(
+    rt: &'a R,
+    alloc: Global,
+    desk: &'a Desk<J, K, D, S, T, R>,
+    groups: &'a [HostGroup<'_, '_, R, S, Q>],
+    places: &'a Places<J>,
+    tasks: Vec<Task<J>>,
+    around: &Surroundings<'a, R, P, Q, E>,
+    lines: &mut O,
+) -> Result<(), Failure> {
+    let shared = Shared {
+        rt,
+        desk,
+        seats: places.seats.as_slice(),
+        groups,
+        nodes: places.nodes.as_slice(),
+        peers: places.peers.as_slice(),
+    };
+    around.stop.expect(rt, workers_in(tasks.as_slice()));
+    let ports = places.ports.as_slice();
+    serve_nodes(alloc, &shared, ports, tasks, around, lines)
+}
+
+/// Serves at these places, with a group of nodes that know each other so.
+fn serve_group<
+    J: DeskName + Send + Sync,
+    K: ListName<BlobInfo> + Send + Sync,
+    D: Disk + Send,
+    S: Shelf + Send,
+    T: Absorb<Notice<J>, State = [Entry; 0]> + Drop + Send + Sync,
+    R: Serving,
+    Q: ShelfAccess<S> + Send + Sync,
+    P: Process,
+    O: Sink,
+    E: Sink,
 >(
     rt: &R,
     alloc: Global,
     desk: &Desk<J, K, D, S, T, R>,
-    peers: &[SocketAddr],
-    posts: Posts<J>,
-    access: &Q,
-    plan: &Plan,
+    views: &[View],
+    places: &Places<J>,
+    tasks: Vec<Task<J>>,
+    around: &Surroundings<'_, R, P, Q, E>,
     lines: &mut O,
 ) -> Result<(), Failure> {
-    let Posts { places, tasks } = posts;
-    serve_group(rt, alloc, desk, peers, &places, tasks, access, plan, lines)
+    let groups = groups_of(
+        rt,
+        alloc,
+        desk.files(),
+        around.access,
+        views,
+        around.notices,
+    )?;
+    let groups = groups.as_slice();
+    serve_places(rt, alloc, desk, groups, places, tasks, around, lines)
 }
 
 /// Serves from a desk, at these posts.
@@ -268,25 +153,27 @@ pub(crate) fn serve_desk<
     T: Absorb<Notice<J>, State = [Entry; 0]> + Drop + Send + Sync,
     R: Serving,
     Q: ShelfAccess<S> + Send + Sync,
+    P: Process,
     O: Sink,
+    E: Sink,
 >(
     rt: &R,
     alloc: Global,
     desk: &Desk<J, K, D, S, T, R>,
     posts: Posts<J>,
-    access: &Q,
-    plan: &Plan,
+    around: &Surroundings<'_, R, P, Q, E>,
     lines: &mut O,
 ) -> Result<(), Failure> {
-    let peers = peer_addresses(alloc, posts.places.ports.as_slice())?;
-    serve_posts(
+    let Posts { places, tasks } = posts;
+    let views = views_of(alloc, places.ports.as_slice())?;
+    serve_group(
         rt,
         alloc,
         desk,
-        peers.as_slice(),
-        posts,
-        access,
-        plan,
+        views.as_slice(),
+        &places,
+        tasks,
+        around,
         lines,
     )
 }

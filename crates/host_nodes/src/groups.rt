@@ -4,10 +4,11 @@ ghost use Rattle.std.specs.Prelude.{◌≡◌, ◌<◌, IfOk, length, vec_len};
 use crate::ports::Ports;
 use blob_store::{Files, ShelfAccess};
 use chunk_group::{Counter, Group, SharedSource};
-use peer_link::TcpLink;
+use operator_notices::Notices;
+use peer_link::{Peer, TcpLink};
 use peer_ring::{DigestHash, Ring, RingFault};
 use std::alloc::{AllocError, Global};
-use std::net::{Net, SocketAddr, TcpStream};
+use std::net::{Net, TcpStream};
 use std::sync::{Mutex, Wait};
 use std::time::Clock;
 
@@ -22,28 +23,49 @@ pub(crate) type HostGroup<'a, 'b, R, S, Q> = Group<
     Counter,
 >;
 
-/// Where the nodes are asked for chunks.
-pub(crate) fn peer_addresses(alloc: Global, all: &[Ports]) -> Result<Vec<SocketAddr>, AllocError> {
-    let mut addresses = Vec::new(alloc);
+/// How a node knows all nodes: each as a peer, and its own place among them.
+#[derive(Drop)]
+pub(crate) struct View {
+    peers: Vec<Peer>,
+    me: usize,
+    ghost within: { me < vec_len peers },
+}
+
+/// The nodes at these ports as peers.
+fn peers_of(alloc: Global, all: &[Ports]) -> Result<Vec<Peer>, AllocError>
+    ensures { IfOk result (λ peers. vec_len peers ≡ length all.now) }
+{
+    let mut peers = Vec::new(alloc);
     for ports in all {
-        addresses.push(ports.peer_address)?;
+        peers.push(Peer::new(ports.peer_address))?;
     }
-    Ok(addresses)
+    Ok(peers)
+}
+
+/// How each of the nodes at these ports knows them.
+pub(crate) fn views_of(alloc: Global, all: &[Ports]) -> Result<Vec<View>, AllocError> {
+    let mut views = Vec::new(alloc);
+    for me in 0..all.len() {
+        let peers = peers_of(alloc, all)?;
+        views.push(View { peers, me })?;
+    }
+    Ok(views)
 }
 
 /// The names of the nodes in the ring: the texts of their addresses.
-fn names_of(alloc: Global, peers: &[SocketAddr]) -> Result<Vec<String>, AllocError>
+fn names_of(alloc: Global, peers: &[Peer]) -> Result<Vec<String>, AllocError>
     ensures { IfOk result (λ names. vec_len names ≡ length peers.now) }
 {
     let mut names = Vec::new(alloc);
     for peer in peers {
-        names.push(format!(in alloc; "{peer}")?)?;
+        let address = peer.address();
+        names.push(format!(in alloc; "{address}")?)?;
     }
     Ok(names)
 }
 
-/// The ring of the nodes at these addresses.
-fn ring_of(alloc: Global, peers: &[SocketAddr]) -> Result<Ring<DigestHash>, RingFault>
+/// The ring of these nodes.
+fn ring_of(alloc: Global, peers: &[Peer]) -> Result<Ring<DigestHash>, RingFault>
     ensures { IfOk result (λ ring. length ring.names ≡ length peers.now) }
 {
     let Ok(texts) = names_of(alloc, peers) else {
@@ -58,36 +80,44 @@ fn ring_of(alloc: Global, peers: &[SocketAddr]) -> Result<Ring<DigestHash>, Ring
     Ring::new(alloc, names.as_slice(), &DigestHash)
 }
 
-/// The node at a place in the ring, with empty caches. There is none only for want of memory.
+/// The node that knows all nodes so, with empty caches. There is none only for want of memory.
 fn group_at<'a, R: Net<Stream = TcpStream> + Clock + Wait, S, Q: ShelfAccess<S>>(
     rt: &'a R,
     alloc: Global,
     files: &'a Mutex<Files<S>>,
     access: &'a Q,
-    peers: &'a [SocketAddr],
-    me: usize,
-) -> Result<HostGroup<'a, 'a, R, S, Q>, AllocError>
-    requires { me < length peers.now }
-{
+    view: &'a View,
+    notices: &'a Notices,
+) -> Result<HostGroup<'a, 'a, R, S, Q>, AllocError> {
+    let peers = view.peers.as_slice();
     let Ok(ring) = ring_of(alloc, peers) else {
         return Err(AllocError);
     };
     let source = SharedSource::new(rt, files, access);
-    let link = TcpLink::new(alloc, rt, peers);
-    Group::new(alloc, CACHE_LIMIT, ring, me, source, link, Counter::new())
+    let link = TcpLink::new(alloc, rt, peers, notices);
+    Group::new(
+        alloc,
+        CACHE_LIMIT,
+        ring,
+        view.me,
+        source,
+        link,
+        Counter::new(),
+    )
 }
 
-/// The nodes at these addresses.
+/// A node for each of these views, which reach the shelf this way.
 pub(crate) fn groups_of<'a, R: Net<Stream = TcpStream> + Clock + Wait, S, Q: ShelfAccess<S>>(
     rt: &'a R,
     alloc: Global,
     files: &'a Mutex<Files<S>>,
     access: &'a Q,
-    peers: &'a [SocketAddr],
+    views: &'a [View],
+    notices: &'a Notices,
 ) -> Result<Vec<HostGroup<'a, 'a, R, S, Q>>, AllocError> {
     let mut groups = Vec::new(alloc);
-    for me in 0..peers.len() {
-        groups.push(group_at(rt, alloc, files, access, peers, me)?)?;
+    for view in views {
+        groups.push(group_at(rt, alloc, files, access, view, notices)?)?;
     }
     Ok(groups)
 }

@@ -1,20 +1,23 @@
 //! What the workers answer over.
 use crate::inputs::Input;
-use event_loop::{HeldReply, Holding, Interest, Next, Stage, Step, Steps};
+use connection_rules::{HeldReply, Stage};
+use event_loop::{Holding, Interest, Next, NotBegun, SlowSteps, Step, Steps};
 use host_connection::{Connection, Metered, Progress, Stage as Phase, Wants};
 use host_names::Digest;
-use shared_house::{DeskAccess, FileAccess, Guest, Note};
+use shared_house::{DeskAccess, DeskVisitor, FileAccess, Guest, Note};
 use site_desk::DeskName;
-use std::alloc::{AllocError, Global};
+use std::alloc::Global;
 use std::net::TcpStream;
 use tcp_socket::Socket;
 
-/// A connection, the note of what it saw last, and what is known of its input.
+/// A connection, the note of what it saw last, and what is known of its input. While a request waits to be answered by a thread that may wait, what a worker
+/// saw for it is here.
 #[derive(Drop)]
 pub(crate) struct Noted<J: DeskName> {
-    connection: Connection,
-    note: Note<J>,
-    input: Input,
+    pub(crate) connection: Connection,
+    pub(crate) note: Note<J>,
+    pub(crate) input: Input,
+    pub(crate) sight: Option<DeskVisitor<J>>,
 }
 
 /// A guest, as what goes on with the connections of a worker.
@@ -26,35 +29,64 @@ pub(crate) struct GuestSteps<J: DeskName, D: Drop, G: Drop> {
 impl<J: DeskName, D: DeskAccess<J> + Drop, G: FileAccess + Drop> Steps for GuestSteps<J, D, G> {
     type Connection = Noted<J>;
 
-    fn begin(&mut self, alloc: Global) -> Result<Noted<J>, AllocError> {
+    fn begin(&mut self, alloc: Global, _stream: &TcpStream) -> Result<Noted<J>, NotBegun> {
         Ok(Noted {
             connection: Connection::new(alloc)?,
             note: self.guest.note(),
             input: Input::new(),
+            sight: None,
         })
     }
 
     fn go_on(&mut self, alloc: Global, noted: &mut Noted<J>, stream: &TcpStream) -> Step {
-        let mut duplex = Metered::new(Socket::new(stream));
-        let progress = self
-            .guest
-            .go_on(&mut noted.connection, &mut noted.note, alloc, &mut duplex);
-        let phase = noted.connection.stage();
-        let socket = duplex.stream();
-        let answered = self.guest.answered();
-        noted.input.note(socket, answered);
-        Step {
-            next: next_of(progress, phase, &noted.input),
-            stage: stage_of(phase),
-            read: socket.read(),
-            written: socket.written(),
-            answers: answered.is_some(),
-            holds: held_by(&noted.connection, phase),
-        }
+        step_of(&mut self.guest, alloc, noted, Socket::new(stream))
     }
 }
 
-/// What a connection is doing, as far as its deadline goes.
+/// The steps of a thread that may wait need no socket.
+impl<J: DeskName, D: DeskAccess<J> + Drop, G: FileAccess + Drop> SlowSteps for GuestSteps<J, D, G> {
+    type Connection = Noted<J>;
+
+    fn go_on(&mut self, alloc: Global, noted: &mut Noted<J>) -> Step {
+        step_of(&mut self.guest, alloc, noted, Socket::away())
+    }
+}
+
+/// A step of a connection over a socket, by a guest.
+fn step_of<J: DeskName, D: DeskAccess<J> + Drop, G: FileAccess + Drop>(
+    guest: &mut Guest<J, D, G>,
+    alloc: Global,
+    noted: &mut Noted<J>,
+    socket: Socket<'_>,
+) -> Step {
+    let mut duplex = Metered::new(socket);
+    let progress = guest.go_on(&mut noted.connection, &mut noted.note, alloc, &mut duplex);
+    let phase = noted.connection.stage();
+    let socket = duplex.stream();
+    let answered = guest.answered();
+    noted.input.note(socket, answered);
+    noted.sight = guest.take_sight();
+    Step {
+        next: next_of(progress, phase, &noted.input),
+        stage: stage_after(progress, phase, noted.connection.is_asked()),
+        read: socket.read(),
+        written: socket.written(),
+        answers: answered.is_some(),
+        holds: held_by(&noted.connection, phase),
+    }
+}
+
+/// What a connection is doing after a step, as far as its deadline goes. If it may go on at once with what has come of a request, it waits only where its
+/// client doesn't take the replies before that one: so it has as long as in a reply.
+fn stage_after(progress: Progress, phase: Phase, is_asked: bool) -> Stage {
+    match phase {
+        Phase::Head(_) if progress == Progress::More => Stage::Reply,
+        Phase::Body { .. } if progress == Progress::More && is_asked => Stage::Reply,
+        _ => stage_of(phase),
+    }
+}
+
+/// What a connection is doing that waits for its client.
 fn stage_of(phase: Phase) -> Stage {
     match phase {
         Phase::Idle => Stage::Idle,
@@ -98,6 +130,7 @@ fn next_of(progress: Progress, phase: Phase, input: &Input) -> Next {
         Progress::More if phase == Phase::Idle => Next::Waits(Interest::Read),
         Progress::More if phase != Phase::Ended => Next::Waits(Interest::Either),
         Progress::Body(_) => Next::Waits(Interest::Either),
+        Progress::Postponed => Next::Leaves,
         Progress::Ended(Err(_)) => Next::Ends,
         Progress::More | Progress::Ended(Ok(())) => input.end(),
     }

@@ -3,18 +3,20 @@
 
 mod addresses;
 mod desks;
+mod errands;
 mod groups;
 mod guests;
 mod inputs;
 mod lines;
 mod nodes;
 mod open_desks;
+mod overseeing;
 mod peer_ports;
-mod peer_streams;
 mod ports;
+mod posts;
 mod runtimes;
 mod serving;
-mod stopping;
+mod task_lists;
 mod tasks;
 
-pub use serving::{has_ports, open_memory, refuse_ports, run_serve};
+pub use serving::{has_ports, open_memory, refuse_memory, refuse_ports, run_serve};

@@ -1,16 +1,19 @@
 //! The threads of the nodes.
-use crate::groups::HostGroup;
-use crate::peer_ports::serve_peers;
-use crate::ports::Ports;
-use crate::stopping::Stop;
-use blob_store::ShelfAccess;
-use event_loop::{Limits, Node, NodeTurns, Steps, Worker, work};
+use event_loop::{
+    ErrandTurns, ErrandWorker, Node, NodeTurns, SlowSteps, Step, Steps, Worker, work,
+};
+use node_process::Start;
 use std::alloc::{AllocError, Global};
-use std::net::{Net, TcpStream};
 use std::sync::Wait;
 use std::thread;
 use std::thread::Threads;
 use std::time::Clock;
+
+/// How many threads of a node answer what its workers leave.
+pub(crate) const ERRAND_THREADS: usize = 2;
+
+/// How many threads of a node answer other nodes.
+pub(crate) const PEER_THREADS: usize = 2;
 
 /// A worker, and the node whose clients it serves.
 #[derive(Drop)]
@@ -19,7 +22,7 @@ pub(crate) struct Job<'a, S: Steps + Drop> {
     pub(crate) steps: S,
 }
 
-/// Serves the clients of a node, until it has served as many as it is to serve.
+/// Serves whoever connects to a node, until it ends.
 pub(crate) fn serve_clients<R: Wait + Clock, S: Steps + Drop>(
     rt: &R,
     alloc: Global,
@@ -31,51 +34,120 @@ pub(crate) fn serve_clients<R: Wait + Clock, S: Steps + Drop>(
     work(rt, &mut turns, &mut worker);
 }
 
-/// What the threads share: the desk, and for each node a seat, its part in the group, and its clients.
+/// Does what the workers of a node leave, until the node ends.
+pub(crate) fn do_errands<R: Wait + Clock, S: SlowSteps + Drop>(
+    rt: &R,
+    alloc: Global,
+    node: &Node<S::Connection>,
+    steps: S,
+) {
+    let mut turns = ErrandTurns::new(rt, node);
+    let mut worker = ErrandWorker::new(rt, alloc, node, steps);
+    work(rt, &mut turns, &mut worker);
+}
+
+/// Makes the step of a connection that is given to a thread that may wait.
+pub(crate) fn step_away<S: SlowSteps + Drop>(
+    mut steps: S,
+    alloc: Global,
+    connection: &mut S::Connection,
+) -> Step {
+    steps.go_on(alloc, connection)
+}
+
+/// What the threads share: the desk, and for each node a seat, its part in the group, its clients, and the other nodes that ask it.
 #[derive(Drop)]
-pub(crate) struct Shared<'a, R, A, B, C, E> {
+pub(crate) struct Shared<'a, R, A, B, C, E, F> {
     pub(crate) rt: &'a R,
     pub(crate) desk: &'a A,
     pub(crate) seats: &'a [B],
     pub(crate) groups: &'a [C],
     pub(crate) nodes: &'a [E],
+    pub(crate) peers: &'a [F],
 }
 
-/// Does these tasks, each in a thread of its own, over what they share, and joins each thread. It knows no type of what is shared: so it is shown of each by itself
-/// that threads may share it.
+/// What the threads of one node work with: its seat, its part in the group, its clients, and the other nodes that ask it.
+#[derive(Drop)]
+pub(crate) struct Place<'s, B, C, E, F> {
+    pub(crate) seat: &'s B,
+    pub(crate) group: &'s C,
+    pub(crate) node: &'s E,
+    pub(crate) peers: &'s F,
+}
+
+/// What the threads of the node at this place work with.
+pub(crate) fn place_at<'s, R, A, B, C, E, F>(
+    shared: &Shared<'s, R, A, B, C, E, F>,
+    at: usize,
+) -> Option<Place<'s, B, C, E, F>> {
+    Some(Place {
+        seat: shared.seats.get(at)?,
+        group: shared.groups.get(at)?,
+        node: shared.nodes.get(at)?,
+        peers: shared.peers.get(at)?,
+    })
+}
+
+/// Does these tasks, each in a thread of its own, over what they share, and joins each thread; meanwhile this thread oversees them. Where a thread can't be
+/// made, no task is begun. It knows no type of what is shared: so it is shown of each by itself that threads may share it.
 pub(crate) fn share_out<
-    R: Threads + Sync,
+    R: Threads + Clock + Sync,
     A: Sync,
     B: Sync,
     C: Sync,
     E: Sync,
+    F: Sync,
     H: Send + Drop,
-    F: Fn(&Shared<'_, R, A, B, C, E>, H) + Sync,
->(rt: &R, shared: &Shared<'_, R, A, B, C, E>, tasks: Vec<H>, work: &F) -> Result<(), AllocError>
-    requires { F.IsAlwaysCallable work.now }
+    W: Fn(&Shared<'_, R, A, B, C, E, F>, H) + Sync,
+    O: FnOnce() -> X,
+    X,
+>(
+    shared: &Shared<'_, R, A, B, C, E, F>,
+    tasks: Vec<H>,
+    start: &Start,
+    work: &W,
+    oversee: O,
+) -> (Result<(), AllocError>, X)
+    requires works { W.IsAlwaysCallable work.now }
+    requires oversees { O.pre oversee }
 {
-    thread::map_vec(rt, tasks, &|task: H| work(shared, task))?;
-    Ok(())
+    let rt = shared.rt;
+    thread::join(
+        rt,
+        || -> Result<(), AllocError>
+            requires { W.IsAlwaysCallable work.now }
+        { do_all(rt, shared, tasks, start, work) },
+        oversee,
+    )
 }
 
-/// Answers other nodes at the port of the node at this place, until the nodes end.
-pub(crate) fn answer_peers<
-    A,
-    B,
-    E,
-    R: Net<Stream = TcpStream> + Clock + Wait,
-    S,
-    Q: ShelfAccess<S>,
+/// Does these tasks once a thread has begun for each.
+fn do_all<
+    R: Threads + Clock + Sync,
+    A: Sync,
+    B: Sync,
+    C: Sync,
+    E: Sync,
+    F: Sync,
+    H: Send + Drop,
+    W: Fn(&Shared<'_, R, A, B, C, E, F>, H) + Sync,
 >(
-    alloc: Global,
-    shared: &Shared<'_, R, A, B, HostGroup<'_, '_, R, S, Q>, E>,
-    all: &[Ports],
-    limits: Limits,
-    stop: &Stop,
-    at: usize,
-) {
-    let (rt, groups) = (shared.rt, shared.groups);
-    if let (Some(ports), Some(group)) = (all.get(at), groups.get(at)) {
-        serve_peers(rt, alloc, &ports.peers, group, limits, stop);
-    }
+    rt: &R,
+    shared: &Shared<'_, R, A, B, C, E, F>,
+    tasks: Vec<H>,
+    start: &Start,
+    work: &W,
+) -> Result<(), AllocError>
+    requires { W.IsAlwaysCallable work.now }
+{
+    thread::map_vec(
+        rt,
+        tasks,
+        &|task: H| {
+            if start.begin(rt) {
+                work(shared, task);
+            }
+        },
+    )?;
+    Ok(())
 }

@@ -4,25 +4,28 @@ ghost use Rattle.shared_desk.specs.FoundFiles.{files_of};
 ghost use Rattle.shared_desk.specs.NewDesks.{AreNames};
 ghost use Rattle.host_nodes.specs.Ports.{LeavesRoom};
 
-use crate::desks::{Plan, Posts, Staff, posts_of, serve_desk};
+use crate::desks::serve_desk;
 use crate::lines::Failure;
 use crate::ports::bind_all;
+use crate::posts::{Plan, Posts, Staff, posts_of};
 use crate::runtimes::Serving;
 use blob_store::{Shelf, ShelfAccess};
 use byte_view::BlobInfo;
 use change_undo::Entry;
 use command_line::ServeOptions;
-use event_loop::Limits;
+use connection_rules::Limits;
 use found_host::{Found, OpenFault};
 use host_disk::Disk;
 use http_wire::Sink;
 use left_right::Absorb;
+use node_process::{Process, Surroundings, places_of};
+use operator_notices::Notices;
 use seen_lists::{ListName, Shown};
 use shared_desk::{Desk, NewDesk, Opened, open};
 use site_desk::{DeskName, HostSnap, Notice};
 use std::alloc::{AllocError, Global};
 use std::net::{Net, TcpListener, TcpStream};
-use std::sync::Wait;
+use std::sync::{Arc, Wait};
 
 /// How many nodes there are at most, and how many workers a node has at most.
 const MOST: u64 = 8;
@@ -91,13 +94,22 @@ fn open_desk<J: DeskName, K: ListName<BlobInfo>, D: Disk + Drop, S: Shelf + Drop
     staffed(alloc, opened)
 }
 
-/// What the words ask of each node.
-fn plan_of(options: &ServeOptions, limits: Limits) -> Plan {
-    Plan {
-        workers: numbers(options).1 as usize,
+/// What the words ask of each node, and what this process leaves room for.
+fn plan_of<P: Process>(
+    options: &ServeOptions,
+    limits: Limits,
+    notices: &Arc<Notices>,
+    process: &P,
+) -> Result<Plan, Failure> {
+    let (nodes, workers) = numbers(options);
+    let places = places_of(process.descriptors(), nodes).ok_or(Failure::CannotListen)?;
+    Ok(Plan {
+        workers: workers as usize,
+        places,
         limits,
         clients: options.conns.unwrap_or(u64::MAX),
-    }
+        notices: Arc::try_clone(notices)?,
+    })
 }
 
 /// Binds the ports that the words ask for, and gives these who work at a desk their posts there.
@@ -124,7 +136,9 @@ fn serve_staffed<
     T: Absorb<Notice<J>, State = [Entry; 0]> + Drop + Send + Sync,
     R: Serving,
     Q: ShelfAccess<S> + Send + Sync,
+    P: Process,
     O: Sink,
+    E: Sink,
 >(
     rt: &R,
     alloc: Global,
@@ -132,14 +146,14 @@ fn serve_staffed<
     limits: Limits,
     desk: &Desk<J, K, D, S, T, R>,
     staff: Staff<J>,
-    access: &Q,
-    out: &mut O,
+    around: &Surroundings<'_, R, P, Q, E>,
+    lines: &mut O,
 ) -> Result<(), Failure>
     requires ports { LeavesRoom options.now.listen }
 {
-    let plan = plan_of(options, limits);
+    let plan = plan_of(options, limits, around.notices, around.process)?;
     let posts = posts_at(rt, alloc, options, staff, &plan)?;
-    serve_desk(rt, alloc, desk, posts, access, &plan, out)
+    serve_desk(rt, alloc, desk, posts, around, lines)
 }
 
 /// Serves from a desk that is open.
@@ -150,20 +164,22 @@ fn serve_open<
     S: Shelf + Drop + Send,
     R: Serving,
     Q: ShelfAccess<S> + Send + Sync,
+    P: Process,
     O: Sink,
+    E: Sink,
 >(
     rt: &R,
     alloc: Global,
     options: &ServeOptions,
     limits: Limits,
     opened: OpenDesk<J, K, D, S, R>,
-    access: &Q,
-    out: &mut O,
+    around: &Surroundings<'_, R, P, Q, E>,
+    lines: &mut O,
 ) -> Result<(), Failure>
     requires ports { LeavesRoom options.now.listen }
 {
     let OpenDesk { desk, staff } = opened;
-    serve_staffed(rt, alloc, options, limits, &desk, staff, access, out)
+    serve_staffed(rt, alloc, options, limits, &desk, staff, around, lines)
 }
 
 /// Serves from the desk of what was found, which has the runtime for its own.
@@ -174,7 +190,9 @@ pub(crate) fn serve_found<
     S: Shelf + Drop + Send,
     R: Serving,
     Q: ShelfAccess<S> + Send + Sync,
+    P: Process,
     O: Sink,
+    E: Sink,
 >(
     rt: &R,
     own: R,
@@ -183,8 +201,8 @@ pub(crate) fn serve_found<
     limits: Limits,
     new: NewDesk,
     found: Found<D, S>,
-    access: &Q,
-    out: &mut O,
+    around: &Surroundings<'_, R, P, Q, E>,
+    lines: &mut O,
 ) -> Result<(), Failure>
     requires names { AreNames J.name J.parts J.book K.book new }
     requires entries { J.found ≡ found.journal.entries }
@@ -195,5 +213,5 @@ pub(crate) fn serve_found<
     let (nodes, workers) = numbers(options);
     let visitors = (nodes * workers) as usize;
     let opened = open_desk::<J, K, D, S, R>(own, alloc, new, found, visitors)?;
-    serve_open(rt, alloc, options, limits, opened, access, out)
+    serve_open(rt, alloc, options, limits, opened, around, lines)
 }

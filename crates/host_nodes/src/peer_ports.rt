@@ -1,123 +1,76 @@
-//! The threads that answer other nodes.
-ghost use Rattle.std.specs.Prelude.{◌≡◌, None, true};
-
-use crate::peer_streams::PeerStream;
-use crate::stopping::Stop;
-use event_loop::{Limits, Takes, Turns, work};
-use peer_link::{LocalChunks, serve_peer};
+//! What answers other nodes.
+use connection_rules::Stage;
+use event_loop::{Holding, Interest, Next, NotBegun, Step, Steps};
+use peer_link::{LocalChunks, PeerConnection, PeerProgress, PeerStage, PeerWants};
 use std::alloc::Global;
-use std::net::{TcpListener, TcpStream};
+use std::net::TcpStream;
 use std::sync::Wait;
-use std::thread;
-use std::time::{Clock, Duration};
+use tcp_socket::Socket;
 
-/// How many milliseconds a thread pauses where no connection can be accepted, as for want of a descriptor.
-const PAUSE: u64 = 10;
-
-/// The connections that a thread accepts.
+/// Answers other nodes from the chunks of a node. Its steps wait for no socket, but a chunk that isn't in the caches is read from the store.
 #[derive(Drop)]
-struct PeerTurns<'a, R> {
-    rt: &'a R,
-    listener: &'a TcpListener,
-    stop: &'a Stop,
-    taken: u64,
-    is_over: bool,
+pub(crate) struct PeerSteps<'a, R, C> {
+    pub(crate) rt: &'a R,
+    pub(crate) chunks: &'a C,
 }
 
-impl<R> PeerTurns<'_, R> {
-    /// Ends the turns.
-    fn end(&mut self) -> Option<TcpStream>
-        ensures none { result ≡ None }
-        ensures taken { self.new.taken ≡ self.old.taken }
-        ensures over { self.new.is_over ≡ true }
-    {
-        self.is_over = true;
-        None
+/// Whether whoever connects has the address of this node itself: all nodes of a group have one address.
+fn is_local(stream: &TcpStream) -> bool {
+    match (stream.peer_addr(), stream.local_addr()) {
+        (Ok(theirs), Ok(ours)) => theirs.ip() == ours.ip(),
+        _ => false,
     }
 }
 
-impl<R: Wait + Clock> PeerTurns<'_, R> {
-    /// Waits for the next connection; there is none once the nodes have ended.
-    fn wait(&self) -> Option<TcpStream> {
-        let rt = self.rt;
-        for _ in rt.forever() {
-            let accepted = self.listener.accept();
-            if self.stop.is_set() {
-                return None;
-            }
-            match accepted {
-                Ok((stream, _)) => return Some(stream),
-                Err(_) => thread::sleep(rt, Duration::from_millis(PAUSE)),
-            }
+impl<R: Wait, C: LocalChunks> Steps for PeerSteps<'_, R, C> {
+    type Connection = PeerConnection;
+
+    fn begin(&mut self, alloc: Global, stream: &TcpStream) -> Result<PeerConnection, NotBegun> {
+        if !is_local(stream) {
+            return Err(NotBegun::Refused);
         }
-        unreachable!()
+        Ok(PeerConnection::new(alloc)?)
     }
-}
 
-impl<R: Wait + Clock> Turns for PeerTurns<'_, R> {
-    type Turn = TcpStream;
-
-    ghost taken = { λ turns. turns.taken };
-
-    ghost ended = { λ turns. turns.is_over ≡ true };
-
-    fn next(&mut self) -> Option<TcpStream> {
-        if self.taken == u64::MAX {
-            return self.end();
-        }
-        match self.wait() {
-            Some(stream) => {
-                self.taken += 1;
-                Some(stream)
-            }
-            None => self.end(),
+    fn go_on(
+        &mut self,
+        _alloc: Global,
+        connection: &mut PeerConnection,
+        stream: &TcpStream,
+    ) -> Step {
+        let mut socket = Socket::new(stream);
+        let progress = connection.go_on(self.rt, &mut socket, self.chunks);
+        let stage = connection.stage();
+        Step {
+            next: next_of(progress, stage),
+            stage: stage_of(progress, stage),
+            read: socket.read(),
+            written: socket.written(),
+            answers: stage == PeerStage::Answer || socket.written() > 0,
+            holds: Holding::Nothing,
         }
     }
 }
 
-/// What answers them.
-#[derive(Drop)]
-struct PeerService<'a, R, C> {
-    rt: &'a R,
-    alloc: Global,
-    chunks: &'a C,
-    limits: Limits,
-    done: u64,
-}
-
-impl<R: Wait + Clock, C: LocalChunks> Takes<TcpStream> for PeerService<'_, R, C> {
-    ghost done = { λ service. service.done };
-
-    fn take(&mut self, stream: TcpStream) {
-        let _ = stream.set_nodelay(true);
-        let mut duplex = PeerStream::new(self.rt, &stream, self.limits);
-        let _ = serve_peer(self.rt, self.alloc, &mut duplex, self.chunks);
-        self.done += 1;
+/// What a connection is doing, as far as its deadline goes. If it may go on at once with a next request, it waits only where the answers before that aren't
+/// taken, as in an answer.
+fn stage_of(progress: PeerProgress, stage: PeerStage) -> Stage {
+    match stage {
+        PeerStage::Idle => Stage::Idle,
+        PeerStage::Head if progress == PeerProgress::More => Stage::Reply,
+        PeerStage::Head => Stage::Head,
+        PeerStage::Answer => Stage::Reply,
+        PeerStage::Ended => Stage::Closing,
     }
 }
 
-/// Answers other nodes from the chunks of a node, one connection after another, until the nodes end.
-pub(crate) fn serve_peers<R: Wait + Clock, C: LocalChunks>(
-    rt: &R,
-    alloc: Global,
-    listener: &TcpListener,
-    chunks: &C,
-    limits: Limits,
-    stop: &Stop,
-) {
-    let mut turns = PeerTurns {
-        rt,
-        listener,
-        stop,
-        taken: 0,
-        is_over: false,
-    };
-    let mut service = PeerService {
-        rt,
-        alloc,
-        chunks,
-        limits,
-        done: 0,
-    };
-    work(rt, &mut turns, &mut service);
+/// What follows a step. If nothing of a next request has come, a connection that may go on at once has only to read.
+fn next_of(progress: PeerProgress, stage: PeerStage) -> Next {
+    match progress {
+        PeerProgress::Waits(PeerWants::Read) => Next::Waits(Interest::Read),
+        PeerProgress::Waits(PeerWants::Write) => Next::Waits(Interest::Write),
+        PeerProgress::More if stage == PeerStage::Idle => Next::Waits(Interest::Read),
+        PeerProgress::More => Next::Waits(Interest::Either),
+        PeerProgress::Ended(_) => Next::Ends,
+    }
 }

@@ -15,22 +15,22 @@ use std::os::fd::AsRawFd;
 /// after a second.
 const BACKLOG: i32 = 4_096;
 
-/// The port of a node for other nodes, and the addresses of both its ports.
+/// The addresses of both ports of a node.
 #[derive(Drop)]
 pub(crate) struct Ports {
-    pub(crate) peers: TcpListener,
     pub(crate) client_address: SocketAddr,
     pub(crate) peer_address: SocketAddr,
 }
 
-/// The ports of all nodes, and beside them their listeners for clients, which don't block.
+/// The ports of all nodes, and beside them their listeners for clients and for other nodes, which don't block.
 #[derive(Drop)]
 pub(crate) struct Bound {
     pub(crate) clients: Vec<TcpListener>,
+    pub(crate) peers: Vec<TcpListener>,
     pub(crate) ports: Vec<Ports>,
 }
 
-/// A listener at an address, at which a burst of connections may wait.
+/// A listener at an address, at which a burst of connections may wait. It doesn't block.
 fn listen<R: Net<Listener = TcpListener, Stream = TcpStream>>(
     rt: &R,
     address: SocketAddr,
@@ -39,6 +39,7 @@ fn listen<R: Net<Listener = TcpListener, Stream = TcpStream>>(
     if c::listen(listener.as_raw_fd(), BACKLOG) < 0 {
         return Err(io::Error::from(ErrorKind::Other));
     }
+    listener.set_nonblocking(true)?;
     Ok(listener)
 }
 
@@ -47,20 +48,18 @@ fn bind<R: Net<Listener = TcpListener, Stream = TcpStream>>(
     rt: &R,
     first: &SocketAddr,
     node: u16,
-) -> io::Result<(TcpListener, Ports)>
+) -> io::Result<(TcpListener, TcpListener, Ports)>
     requires room { socket_port first.now + node + 8 < 65536 }
 {
     let client_address = client_address(first, node);
     let peer_address = peer_address(first, node);
     let clients = listen(rt, client_address)?;
-    clients.set_nonblocking(true)?;
     let peers = listen(rt, peer_address)?;
     let ports = Ports {
-        peers,
         client_address,
         peer_address,
     };
-    Ok((clients, ports))
+    Ok((clients, peers, ports))
 }
 
 /// The ports of so many nodes.
@@ -74,11 +73,13 @@ pub(crate) fn bind_all<R: Net<Listener = TcpListener, Stream = TcpStream>>(
 {
     let mut bound = Bound {
         clients: Vec::new(alloc),
+        peers: Vec::new(alloc),
         ports: Vec::new(alloc),
     };
     for node in 0..nodes {
-        let (clients, ports) = bind(rt, first, node).map_err(|_| Failure::CannotListen)?;
+        let (clients, peers, ports) = bind(rt, first, node).map_err(|_| Failure::CannotListen)?;
         bound.clients.push(clients).map_err(|_| AllocError)?;
+        bound.peers.push(peers).map_err(|_| AllocError)?;
         bound.ports.push(ports).map_err(|_| AllocError)?;
     }
     Ok(bound)

@@ -16,11 +16,12 @@ use crate::runtimes::Serving;
 use blob_store::{MemShelf, Shelf, ShelfAccess};
 use change_undo::GREATEST_LIMIT;
 use command_line::ServeOptions;
-use event_loop::Limits;
+use connection_rules::Limits;
 use found_host::{Found, OpenFault};
 use host_disk::{Disk, MemDisk};
 use host_server::fail;
 use http_wire::Sink;
+use node_process::{Process, Surroundings};
 use shared_desk::NewDesk;
 use std::alloc::Global;
 use std::env::Env;
@@ -47,15 +48,21 @@ const SECOND: &str = "FILEHOST_DEADLINE_SECOND";
 
 const MILLISECONDS: u64 = 1_000;
 
-/// How long a second of the deadlines is.
+/// The shortest second that a test may set, in milliseconds. A shorter one would only keep the threads busy.
+const SHORTEST: u64 = 10;
+
+/// How long a second of the deadlines is: as the variable says, if that is a number in its range.
 fn second<R: Env>(rt: &R) -> u64 {
     let mut text = [0; 8];
     let Ok(length) = rt.var(SECOND, &mut text) else {
         return MILLISECONDS;
     };
-    match str::from_utf8(&text[..length]) {
-        Ok(digits) => digits.parse::<u64>().unwrap_or(MILLISECONDS),
-        Err(_) => MILLISECONDS,
+    let Ok(digits) = str::from_utf8(&text[..length]) else {
+        return MILLISECONDS;
+    };
+    match digits.parse::<u64>() {
+        Ok(second) if (SHORTEST..=MILLISECONDS).contains(&second) => second,
+        _ => MILLISECONDS,
     }
 }
 
@@ -65,7 +72,9 @@ fn serve_store<
     S: Shelf + Drop + Send,
     R: Serving,
     Q: ShelfAccess<S> + Send + Sync,
+    P: Process,
     O: Sink,
+    E: Sink,
 >(
     rt: &R,
     alloc: Global,
@@ -73,19 +82,21 @@ fn serve_store<
     limits: Limits,
     disk: D,
     shelf: S,
-    access: &Q,
-    out: &mut O,
+    around: &Surroundings<'_, R, P, Q, E>,
+    lines: &mut O,
 ) -> Result<(), Failure>
     requires ports { LeavesRoom options.now.listen }
 {
     let own = rt.clone()?;
     let found = match Found::open(alloc, disk, shelf, GREATEST_LIMIT) {
         Ok(found) => found,
+        Err(_) if around.halt.is_asked() => return Ok(()),
         Err(stop) => return Err(Failure::NotOpened(stop.fault)),
     };
+    around.halt.end();
     let new = NewDesk::new(rt, numbers(options).0);
-    serve_found::<Brand, Brand, D, S, R, Q, O>(
-        rt, own, alloc, options, limits, new, found, access, out,
+    serve_found::<Brand, Brand, D, S, R, Q, P, O, E>(
+        rt, own, alloc, options, limits, new, found, around, lines,
     )
 }
 
@@ -113,10 +124,19 @@ pub fn refuse_ports<E: Sink>(errors: &mut E) -> u8
     fail(errors, BAD_ADDRESS, "filehost: bad address\n")
 }
 
+/// Says that there is no memory for the nodes, as far as that can be written, and answers the exit status.
+pub fn refuse_memory<E: Sink>(errors: &mut E) -> u8
+    ensures { SaysFault E.may_fail OutOfMemory result (E.held errors.old) (E.held errors.new) }
+{
+    refuse(errors, &Failure::NotOpened(OpenFault::OutOfMemory))
+}
+
 /// Serves clients and other nodes from the disk and the shelf that were opened, as the words ask for it, and answers the exit status. It tells on
-/// `lines` where each node listens; if the status isn't 0, `errors` is told why. The nodes reach the files on the shelf by `access`.
+/// `lines` where each node listens; if the status isn't 0, `errors` is told why. What happens meanwhile, and what the
+/// nodes reach, is around it.
 ///
-/// Who calls it knows the runtime, and opens them: threads take a shelf in a folder only where it stands on no bound of a runtime that isn't known.
+/// Who calls it knows the runtime, and opens them: threads take a shelf in a folder only where it stands on no bound of a runtime that isn't known. Its bounds
+/// are those of `Serving`, written out: the prover takes no call by a `main` to a function with that bound.
 pub fn run_serve<
     D: Disk + Drop + Send,
     S: Shelf + Drop + Send,
@@ -130,14 +150,16 @@ pub fn run_serve<
         + Drop
         + Env,
     Q: ShelfAccess<S> + Send + Sync,
+    P: Process,
     O: Sink,
     E: Sink,
+    T: Sink,
 >(
     rt: &R,
     alloc: Global,
     options: &ServeOptions,
     opened: Result<(D, S), OpenFault>,
-    access: &Q,
+    around: &Surroundings<'_, R, P, Q, T>,
     lines: &mut O,
     errors: &mut E,
 ) -> u8
@@ -151,7 +173,7 @@ pub fn run_serve<
         Err(fault) => return refuse(errors, &Failure::NotOpened(fault)),
     };
     let limits = Limits::with_second(second(rt));
-    match serve_store(rt, alloc, options, limits, disk, shelf, access, lines) {
+    match serve_store(rt, alloc, options, limits, disk, shelf, around, lines) {
         Ok(()) => DONE,
         Err(failure) => refuse(errors, &failure),
     }

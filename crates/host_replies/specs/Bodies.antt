@@ -33,6 +33,11 @@ abbrev pub media_text : MediaType → List ℕ
 media_text (media.Fixed fixed) = fixed.text.now
 media_text (media.Parts parts) = parts
 
+-- whether it is a text whose type the program has, and no byte of a file
+abbrev pub is_plain : MediaType → Body → Bool
+is_plain (media.Fixed fixed) (body.Text text) = true
+is_plain type body = false
+
 -- what a reply says: its answer
 abbrev pub answer_of : Reply → Answer
 answer_of r = record {

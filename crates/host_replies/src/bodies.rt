@@ -21,7 +21,7 @@ pub enum BodyText {
 }
 
 impl BodyText {
-    fn bytes(&self) -> &[u8]
+    pub(crate) fn bytes(&self) -> &[u8]
         ensures { result.now ≡ text_bytes self.now }
     {
         match self {

@@ -1,11 +1,11 @@
 //! Replies, before they are written.
-ghost use Rattle.std.specs.Prelude.{◌≡◌, ◌≢◌, All, length, true, false, Some, None, IsTrue, IfOk, IfErr, OnErr, Err, IsErrOf, MatchOption, option_map};
+ghost use Rattle.std.specs.Prelude.{◌≡◌, ◌≢◌, ◌↔◌, All, length, true, false, Some, None, IsTrue, IfOk, IfErr, OnErr, Err, IsErrOf, MatchOption, option_map};
 ghost use Rattle.std.specs.List.{concat};
 ghost use Rattle.http_wire.specs.Replies.{fields_of};
 ghost use Rattle.host_api.specs.Texts.{has_cell, told_text};
 ghost use Rattle.host_api.specs.declared.refusals.Refusal.TheVariants as reason;
 ghost use Rattle.host_api.specs.declared.refusals.Refusal.TheVariants.{OutOfMemory};
-ghost use Rattle.host_replies.specs.Bodies.{answer_of, text_bytes};
+ghost use Rattle.host_replies.specs.Bodies.{answer_of, is_plain, text_bytes};
 ghost use Rattle.host_replies.specs.Replies as spec;
 ghost use Rattle.host_replies.specs.Replies.{Tells};
 ghost use Rattle.host_replies.specs.Replies.{takes_text};
@@ -31,6 +31,12 @@ use http_wire::{ContentRange, EntityTag, FieldText, Head, ReplyHead};
 use range_reply::{Boundary, FileBody, FileForm, Parts};
 use std::alloc::{AllocError, Global};
 use std::sync::Arc;
+
+/// The media type of a text (RFC 8259, section 11).
+const JSON: &str = "application/json";
+
+/// The text where there is no memory for one.
+const NO_MEMORY: &str = "{\"error\":\"OutOfMemory\"}";
 
 /// A reply, before it is written. Its length, and whether ranges are served, follow from the rest.
 #[derive(Drop)]
@@ -112,7 +118,7 @@ impl Reply {
     {
         Reply {
             status: status_told(told),
-            content_type: MediaType::Fixed(FieldText::new("application/json")),
+            content_type: MediaType::Fixed(FieldText::new(JSON)),
             etag: None,
             content_range: range_told(told),
             allow: allow_told(told),
@@ -136,8 +142,31 @@ impl Reply {
     pub fn out_of_memory() -> Reply
         ensures { answer_of result ≡ refused_answer OutOfMemory }
     {
-        let text = BodyText::Fixed("{\"error\":\"OutOfMemory\"}");
+        let text = BodyText::Fixed(NO_MEMORY);
         Reply::with_json(&Told::Refused(Refusal::OutOfMemory), text)
+    }
+
+    // Whether it names no file, no range and no method.
+    fn is_bare(&self) -> bool
+        ensures { IsTrue result
+            ↔ ((self.now.etag ≡ None) × (self.now.content_range ≡ None) × (self.now.allow ≡ None)) }
+    {
+        self.etag.is_none() && self.content_range.is_none() && self.allow.is_none()
+    }
+
+    /// Whether it is the reply where there is no memory, and no file that has the same bytes. It takes no memory.
+    pub fn is_out_of_memory(&self) -> bool
+        ensures { IsTrue result ↔ (IsTrue (is_plain self.now.content_type self.now.body)
+            × (answer_of self.now ≡ refused_answer OutOfMemory)) }
+    {
+        let (MediaType::Fixed(content_type), Body::Text(text)) = (&self.content_type, &self.body)
+        else {
+            return false;
+        };
+        self.status == StatusCode::SERVICE_UNAVAILABLE
+            && self.is_bare()
+            && content_type.as_str() == JSON
+            && text.bytes() == NO_MEMORY.as_bytes()
     }
 
     /// The reply to a request that is refused for a reason that names no cell. It takes no memory.

@@ -1,13 +1,15 @@
 -- An entry is made beside the old history, and put into the journal.
-use Rattle.std.proofs.Common.{◌≡◌, ◌⊎◌, inl, inr, List, Some, Result, Ok, Err, refl, sym, ap, subst}
+use Rattle.std.proofs.Common.{◌≡◌, ◌⊎◌, inl, inr, List, Option, Some, None, Result, Ok, Err, true, refl, sym, ap, subst}
 use Rattle.change_journal.specs.entries.Held.{Keeps}
 use Rattle.change_undo.specs.declared.entries.Entry.{Entry}
 use Rattle.journaled_history.specs.declared.entry_faults.EntryFault.{EntryFault}
 use Rattle.journaled_history.specs.declared.entry_faults.EntryFault.TheVariants.{Device, OutOfMemory}
 use Rattle.host_server.specs.declared.host.entry_errors.EntryError.{EntryError}
-use Rattle.host_server.specs.Entries.{IsEntered, of_entry_fault}
+use Rattle.host_server.specs.Entries.{IsEntered, IsUndoRefusedAs, of_entry_fault}
+use Rattle.change_undo.specs.Histories.{may_take_memory}
 use Rattle.change_undo.specs.Logs.{with_entry}
 use Rattle.host_disk.specs.declared.disks.Disk.{Ghosts}
+use Rattle.site_change.specs.declared.refusals.ChangeRefusal.{ChangeRefusal}
 use Rattle.journaled_history.specs.Puts.{IsPut, IsPutInVain}
 
 module _ {D : Type 0} (disk : Ghosts D) where
@@ -32,3 +34,13 @@ module _ {D : Type 0} (disk : Ghosts D) where
   pub put_whole : (A : Type 0) (answer : A) (entry : Entry) (entries : List Entry) (old new : Keeps D) → entries ≡ with_entry old.entries entry
       → ((last : Entry) → entries ≡ with_entry old.entries last → IsPut disk old last new) → IsEntered {A = A} disk (Ok answer) entry (Some old) (Some new)
   put_whole A answer entry entries old new longer put = (new, put entry longer, refl)
+
+-- an undo that nothing refuses may still miss the journal
+missed_unrefused : (A : Type 0) (f : EntryFault) (why : Option ChangeRefusal) → why ≡ None → IsUndoRefusedAs {A = A} why (Err (of_entry_fault f))
+missed_unrefused A OutOfMemory why none = ap may_take_memory none
+missed_unrefused A Device why none = none
+
+pub unrefused : {A : Type 0} (f : EntryFault) (told : Result A EntryError) (why : Option ChangeRefusal) → why ≡ None → told ≡ Err (of_entry_fault f)
+    → IsUndoRefusedAs why told
+unrefused {A = A} f told why none tells =
+    subst (λ (r : Result A EntryError). IsUndoRefusedAs why r) (sym tells) (missed_unrefused A f why none)

@@ -23,10 +23,10 @@ use std::alloc::Global;
 /// each reply. It also names an entry whose put failed, since the disk may have it though the host doesn't.
 pub fn answer<S: Shelf, D: Disk>(
     alloc: Global,
-    request: Request,
+    request: &Request,
     server: &mut Server<S, D>,
 ) -> Reply
-    ensures replied { IsAnswer S.did S.failures server.old request.head request.body.items (answer_of result)
+    ensures replied { IsAnswer S.did S.failures server.old request.now.head request.now.body.items (answer_of result)
         server.new }
     ensures grows { Grows server.old.house server.new.house }
     ensures count { S.failures server.old.files.shelf ≤ S.failures server.new.files.shelf }

@@ -4,6 +4,7 @@
 mod answers;
 mod host;
 pub mod laws;
+mod lost_journals;
 mod opening_lines;
 mod openings;
 mod runs;

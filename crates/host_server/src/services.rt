@@ -7,7 +7,7 @@ ghost use Rattle.host_server.specs.Withheld.{withheld_to_head};
 use crate::answers::answer;
 use crate::servers::Server;
 use blob_store::Shelf;
-use host_connection::{Request, Service};
+use host_connection::{Prompt, Request, Service};
 use host_disk::Disk;
 use host_replies::Reply;
 use std::alloc::Global;
@@ -17,8 +17,10 @@ impl<S: Shelf, D: Disk> Service for Server<S, D> {
 
     ghost grows = { λ old new. Grows old.house new.house };
 
-    fn answer(&mut self, alloc: Global, request: Request) -> Reply {
-        answer(alloc, request, self)
+    ghost postpones = { ⊥ };
+
+    fn answer(&mut self, alloc: Global, request: &Request) -> Option<Reply> {
+        Some(answer(alloc, request, self))
     }
 
     ghost withheld = { λ old parts body answer new is told.
@@ -27,4 +29,8 @@ impl<S: Shelf, D: Disk> Service for Server<S, D> {
     ghost stays = { λ server. itself server.house };
 
     ghost goes_on = { λ first mid last. grows_then first.house mid.house last.house };
+}
+
+impl<S: Shelf, D: Disk> Prompt for Server<S, D> {
+    ghost at_once = { λ never. never };
 }

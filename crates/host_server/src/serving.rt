@@ -11,12 +11,13 @@ ghost use Rattle.host_server.specs.ServerHouses.{calls_of, failed_at, gave_at};
 use crate::servers::Server;
 use blob_store::Shelf;
 use byte_view::{BlobInfo, Hold};
-use change_undo::{Entry, Log};
+use change_undo::{Entry, Log, SiteEntries};
 use chunk_reads::{Holder, ReadFault};
-use host_answers::{House, Stop, Uploaded};
-use host_api::{Items, Refusal};
+use host_answers::{House, Stop, Uploaded, asked_for};
+use host_api::{Ask, Items, Refusal};
 use host_disk::Disk;
 use host_names::{Digest, FilePath, SiteName};
+use http_wire::Head;
 use site_change::{Command, uploads_are_digested};
 use site_state::{Listing, State, missing};
 use std::alloc::{AllocError, Global};
@@ -39,6 +40,10 @@ impl<S: Shelf, D: Disk> House for Server<S, D> {
 
     ghost grows = { λ old new. Grows old.house new.house };
 
+    fn asked_for(&self, alloc: Global, head: &Head, body: &[u8]) -> Result<Ask, Refusal> {
+        asked_for(alloc, head, body)
+    }
+
     fn look(&mut self) -> Result<(), AllocError> {
         self.house.lawful();
         uploads_are_digested(self.house.uploads());
@@ -55,6 +60,10 @@ impl<S: Shelf, D: Disk> House for Server<S, D> {
 
     fn marked_entry(&self, number: u64) -> Option<(&Entry, bool)> {
         self.house.marked_entry(number)
+    }
+
+    fn entries_of(&self, site: &SiteName) -> SiteEntries<'_> {
+        self.house.entries_of(site)
     }
 
     fn missing(&self, alloc: Global, files: &Listing) -> Result<Items<Digest>, AllocError> {

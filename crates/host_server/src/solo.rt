@@ -14,6 +14,7 @@ use http_wire::{Sink, Steady};
 use std::alloc::{AllocError, Global};
 use std::convert::AsStr;
 use std::fs::File;
+use std::io::Eprint;
 use std::rt::Files;
 
 /// The exit status if the words ask for nothing that the program does.
@@ -49,20 +50,21 @@ fn run_in_memory<D: Steady, E: Sink>(alloc: Global, duplex: &mut D, errors: &mut
 
 /// Runs the program for the words after its name, and answers its exit status. `solo` serves one connection over an empty server;
 /// `solo --store DIR` serves one over the server that the folder keeps. If the status isn't 0, `errors` is told why; else nothing is written
-/// there. If the words ask for `serve`, they are handed back, and nothing is read or written.
+/// there. If the words ask for `serve`, they are handed back, and nothing is read or written. What `open_folder` says of a lost journal is not
+/// written to `errors`.
 ///
 /// Memory may run out while the words are read, whatever they are: no contract tells when it does.
 ///
 /// The contract speaks of the stream before and after, and not of its bytes alone: so it also says when the run reads, and that the stream
 /// is left as it was if no store is opened.
-pub fn run_solo<R: Files<File = File>, S: AsStr, D: Steady, E: Sink>(
+pub fn run_solo<R: Files<File = File> + Eprint, S: AsStr, D: Steady, E: Sink>(
     rt: &R,
     alloc: Global,
     words: &[S],
     duplex: &mut D,
     errors: &mut E,
 ) -> Result<u8, ServeOptions>
-    ensures { RunsSolo ⟦<MemDisk as Disk>⟧ ⟦<FileDisk as Disk>⟧ ⟦<DirShelf<'static, R> as Shelf>⟧ D.Duplex
+    ensures { RunsSolo ⟦<MemDisk as Disk>⟧ ⟦<FileDisk<'static, R> as Disk>⟧ ⟦<DirShelf<'static, R> as Shelf>⟧ D.Duplex
         E.may_fail (map S.text words.now) result duplex.old duplex.new (E.held errors.old) (E.held errors.new) }
 {
     match read(alloc, words) {

@@ -4,30 +4,27 @@ ghost use Rattle.std.specs.Prelude.{◌<◌, ◌≤◌, length, IfOk, None, ⊤}
 use http_wire::{ReadFailed, Sink, Source, WriteFailed};
 use std::io::{ErrorKind, Read, Write};
 use std::net::TcpStream;
-use std::time::{Clock, Duration, Instant};
+use std::time::{Clock, Duration};
 
 /// How often a call is repeated that a signal interrupted.
 const MOST_TRIES: u32 = 16;
 
-/// How long something may take, from its beginning on.
+/// How long something may take: until a time of a clock.
 #[derive(Drop)]
 pub(crate) struct Budget<'a, R> {
     rt: &'a R,
-    begun: Instant,
-    whole: Duration,
+    end: Duration,
 }
 
 impl<'a, R: Clock> Budget<'a, R> {
-    /// This long from now on, if the clock tells the time.
-    pub(crate) fn new(rt: &'a R, whole: Duration) -> Option<Budget<'a, R>> {
-        let begun = Instant::now(rt).ok()?;
-        Some(Budget { rt, begun, whole })
+    pub(crate) fn new(rt: &'a R, end: Duration) -> Budget<'a, R> {
+        Budget { rt, end }
     }
 
-    /// What is left of it; none once it is over.
+    /// What is left of it; none once it is over, or if the clock can't tell the time.
     pub(crate) fn left(&self) -> Option<Duration> {
-        let spent = self.begun.elapsed(self.rt).ok()?;
-        let left = self.whole.checked_sub(spent)?;
+        let now = self.rt.monotonic().ok()?;
+        let left = self.end.checked_sub(now)?;
         if left.is_zero() { None } else { Some(left) }
     }
 }

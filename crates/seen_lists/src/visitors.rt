@@ -40,7 +40,8 @@ impl From<AllocError> for LookFault {
 /// the items of both. By that receipt a look has a snapshot to give even if less is shown, or nothing any more.
 #[derive(Drop)]
 pub struct Visitor<E, L: ListName<E>, S: Listed<E> + Drop> {
-    reader: ReadHandle<Shown<E, L, S>>,
+    // None where it has no place of its own, and gives what was seen for it.
+    reader: Option<ReadHandle<Shown<E, L, S>>>,
     front: Front<E, L>,
     last: Receipt<E, L, S>,
 }
@@ -78,7 +79,7 @@ impl<E, L: ListName<E>, S: Listed<E> + Drop> Visitor<E, L, S> {
         ensures { result ≡ sees last }
     {
         Visitor {
-            reader,
+            reader: Some(reader),
             front: last.front().again(),
             last,
         }
@@ -88,8 +89,24 @@ impl<E, L: ListName<E>, S: Listed<E> + Drop> Visitor<E, L, S> {
     pub fn again(&self) -> Result<Visitor<E, L, S>, AllocError>
         ensures { IfOk result (λ copy. copy ≡ self.now) }
     {
+        let reader = match &self.reader {
+            Some(reader) => Some(reader.clone()?),
+            None => None,
+        };
         Ok(Visitor {
-            reader: self.reader.clone()?,
+            reader,
+            front: self.front.again(),
+            last: self.last.again()?,
+        })
+    }
+
+    /// A second visitor, who knows what this one does and takes no place: what is shown from now on it doesn't see, so each look gives what this one was
+    /// given, or what it learns itself. It fails if there is no memory.
+    pub fn lend(&self) -> Result<Visitor<E, L, S>, AllocError>
+        ensures { IfOk result (λ copy. copy ≡ self.now) }
+    {
+        Ok(Visitor {
+            reader: None,
             front: self.front.again(),
             last: self.last.again()?,
         })
@@ -127,6 +144,9 @@ impl<E, L: ListName<E>, S: Listed<E> + Drop> Visitor<E, L, S> {
             front,
             last,
         } = self;
+        let Some(reader) = reader else {
+            return Ok(None);
+        };
         match reader.enter() {
             Some(shown) => newer(&shown, front, last),
             None => Ok(None),

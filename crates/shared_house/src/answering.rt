@@ -15,10 +15,10 @@ use crate::desk_access::DeskAccess;
 use crate::file_access::FileAccess;
 use crate::houses::SharedHouse;
 use byte_view::{BlobInfo, Hold};
-use change_undo::{Entry, Log};
+use change_undo::{Entry, Log, SiteEntries};
 use chunk_reads::{Holder, ReadFault};
 use host_answers::{House, Stop, Uploaded, answer};
-use host_api::{Items, Refusal};
+use host_api::{Ask, Items, Refusal};
 use host_connection::{Request, Service};
 use host_names::{Digest, FilePath, SiteName};
 use host_replies::Reply;
@@ -47,6 +47,10 @@ impl<J: DeskName, D: DeskAccess<J>, G: FileAccess> House for SharedHouse<J, D, G
 
     ghost grows = { λ old new. BeginsWith new.known old.known };
 
+    fn asked_for(&self, alloc: Global, head: &Head, body: &[u8]) -> Result<Ask, Refusal> {
+        self.desk.asked_for(alloc, head, body)
+    }
+
     fn look(&mut self) -> Result<(), AllocError> {
         let Ok(snap) = self.visitor.look() else {
             return Err(AllocError);
@@ -67,6 +71,10 @@ impl<J: DeskName, D: DeskAccess<J>, G: FileAccess> House for SharedHouse<J, D, G
 
     fn marked_entry(&self, number: u64) -> Option<(&Entry, bool)> {
         self.snap.history().marked_entry(number)
+    }
+
+    fn entries_of(&self, site: &SiteName) -> SiteEntries<'_> {
+        self.snap.history().entries_of(site)
     }
 
     fn missing(&self, alloc: Global, files: &Listing) -> Result<Items<Digest>, AllocError> {
@@ -151,8 +159,11 @@ impl<J: DeskName, D: DeskAccess<J>, G: FileAccess> Service for SharedHouse<J, D,
 
     ghost grows = { λ old new. BeginsWith new.known old.known };
 
-    fn answer(&mut self, alloc: Global, request: Request) -> Reply {
-        serve(alloc, self, &request.head, request.body.as_slice())
+    ghost postpones = { ⊥ };
+
+    fn answer(&mut self, alloc: Global, request: &Request) -> Option<Reply> {
+        let reply = serve(alloc, self, &request.head, request.body.as_slice());
+        Some(reply)
     }
 
     ghost withheld = { λ old parts body answer new.

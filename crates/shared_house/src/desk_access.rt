@@ -1,12 +1,16 @@
 //! How a node reaches the desk that nodes share.
-ghost use Rattle.std.specs.Prelude.{◌≡◌, IfOk, IsSome, OnErr};
+ghost use Rattle.std.specs.Prelude.{◌≡◌, ◌⊎◌, Ok, Err, IfErr, IfOk, IsSome, IsTrue, OnErr};
 ghost use Rattle.byte_view.specs.Contents.{Contents};
 ghost use Rattle.change_undo.specs.declared.entries.Entry.TheVariants as entry;
+ghost use Rattle.host_answers.specs.Asking as asking;
+ghost use Rattle.host_api.specs.declared.refusals.Refusal.TheVariants as reason;
 ghost use Rattle.site_change.specs.declared.commands.Command.TheVariants as command;
 ghost use Rattle.site_state.specs.Missing.{AreMissing, least_missing_of};
 ghost use Rattle.shared_house.specs.Entering.{IsEntryAnswer, IsUploadAnswer, reason_of_command, reason_of_undo};
 
+use host_api::{Ask, Refusal};
 use host_names::{Digest, FilePath, SiteName};
+use http_wire::Head;
 use shared_desk::UploadError;
 use site_change::Command;
 use site_desk::{DeskError, DeskName, Notice};
@@ -22,6 +26,13 @@ pub struct Taken<R> {
 
 /// Where entries are made and files are kept. Others make entries there meanwhile.
 pub trait DeskAccess<J: DeskName> {
+    /// What a request asks for. Requests with long bodies wait for each other before they are parsed.
+    fn asked_for(&self, alloc: Global, head: &Head, body: &[u8]) -> Result<Ask, Refusal>
+        ensures ok { IfOk result (λ ask. asking.asked_for head.now body.now ≡ Ok ask) }
+        ensures refused { IfErr result (λ why.
+            ((why ≡ reason.OutOfMemory) × IsTrue (asking.asking_takes head.now body.now))
+            ⊎ (asking.asked_for head.now body.now ≡ Err why)) };
+
     /// Makes a command the next entry of whatever the log is by then, and gives the receipt of it.
     fn commit(&self, command: Command) -> Result<Notice<J>, DeskError<Notice<J>>>
         ensures { IsEntryAnswer (entry.Change command) (reason_of_command command) result };

@@ -11,24 +11,34 @@ use std::sync::{Arc, Wait};
 /// Holds stretches of files, for many threads at once.
 pub trait FileAccess {
     /// A stretch of a file, with the chunks that it meets. It is given by its first and its last byte, both included.
-    fn hold(&self, info: Arc<BlobInfo>, first: usize, last: usize) -> Result<Hold, ReadFault>
+    fn hold(&mut self, info: Arc<BlobInfo>, first: usize, last: usize) -> Result<Hold, ReadFault>
         requires ordered { first ≤ last }
         requires within { last < length info.value }
         ensures stretch { IfOk result (λ hold.
             (hold.file ≡ info.value) × (hold.first ≡ first) × (hold.last ≡ last)) };
 }
 
-/// The files that are read through a node of a group. No lock is held while a chunk is loaded or hashed.
+/// The files that are read through a node of a group, for one request: all that is asked of peers for it shares one budget of time. No lock is held while a
+/// chunk is loaded or hashed.
 #[derive(Drop)]
-pub struct GroupFiles<'a, W, G> {
+pub struct GroupFiles<'a, W, G, L> {
     rt: &'a W,
     group: &'a G,
+    link: L,
 }
 
-impl<'a, W, G> GroupFiles<'a, W, G> {
+impl<
+    'a,
+    W,
+    H: RingHash + Copy + Drop,
+    S: Source + Copy,
+    L: PeerLink + Copy,
+    C: Coin + Drop,
+> GroupFiles<'a, W, Group<H, S, L, C>, L> {
     /// The files of a node, for a thread that waits for its locks and flights by this handle.
-    pub fn new(rt: &'a W, group: &'a G) -> GroupFiles<'a, W, G> {
-        GroupFiles { rt, group }
+    pub fn new(rt: &'a W, group: &'a Group<H, S, L, C>) -> GroupFiles<'a, W, Group<H, S, L, C>, L> {
+        let link = group.link();
+        GroupFiles { rt, group, link }
     }
 }
 
@@ -38,8 +48,38 @@ impl<
     S: Source + Copy,
     L: PeerLink + Copy,
     C: Coin + Drop,
-> FileAccess for GroupFiles<'_, W, Group<H, S, L, C>> {
-    fn hold(&self, info: Arc<BlobInfo>, first: usize, last: usize) -> Result<Hold, ReadFault> {
-        self.group.hold(self.rt, info, first, last)
+> FileAccess for GroupFiles<'_, W, Group<H, S, L, C>, L> {
+    fn hold(&mut self, info: Arc<BlobInfo>, first: usize, last: usize) -> Result<Hold, ReadFault> {
+        self.group.hold(self.rt, &mut self.link, info, first, last)
+    }
+}
+
+/// The files of which each piece is in the caches of a node. Nothing is waited for. There is no memory for other files: so a quick guest leaves requests that
+/// read them.
+#[derive(Drop)]
+pub struct CachedFiles<'a, W, G> {
+    rt: &'a W,
+    group: &'a G,
+}
+
+impl<'a, W, G> CachedFiles<'a, W, G> {
+    /// The files of a node, for a thread that waits for the lock of its caches by this handle.
+    pub fn new(rt: &'a W, group: &'a G) -> CachedFiles<'a, W, G> {
+        CachedFiles { rt, group }
+    }
+}
+
+impl<
+    W: Wait,
+    H: RingHash + Copy + Drop,
+    S: Source + Copy,
+    L: PeerLink + Copy,
+    C: Coin + Drop,
+> FileAccess for CachedFiles<'_, W, Group<H, S, L, C>> {
+    fn hold(&mut self, info: Arc<BlobInfo>, first: usize, last: usize) -> Result<Hold, ReadFault> {
+        match self.group.hold_cached(self.rt, info, first, last) {
+            Some(hold) => Ok(hold),
+            None => Err(ReadFault::OutOfMemory),
+        }
     }
 }

@@ -1,5 +1,5 @@
 //! Connections that go from one worker to another, each with a note of what it saw.
-ghost use Rattle.std.specs.Prelude.{◌≡◌};
+ghost use Rattle.std.specs.Prelude.{◌≡◌, ⊤};
 ghost use Rattle.change_undo.specs.Logs.{BeginsWith, Log};
 ghost use Rattle.host_connection.specs.Advancing.{Goes, RemembersMemory, TellsBody, phases_left};
 ghost use Rattle.host_connection.specs.Carrying.{AnswersOnce, Carries, Leads};
@@ -12,7 +12,7 @@ use crate::answered::Answered;
 use crate::answering::serve;
 use crate::desk_access::DeskAccess;
 use crate::file_access::FileAccess;
-use crate::houses::SharedHouse;
+use crate::houses::{DeskVisitor, SharedHouse};
 use change_undo::Entry;
 use host_connection::{Connection, Metered, Progress, Request, Service};
 use host_replies::Reply;
@@ -27,12 +27,18 @@ use std::mem;
 pub type Note<J> = Front<Entry, J>;
 
 /// A worker's house, and the note of the connection that it answers. Contracts see the log of the note alone, so the worker is no part of what they say.
+///
+/// A quick guest never waits: it leaves a request for later whose answer may need the desk, or a piece of a file that isn't at hand. A thread that may wait
+/// answers such a request by a guest of its own, over what the quick one saw.
 #[derive(Drop)]
 pub struct Guest<J: DeskName, D, G> {
     house: SharedHouse<J, D, G>,
     note: Note<J>,
+    is_quick: bool,
     // The request that the last step answered, if it answered one.
     answered: Option<Answered>,
+    // What was seen for a request that the last step left, if it left one.
+    sight: Option<DeskVisitor<J>>,
 }
 
 impl<J: DeskName, D, G> Model for Guest<J, D, G> {
@@ -41,6 +47,20 @@ impl<J: DeskName, D, G> Model for Guest<J, D, G> {
     ghost Value = { Log };
 
     ghost view = { λ g. g.note };
+}
+
+/// How the targets begin of the interface's requests, and how the target of a list of changes ends.
+const INTERFACE: &str = "/api/";
+
+const CHANGES: &str = "/changes";
+
+/// Whether the answer to a request may need the desk: that to a read or to a list of changes doesn't.
+fn may_need_desk(request: &Request) -> bool {
+    let method = request.head.method().as_str();
+    let target = request.head.target();
+    let is_read = method == "GET" || method == "HEAD";
+    let is_list = target.ends_with(CHANGES) || !target.starts_with(INTERFACE);
+    !is_read || !is_list || !request.body.is_empty()
 }
 
 /// The reply to a request of a connection with this note: the house learns the note before, and the note is what the house knows then.
@@ -65,15 +85,27 @@ impl<J: DeskName, D: DeskAccess<J>, G: FileAccess> Service for Guest<J, D, G> {
 
     ghost grows = { λ old new. BeginsWith new old };
 
-    fn answer(&mut self, alloc: Global, request: Request) -> Reply {
-        self.answered = Some(Answered::of(&request.head));
-        answer_guest(
+    ghost postpones = { ⊤ };
+
+    fn answer(&mut self, alloc: Global, request: &Request) -> Option<Reply> {
+        let mut note = self.note.again();
+        if self.is_quick && may_need_desk(request) && self.leave() {
+            return None;
+        }
+        let reply = answer_guest(
             alloc,
             &mut self.house,
-            &mut self.note,
+            &mut note,
             &request.head,
             request.body.as_slice(),
-        )
+        );
+        // What isn't at hand a quick guest has no memory for. Where there really is none, the next guest finds the same.
+        if self.is_quick && reply.is_out_of_memory() && self.leave() {
+            return None;
+        }
+        self.answered = Some(Answered::of(&request.head));
+        self.note = note;
+        Some(reply)
     }
 
     ghost withheld = { laws.withheld };
@@ -92,8 +124,45 @@ impl<J: DeskName, D: DeskAccess<J>, G: FileAccess> Guest<J, D, G> {
         Guest {
             house,
             note,
+            is_quick: false,
             answered: None,
+            sight: None,
         }
+    }
+
+    /// The same, but a quick one.
+    pub fn quick(house: SharedHouse<J, D, G>) -> Guest<J, D, G>
+        ensures { result ≡ house.known }
+    {
+        let mut guest = Guest::new(house);
+        guest.is_quick = true;
+        guest
+    }
+
+    /// Takes what was seen for a request that the last step left, for the guest that answers it.
+    pub fn take_sight(&mut self) -> Option<DeskVisitor<J>>
+        ensures { self.new ≡ self.old }
+    {
+        self.sight.take()
+    }
+
+    /// Looks for a request that is left for later. Answers whether there is something to lend: else the request is answered at once.
+    fn leave(&mut self) -> bool
+        ensures { self.new ≡ self.old }
+    {
+        self.sight = self.look_for();
+        self.sight.is_some()
+    }
+
+    /// What is shown to a connection with this note, to be lent.
+    fn look_for(&mut self) -> Option<DeskVisitor<J>>
+        ensures { self.new ≡ self.old }
+    {
+        self.house.visitor.learn_front(&self.note);
+        let Ok(_) = self.house.visitor.look() else {
+            return None;
+        };
+        self.house.visitor.lend().ok()
     }
 
     /// A note for a new connection: what the worker knows.
@@ -133,6 +202,7 @@ impl<J: DeskName, D: DeskAccess<J>, G: FileAccess> Guest<J, D, G> {
             → Leads IsGuestAnswer X.saw (Unit {0}) X.waits start first duplex.new.stream note.new connection.new
             result }
         ensures asks { AnswersOnce IsGuestAnswer note.old note.new }
+        ensures later { result ≡ Progress.Postponed → note.new ≡ note.old }
         ensures grows { BeginsWith note.new note.old }
         ensures goes { Goes X.saw duplex.old.stream duplex.new.stream result
             (phases_left connection.old.number connection.old.phase)
@@ -143,6 +213,7 @@ impl<J: DeskName, D: DeskAccess<J>, G: FileAccess> Guest<J, D, G> {
         ensures memory { RemembersMemory connection.old.phase connection.new.phase }
     {
         self.answered = None;
+        self.sight = None;
         self.take_note(note);
         let progress = connection.go_on(alloc, duplex, self);
         self.give_note(note);

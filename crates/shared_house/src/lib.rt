@@ -13,7 +13,7 @@ mod seated_desks;
 pub use answered::Answered;
 pub use answering::answer_shared;
 pub use desk_access::{DeskAccess, Taken};
-pub use file_access::{FileAccess, GroupFiles};
+pub use file_access::{CachedFiles, FileAccess, GroupFiles};
 pub use guests::{Guest, Note};
 pub use houses::{DeskVisitor, SharedHouse};
 pub use seated_desks::SeatedDesk;

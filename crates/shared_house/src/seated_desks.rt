@@ -6,8 +6,11 @@ use crate::desk_access::{DeskAccess, Taken};
 use blob_store::ShelfAccess;
 use byte_view::BlobInfo;
 use change_undo::Entry;
+use host_answers::asked_for;
+use host_api::{Ask, Refusal};
 use host_disk::Disk;
 use host_names::{Digest, FilePath, SiteName};
+use http_wire::Head;
 use left_right::Absorb;
 use seen_lists::ListName;
 use shared_desk::{Desk, UploadError};
@@ -16,6 +19,9 @@ use site_desk::{DeskError, DeskName, Notice, Seat, Tie};
 use site_state::Listing;
 use std::alloc::{AllocError, Global};
 use std::sync::{Mutex, Wait};
+
+/// How many bytes a body has at most that is parsed beside others. Longer ones are parsed one at a time, since that takes up to a hundred times their size.
+const PARSED_TOGETHER: usize = 65_536;
 
 /// A desk from a node's seat, which the node's workers share behind a lock. An upload takes that lock for its first step and for its last one. So no
 /// worker waits for the seat while the bytes of another one are hashed or put on the shelf.
@@ -35,6 +41,8 @@ pub struct SeatedDesk<
     desk: &'a Desk<J, K, D, S, T, R>,
     access: &'a A,
     seat: &'a Mutex<Seat<J>>,
+    // The turn to parse a long body.
+    parsing: &'a Mutex<()>,
 }
 
 impl<
@@ -48,18 +56,21 @@ impl<
     W,
     A,
 > SeatedDesk<'a, J, K, D, S, T, R, W, A> {
-    /// A desk from a seat, for a thread that reaches the shelf this way and waits for locks by this handle.
+    /// A desk from a seat, for a thread that reaches the shelf this way and waits for locks by this handle. All that share `parsing` parse one long body at
+    /// a time.
     pub fn new(
         rt: &'a W,
         desk: &'a Desk<J, K, D, S, T, R>,
         access: &'a A,
         seat: &'a Mutex<Seat<J>>,
+        parsing: &'a Mutex<()>,
     ) -> SeatedDesk<'a, J, K, D, S, T, R, W, A> {
         SeatedDesk {
             rt,
             desk,
             access,
             seat,
+            parsing,
         }
     }
 }
@@ -112,6 +123,14 @@ impl<
     W: Wait,
     A: ShelfAccess<S>,
 > DeskAccess<J> for SeatedDesk<'_, J, K, D, S, T, R, W, A> {
+    fn asked_for(&self, alloc: Global, head: &Head, body: &[u8]) -> Result<Ask, Refusal> {
+        if body.len() <= PARSED_TOGETHER {
+            return asked_for(alloc, head, body);
+        }
+        let _turn = self.parsing.lock(self.rt);
+        asked_for(alloc, head, body)
+    }
+
     fn commit(&self, command: Command) -> Result<Notice<J>, DeskError<Notice<J>>> {
         let mut seat = self.seat.lock(self.rt);
         self.desk.commit(self.rt, &mut *seat, command)

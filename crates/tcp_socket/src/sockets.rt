@@ -15,7 +15,8 @@ use std::net::TcpStream;
 /// nothing of it.
 #[derive(Drop)]
 pub struct Socket<'a> {
-    stream: &'a TcpStream,
+    // None where the socket is elsewhere, so that each call would have to wait.
+    stream: Option<&'a TcpStream>,
     read: u64,
     written: u64,
     // Whether a read gave less than it had room for, so that nothing more is there. The set tells of what comes then.
@@ -33,6 +34,15 @@ impl<'a> Model for Socket<'a> {
 impl<'a> Socket<'a> {
     /// A socket of which nothing was read and to which nothing was written.
     pub fn new(stream: &'a TcpStream) -> Socket<'a> {
+        Socket::of(Some(stream))
+    }
+
+    /// A socket that is elsewhere, for a step that needs none: each call of it would have to wait.
+    pub fn away() -> Socket<'a> {
+        Socket::of(None)
+    }
+
+    fn of(stream: Option<&'a TcpStream>) -> Socket<'a> {
         Socket {
             stream,
             read: 0,
@@ -124,7 +134,9 @@ impl Duplex for Socket<'_> {
         if self.is_drained {
             return Err(Halt::WouldWait);
         }
-        let mut stream = self.stream;
+        let Some(mut stream) = self.stream else {
+            return Err(Halt::WouldWait);
+        };
         match stream.read(buf) {
             Ok(count) => {
                 self.is_drained = count > 0 && count < buf.len();
@@ -137,13 +149,18 @@ impl Duplex for Socket<'_> {
     }
 
     fn write_some(&mut self, bytes: &[u8]) -> Result<usize, Halt<WriteFailed>> {
-        let mut stream = self.stream;
+        let Some(mut stream) = self.stream else {
+            return Err(Halt::WouldWait);
+        };
         let taken = stream.write(bytes);
         self.count_written(taken, bytes.is_empty())
     }
 
     fn write_slices(&mut self, slices: &Slices<'_>) -> Result<usize, Halt<WriteFailed>> {
-        let taken = write_to(self.stream, slices);
+        let Some(stream) = self.stream else {
+            return Err(Halt::WouldWait);
+        };
+        let taken = write_to(stream, slices);
         self.count_written(taken, slices.is_empty())
     }
 

@@ -2,6 +2,7 @@
 
 use host_disk::{Disk, FileDisk, LentDisk, MemDisk};
 use std::fs;
+use std::path::PathBuf;
 use std::process::Abort;
 use std::test::Fail;
 
@@ -82,16 +83,26 @@ fn the_owner_has_a_lent_disk_again(rt: HostRuntime) -> Result<(), Fail> {
     Ok(())
 }
 
+/// The disk of the file at a path.
+fn opened<'a>(rt: &'a HostRuntime, path: &str) -> Result<FileDisk<'a, HostRuntime>, Fail> {
+    Ok(FileDisk::open(rt, PathBuf::from_str(rt.alloc(), path)?)?)
+}
+
+/// Whether the file at a path is refused as a disk.
+fn is_refused(rt: &HostRuntime, path: &str) -> Result<bool, Fail> {
+    Ok(FileDisk::open(rt, PathBuf::from_str(rt.alloc(), path)?).is_err())
+}
+
 #[test]
 fn a_file_keeps_what_is_written(rt: HostRuntime) -> Result<(), Fail> {
     let _ = fs::remove_file(&rt, PATH);
-    let mut disk = FileDisk::open(&rt, PATH)?;
+    let mut disk = opened(&rt, PATH)?;
     assert_kept(&rt, &mut disk);
     assert_refused(&rt, &mut disk);
-    assert!(rt; FileDisk::open(&rt, PATH).is_err());
+    assert!(rt; is_refused(&rt, PATH)?);
     drop(disk);
-    assert_has(&rt, &mut FileDisk::open(&rt, PATH)?, b"abx");
+    assert_has(&rt, &mut opened(&rt, PATH)?, b"abx");
     fs::remove_file(&rt, PATH)?;
-    assert!(rt; FileDisk::open(&rt, "/").is_err());
+    assert!(rt; is_refused(&rt, "/")?);
     Ok(())
 }

@@ -6,7 +6,8 @@ use anyhow::Result;
 use chunk_group::{Counter, Group};
 use host_names::Digest;
 use http_wire::{Pair, Reading, Writing};
-use peer_link::{TcpLink, serve_peer};
+use operator_notices::Notices;
+use peer_link::{Peer, TcpLink, serve_peer};
 use peer_ring::{DigestHash, Ring};
 use std::alloc::Global;
 use std::net::{IpAddr, Ipv4Addr, Net, SocketAddr, TcpListener, TcpStream};
@@ -23,11 +24,13 @@ pub(crate) const SERVERS: usize = 4;
 /// A node, its source, and its link to the others.
 pub(crate) type PeerNode<'s, 'l, R> = Group<DigestHash, ChunkMaker<'s>, TcpLink<'l, R>, Counter>;
 
-/// The ports of the nodes for peers, and their addresses.
+/// The ports of the nodes for peers, their addresses, and how the nodes know each other.
 #[derive(Drop)]
 pub(crate) struct Ports {
     pub(crate) listeners: [TcpListener; 3],
     pub(crate) addresses: [SocketAddr; 3],
+    pub(crate) peers: [Peer; 3],
+    pub(crate) notices: Notices,
 }
 
 /// A port of this machine alone.
@@ -52,6 +55,12 @@ impl Ports {
         Ok(Ports {
             listeners: [first, second, third],
             addresses,
+            peers: [
+                Peer::new(addresses[0]),
+                Peer::new(addresses[1]),
+                Peer::new(addresses[2]),
+            ],
+            notices: Notices::new(),
         })
     }
 }

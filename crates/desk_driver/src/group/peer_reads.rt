@@ -166,7 +166,7 @@ fn fill_new<'x, R: Net<Listener = TcpListener, Stream = TcpStream> + Clock + Thr
     loads: &'x Loads,
     names: &'x [Digest],
 ) -> Result<Measured> {
-    let link = TcpLink::new(alloc, rt, &ports.addresses);
+    let link = TcpLink::new(alloc, rt, &ports.peers, &ports.notices);
     let nodes = new_nodes(alloc, &ports.addresses, names, loads, link)?;
     fill_served(rt, alloc, ports, &nodes, names, &[])
 }
@@ -249,7 +249,7 @@ fn time_hot_of_new<
     names: &'x [Digest],
     hot: &[Digest],
 ) -> Result<Measured> {
-    let link = TcpLink::new(alloc, rt, &ports.addresses);
+    let link = TcpLink::new(alloc, rt, &ports.peers, &ports.notices);
     let nodes = new_nodes(alloc, &ports.addresses, names, loads, link)?;
     let _ = fill_served(rt, alloc, ports, &nodes, names, hot)?;
     let loaded = loads.of_first();

@@ -110,7 +110,7 @@ impl PeerLink for MemoryLink<'_> {
                 turns: self.turns,
             },
         };
-        ask(self.alloc, &mut duplex, key)
+        ask(self.alloc, &mut duplex, key).map_err(|_| PeerFault)
     }
 }
 

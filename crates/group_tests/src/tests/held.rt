@@ -143,8 +143,25 @@ fn read_shared<R: Wait>(
     if info.len() < 9 {
         return Err(Fail::from("the file has no such stretch"));
     }
-    let hold = node.hold(rt, info, 5, 8)?;
+    let hold = node.hold(rt, &mut node.link(), info, 5, 8)?;
     Ok(held(alloc, &hold)?)
+}
+
+/// The same from the caches alone; none, if they don't have it.
+fn read_cached<R: Wait>(
+    rt: &R,
+    alloc: Global,
+    node: &SharedNode<'_>,
+    file: &[u8],
+) -> Result<Option<Vec<u8>>, Fail> {
+    let info = Arc::new(alloc, BlobInfo::of(alloc, file)?)?;
+    if info.len() < 9 {
+        return Err(Fail::from("the file has no such stretch"));
+    }
+    match node.hold_cached(rt, info, 5, 8) {
+        Some(hold) => Ok(Some(held(alloc, &hold)?)),
+        None => Ok(None),
+    }
 }
 
 /// Asserts these bytes.
@@ -160,15 +177,20 @@ fn assert_sevens<R: Abort + Wait>(
     Ok(())
 }
 
-/// Asserts that two holds of one stretch of a file through a node give its bytes.
+/// Asserts that two holds of one stretch of a file through a node give its bytes, and that the caches have it after that and not before.
 fn assert_held_twice<R: Abort + Wait>(
     rt: &R,
     alloc: Global,
     node: &SharedNode<'_>,
     file: &[u8],
 ) -> Result<(), Fail> {
+    let before = read_cached(rt, alloc, node, file)?;
+    assert_eq!(rt; before.is_none(), true, "before it was read");
     assert_sevens(rt, alloc, node, file)?;
-    assert_sevens(rt, alloc, node, file)
+    assert_sevens(rt, alloc, node, file)?;
+    let after = read_cached(rt, alloc, node, file)?.ok_or("it is in the caches")?;
+    assert_bytes(rt, &after, &[7, 7, 7, 7]);
+    Ok(())
 }
 
 /// Asserts this of a node over a source.

@@ -7,7 +7,8 @@ use super::nodes_with_peers::PEERS;
 use chunk_group::{Counter, Group};
 use host_names::Digest;
 use http_wire::{Pair, Reading, Writing};
-use peer_link::{TcpLink, serve_peer};
+use operator_notices::Notices;
+use peer_link::{Peer, TcpLink, serve_peer};
 use peer_ring::{DigestHash, Ring};
 use std::alloc::Global;
 use std::net::{Net, SocketAddr, TcpListener, TcpStream};
@@ -34,11 +35,13 @@ const ORDERS: [[usize; 3]; 6] = [
 
 type PeerNode<'s, 'l, R> = Group<DigestHash, Giver<'s>, TcpLink<'l, R>, Counter>;
 
-/// The ports of the nodes for peers, and their addresses.
+/// The ports of the nodes for peers, their addresses, and how the nodes know each other.
 #[derive(Drop)]
 struct Ports {
     listeners: [TcpListener; 3],
     addresses: [SocketAddr; 3],
+    peers: [Peer; 3],
+    notices: Notices,
 }
 
 impl Ports {
@@ -54,6 +57,12 @@ impl Ports {
         Ok(Ports {
             listeners: [first, second, third],
             addresses,
+            peers: [
+                Peer::new(addresses[0]),
+                Peer::new(addresses[1]),
+                Peer::new(addresses[2]),
+            ],
+            notices: Notices::new(),
         })
     }
 }
@@ -225,7 +234,7 @@ fn run_new<'x, R: Net<Listener = TcpListener, Stream = TcpStream> + Clock + Thre
     names: &'x [Digest],
     right: &AtomicU64,
 ) -> Result<(), Fail> {
-    let link = TcpLink::new(alloc, rt, &ports.addresses);
+    let link = TcpLink::new(alloc, rt, &ports.peers, &ports.notices);
     let nodes = new_nodes(alloc, names, loads, link)?;
     run(rt, alloc, ports, &nodes, order, names, right);
     Ok(())

@@ -8,7 +8,8 @@ use super::nodes_with_peers::{PEERS, number_of_others};
 use super::peer_behaviors::{BEHAVIORS, Behavior, serve_one};
 use chunk_group::{Counter, Group};
 use host_names::Digest;
-use peer_link::TcpLink;
+use operator_notices::Notices;
+use peer_link::{Peer, TcpLink};
 use peer_ring::DigestHash;
 use std::alloc::Global;
 use std::net::{Net, TcpListener, TcpStream};
@@ -91,10 +92,11 @@ fn read_from<
 ) -> Result<Duration, Fail> {
     let listener = TcpListener::bind(rt, "127.0.0.1:0")?;
     let address = listener.local_addr()?;
-    let peers = [address, address, address];
+    let peers = [Peer::new(address), Peer::new(address), Peer::new(address)];
+    let notices = Notices::new();
     let (loads, calls) = (AtomicU64::new(0), AtomicU64::new(0));
     let source = Giver::new(alloc, names, &[], &loads);
-    let link = TcpLink::new(alloc, rt, &peers);
+    let link = TcpLink::new(alloc, rt, &peers, &notices);
     let node = first_node(alloc, 100_000, &PEERS, source, link)?;
     let name = names.get(number).ok_or("no such chunk")?;
     let (right, took) = read_answered(rt, alloc, &node, &listener, behavior, name, number, &calls)?;
@@ -135,10 +137,11 @@ fn assert_unreached<'x, R: Net<Listener = TcpListener, Stream = TcpStream> + Clo
     number: usize,
 ) -> Result<(), Fail> {
     let address = TcpListener::bind(rt, "127.0.0.1:0")?.local_addr()?;
-    let peers = [address, address, address];
+    let peers = [Peer::new(address), Peer::new(address), Peer::new(address)];
+    let notices = Notices::new();
     let loads = AtomicU64::new(0);
     let source = Giver::new(alloc, names, &[], &loads);
-    let link = TcpLink::new(alloc, rt, &peers);
+    let link = TcpLink::new(alloc, rt, &peers, &notices);
     let node = first_node(alloc, 100_000, &PEERS, source, link)?;
     let name = names.get(number).ok_or("no such chunk")?;
     let (right, _) = read_twice(rt, alloc, &node, name, number)?;

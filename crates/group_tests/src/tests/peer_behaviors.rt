@@ -90,7 +90,7 @@ fn answer_endlessly<R: Clock>(rt: &R, stream: &TcpStream) -> io::Result<()> {
 }
 
 /// Waits until the reader is gone, and no longer than 20 seconds.
-fn wait_for_end(stream: &TcpStream) -> io::Result<()> {
+pub(super) fn wait_for_end(stream: &TcpStream) -> io::Result<()> {
     let mut stream = stream;
     stream.set_read_timeout(Some(Duration::from_secs(20)))?;
     let mut buf = [0; 512];

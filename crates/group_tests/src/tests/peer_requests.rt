@@ -75,9 +75,9 @@ const LINES: [(&str, &str); 9] = [
 ];
 
 /// What is sent after these lines, what it is answered, and how the connection ends.
-type End = (&'static str, &'static str, Result<(), ServeFault>);
+pub(super) type End = (&'static str, &'static str, Result<(), ServeFault>);
 
-const ENDS: [End; 7] = [
+pub(super) const ENDS: [End; 7] = [
     ("", "", Ok(())),
     ("GET / HTTP/1.1\r\nHost", "", Ok(())),
     (
@@ -108,7 +108,7 @@ const ENDS: [End; 7] = [
 ];
 
 /// All that is sent, and all that it is answered.
-fn texts(alloc: Global, end: &End) -> Result<(String, String), AllocError> {
+pub(super) fn texts(alloc: Global, end: &End) -> Result<(String, String), AllocError> {
     let mut sent = String::new(alloc);
     let mut wanted = String::new(alloc);
     for (line, answer) in &LINES {

@@ -1,5 +1,6 @@
 //! How far a connection has come.
-ghost use Rattle.std.specs.Prelude.{◌≡◌};
+ghost use Rattle.std.specs.Prelude.{◌≡◌, ◌↔◌, IsTrue};
+ghost use Rattle.host_connection.specs.Carrying.{IsAsked};
 ghost use Rattle.host_connection.specs.Stages.{head_stage, held_by, stage_of};
 
 use super::Connection;
@@ -50,6 +51,16 @@ impl Connection {
             },
             Phase::Reply(_) => Stage::Reply(self.out.sent()),
             Phase::Ended(_) => Stage::Ended,
+        }
+    }
+
+    /// Whether it has a whole request that isn't answered yet, as after a step that the service postponed.
+    pub fn is_asked(&self) -> bool
+        ensures { IsTrue result ↔ IsAsked self.now.phase }
+    {
+        match &self.phase {
+            Phase::Body(part) => part.body.len() == part.size,
+            _ => false,
         }
     }
 

@@ -1,5 +1,5 @@
 //! The phases of a turn, each gone through as far as the stream doesn't have to wait.
-ghost use Rattle.std.specs.Prelude.{◌≡◌, ◌≤◌, List, IsErrOf};
+ghost use Rattle.std.specs.Prelude.{◌≡◌, ◌≢◌, ◌≤◌, List, false, IsErrOf, IsTrue};
 ghost use Rattle.http_wire.specs.Gathering.{nothing, IsCounted, SendsOn};
 ghost use Rattle.http_wire.specs.Timing.{Event, Steps};
 ghost use Rattle.host_connection.specs.Advancing.{size_in, Advances};
@@ -97,6 +97,7 @@ impl Connection {
             → Leads S.answers D.saw (MayWait D.waits) D.waits start first duplex.new _service.now self.new result }
         ensures led { (events : List Event) × Steps D.saw duplex.old events duplex.new }
         ensures advances { Advances result self.old.number self.old.phase self.new.number self.new.phase }
+        ensures at_once { result ≢ Progress.Postponed }
     {
         match self.wire.try_read_head(duplex) {
             Ok(head) => {
@@ -131,6 +132,7 @@ impl Connection {
             → Leads S.answers D.saw (MayWait D.waits) D.waits start first duplex.new _service.now self.new result }
         ensures led { (events : List Event) × Steps D.saw duplex.old events duplex.new }
         ensures advances { Advances result self.old.number (phases.Invite invitation) self.new.number self.new.phase }
+        ensures at_once { result ≢ Progress.Postponed }
     {
         let Invitation { head, size, mut at } = invitation;
         match try_write_interim(duplex, &mut at) {
@@ -165,6 +167,7 @@ impl Connection {
         ensures led { (events : List Event) × Steps D.saw duplex.old events duplex.new }
         ensures advances { Advances result self.old.number (phases.Body part) self.new.number self.new.phase }
         ensures asks { Asks S.answers service.old service.new (phases.Body part) self.new.phase }
+        ensures later { result ≡ Progress.Postponed → S.postpones × (service.new ≡ service.old) }
         ensures grows { S.grows service.old service.new }
     {
         let BodyPart {
@@ -175,16 +178,16 @@ impl Connection {
         match self.wire.try_read_body(duplex, &mut body, size) {
             Ok(()) => {
                 let is_last = self.number == MOST_REQUESTS;
-                self.answer(
-                    alloc,
-                    service,
-                    Request {
-                        head,
-                        body,
-                        is_last,
-                    },
-                );
-                Progress::More
+                let request = Request {
+                    head,
+                    body,
+                    is_last,
+                };
+                if self.answer(alloc, service, &request) {
+                    return Progress::More;
+                }
+                self.stay(Phase::Body(request.into_part()));
+                Progress::Postponed
             }
             Err(Halt::Failed(fault)) => {
                 let why = Stop::of_body(fault, is_head_only(&head));
@@ -198,24 +201,30 @@ impl Connection {
         }
     }
 
-    // Answers a request.
-    fn answer<S: Service>(&mut self, alloc: Global, service: &mut S, request: Request)
+    // Answers a request, and tells whether it did. Where the service leaves it for later, nothing changes.
+    fn answer<S: Service>(&mut self, alloc: Global, service: &mut S, request: &Request) -> bool
         ensures wire { self.new.wire ≡ self.old.wire }
-        ensures out { self.new.out ≡ nothing }
         ensures number { self.new.number ≡ self.old.number }
-        ensures answering { IsAnswering S.answers service.old request service.new self.new.phase }
-        ensures asks { AnswersOne S.answers service.old service.new }
+        ensures out { IsTrue result → self.new.out ≡ nothing }
+        ensures answering { IsTrue result
+            → IsAnswering S.answers service.old request.now service.new self.new.phase }
+        ensures asks { IsTrue result → AnswersOne S.answers service.old service.new }
+        ensures later { result ≡ false → S.postpones × (service.new ≡ service.old) × (self.new ≡ self.old) }
         ensures grows { S.grows service.old service.new }
     {
+        let Some(reply) = service.answer(alloc, request) else {
+            return false;
+        };
         let head_only = is_head_only(&request.head);
         let close = request.closes();
         // As `enter` does, without moving the reply on the way.
         self.out.begin();
         self.phase = Phase::Reply(Sending {
-            reply: service.answer(alloc, request),
+            reply,
             close,
             head_only,
         });
+        true
     }
 
     // Goes on with a reply, after which the next request is read, or the connection ends.
@@ -227,6 +236,7 @@ impl Connection {
         ensures led { (events : List Event) × Steps D.saw duplex.old events duplex.new }
         ensures advances { Advances result self.old.number self.old.phase self.new.number self.new.phase }
         ensures asks { 1 ≤ until_asked self.new.phase }
+        ensures at_once { result ≢ Progress.Postponed }
     {
         let Phase::Reply(sending) = &self.phase else {
             unreachable!()

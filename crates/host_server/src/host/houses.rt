@@ -1,10 +1,11 @@
 //! A host on one thread: its history, and what is known of its uploads.
-ghost use Rattle.std.specs.Prelude.{◌≡◌, ◌≤◌, [], ◌∷◌, Some, None, IfOk, OnOk, OnErr, false, option_map};
+ghost use Rattle.std.specs.Prelude.{◌≡◌, ◌≤◌, [], ◌∷◌, Some, None, IfOk, OnOk, OnErr, false, option_map, reverse};
 ghost use Rattle.std.specs.FinMap as map;
 ghost use Rattle.host_names.specs.Digests.{digest_of};
 ghost use Rattle.site_change.specs.Refusals.{IsRefusedBy};
 ghost use Rattle.change_undo.specs.Histories.{IsUndoRefusedBy, run, marked_entry};
 ghost use Rattle.change_undo.specs.Logs.{empty_log};
+ghost use Rattle.change_undo.specs.SiteEntries.{numbers_of};
 ghost use Rattle.change_undo.specs.declared.entries.Entry.TheVariants as entry;
 ghost use Rattle.host_server.specs.Entries.{IsEntered, IsRefusedAs, IsUndoRefusedAs};
 ghost use Rattle.change_undo.specs.Plans.{IsHistoryOver};
@@ -20,7 +21,7 @@ use blob_store::BlobIndex;
 use byte_view::BlobInfo;
 use change_journal::Journal;
 use change_undo::laws::deploys_were_opened_by_their_entries;
-use change_undo::{Entry, History, Log};
+use change_undo::{Entry, History, Log, SiteEntries};
 use host_disk::Disk;
 use host_names::SiteName;
 use journaled_history::{put_last, with_change, with_undo};
@@ -112,6 +113,13 @@ impl SoloHouse {
         ensures { option_map (λ found. (found.0.now, found.1)) result ≡ marked_entry self.now.entries number }
     {
         self.history.marked_entry(number)
+    }
+
+    /// The numbers of the entries of a site, the newest first. Takes no memory.
+    pub(crate) fn entries_of(&self, site: &SiteName) -> SiteEntries<'_>
+        ensures { result ≡ reverse (numbers_of self.now.entries site.now) }
+    {
+        self.history.entries_of(site)
     }
 
     /// What was uploaded.

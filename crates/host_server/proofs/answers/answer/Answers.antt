@@ -13,14 +13,14 @@ returns-clause-replied g c =
     let failures = g.S.Shelf.failures in
     let old = c.args.server.now in
     let new = c.answer.new.house in
-    let parts = c.args.request.head in
+    let parts = c.args.request.now.head in
     let answer = answer_of c.answer.result in
-    answered_by did failures old new parts c.args.request.body.items answer
+    answered_by did failures old new parts c.args.request.now.body.items answer
     (subst (λ (body : List ℕ). AnswersBy (calls_of did failures) (gave_at did failures) (failed_at did failures) old parts body answer new) c.as_slice.ensures.value c.answer.ensures.by)
 
 pub returns-clause-count : goal.returns-clause-count
 returns-clause-count g c =
-    answers_count g.S.Shelf.did g.S.Shelf.failures c.args.server.now c.answer.new.house c.args.request.head c.as_slice.result.now (answer_of c.answer.result) c.answer.ensures.by
+    answers_count g.S.Shelf.did g.S.Shelf.failures c.args.server.now c.answer.new.house c.args.request.now.head c.as_slice.result.now (answer_of c.answer.result) c.answer.ensures.by
 
 pub returns-clause-undone : goal.returns-clause-undone
 returns-clause-undone g c = λ before command site is undone.

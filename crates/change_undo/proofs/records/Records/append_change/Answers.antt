@@ -1,4 +1,4 @@
-use Rattle.std.proofs.Common.{◌+◌, List, [], ◌∷◌, ◌++◌, length, false, Some, arith, refl, sym, ap, subst, ◌∙◌}
+use Rattle.std.proofs.Common.{ℕ, ◌+◌, List, [], ◌∷◌, ◌++◌, length, false, Some, arith, refl, sym, ap, subst, ◌∙◌}
 use Rattle.std.proofs.lemmas.List.{length-append}
 use Rattle.site_change.specs.declared.plans.Plan.{Plan}
 use Rattle.change_undo.specs.declared.entries.Entry.{Entry}
@@ -7,7 +7,8 @@ use Rattle.change_undo.specs.declared.marks.Mark.{Mark}
 use Rattle.change_undo.specs.Indexed.{IsIndexOf}
 use Rattle.change_undo.specs.PlannedEntries.{PlannedEntry, with_marks}
 use Rattle.change_undo.proofs.Indexed.{indexed-change}
-use Rattle.change_undo.proofs.WithMarks.{with_marks-push}
+use Rattle.change_undo.proofs.Chains.{chained-after}
+use Rattle.change_undo.proofs.WithMarks.{length-with_marks, with_marks-push}
 use Rattle.change_undo.proofs.records.Records.append_change.Goals as goal
 
 -- the mark of a change with this plan
@@ -25,13 +26,19 @@ invariant_of-self-2 c =
     ∙ ap (λ (m : Mark). marks ++ m ∷ []) (c.of_change.ensures ∙ ap kept c.in_ok-plan.ensures) in
     let whole = (λ i. with_marks (c.in_ok-append.ensures.entries i) (pushed i)) ∙ with_marks-push log marks (entry.Change c.args.command) mark c.self.invariant.lengths in
     let P : List PlannedEntry → Type 0 = λ ls. IsIndexOf ls c.in_ok-index.index in
+    let sites = c.self.inside.sites in
+    let next = c.requires.next ∙ ap (λ (ls : List PlannedEntry). length ls + 1) (sym c.self.view_is) in
     record {
       lengths =
           ap (λ (es : List Entry). length es) c.in_ok-append.ensures.entries
           ∙ omega (arith, c.self.invariant.lengths, length-append log (entry.Change c.args.command ∷ []), length-append marks (mark ∷ []))
           ∙ sym (ap (λ (ms : List Mark). length ms) pushed);
       indexed = subst P (sym whole) (indexed-change c.in_ok-index.index c.self.inside.index (with_marks log marks) l plan c.args.number
-          (c.requires.next ∙ ap (λ (ls : List PlannedEntry). length ls + 1) (sym c.self.view_is)) refl c.self.invariant.indexed c.in_ok-index.ensures);
+          next refl c.self.invariant.indexed c.in_ok-index.ensures);
+      chained = chained-after log _ (entry.Change c.args.command) sites.earlier.items _ sites.last _ c.in_ok-addition.addition.before c.args.number c.site.result.now
+          (next ∙ ap (λ n. n + 1) (length-with_marks log marks c.self.invariant.lengths)) c.self.invariant.chained c.in_ok-append.ensures.entries c.site.ensures
+          c.in_ok-addition.ensures.before (c.add.ensures.earlier ∙ ap (λ (ks : List ℕ). ks ++ c.in_ok-addition.addition.before ∷ []) c.in_ok-addition.ensures.earlier)
+          (c.add.ensures.last ∙ c.in_ok-addition.ensures.added);
     }
 
 pub returns-clause-entries : goal.returns-clause-entries

@@ -17,6 +17,7 @@ returns-then-is_used_up g c =
       tells = c.in-Waits.ensures.advances.tells;
       memory = c.in-Waits.ensures.advances.memory;
       asks = c.in-Waits.ensures.asks;
+      later = λ is. cc;
       grows = c.in-Waits.ensures.grows;
     }
 
@@ -37,6 +38,7 @@ returns-else-is_used_up g c =
       tells = c.in-Waits.ensures.advances.tells;
       memory = c.in-Waits.ensures.advances.memory;
       asks = c.in-Waits.ensures.asks;
+      later = λ is. cc;
       grows = c.in-Waits.ensures.grows;
     }
 
@@ -56,5 +58,6 @@ returns-in_default g c =
       tells = c.go_through.ensures.advances.tells;
       memory = c.go_through.ensures.advances.memory;
       asks = c.go_through.ensures.asks;
+      later = c.go_through.ensures.later;
       grows = c.go_through.ensures.grows;
     }

@@ -1,8 +1,8 @@
-use Rattle.std.proofs.Common.{◌+◌, ◌++◌, [], inl, inr, refl}
+use Rattle.std.proofs.Common.{◌+◌, ◌++◌, ◌∙◌, [], inl, inr, refl}
 use Rattle.http_wire.proofs.Trails.{steps_joined}
 use Rattle.host_connection.specs.declared.steps.Progress.TheVariants as progress
 use Rattle.host_connection.proofs.Advancing.{advanced_on}
-use Rattle.host_connection.proofs.Asking.{asked_in_all, asked_on}
+use Rattle.host_connection.proofs.Asking.{asked_in_all, asked_on, not_asked}
 use Rattle.host_connection.proofs.steps.Connection.go_through.Goals as goal
 
 pub phases-init : goal.phases-init
@@ -25,6 +25,10 @@ returns-in_default g c = record {
       c.phases.invariant.advanced c.pass.ensures.advances;
   asks = asked_in_all g.S.Service.answers c.args.service.now c.pass.new.service (c.phases.counter + 1) c.pass.new.self.phase
       (asked_on g.S.Service.answers c.args.service.now c.phases.service c.pass.new.service c.phases.counter c.phases.self.phase c.pass.new.self.phase c.phases.invariant.asked c.phases-test.true c.pass.ensures.asks);
+  later = λ is. (
+      let by = c.pass.ensures.later is in
+      (by.0, by.1 ∙ not_asked g.S.Service.answers c.args.service.now c.phases.service c.phases.counter c.phases.self.phase c.phases.invariant.asked c.phases-test.true by.2)
+      );
   grows = g.met.S.Service.goes_on c.args.service.now c.phases.service c.pass.new.service c.phases.invariant.grown c.pass.ensures.grows;
 }
 

@@ -18,5 +18,6 @@ returns-in-Ended g c =
       led = ([], refl);
       advances = at_both (progress.Ended c.in-Ended.result) a.number a.phase (phase.Ended c.in-Ended.result) is (rests (progress.Ended c.in-Ended.result) a.number _ refl (λ left. omega arith) (λ no. no));
       asks = inl (refl, omega arith);
+      later = λ is. cc;
       grows = g.met.S.Service.stays c.args.service.now;
     }

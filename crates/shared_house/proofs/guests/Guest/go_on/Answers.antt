@@ -1,4 +1,4 @@
-use Rattle.std.proofs.Common.{sym, subst}
+use Rattle.std.proofs.Common.{◌∙◌, sym, subst}
 use Rattle.change_undo.specs.Logs.{Log}
 use Rattle.host_connection.specs.Carrying.{AnswersOnce, Carries, Leads}
 use Rattle.shared_house.specs.Guests.{IsGuestAnswer}
@@ -14,3 +14,6 @@ pub returns-clause-asks : goal.returns-clause-asks
 returns-clause-asks g c =
     subst (λ (l : Log). AnswersOnce IsGuestAnswer l c.give_note.new.note) c.take_note.ensures
     (subst (λ (l : Log). AnswersOnce IsGuestAnswer c.take_note.new.self l) (sym c.give_note.ensures) c.go_on-progress.ensures.asks)
+
+pub returns-clause-later : goal.returns-clause-later
+returns-clause-later g c = λ is. c.give_note.ensures ∙ (c.go_on-progress.ensures.later is).1 ∙ c.take_note.ensures

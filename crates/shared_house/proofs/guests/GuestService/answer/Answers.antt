@@ -1,4 +1,4 @@
-use Rattle.std.proofs.Common.{rules, ◌≡◌, List, ℕ, subst}
+use Rattle.std.proofs.Common.{rules, ◌≡◌, ◌∙◌, List, ℕ, subst}
 use Rattle.change_undo.specs.Logs.{Log}
 use Rattle.host_replies.specs.Bodies.{answer_of}
 use Rattle.shared_house.specs.Guests.{IsGuestAnswer}
@@ -6,8 +6,8 @@ use Rattle.shared_house.proofs.guests.GuestService.answer.Goals as goal
 
 pub returns-clause-replied : goal.returns-clause-replied
 returns-clause-replied g c =
-    let request = c.args.request in
-    let note_is : c.self.inside.note ≡ c.args.self.now = c.self.view_is in
+    let request = c.args.request.now in
+    let note_is : c.again-note.result ≡ c.args.self.now = c.again-note.ensures ∙ c.self.view_is in
     let body_is : c.as_slice.result.now ≡ request.body.items = search rules in
-    let P : Log → List ℕ → Type 0 = λ note body. IsGuestAnswer note request.head body (answer_of c.answer_guest.result) c.answer_guest.new.note in
-    subst (P c.args.self.now) body_is (subst (λ note. P note c.as_slice.result.now) note_is c.answer_guest.ensures.replied)
+    let P : Log → List ℕ → Type 0 = λ note body. IsGuestAnswer note request.head body (answer_of c.answer_guest-reply.result) c.answer_guest-reply.new.note in
+    subst (P c.args.self.now) body_is (subst (λ note. P note c.as_slice.result.now) note_is c.answer_guest-reply.ensures.replied)

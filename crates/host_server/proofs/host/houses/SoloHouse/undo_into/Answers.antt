@@ -1,10 +1,11 @@
-use Rattle.std.proofs.Common.{ℕ, List, rules, sym, ap, subst, ◌∙◌}
+use Rattle.std.proofs.Common.{◌≡◌, ℕ, List, None, rules, sym, ap, subst, ◌∙◌}
 use Rattle.change_undo.specs.Logs.{with_entry}
 use Rattle.change_undo.specs.declared.entries.Entry.{Entry}
 use Rattle.change_undo.specs.declared.entries.Entry.TheVariants.{Undo}
 use Rattle.host_server.specs.Hosts.{Host}
 use Rattle.host_server.specs.Readiness.{AreReached}
-use Rattle.host_server.proofs.Committing.{put_missed, put_whole}
+use Rattle.host_server.specs.Reasons.{undo_refusal}
+use Rattle.host_server.proofs.Committing.{put_missed, put_whole, unrefused}
 use Rattle.host_server.proofs.Reached.{reached_by_entry}
 use Rattle.host_server.proofs.host.houses.SoloHouse.undo_into.Goals as goal
 
@@ -18,6 +19,16 @@ returns-in_err-put_last-clause-journal g c =
     let longer = c.in_ok-next.ensures.entries ∙ ap (λ (es : List Entry). with_entry es (Undo c.args.site.now c.args.change)) (ap (λ (h : Host). h.entries) c.self.view_is ∙ sym c.requires.agrees) in
     put_missed g.D.Disk c.in_err-put_last.field-0.0 c.from_residual-in_err-put_last.result (Undo c.args.site.now c.args.change) c.in_ok-next.next.entries c.args.journal.now c.put_last.new.journal
     longer c.in_err-put_last.ensures.fault (search rules)
+
+pub returns-in_err-put_last-clause-refused : goal.returns-in_err-put_last-clause-refused
+returns-in_err-put_last-clause-refused g c =
+    unrefused c.in_err-put_last.field-0.0 c.from_residual-in_err-put_last.result (undo_refusal c.args.self.now c.args.site.now c.args.change)
+    (subst (λ (h : Host). undo_refusal h c.args.site.now c.args.change ≡ None) c.self.view_is (c.in_ok-next.ensures.refused c.self.inside.uploads c.self.invariant.over))
+    (search rules)
+
+pub returns-clause-refused : goal.returns-clause-refused
+returns-clause-refused g c =
+    subst (λ (h : Host). undo_refusal h c.args.site.now c.args.change ≡ None) c.self.view_is (c.in_ok-next.ensures.refused c.self.inside.uploads c.self.invariant.over)
 
 pub returns-clause-journal : goal.returns-clause-journal
 returns-clause-journal g c =

@@ -1,5 +1,0 @@
-use Rattle.event_loop.proofs.Found.{is_least}
-use Rattle.event_loop.proofs.laws.the_one_that_is_found_has_the_least.Goals as goal
-
-pub returns : goal.returns
-returns c = is_least

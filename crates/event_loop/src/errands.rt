@@ -1,0 +1,74 @@
+//! What the workers of a node hand over to threads that may wait.
+use std::alloc::{AllocError, Global};
+use std::collections::VecDeque;
+use std::sync::{Condvar, Mutex, Wait};
+
+/// A connection that goes on in another thread, since its next step may wait: for a disk, for another node, or for a body to be parsed. Its socket stays in
+/// its place.
+#[derive(Drop)]
+pub struct Errand<C> {
+    /// The place of the connection, which another one may have by now.
+    pub(crate) at: usize,
+    /// The connection's number, which no other one has.
+    pub(crate) number: u64,
+    /// How many bytes of a body count for it.
+    pub(crate) held: u64,
+    /// The connection.
+    pub connection: C,
+}
+
+/// The errands that nobody has taken yet, the oldest first.
+#[derive(Drop)]
+struct Queue<C> {
+    waiting: VecDeque<Errand<C>>,
+    is_over: bool,
+}
+
+/// The errands of a node, which its threads for them share.
+#[derive(Drop)]
+pub(crate) struct Errands<C> {
+    queue: Mutex<Queue<C>>,
+    is_new: Condvar,
+}
+
+impl<C: Drop> Errands<C> {
+    /// There are none.
+    pub(crate) fn new(alloc: Global) -> Errands<C> {
+        Errands {
+            queue: Mutex::new(Queue {
+                waiting: VecDeque::new(alloc),
+                is_over: false,
+            }),
+            is_new: Condvar::new(),
+        }
+    }
+
+    /// Hands an errand over. Without memory it is dropped, and its connection with it.
+    pub(crate) fn give<R: Wait>(&self, rt: &R, errand: Errand<C>) -> Result<(), AllocError> {
+        let given = self.queue.lock(rt).waiting.push_back(errand);
+        given.map_err(|_| AllocError)?;
+        self.is_new.notify_one();
+        Ok(())
+    }
+
+    /// Waits for an errand, and takes it. There is none once the node has ended.
+    pub(crate) fn take<R: Wait>(&self, rt: &R) -> Option<Errand<C>> {
+        let mut queue = self.queue.lock(rt);
+        for _ in rt.forever() {
+            if let Some(errand) = queue.waiting.pop_front() {
+                return Some(errand);
+            }
+            if queue.is_over {
+                return None;
+            }
+            queue = self.is_new.wait(rt, queue);
+        }
+        unreachable!()
+    }
+
+    /// Ends the threads that take errands, once none is left.
+    pub(crate) fn end<R: Wait>(&self, rt: &R) {
+        self.queue.lock(rt).is_over = true;
+        self.is_new.notify_all();
+    }
+}

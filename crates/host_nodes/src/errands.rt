@@ -1,0 +1,116 @@
+//! What the threads do that may wait.
+use crate::groups::HostGroup;
+use crate::guests::{GuestSteps, Noted};
+use crate::nodes::step_away;
+use blob_store::ShelfAccess;
+use byte_view::BlobInfo;
+use change_undo::Entry;
+use connection_rules::Stage;
+use event_loop::{Holding, Next, SlowSteps, Step};
+use host_disk::Disk;
+use left_right::Absorb;
+use peer_link::TcpLink;
+use seen_lists::ListName;
+use shared_desk::Desk;
+use shared_house::{DeskVisitor, GroupFiles, Guest, SeatedDesk, SharedHouse};
+use site_desk::{DeskName, Notice, Seat};
+use std::alloc::Global;
+use std::net::{Net, TcpStream};
+use std::sync::{Mutex, Wait};
+use std::time::Clock;
+
+/// The steps of one request.
+type AwaySteps<'a, 'g, 'h, J, K, D, S, T, R, Q, P> = GuestSteps<
+    J,
+    SeatedDesk<'a, J, K, D, S, T, R, R, Q>,
+    GroupFiles<'a, R, HostGroup<'g, 'h, R, S, P>, TcpLink<'h, R>>,
+>;
+
+/// Answers the requests that workers leave: over what the worker saw, and with calls that may wait.
+#[derive(Drop)]
+pub(crate) struct GuestErrands<
+    'a,
+    J: DeskName,
+    K: ListName<BlobInfo>,
+    D: Disk,
+    S,
+    T: Absorb<Notice<J>, State = [Entry; 0]> + Drop,
+    R: Wait + Drop,
+    Q,
+    G,
+> {
+    pub(crate) rt: &'a R,
+    pub(crate) desk: &'a Desk<J, K, D, S, T, R>,
+    pub(crate) access: &'a Q,
+    pub(crate) seat: &'a Mutex<Seat<J>>,
+    pub(crate) group: &'a G,
+    /// The turn to parse a long body, of all nodes.
+    pub(crate) parsing: &'a Mutex<()>,
+}
+
+/// What answers one request over what a worker saw. There is nothing only for want of memory.
+fn steps_of<
+    'a,
+    'g,
+    'h,
+    J: DeskName,
+    K: ListName<BlobInfo>,
+    D: Disk,
+    S,
+    T: Absorb<Notice<J>, State = [Entry; 0]> + Drop,
+    R: Net<Stream = TcpStream> + Clock + Wait + Drop,
+    Q: ShelfAccess<S>,
+    P: ShelfAccess<S>,
+>(
+    errands: &GuestErrands<'a, J, K, D, S, T, R, Q, HostGroup<'g, 'h, R, S, P>>,
+    sight: DeskVisitor<J>,
+) -> Option<AwaySteps<'a, 'g, 'h, J, K, D, S, T, R, Q, P>> {
+    let rt = errands.rt;
+    let desk = SeatedDesk::new(
+        rt,
+        errands.desk,
+        errands.access,
+        errands.seat,
+        errands.parsing,
+    );
+    let files = GroupFiles::new(rt, errands.group);
+    let house = SharedHouse::new(sight, desk, files).ok()?;
+    Some(GuestSteps {
+        guest: Guest::new(house),
+    })
+}
+
+impl<
+    J: DeskName,
+    K: ListName<BlobInfo>,
+    D: Disk,
+    S,
+    T: Absorb<Notice<J>, State = [Entry; 0]> + Drop,
+    R: Net<Stream = TcpStream> + Clock + Wait + Drop,
+    Q: ShelfAccess<S>,
+    P: ShelfAccess<S>,
+> SlowSteps for GuestErrands<'_, J, K, D, S, T, R, Q, HostGroup<'_, '_, R, S, P>> {
+    type Connection = Noted<J>;
+
+    fn go_on(&mut self, alloc: Global, noted: &mut Noted<J>) -> Step {
+        let Some(sight) = noted.sight.take() else {
+            return lost();
+        };
+        match steps_of(self, sight) {
+            Some(steps) => step_away(steps, alloc, noted),
+            None => lost(),
+        }
+    }
+}
+
+/// The step of a connection that can't be answered.
+fn lost() -> Step {
+    Step {
+        next: Next::Ends,
+        stage: Stage::Closing,
+        read: 0,
+        written: 0,
+        answers: false,
+        holds: Holding::Nothing,
+    }
+}

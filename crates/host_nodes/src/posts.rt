@@ -1,0 +1,143 @@
+//! What each node has of its own, and what is to be done there.
+use crate::guests::Noted;
+use crate::lines::Failure;
+use crate::ports::{Bound, Ports};
+use crate::task_lists::{Task, tasks_of};
+use connection_rules::Limits;
+use event_loop::{Node, NodePlan, ReadySet};
+use operator_notices::Notices;
+use peer_link::PeerConnection;
+use shared_house::DeskVisitor;
+use site_desk::{DeskName, Seat, Seats};
+use std::alloc::{AllocError, Global};
+use std::net::TcpListener;
+use std::sync::{Arc, Mutex};
+
+/// How many connections of other nodes a node has at most.
+const PEER_PLACES: usize = 16;
+
+/// A seat for each node, behind a lock.
+fn seats_of<J: DeskName>(
+    alloc: Global,
+    seats: Seats<J>,
+    nodes: usize,
+) -> Result<Vec<Mutex<Seat<J>>>, AllocError> {
+    let mut seats = seats;
+    let mut taken = Vec::new(alloc);
+    for _ in 0..nodes {
+        let Some(seat) = seats.take() else {
+            return Ok(taken);
+        };
+        taken.push(Mutex::new(seat))?;
+    }
+    Ok(taken)
+}
+
+/// The nodes of these listeners, which take no client yet.
+fn nodes_of<C: Drop>(
+    alloc: Global,
+    listeners: Vec<TcpListener>,
+    places: usize,
+    limits: Limits,
+    clients: u64,
+    notices: &Arc<Notices>,
+) -> Result<Vec<Node<C>>, Failure> {
+    let mut nodes = Vec::new(alloc);
+    for listener in listeners {
+        let ready = ReadySet::new().map_err(|_| Failure::CannotListen)?;
+        let plan = NodePlan {
+            places,
+            limits,
+            clients,
+            notices: Arc::try_clone(notices)?,
+        };
+        let node = Node::new(alloc, listener, ready, plan)?;
+        nodes.push(node).map_err(|_| AllocError)?;
+    }
+    Ok(nodes)
+}
+
+/// What is asked of each node.
+#[derive(Drop)]
+pub(crate) struct Plan {
+    pub(crate) workers: usize,
+    pub(crate) places: usize,
+    pub(crate) limits: Limits,
+    pub(crate) clients: u64,
+    pub(crate) notices: Arc<Notices>,
+}
+
+/// Who works at a desk: the seats of the nodes, and the first visitor.
+#[derive(Drop)]
+pub(crate) struct Staff<J: DeskName> {
+    pub(crate) seats: Seats<J>,
+    pub(crate) visitor: DeskVisitor<J>,
+}
+
+/// What each node has of its own: a seat, the clients that it serves, the other nodes that it answers, and its ports.
+#[derive(Drop)]
+pub(crate) struct Places<J: DeskName> {
+    pub(crate) seats: Vec<Mutex<Seat<J>>>,
+    pub(crate) nodes: Vec<Node<Noted<J>>>,
+    pub(crate) peers: Vec<Node<PeerConnection>>,
+    pub(crate) ports: Vec<Ports>,
+}
+
+/// A place for each of these ports.
+fn places_of<J: DeskName>(
+    alloc: Global,
+    seats: Seats<J>,
+    bound: Bound,
+    plan: &Plan,
+) -> Result<Places<J>, Failure> {
+    let Bound {
+        clients,
+        peers,
+        ports,
+    } = bound;
+    let seats = seats_of(alloc, seats, ports.len())?;
+    let nodes = nodes_of::<Noted<J>>(
+        alloc,
+        clients,
+        plan.places,
+        plan.limits,
+        plan.clients,
+        &plan.notices,
+    )?;
+    let peers = nodes_of::<PeerConnection>(
+        alloc,
+        peers,
+        PEER_PLACES,
+        plan.limits,
+        u64::MAX,
+        &plan.notices,
+    )?;
+    Ok(Places {
+        seats,
+        nodes,
+        peers,
+        ports,
+    })
+}
+
+/// The places of the nodes, and what is to be done there.
+#[derive(Drop)]
+pub(crate) struct Posts<J: DeskName> {
+    pub(crate) places: Places<J>,
+    pub(crate) tasks: Vec<Task<J>>,
+}
+
+/// The posts of these who work at a desk, at these ports.
+pub(crate) fn posts_of<J: DeskName>(
+    alloc: Global,
+    staff: Staff<J>,
+    bound: Bound,
+    plan: &Plan,
+) -> Result<Posts<J>, Failure> {
+    let Staff { seats, visitor } = staff;
+    let tasks = tasks_of(alloc, bound.ports.len(), plan.workers, visitor)?;
+    Ok(Posts {
+        places: places_of(alloc, seats, bound, plan)?,
+        tasks,
+    })
+}

@@ -1,0 +1,84 @@
+//! How many connections the limit of descriptors leaves room for, and who gives one if none is left.
+ghost use Rattle.std.specs.Prelude.{◌≤◌, IfSome};
+
+use crate::stopping::Stop;
+use blob_store::{AccessFault, Files, ShelfAccess, ShelfName};
+use std::sync::{Mutex, Wait};
+
+/// How many descriptors are kept for what all nodes share: the standard streams, the journal, the folder and what the program inherits.
+const RESERVE: u64 = 16;
+
+/// How many are kept for each node: its listeners, its sets, the files of the shelf, and the connections between nodes.
+const NODE_RESERVE: u64 = 8;
+
+/// How many connections a node has at most, and how many it has at least.
+const MOST: u64 = 1_024;
+
+const LEAST: u64 = 8;
+
+/// How many connections each of so many nodes has, with this limit of descriptors; none if there is no room for the fewest.
+pub fn places_of(limit: u64, nodes: u64) -> Option<usize>
+    ensures { IfSome result (λ places. (8 ≤ places) × (places ≤ 1024)) }
+{
+    let reserve = RESERVE.saturating_add(nodes.saturating_mul(NODE_RESERVE));
+    let each = limit.saturating_sub(reserve).checked_div(nodes)?;
+    if each < LEAST {
+        return None;
+    }
+    Some(each.min(MOST) as usize)
+}
+
+/// Reaches the files of a shelf. If there is no descriptor for a file, a connection that is to go first gives its own, and the call is made again.
+#[derive(Drop)]
+pub struct GivingAccess<'a, Q> {
+    access: &'a Q,
+    stop: &'a Stop,
+}
+
+impl<'a, Q> GivingAccess<'a, Q> {
+    /// Reaches them this way, for threads that the nodes oversee by this.
+    pub fn new(access: &'a Q, stop: &'a Stop) -> GivingAccess<'a, Q> {
+        GivingAccess { access, stop }
+    }
+
+    /// Whether a call is to be made again.
+    fn gives<T, W: Wait>(&self, rt: &W, outcome: &Result<T, AccessFault>) -> bool {
+        matches!(outcome, Err(AccessFault::NoDescriptor)) && self.stop.asks(rt)
+    }
+}
+
+/// How often a call is made again at most. What one connection gives another thread may take first.
+const MOST_TRIES: u32 = 8;
+
+impl<S, Q: ShelfAccess<S>> ShelfAccess<S> for GivingAccess<'_, Q> {
+    fn put<W: Wait>(
+        &self,
+        rt: &W,
+        files: &Mutex<Files<S>>,
+        name: ShelfName,
+        bytes: &[u8],
+    ) -> Result<(), AccessFault> {
+        for _ in 0..MOST_TRIES {
+            let outcome = self.access.put(rt, files, name, bytes);
+            if !self.gives(rt, &outcome) {
+                return outcome;
+            }
+        }
+        self.access.put(rt, files, name, bytes)
+    }
+
+    fn get<W: Wait>(
+        &self,
+        rt: &W,
+        files: &Mutex<Files<S>>,
+        name: ShelfName,
+    ) -> Result<Option<Vec<u8>>, AccessFault> {
+        for _ in 0..MOST_TRIES {
+            let outcome = self.access.get(rt, files, name);
+            if !self.gives(rt, &outcome) {
+                return outcome;
+            }
+        }
+        self.access.get(rt, files, name)
+    }
+}
