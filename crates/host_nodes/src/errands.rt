@@ -17,6 +17,7 @@ use site_desk::{DeskName, Notice, Seat};
 use std::alloc::Global;
 use std::net::{Net, TcpStream};
 use std::sync::{Mutex, Wait};
+use std::thread::Threads;
 use std::time::Clock;
 
 /// The steps of one request.
@@ -58,7 +59,7 @@ fn steps_of<
     D: Disk,
     S,
     T: Absorb<Notice<J>, State = [Entry; 0]> + Drop,
-    R: Net<Stream = TcpStream> + Clock + Wait + Drop,
+    R: Net<Stream = TcpStream> + Clock + Wait + Threads + Drop,
     Q: ShelfAccess<S>,
     P: ShelfAccess<S>,
 >(
@@ -86,7 +87,7 @@ impl<
     D: Disk,
     S,
     T: Absorb<Notice<J>, State = [Entry; 0]> + Drop,
-    R: Net<Stream = TcpStream> + Clock + Wait + Drop,
+    R: Net<Stream = TcpStream> + Clock + Wait + Threads + Drop,
     Q: ShelfAccess<S>,
     P: ShelfAccess<S>,
 > SlowSteps for GuestErrands<'_, J, K, D, S, T, R, Q, HostGroup<'_, '_, R, S, P>> {

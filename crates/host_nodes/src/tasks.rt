@@ -20,6 +20,7 @@ use site_desk::{DeskName, Notice, Seat};
 use std::alloc::Global;
 use std::net::{Net, TcpStream};
 use std::sync::{Mutex, Wait};
+use std::thread::Threads;
 use std::time::Clock;
 
 /// What the threads of the nodes share.
@@ -82,7 +83,7 @@ fn job_of<
     D: Disk,
     S: Shelf,
     T: Absorb<Notice<J>, State = [Entry; 0]> + Drop,
-    R: Net<Stream = TcpStream> + Clock + Wait + Drop,
+    R: Net<Stream = TcpStream> + Clock + Wait + Threads + Drop,
     Q: ShelfAccess<S>,
 >(
     rt: &'a R,
@@ -112,7 +113,7 @@ fn serve_with<
     D: Disk,
     S: Shelf,
     T: Absorb<Notice<J>, State = [Entry; 0]> + Drop,
-    R: Net<Stream = TcpStream> + Clock + Wait + Drop,
+    R: Net<Stream = TcpStream> + Clock + Wait + Threads + Drop,
     Q: ShelfAccess<S>,
 >(
     rt: &'a R,
@@ -138,7 +139,7 @@ fn answer_left<
     D: Disk,
     S: Shelf,
     T: Absorb<Notice<J>, State = [Entry; 0]> + Drop,
-    R: Net<Stream = TcpStream> + Clock + Wait + Drop,
+    R: Net<Stream = TcpStream> + Clock + Wait + Threads + Drop,
     Q: ShelfAccess<S>,
 >(
     rt: &'a R,
@@ -187,7 +188,7 @@ fn do_task<
     D: Disk,
     S: Shelf,
     T: Absorb<Notice<J>, State = [Entry; 0]> + Drop,
-    R: Net<Stream = TcpStream> + Clock + Wait + Drop,
+    R: Net<Stream = TcpStream> + Clock + Wait + Threads + Drop,
     Q: ShelfAccess<S>,
 >(
     alloc: Global,
@@ -224,7 +225,7 @@ pub(crate) fn work_on<
     D: Disk,
     S: Shelf,
     T: Absorb<Notice<J>, State = [Entry; 0]> + Drop,
-    R: Net<Stream = TcpStream> + Clock + Wait + Drop,
+    R: Net<Stream = TcpStream> + Clock + Wait + Threads + Drop,
     Q: ShelfAccess<S>,
 >(
     alloc: Global,

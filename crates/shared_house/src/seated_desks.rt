@@ -1,6 +1,9 @@
 //! A desk that threads share, from a node's seat.
-ghost use Rattle.std.specs.Prelude.{ℕ};
+ghost use Rattle.std.specs.Prelude.{ℕ, ◌≡◌, ◌⊎◌, Ok, Err, IfOk, IfErr, IsTrue};
 ghost use Rattle.shared_desk.specs.Uploads.{Judges, Publishes};
+ghost use Rattle.host_answers.specs.Asking as asking;
+ghost use Rattle.host_answers.specs.Asking.{asking_takes};
+ghost use Rattle.host_api.specs.declared.refusals.Refusal.TheVariants as reason;
 
 use crate::desk_access::{DeskAccess, Taken};
 use blob_store::ShelfAccess;
@@ -19,9 +22,31 @@ use site_desk::{DeskError, DeskName, Notice, Seat, Tie};
 use site_state::Listing;
 use std::alloc::{AllocError, Global};
 use std::sync::{Mutex, Wait};
+use std::thread::{self, Threads};
 
 /// How many bytes a body has at most that is parsed beside others. Longer ones are parsed one at a time, since that takes up to a hundred times their size.
 const PARSED_TOGETHER: usize = 65_536;
+
+/// What a request asks for, found out in a thread of its own if one can be made. The C library gives such a thread the memory that the one before it has
+/// freed. So what all long bodies take together is never more than one of them takes; else each thread that parses would keep so much.
+fn asked_apart<W: Threads>(rt: &W, alloc: Global, head: &Head, body: &[u8]) -> Result<Ask, Refusal>
+    ensures ok { IfOk result (λ ask. asking.asked_for head.now body.now ≡ Ok ask) }
+    ensures refused { IfErr result (λ why.
+        ((why ≡ reason.OutOfMemory) × IsTrue (asking_takes head.now body.now))
+        ⊎ (asking.asked_for head.now body.now ≡ Err why)) }
+{
+    let (ask, ()) = thread::join(
+        rt,
+        move || -> Result<Ask, Refusal>
+            ensures ok { IfOk result (λ ask. asking.asked_for head.entry.now body.entry.now ≡ Ok ask) }
+            ensures refused { IfErr result (λ why.
+                ((why ≡ reason.OutOfMemory) × IsTrue (asking_takes head.entry.now body.entry.now))
+                ⊎ (asking.asked_for head.entry.now body.entry.now ≡ Err why)) }
+        { asked_for(alloc, head, body) },
+        || {},
+    );
+    ask
+}
 
 /// A desk from a node's seat, which the node's workers share behind a lock. An upload takes that lock for its first step and for its last one. So no
 /// worker waits for the seat while the bytes of another one are hashed or put on the shelf.
@@ -120,7 +145,7 @@ impl<
     S,
     T: Absorb<Notice<J>, State = [Entry; 0]> + Drop,
     R: Wait + Drop,
-    W: Wait,
+    W: Wait + Threads,
     A: ShelfAccess<S>,
 > DeskAccess<J> for SeatedDesk<'_, J, K, D, S, T, R, W, A> {
     fn asked_for(&self, alloc: Global, head: &Head, body: &[u8]) -> Result<Ask, Refusal> {
@@ -128,7 +153,7 @@ impl<
             return asked_for(alloc, head, body);
         }
         let _turn = self.parsing.lock(self.rt);
-        asked_for(alloc, head, body)
+        asked_apart(self.rt, alloc, head, body)
     }
 
     fn commit(&self, command: Command) -> Result<Notice<J>, DeskError<Notice<J>>> {
