@@ -37,6 +37,8 @@ WORKERS, OF_A_WORKER = 2, 16
 READERS, LEFT = 64, OF_REPLIES * MEBIBYTE // LARGEST_FILE
 # All but the last piece of a file are those of one of so many contents. So many together are more than a node's cache has.
 CONTENTS = 8
+# How many replies hold one file, which is read from the store for each.
+HOLDERS = 8
 
 
 class Body:
@@ -245,6 +247,20 @@ class Room(Served):
         self.assertIn(len(whole), (LEFT - 1, LEFT))
         for came, digest in whole:
             self.assertEqual(came, digest)
+
+    def test_a_file_is_in_memory_once_however_many_replies_hold_it(self):
+        """The cache lets its pieces go between one reply and the next."""
+        folder, _ = self.write_store()
+        started = self.serve("--store", str(folder), "--workers", "1", second=WHOLE)
+        before, plugs = self.resident(started)[0], []
+        for _ in range(HOLDERS):
+            plugs.append(self.reader("/s/site0/large"))
+            for number in range(1, CONTENTS):
+                self.assertEqual(len(ask(self.client(), "GET", f"/s/site{number}/large")[1]), LARGEST_FILE)
+        of_one = LARGEST_FILE / MEBIBYTE
+        self.assertLess(self.resident(started)[0], before + (OF_THE_CACHE + of_one) * OF_PIECES + OTHERS)
+        self.read_all(plugs)
+        self.assert_takes_at_most(started, before + OF_THE_CACHE * OF_PIECES + OTHERS)
 
     def test_readers_of_one_file_are_not_cut(self):
         self.serve("--workers", "4", second=WHOLE)

@@ -7,6 +7,7 @@ ghost use Rattle.chunk_group.specs.Holding.{MayNotHold};
 
 use crate::caches::Caches;
 use crate::coins::Coin;
+use crate::held_pieces::HeldPieces;
 use crate::loads::{Given, Giver, Suppliers, from_source};
 use crate::places::RingPlace;
 use crate::sources::{Loading, Outcome, Source};
@@ -31,6 +32,7 @@ where
     place: RingPlace<H>,
     suppliers: Suppliers<S, L>,
     caches: Mutex<Caches<C>>,
+    held: Mutex<HeldPieces>,
     flights: Flights<Outcome, Loading<S>>,
 }
 
@@ -59,6 +61,7 @@ impl<H: RingHash + Copy + Drop, S: Source + Copy, L: PeerLink + Copy, C: Coin + 
             place: RingPlace::new(ring, me),
             suppliers: Suppliers { source, link },
             caches: Mutex::new(Caches::new(ChunkCache::new(alloc, limit)?, coin)),
+            held: Mutex::new(HeldPieces::new(alloc)),
             flights: Flights::new(alloc),
         })
     }
@@ -79,12 +82,13 @@ impl<H: RingHash + Copy + Drop, S: Source + Copy, L: PeerLink + Copy, C: Coin + 
         looked.map_err(|_| ReadFault::OutOfMemory)
     }
 
-    /// A share of a chunk that was given. The chunk is kept by the rule of `Caches::keep`.
+    /// A share of a chunk that was given, or of one of that name that is held. The chunk is kept by the rule of `Caches::keep`.
     fn share<R: Wait>(&self, rt: &R, giver: Giver, chunk: Chunk) -> Outcome
-        ensures same { IfOk result (λ share. share.value ≡ chunk) }
+        ensures named { IfOk result (λ share. digest_of share.value ≡ digest_of chunk) }
         ensures fault { IfErr result (λ fault. fault ≡ OutOfMemory) }
     {
-        let share = Arc::new(self.alloc, chunk).map_err(|_| ReadFault::OutOfMemory)?;
+        let shared = self.held.lock(rt).share(self.alloc, chunk);
+        let share = shared.map_err(|_| ReadFault::OutOfMemory)?;
         self.caches.lock(rt).keep(giver, &share);
         Ok(share)
     }
@@ -218,6 +222,22 @@ impl<H: RingHash + Copy + Drop, S: Source + Copy, L: PeerLink + Copy, C: Coin + 
     for Group<H, S, L, C> {
     fn local<R: Wait>(&self, rt: &R, key: &Digest) -> Option<Arc<Chunk>> {
         self.get_alone(rt, key).ok()
+    }
+}
+
+/// Frees from time to time what is kept for nobody.
+pub trait Tidy {
+    /// Frees it now.
+    fn tidy<R: Wait>(&self, rt: &R);
+}
+
+/// A node lets go of the whole pieces that neither its caches nor any reader holds.
+impl<H: RingHash + Drop, S: Source, L, C> Tidy for Group<H, S, L, C>
+where
+    Loading<S>: Loads<Outcome>,
+{
+    fn tidy<R: Wait>(&self, rt: &R) {
+        self.held.lock(rt).let_go();
     }
 }
 

@@ -5,6 +5,7 @@ mod caches;
 mod coins;
 mod file_sources;
 mod groups;
+mod held_pieces;
 pub mod laws;
 mod loads;
 mod node_files;
@@ -15,7 +16,7 @@ mod sources;
 
 pub use coins::{Coin, Counter};
 pub use file_sources::FileSource;
-pub use groups::Group;
+pub use groups::{Group, Tidy};
 pub use node_files::NodeFiles;
 pub use shared_sources::SharedSource;
 pub use solo_groups::SoloGroup;

@@ -6,6 +6,7 @@ mod gated_nodes;
 mod gates;
 mod hanging_peers;
 mod held;
+mod held_again;
 mod known_nodes;
 mod local_reads;
 mod loopback_nodes;

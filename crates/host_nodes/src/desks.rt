@@ -46,6 +46,7 @@ fn serve_nodes<
     let parsing = Mutex::new(());
     let means = Means::new(around.access, &parsing, around.stop);
     let overseen = Overseen {
+        groups: shared.groups,
         nodes: shared.nodes,
         peers: shared.peers,
         ports,

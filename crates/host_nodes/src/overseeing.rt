@@ -2,6 +2,7 @@
 use crate::lines::{Failure, say};
 use crate::ports::Ports;
 use crate::tasks::end_all;
+use chunk_group::Tidy;
 use connection_rules::Least;
 use event_loop::Node;
 use found_host::OpenFault;
@@ -20,7 +21,8 @@ pub(crate) const DRAIN_SECONDS: u64 = 10;
 
 /// The nodes, as the main thread sees them.
 #[derive(Drop)]
-pub(crate) struct Overseen<'a, N: Drop, M: Drop> {
+pub(crate) struct Overseen<'a, G, N: Drop, M: Drop> {
+    pub(crate) groups: &'a [G],
     pub(crate) nodes: &'a [Node<N>],
     pub(crate) peers: &'a [Node<M>],
     pub(crate) ports: &'a [Ports],
@@ -28,7 +30,7 @@ pub(crate) struct Overseen<'a, N: Drop, M: Drop> {
     pub(crate) notices: &'a Arc<Notices>,
 }
 
-impl<N: Drop, M: Drop> Overseen<'_, N, M> {
+impl<G: Tidy, N: Drop, M: Drop> Overseen<'_, G, N, M> {
     /// Begins to take clients at each node, and says so.
     fn open<O: Sink>(&self, alloc: Global, lines: &mut O) -> Result<(), Failure> {
         for node in self.peers {
@@ -69,8 +71,15 @@ impl<N: Drop, M: Drop> Overseen<'_, N, M> {
         self.stop.gave();
     }
 
-    /// Tells the operator what happens, until the nodes have ended. Once the program is asked to end, the nodes drain; once it is asked a second time, they
-    /// end.
+    /// Frees what the nodes keep for nobody.
+    fn tidy<R: Wait>(&self, rt: &R) {
+        for group in self.groups {
+            group.tidy(rt);
+        }
+    }
+
+    /// Tells the operator what happens, and tidies, until the nodes have ended. Once the program is asked to end, the nodes drain; once it is asked a second
+    /// time, they end.
     fn watch<R: Wait + Clock, P: Process, T: Sink>(
         &self,
         rt: &R,
@@ -87,6 +96,7 @@ impl<N: Drop, M: Drop> Overseen<'_, N, M> {
                 self.give(rt);
             }
             teller.tell(rt, self.notices);
+            self.tidy(rt);
             let now = process.ends_asked();
             if now > asked {
                 self.drain(if asked == 0 && now == 1 {
