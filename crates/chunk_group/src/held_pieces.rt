@@ -53,15 +53,11 @@ impl HeldPieces {
     }
 
     /// A share of a piece that was read: of the one that is held, if one of that name is, and else of this one.
-    pub(crate) fn share(
-        &mut self,
-        alloc: Global,
-        piece: Chunk,
-    ) -> Result<Arc<Chunk>, AllocError>
+    pub(crate) fn share(&mut self, alloc: Global, piece: Chunk) -> Result<Arc<Chunk>, AllocError>
         ensures { IfOk result (λ share. digest_of share.value ≡ digest_of piece) }
     {
         if piece.view().len() < PIECE_SIZE {
-            return Arc::new(alloc, piece);
+            return Ok(Arc::new(alloc, piece)?);
         }
         if let Some(share) = self.held(&piece)? {
             return Ok(share);
@@ -73,8 +69,7 @@ impl HeldPieces {
 
     /// Lets go of each piece that nobody else holds.
     pub(crate) fn let_go(&mut self) {
-        self.pieces
-            .retain(|_, piece| Arc::strong_count(piece) > 1);
+        self.pieces.retain(|_, piece| Arc::strong_count(piece) > 1);
         self.added = 0;
     }
 }
