@@ -42,8 +42,7 @@ fn serve_nodes<
     around: &Surroundings<'a, R, P, Q, E>,
     lines: &mut O,
 ) -> Result<(), Failure> {
-    let start = Start::new(tasks.len() as u64);
-    let parsing = Mutex::new(());
+    let (start, parsing) = (Start::new(tasks.len() as u64), Mutex::new(()));
     let means = Means::new(around.access, &parsing, around.stop);
     let overseen = Overseen {
         groups: shared.groups,
