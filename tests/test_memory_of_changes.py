@@ -12,7 +12,7 @@ from lib.client import ABC, digest_of, uploaded
 from lib.lacking_hosts import CHANGES, LACKING, LACKING_AND_CLOSED, LIST, alias, left_by, read, show, undo, upload
 from lib.plain_model import Model
 from lib.refused_allocations import NO_MEMORY, Refusing, pieces
-from lib.stores import Stored, as_bytes, entry_of, is_stored, opening_of, told
+from lib.stores import IN_MEMORY, Stored, as_bytes, entry_of, is_stored, opening_of, told
 from lib.worked_runs import entry, stands
 import journal
 
@@ -71,6 +71,8 @@ class Changes(Swept):
 
 
 class SweptStores(Swept, Stored):
+    place = IN_MEMORY
+
     def sweep(self, entries, contents, requests, check=lambda hosts, out: None):
         """Refuses each of the allocations of requests to a store with these entries and uploads. The journal must have what the replies tell."""
         def prepare():

@@ -18,12 +18,10 @@ from lib.lines import Line
 from lib.plain_model import Model, Request
 from lib.refused_on_demand import FOR_GOOD, Refusals, built_in
 from lib.served import Served
-from lib.stores import as_bytes, is_stored, looks, told
+from lib.stores import IN_MEMORY, as_bytes, is_stored, looks, told
 import journal
 
 NODES, CONNECTIONS = 2, 4
-# A folder in memory, if there is one: a sync takes no time there.
-FAST = "/dev/shm"
 # A body of more than 64 KiB is parsed by a thread of its own.
 LONG = Request("POST", "/api/v1/sites/one/undo", body=b'{"change":1' + b" " * 70_000 + b"}")
 ASKED = [*CHANGES, LONG, read("/d/one/1/a.txt", "Range: bytes=0-1,3-4"), read("/s/none/a.txt")]
@@ -112,7 +110,7 @@ class Shortages(Short):
     """Drawn requests, over a store."""
 
     def begin(self):
-        folder = tempfile.TemporaryDirectory(dir=FAST if os.path.isdir(FAST) else None)
+        folder = tempfile.TemporaryDirectory(dir=IN_MEMORY)
         self.addCleanup(folder.cleanup)
         self.store = Path(folder.name)
         super().begin("--store", folder.name)
