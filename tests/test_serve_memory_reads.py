@@ -11,7 +11,7 @@ import hashlib
 import time
 import unittest
 
-from lib.client import PATIENCE, digest_of, request, sent
+from lib.client import digest_of, request, sent
 from lib.held_file import HeldFile
 from lib.lacking_hosts import LACKING, LACKING_AND_CLOSED
 from lib.lines import Line
