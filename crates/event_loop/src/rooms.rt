@@ -41,7 +41,6 @@ impl<C: Drop> Node<C> {
     pub(crate) fn count<R: Wait>(&self, rt: &R, client: &mut Client<C>, after: Holding) {
         let before = client.holds;
         let number = client.number;
-        client.holds = Holding::Nothing;
         match (before, after) {
             (Holding::Body(held), Holding::Body(now)) if held <= now => {
                 self.bodies.lock(rt).settle(number, held, now);
