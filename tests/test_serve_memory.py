@@ -120,8 +120,8 @@ class Runs(Short):
             with self.subTest(asked=ASKED[number][:2]):
                 # A connection ends without a reply where there is no memory for it to begin, and with one where its head or its body is read, which comes
                 # before all else. Else it goes on.
-                order = ["silent"] * 3 * (number < CONNECTIONS) + ["closed"] * of_request.count("closed") + ["lacked"] * of_request.count("lacked")
-                self.assertEqual(of_request, order)
+                ways = ("silent", "closed", "lacked") if number < CONNECTIONS else ("closed", "lacked")
+                self.assertEqual(of_request, [way for way in ways for _ in range(of_request.count(way))])
 
 
 class Shortages(Short):
@@ -207,7 +207,7 @@ class Repeats(Short):
         self.assertIn(found, [list(map(told, host.entries)) for host in self.hosts.left])
         return counted, (*replies, is_stored(store, b"abc"))
 
-    def ends(self, store, requests):
+    def rows(self, store, requests):
         """How often each row of replies came."""
         counted, _ = self.ask_all(0, *store, requests)
         found = collections.Counter()
@@ -218,20 +218,20 @@ class Repeats(Short):
         return found
 
     def test_an_undo_is_made_by_the_next_one(self):
-        found = self.ends(self.changed, [undo(3), undo(3)])
+        found = self.rows(self.changed, [undo(3), undo(3)])
         self.assertGreater(found[LACKING, entry(5), True], 30)
 
     def test_an_upload_is_published_once(self):
         """Before there was memory it had done nothing, or its file was stored and the deploy was open, or only the text of the reply found none."""
         asked = upload(1, "b.txt", b"abc")
-        found = self.ends(self.opened, [asked, show(1), asked, LIST])
+        found = self.rows(self.opened, [asked, show(1), asked, LIST])
         lacked = {replies[1:3] for replies in found if replies[0] == LACKING}
         self.assertEqual(lacked, {
             (stands(1, "open", ABC), uploaded(b"abc", 2)), (stands(1, "open"), uploaded(b"abc", 2)), (stands(1, "kept"), uploaded(b"abc")),
         })
 
     def test_an_upload_is_known_as_soon_as_it_is_stored(self):
-        found = {replies[1:] for replies in self.ends(self.opened, [upload(1, "b.txt", b"abc"), show(1)]) if replies[1] not in (LACKING, LACKING_AND_CLOSED, b"")}
+        found = {row[1:] for row in self.rows(self.opened, [upload(1, "b.txt", b"abc"), show(1)]) if row[1] not in (LACKING, LACKING_AND_CLOSED, b"")}
         self.assertEqual(found, {(stands(1, "open"), True), (stands(1, "kept"), True), (stands(1, "open", ABC), False)})
 
 

@@ -35,7 +35,7 @@ def hash_of(text):
 
 
 def owner(names, digest):
-    """The place of the node that owns a chunk, by the rule of docs/ARCHITECTURE.md."""
+    """The place of the node that owns a chunk, by the rule of crates/peer_ring/PROMISES.md."""
     points = dict(sorted((hash_of(f"{point}{name}"), place) for place, name in enumerate(names) for point in range(POINTS)))
     hashes = sorted(points)
     return points[hashes[bisect.bisect_left(hashes, hash_of(digest)) % len(hashes)]]
@@ -111,8 +111,8 @@ class Joins(Short):
 
     def wait_until_quiet(self):
         """Waits until the second connection waits too, or was answered."""
-        counted = -1
-        while counted != self.refusals.counted:
+        counted = 0
+        while not counted or counted != self.refusals.counted:
             counted = self.refusals.counted
             time.sleep(QUIET)
 
