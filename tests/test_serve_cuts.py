@@ -15,7 +15,7 @@ import unittest
 from lib.client import EXAMPLES, HERE, SECONDS, content_length, cut_after, digest_of, opened, opening, request, upload, uploaded
 from lib.range_replies import TWO_PARTS
 from lib.sample_site import TEXTS
-from lib.served import Served, ask
+from lib.served import Served, ask, told_at
 from lib.wire import NO_FILE
 
 SOURCE = HERE / "fail_sockets.c"
@@ -92,7 +92,7 @@ class FirstRun(Cuts):
     def assert_each(self, places, play):
         self.begin()
         for place in places:
-            with self.subTest(place=place):
+            with told_at(place=place):
                 count = play(place)
                 self.assertEqual(self.entries(), ENTRIES[count])
                 self.assert_goes_on()
@@ -129,7 +129,7 @@ class Reads(Cuts):
             self.assert_receives(plug, wanted)
         asked = request("GET", "/s/one/w.txt", "Range: bytes=0-4,-5")
         for place in range(len(TWO_PARTS)):
-            with self.subTest(place=place):
+            with told_at(place=place):
                 plug = self.breaking(written=place)
                 plug.sendall(asked + NEXT)
                 self.assertEqual(self.received_of(plug), TWO_PARTS[:place])
@@ -176,7 +176,7 @@ class Uploads(Cuts):
         self.open({"/a.txt": self.CONTENT})
         for cut in (close, close_side, lose, fail):
             for place in range(len(self.asked)):
-                with self.subTest(cut=cut.__name__, place=place):
+                with told_at(cut=cut.__name__, place=place):
                     cut(place)
                     self.assertEqual(self.required(), [digest_of(self.CONTENT)])
         self.assert_goes_on()
@@ -189,7 +189,7 @@ class Uploads(Cuts):
         self.open(files)
         lacking = set(map(digest_of, files.values()))
         for place, (path, content) in enumerate(list(files.items())[:-1]):
-            with self.subTest(place=place):
+            with told_at(place=place):
                 plug = self.breaking(written=place)
                 plug.sendall(upload(1, path[1:], content) + NEXT)
                 self.assertEqual(self.received_of(plug), uploaded(content)[:place])

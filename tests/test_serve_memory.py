@@ -19,7 +19,7 @@ from lib.lacking_hosts import CHANGES, LACKING, LACKING_AND_CLOSED, LIST, Hosts,
 from lib.lines import Line
 from lib.plain_model import Model, Request
 from lib.refused_on_demand import FOR_GOOD, Refusals, built_in
-from lib.served import Served
+from lib.served import Served, told_at
 from lib.stores import IN_MEMORY, as_bytes, entry_of, is_stored, looks, opening_of, told, write_store
 from lib.worked_runs import entry, stands
 import journal
@@ -109,7 +109,7 @@ class Runs(Short):
         places, ends = self.sweep(0), [[] for _ in ASKED]
         self.assertEqual(self.ends.keys(), {"answered"})
         for place in range(1, places + 1):
-            with self.subTest(place=place):
+            with told_at(place=place):
                 self.sweep(place)
                 for of_request, end in zip(ends, self.end_of_each):
                     of_request += [end] * (end != "answered")
@@ -212,7 +212,7 @@ class Repeats(Short):
         counted, _ = self.ask_all(0, *store, requests)
         found = collections.Counter()
         for place in range(1, counted + 1):
-            with self.subTest(place=place):
+            with told_at(place=place):
                 _, replies = self.ask_all(place, *store, requests)
                 found[replies] += 1
         return found

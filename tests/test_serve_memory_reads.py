@@ -17,7 +17,7 @@ from lib.lacking_hosts import LACKING, LACKING_AND_CLOSED
 from lib.lines import Line
 from lib.range_replies import parts
 from lib.refused_on_demand import Refusals, built_in
-from lib.served import HOST, Served
+from lib.served import HOST, Served, told_at
 from lib.stores import opening_of, write_store
 from lib.wire import NEXT, NO_FILE
 
@@ -91,7 +91,7 @@ class Ranges(Short):
         # Who asks another node takes more.
         self.assertGreater(places, alone + 10)
         for place in range(1, places + 1):
-            with self.subTest(place=place):
+            with told_at(place=place):
                 ends[self.read(1, place)] += 1
         self.assertGreater(ends["lacked"], 5)
         self.assertGreater(ends["right"], 5)
@@ -147,7 +147,7 @@ class Joins(Short):
         self.assertEqual(self.read(0, is_refused_first), ("right", "right"))
         ends = collections.Counter()
         for place in range(1, self.counted + 1):
-            with self.subTest(place=place):
+            with told_at(place=place):
                 ends[self.read(place, is_refused_first)] += 1
         return ends
 

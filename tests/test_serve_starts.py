@@ -7,7 +7,7 @@ import unittest
 from lib.client import PATIENCE, refused, request, run, sent
 from lib.refused_allocations import NO_MEMORY
 from lib.refused_on_demand import Refusals, built_in
-from lib.served import HOST, Served, ports_of_several
+from lib.served import HOST, Served, ports_of_several, told_at
 from lib.stores import opening_of, write_store
 import journal
 
@@ -41,7 +41,7 @@ class Slot:
 
     def ended(self):
         """Whether it ends, and says that there is no memory: before it takes a client, or where the line of a node finds none. Else it serves."""
-        with self.test.subTest(place=self.place):
+        with told_at(place=self.place):
             for node in range(self.test.nodes):
                 line = self.started.stdout.readline()
                 if not line:
