@@ -146,7 +146,8 @@ class Repeats(SweptStores):
 
         self.sweep(*self.opened, [upload(1, "b.txt", b"abc"), show(1)], check)
         known = {(stands(1, "open"), True), (stands(1, "kept"), True)}
-        self.assertEqual({(reply, is_there) for reply, is_there in found if reply not in (LACKING, LACKING_AND_CLOSED)}, known | {(stands(1, "open", ABC), False)})
+        shown = {(reply, is_there) for reply, is_there in found if reply not in (LACKING, LACKING_AND_CLOSED)}
+        self.assertEqual(shown, known | {(stands(1, "open", ABC), False)})
 
 
 class EarlyChanges(Refusing, Stored):
