@@ -16,6 +16,8 @@ from lib.stores import opening_of
 OPEN = opening_of({"/a.txt": b"hello"})
 PUBLISH, REMOVE, UNDO_2 = ("publish", "one", 1), ("remove", "one", "/a.txt"), ("undo", "one", 2)
 UPLOAD = uploading(0, 1, "/a.txt", "hello")
+OPEN_TWO = opening_of({"/a.txt": b"hello", "/b.txt": b"abc"})
+RENAME, REMOVE_B, UNDO_3 = ("rename", "one", "/a.txt", "/c.txt"), ("remove", "one", "/b.txt"), ("undo", "one", 3)
 LACKING = ("OutOfMemory", "NotStored(OutOfMemory)")
 
 
@@ -101,6 +103,12 @@ class Memory(AtDesk):
     def test_an_undo_is_made(self):
         self.play("steps", entering(0, OPEN), UPLOAD)
         self.assert_made_once_there_is_memory(entering(0, UNDO_2), Look.of(0, True, [OPEN, PUBLISH]), Look.of(1, False, [OPEN, PUBLISH, UNDO_2]))
+
+    def test_an_undo_of_a_change_is_made_after_which_others_were(self):
+        before = [OPEN_TWO, PUBLISH, RENAME, REMOVE_B]
+        uploads = [uploading(0, 1, "/a.txt", "hello"), uploading(0, 1, "/b.txt", "abc")]
+        self.play("steps", entering(0, OPEN_TWO), *uploads, entering(0, RENAME), entering(0, REMOVE_B))
+        self.assert_made_once_there_is_memory(entering(0, UNDO_3), Look.of(0, False, before), Look.of(1, True, [*before, UNDO_3]))
 
 
 if __name__ == "__main__":

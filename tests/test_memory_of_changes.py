@@ -1,72 +1,20 @@
 """Each kind of change and its undo again and again, each time with one of their allocations refused: all other requests are answered as
 ever, and after the one that finds no memory the host is what it was before, or has done the request whole, or the first of its two entries.
 
-The program is the real one, with and without a store; a library in C refuses the allocation (refuse_allocation.c).
+Over a store some are asked for again, after there was no memory for them. The program is the real one; a library in C refuses the allocation
+(refuse_allocation.c).
 """
 
+import collections
 import unittest
 
-from lib.client import ABC, HELLO, refused
-from lib.generated_histories import in_json
-from lib.plain_model import Model, Request
+from lib.client import ABC, digest_of, uploaded
+from lib.lacking_hosts import CHANGES, LACKING, LACKING_AND_CLOSED, LIST, alias, left_by, read, show, undo, upload
+from lib.plain_model import Model
 from lib.refused_allocations import NO_MEMORY, Refusing, pieces
-from lib.stores import Stored, as_bytes, entry_of, opening_of, told
-from lib.worked_runs import entry
+from lib.stores import IN_MEMORY, Stored, as_bytes, entry_of, is_stored, opening_of, told
+from lib.worked_runs import entry, stands
 import journal
-
-LACKING = refused("OutOfMemory")
-LACKING_AND_CLOSED = refused("OutOfMemory", "Connection: close")
-
-
-def opening(files, **members):
-    return Request("POST", "/api/v1/sites/one/deploys", body=in_json(files=files, **members))
-
-
-def upload(number, path, content):
-    return Request("PUT", f"/api/v1/deploys/{number}/files/{path}", body=content)
-
-
-def undo(change):
-    return Request("POST", "/api/v1/sites/one/undo", body=in_json(change=change))
-
-
-def alias(name, number):
-    return Request("PUT", f"/api/v1/sites/one/aliases/{name}", body=in_json(deploy=number))
-
-
-def restore(number):
-    return Request("POST", f"/api/v1/sites/one/deploys/{number}/restore")
-
-
-def read(target, *fields):
-    return Request("GET", target, fields)
-
-
-RENAME = Request("POST", "/api/v1/sites/one/rename", body=in_json(**{"from": "/a.txt", "to": "/c.txt"}))
-
-# Each kind of change and an undo of it, reads between them, and undos that are refused. A comment has the number of an entry.
-CHANGES = [
-    opening({"/a.txt": HELLO, "/b.txt": ABC}), upload(1, "b.txt", b"abc"), upload(1, "a.txt", b"hello"), undo(2), restore(1),  # 4
-    alias("next", 1), read("/a/one/next/a.txt"), Request("DELETE", "/api/v1/sites/one/aliases/next"), undo(6), undo(5),  # 8
-    RENAME, read("/s/one/c.txt", "Range: bytes=1-2"), undo(9),  # 10
-    Request("DELETE", "/api/v1/sites/one/files/a.txt"), undo(11),  # 12
-    opening({"/a.txt": None, "/c.txt": HELLO}, patch=True), undo(14), Request("POST", "/api/v1/deploys/13/cancel"), undo(16),  # 17
-    opening({"/d": ABC}, draft=True), undo(18), Request("DELETE", "/api/v1/deploys/1"), undo(20),  # 21
-    opening({"/d": ABC}), undo(4), read("/d/one/1/b.txt"), restore(1), undo(24), undo(2), undo(1),  # 25
-    read("/api/v1/sites/one/changes"), read("/api/v1/deploys/13"), read("/s/one/a.txt"),
-]
-
-
-def left_by(model, asked):
-    """What a host may be after it found no memory for a request: as before, or with the first or all of what the request asks for."""
-    done = model.copy()
-    done.answer(asked)
-    hosts = [model.copy()]
-    for count in range(len(model.entries), len(done.entries) + 1):
-        host = model.copy()
-        host.entries, host.uploads = done.entries[:count], dict(done.uploads)
-        hosts.append(host)
-    return hosts
 
 
 class Run:
@@ -97,8 +45,8 @@ class Run:
         return hosts
 
 
-class Changes(Refusing):
-    def assert_swept(self, run, first=1, prepare=lambda: None, check=lambda hosts: None):
+class Swept(Refusing):
+    def assert_swept(self, run, first=1, prepare=lambda: None, check=lambda hosts, out: None):
         """Each of the allocations of a run from the first one on is refused, and a reply tells it if it is missed."""
         prepare()
         whole, count = self.run_refusing(0, run.given)
@@ -109,38 +57,97 @@ class Changes(Refusing):
                 prepare()
                 (status, out, errors), _ = self.run_refusing(place, run.given)
                 if (status, out, errors) == (2, b"", NO_MEMORY):
-                    check(run.before[:1])
+                    check(run.before[:1], out)
                     continue
                 self.assertEqual((status, errors), (0, b""))
-                check(run.hosts_after(self, out))
+                check(run.hosts_after(self, out), out)
                 lacked += out != whole[1]
         return lacked
 
+
+class Changes(Swept):
     def test_and_their_undos_are_made_or_lack_memory(self):
         self.assertGreater(self.assert_swept(Run(Model(), CHANGES)), 200)
 
 
-class StoredChanges(Changes, Stored):
+class SweptStores(Swept, Stored):
+    place = IN_MEMORY
+
+    def sweep(self, entries, contents, requests, check=lambda hosts, out: None):
+        """Refuses each of the allocations of requests to a store with these entries and uploads. The journal must have what the replies tell."""
+        def prepare():
+            self.write(entries, *contents)
+
+        prepare()
+        model = Model()
+        model.entries, model.uploads = list(map(entry_of, entries)), {digest_of(content): content for content in contents}
+        _, opened = self.run_refusing(0, b"")
+
+        def check_both(hosts, out):
+            found = journal.read((self.folder / "journal").read_bytes())
+            self.assertIn(found, [list(map(told, host.entries)) for host in hosts])
+            check(hosts, out)
+
+        return self.assert_swept(Run(model, requests), opened + 1, prepare, check_both)
+
+
+class StoredChanges(SweptStores):
     """The next entries close a block of 128 in the history, and split one in the state."""
 
     entries = [opening_of({"/a.txt": b"hello"}), ("publish", "one", 1), *(("alias", "one", f"n{number}", 1) for number in range(125))]
     requests = [alias("n125", 1), alias("n126", 1), undo(5), read("/a/one/n2/a.txt"), read("/a/one/n3/a.txt")]
 
-    def prepare(self):
-        self.write(self.entries, b"hello")
-
-    def assert_found(self, hosts):
-        """The journal has what the replies tell."""
-        found = journal.read((self.folder / "journal").read_bytes())
-        self.assertIn(found, [list(map(told, host.entries)) for host in hosts])
-
     def test_and_their_undos_are_made_or_lack_memory(self):
-        self.prepare()
-        model = Model()
-        model.entries, model.uploads = list(map(entry_of, self.entries)), {HELLO: b"hello"}
-        _, opened = self.run_refusing(0, b"")
-        lacked = self.assert_swept(Run(model, self.requests), opened + 1, self.prepare, self.assert_found)
-        self.assertGreater(lacked, 20)
+        self.assertGreater(self.sweep(self.entries, [b"hello"], self.requests), 20)
+
+
+class Repeats(SweptStores):
+    """Something is asked for again, after there was no memory for it."""
+
+    opened = [opening_of({"/a.txt": b"hello", "/b.txt": b"abc"})], [b"hello"]
+    changed = [*opened[0], ("publish", "one", 1), ("rename", "one", "/a.txt", "/c.txt"), ("remove", "one", "/b.txt")], [b"hello", b"abc"]
+
+    def ends(self, store, requests):
+        """How often each row of replies came."""
+        found = collections.Counter()
+        self.sweep(*store, requests, lambda hosts, out: found.update([tuple(pieces(out))]))
+        return found
+
+    def test_an_undo_is_made_by_the_next_one(self):
+        found = self.ends(self.changed, [undo(3), undo(3)])
+        self.assertGreater(found[LACKING, entry(5)], 30)
+
+    def test_an_undo_that_finds_no_memory_leaves_the_journal_as_it_was(self):
+        before, kept = journal.write(self.changed[0]), collections.Counter()
+
+        def check(hosts, out):
+            kept[out, (self.folder / "journal").read_bytes() == before] += 1
+
+        self.sweep(*self.changed, [undo(3)], check)
+        self.assertGreater(kept[LACKING, True], 30)
+        # The text of the reply alone found no memory.
+        self.assertLessEqual(kept[LACKING, False], 3)
+
+    def test_an_upload_is_published_once(self):
+        """Before there was memory it had done nothing, or its file was stored and the deploy was open, or only the text of the reply found none."""
+        asked = upload(1, "b.txt", b"abc")
+        found = self.ends(self.opened, [asked, show(1), asked, LIST])
+        lacked = {replies[1:3]: count for replies, count in found.items() if replies[0] == LACKING}
+        self.assertEqual(lacked.keys(), {
+            (stands(1, "open", ABC), uploaded(b"abc", 2)), (stands(1, "open"), uploaded(b"abc", 2)), (stands(1, "kept"), uploaded(b"abc")),
+        })
+
+    def test_an_upload_is_known_as_soon_as_it_is_stored(self):
+        found = set()
+
+        def check(hosts, out):
+            if len(replies := pieces(out)) == 2:
+                found.add((replies[1], is_stored(self.folder, b"abc")))
+
+        self.sweep(*self.opened, [upload(1, "b.txt", b"abc"), show(1)], check)
+        known = {(stands(1, "open"), True), (stands(1, "kept"), True)}
+        shown = {(reply, is_there) for reply, is_there in found if reply not in (LACKING, LACKING_AND_CLOSED)}
+        self.assertEqual(shown, known | {(stands(1, "open", ABC), False)})
 
 
 class EarlyChanges(Refusing, Stored):

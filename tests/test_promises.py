@@ -5,6 +5,7 @@ import re
 import subprocess
 import unittest
 
+from lib.public_calls import contract_at, public_functions
 from lib.repository import TOP, code_of, crates, read
 
 PAGES = {page.parent.name: page for page in sorted((TOP / "crates").glob("*/PROMISES.md"))}
@@ -21,32 +22,12 @@ def rows(text):
     return [[cell.strip() for cell in line.strip("| ").split(" | ")] for table in tables for line in table.splitlines()]
 
 
-def contract_at(code, place):
-    """The signature and the clauses of the function that begins there."""
-    end = re.compile(r"[\n>)\w] *\{\}?\n|;\n").search(code, place)
-    return code[place:end.start() if end else len(code)]
-
-
 def contracts_of(code):
     """The contract of each function in code, by its name; functions of one name have theirs together."""
     found = collections.defaultdict(str)
     for begin in re.finditer(r"\bfn (\w+)", code):
         found[begin[1]] += contract_at(code, begin.start())
     return found
-
-
-def public_functions(crate):
-    """The functions that others may call: their types if they have one, their names, and their contracts."""
-    root = next((TOP / "crates" / crate / "src").glob("*.rt")).parent
-    lib = next(file for file in (root / "lib.rt", root / "main.rt") if file.exists()).read_text()
-    told = set(re.findall(r"\w+", " ".join(re.findall(r"(?ms)^pub use (.*?);", lib))))
-    for file in sorted(root.rglob("*.rt")):
-        code = file.read_text()
-        is_open = re.search(rf"(?m)^pub mod {file.stem};", lib)
-        for found in re.finditer(r"(?m)^( *)pub fn (\w+)", code):
-            owner = re.findall(r"(?m)^impl\b(?:<[^{]*?>(?= ))? &?(\w+)", code[:found.start()])[-1] if found[1] else ""
-            if is_open or (owner or found[2]) in told:
-                yield owner, found[2], contract_at(code, found.start())
 
 
 class Promises(unittest.TestCase):

@@ -7,8 +7,8 @@ import socket
 import tempfile
 import unittest
 
-from lib.client import PUBLISHED, run
-from lib.stores import Stored, files_in, files_of, limited, opening_of
+from lib.client import EXAMPLES, PUBLISHED, content_length, cut_after, run
+from lib.stores import IN_MEMORY, Stored, files_in, files_of, limited, opening_of
 from lib.worked_runs import NO_FILE, entry, reading, renaming, serves, undoing
 import journal
 
@@ -84,6 +84,40 @@ class Streams(Stored):
                 out.seek(BASE)
                 self.assertEqual(out.read(), WANTED[:room])
                 self.assert_did(sum(end <= room for end in WANTED_ENDS))
+
+
+class FirstRun(Stored):
+    """The first run of examples/, cut at each byte of its requests and of its replies."""
+
+    place = IN_MEMORY
+    asked, replies = ((EXAMPLES / f"first-run.{name}").read_bytes() for name in ("http", "replies"))
+    asked_ends, replies_ends = ([0, *cut_after(stream, content_length)] for stream in (asked, replies))
+    entries = [opening_of({"/a.txt": b"hello"}), ("publish", "one", 1), ("undo", "one", 2)]
+    # How many of them there are after so many requests.
+    counts = [0, 1, 2, 2, 3, 3]
+
+    def assert_did(self, requests):
+        self.assertEqual((self.folder / "journal").read_bytes(), journal.write(self.entries[:self.counts[requests]]))
+        self.assertEqual(files_in(self.folder), files_of(b"hello") if requests > 1 else {})
+
+    def test_that_is_cut_leaves_what_whole_requests_did(self):
+        for place in range(len(self.asked) + 1):
+            with self.subTest(place=place):
+                self.write([])
+                whole = sum(end <= place for end in self.asked_ends) - 1
+                self.assertEqual(run(*self.words, given=self.asked[:place]), (0, self.replies[:self.replies_ends[whole]], b""))
+                self.assert_did(whole)
+
+    def test_whose_replies_are_cut_leaves_what_they_tell(self):
+        for room in range(len(self.replies)):
+            with self.subTest(room=room), tempfile.TemporaryFile() as out:
+                self.write([])
+                out.seek(BASE)
+                ended = run(*self.words, given=self.asked, stdout=out, **limited(BASE + room))
+                self.assertEqual(ended, (2, None, b"filehost: output fault\n"))
+                out.seek(BASE)
+                self.assertEqual(out.read(), self.replies[:room])
+                self.assert_did(sum(end <= room for end in self.replies_ends))
 
 
 if __name__ == "__main__":

@@ -63,6 +63,15 @@ def ports_of_several(programs):
         return firsts
 
 
+@contextlib.contextmanager
+def told_at(**where):
+    """Ends a test at the first place at which it fails, and tells where. Where a program hangs, each other place would take long, too."""
+    try:
+        yield
+    except Exception as error:
+        raise AssertionError(f"{where}: {error}") from error
+
+
 class Served(unittest.TestCase):
     """Tests of a program that serves."""
 

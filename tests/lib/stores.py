@@ -15,6 +15,8 @@ from lib.plain_model import Request
 import journal
 
 PIECE = 65_536
+# A folder in memory, if there is one: there a sync takes no time.
+IN_MEMORY = "/dev/shm" if pathlib.Path("/dev/shm").is_dir() else None
 
 # The kinds that the list of changes and the reader of journals name in two ways.
 KINDS = {"unalias": "no-alias", "delete": "no-deploy"}
@@ -118,9 +120,12 @@ def as_bytes(asked):
 class Stored(Program):
     """Runs of the program over a store in a temporary folder."""
 
+    # Where that folder is, if it isn't where others are.
+    place = None
+
     def setUp(self):
         super().setUp()
-        room = tempfile.TemporaryDirectory(prefix="filehost-test-")
+        room = tempfile.TemporaryDirectory(prefix="filehost-test-", dir=self.place)
         self.addCleanup(room.cleanup)
         self.room = pathlib.Path(room.name).resolve()
         self.use(self.room / "store")

@@ -32,18 +32,18 @@ pub(crate) struct Errands<C> {
 }
 
 impl<C: Drop> Errands<C> {
-    /// There are none.
-    pub(crate) fn new(alloc: Global) -> Errands<C> {
-        Errands {
+    /// There are none, and there is room for so many: so a connection that leaves finds it also where no memory is left.
+    pub(crate) fn new(alloc: Global, room: usize) -> Result<Errands<C>, AllocError> {
+        Ok(Errands {
             queue: Mutex::new(Queue {
-                waiting: VecDeque::new(alloc),
+                waiting: VecDeque::with_capacity(alloc, room)?,
                 is_over: false,
             }),
             is_new: Condvar::new(),
-        }
+        })
     }
 
-    /// Hands an errand over. Without memory it is dropped, and its connection with it.
+    /// Hands an errand over. If there is neither room nor memory, it is dropped, and its connection with it.
     pub(crate) fn give<R: Wait>(&self, rt: &R, errand: Errand<C>) -> Result<(), AllocError> {
         let given = self.queue.lock(rt).waiting.push_back(errand);
         given.map_err(|_| AllocError)?;

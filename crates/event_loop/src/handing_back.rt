@@ -134,9 +134,7 @@ impl<'a, R: Wait + Clock, S: SlowSteps + Drop> ErrandWorker<'a, R, S> {
     ) -> bool {
         let now = milliseconds(self.rt);
         client.note(step, now, self.node.span(now));
-        if !self.node.count_back(self.rt, client, held, step.holds) {
-            return false;
-        }
+        self.node.count_back(self.rt, client, held, step.holds);
         client.untried_since = Some(now);
         match client.follow(step.next) {
             Some(interest) => self.node.wait_again(client, at, interest),

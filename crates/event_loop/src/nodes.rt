@@ -102,7 +102,7 @@ impl<C: Drop> Node<C> {
             free: Mutex::new(free),
             limits,
             notices,
-            errands: Errands::new(alloc),
+            errands: Errands::new(alloc, count)?,
             next_number: AtomicU64::new(0),
             bodies: Mutex::new(Bodies::new()),
             replies: Mutex::new(Replies::new(alloc)),

@@ -37,11 +37,10 @@ impl<C: Drop> Node<C> {
         has_room
     }
 
-    /// Counts what a connection holds after a step. Answers whether there was memory for that.
-    pub(crate) fn count<R: Wait>(&self, rt: &R, client: &mut Client<C>, after: Holding) -> bool {
+    /// Counts what a connection holds after a step. A reply for which there is no memory here counts once a later step finds some.
+    pub(crate) fn count<R: Wait>(&self, rt: &R, client: &mut Client<C>, after: Holding) {
         let before = client.holds;
         let number = client.number;
-        client.holds = Holding::Nothing;
         match (before, after) {
             (Holding::Body(held), Holding::Body(now)) if held <= now => {
                 self.bodies.lock(rt).settle(number, held, now);
@@ -53,38 +52,35 @@ impl<C: Drop> Node<C> {
             }
             (Holding::Reply(old), Holding::Reply(new)) if old == new => {
                 client.holds = after;
-                return true;
+                return;
             }
             (Holding::Reply(old), _) => self.replies.lock(rt).remove(&old),
             (Holding::Nothing, _) => {}
         }
-        if let Holding::Reply(new) = after {
-            if self.replies.lock(rt).add(&new).is_err() {
-                return false;
-            }
-        }
-        client.holds = after;
-        true
+        self.count_new(rt, client, after);
     }
 
-    /// Counts what a connection holds that comes back from a thread for errands, which had a body of so many bytes. Answers whether there was memory for
-    /// that.
+    /// The same of a connection that comes back from a thread for errands, which had a body of so many bytes.
     pub(crate) fn count_back<R: Wait>(
         &self,
         rt: &R,
         client: &mut Client<C>,
         held: u64,
         after: Holding,
-    ) -> bool {
+    ) {
         self.bodies.lock(rt).leave(client.number, held);
+        self.count_new(rt, client, after);
+    }
+
+    /// Counts what a connection holds of which nothing counts any more.
+    fn count_new<R: Wait>(&self, rt: &R, client: &mut Client<C>, after: Holding) {
         client.holds = Holding::Nothing;
         if let Holding::Reply(new) = after {
             if self.replies.lock(rt).add(&new).is_err() {
-                return false;
+                return;
             }
         }
         client.holds = after;
-        true
     }
 
     /// Ends the connection in a place, if there is one, and counts no longer what it held. What a thread for errands has of it counts until that is back.

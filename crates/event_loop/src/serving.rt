@@ -4,7 +4,6 @@ ghost use Rattle.std.specs.Prelude.{◌≡◌};
 use crate::clients::{Client, Whereabouts, prepare};
 use crate::closing::close_on;
 use crate::errands::Errand;
-use crate::holdings::Holding;
 use crate::nodes::{Node, Place, milliseconds};
 use crate::steps::{Next, NotBegun, Step, Steps};
 use crate::turns::Turn;
@@ -152,7 +151,7 @@ impl<'a, R: Wait + Clock, S: Steps + Drop> Worker<'a, R, S> {
         self.node.balance(self.rt, before, step.holds);
     }
 
-    /// Takes a step with a connection, and counts what it holds then. Where there is no memory for that, it ends.
+    /// Takes a step with a connection, and counts what it holds then.
     fn step(&mut self, client: &mut Client<S::Connection>) -> Step
         ensures { self.new.done ≡ self.old.done }
     {
@@ -164,14 +163,8 @@ impl<'a, R: Wait + Clock, S: Steps + Drop> Worker<'a, R, S> {
         };
         let now = milliseconds(self.rt);
         client.note(&step, now, self.node.span(now));
-        if self.node.count(self.rt, client, step.holds) {
-            return step;
-        }
-        Step {
-            next: Next::Ends,
-            holds: Holding::Nothing,
-            ..step
-        }
+        self.node.count(self.rt, client, step.holds);
+        step
     }
 
     /// Hands the connection in a place over to the threads for errands. Without memory for that it ends.
