@@ -5,31 +5,29 @@ What is expected follows from docs/WIRE.md, "Deadlines and places". A second of 
 
 import contextlib
 import hashlib
-import pathlib
 import random
 import select
 import time
 import unittest
 
-from lib.client import LARGEST_FILE, PATIENCE, SECONDS, digest_of, request
-from lib.crowds import WHOLE, Plug
-from lib.served import FILE, Served, ask, publish, sockets_of
+from lib.client import LARGEST_FILE, PATIENCE, SECONDS, digest_of
+from lib.crowds import WHOLE
+from lib.rooms import MEBIBYTE, OF_BODIES, OF_REPLIES, Room
+from lib.served import FILE, ask, publish, sockets_of
 from lib.stalls import Stalls
 from lib.stores import PIECE, files_of, opening_of
-from lib.wire import END
 import journal
 
-MEBIBYTE = 1_048_576
 # How many MiB the program takes for other things than what its connections hold.
 OTHERS = 24
 # How many bytes a piece of a file takes, times its own: it has whole pages, and one for its head.
 OF_PIECES = 17 / 16
-# How many MiB bodies may hold, replies may hold, and the cache of a node has.
-OF_BODIES, OF_REPLIES, OF_THE_CACHE = 64, 256, 64
+# How many MiB the cache of a node has.
+OF_THE_CACHE = 64
 # How many bodies there are, and how many bytes each sends at first, which are all taken, and then: for these there isn't room enough.
 BODIES, TAKEN, MORE = 12, 3_670_016, MEBIBYTE
-# A second of the deadlines where bodies are to go, in milliseconds, and how long one waits until another one goes, in these seconds.
-SECOND, WAIT = 200, 10
+# A second of the deadlines where bodies are to go, in milliseconds.
+SECOND = 200
 # How many workers a node has where its memory is measured, and how many MiB each takes beside what replies may hold: a reply counts once its first step has
 # ended.
 WORKERS, OF_A_WORKER = 2, 16
@@ -41,119 +39,8 @@ CONTENTS = 8
 HOLDERS = 8
 
 
-class Body:
-    """The body of a reply that is read: its digest, and how many bytes it has."""
-
-    def __init__(self):
-        self.head, self.hash, self.size = b"", hashlib.sha1(), 0
-
-    def add(self, piece):
-        if END not in self.head:
-            self.head += piece
-            self.head, end, piece = self.head.partition(END)
-            self.head += end
-        self.hash.update(piece)
-        self.size += len(piece)
-
-
-class Room(Served):
+class Rooms(Room):
     """Bodies that wait for room, and replies that hold too much."""
-
-    def resident(self, started):
-        """How many MiB of memory a program takes, and how many it took at most."""
-        lines = pathlib.Path(f"/proc/{started.pid}/status").read_text().splitlines()
-        values = dict(line.split(":", 1) for line in lines)
-        return tuple(int(values[name].split()[0]) / 1_024 for name in ("VmRSS", "VmHWM"))
-
-    def reader(self, target):
-        """A connection that asks for a file, takes few bytes which it doesn't read, and has got the first of them."""
-        plug = Plug()
-        self.addCleanup(plug.close)
-        plug.come(self.port, request("GET", target, "Connection: close"), room=4_096)
-        self.assertEqual(plug.recv(1), b"H")
-        return plug
-
-    def read_all(self, plugs):
-        """Reads what comes over these connections until each has ended, all at once so that none is slow. Returns the body of each."""
-        bodies, left, ready = [Body() for _ in plugs], {plug.fileno(): place for place, plug in enumerate(plugs)}, select.poll()
-        for number in left:
-            ready.register(number, select.POLLIN)
-        while left:
-            found = ready.poll(PATIENCE * 1_000)
-            self.assertTrue(found)
-            for number, _ in found:
-                piece = b""
-                with contextlib.suppress(ConnectionError):
-                    piece = plugs[left[number]].recv(PIECE)
-                if piece:
-                    bodies[left[number]].add(piece)
-                else:
-                    ready.unregister(number)
-                    del left[number]
-        return bodies
-
-    def begin_bodies(self, number, count):
-        """Connections over each of which the head of an upload was sent."""
-        head = f"PUT /api/v1/deploys/{number}/files/large HTTP/1.1\r\nHost: h\r\nContent-Length: {LARGEST_FILE}\r\n\r\n"
-        return [self.plug(head.encode()) for _ in range(count)]
-
-    def push(self, plugs, each, patience):
-        """Sends so many bytes over each connection, until all are taken, or for so many seconds none is."""
-        left, ready = {plug.fileno(): (plug, each) for plug in plugs}, select.poll()
-        for number, (plug, _) in left.items():
-            plug.setblocking(False)
-            ready.register(number, select.POLLOUT)
-        # A poll that comes late still finds the room.
-        while left and (found := ready.poll(patience * 1_000)):
-            for number, _ in found:
-                plug, rest = left[number]
-                try:
-                    rest -= plug.send(bytes(min(262_144, rest)))
-                except BlockingIOError:
-                    pass
-                except ConnectionError:
-                    # It has gone.
-                    rest = 0
-                left[number] = plug, rest
-                if not rest:
-                    ready.unregister(number)
-                    del left[number]
-
-    def is_open(self, plug):
-        """Whether a connection over which nothing came is still open."""
-        plug.setblocking(False)
-        try:
-            return plug.recv(1) != b""
-        except BlockingIOError:
-            return True
-        except ConnectionError:
-            return False
-
-    def assert_has_at_most(self, started, sockets):
-        """The program comes to have no more sockets than these."""
-        until = time.monotonic() + PATIENCE
-        while sockets_of(started) > sockets:
-            self.assertLess(time.monotonic(), until)
-            time.sleep(0.01)
-
-    def assert_takes(self, started, least):
-        """The program comes to take so many MiB at least."""
-        until = time.monotonic() + PATIENCE
-        while self.resident(started)[0] < least:
-            self.assertLess(time.monotonic(), until)
-            time.sleep(0.01)
-
-    def assert_takes_at_most(self, started, most):
-        """The program comes to take no more MiB than that."""
-        until = time.monotonic() + PATIENCE
-        while self.resident(started)[0] > most:
-            self.assertLess(time.monotonic(), until)
-            time.sleep(0.01)
-
-    def assert_stay(self, plugs, began, second):
-        """None of them goes before a body has waited for room so long, and then one in each such time."""
-        gone = [self.is_open(plug) for plug in plugs].count(False)
-        self.assertLessEqual(gone, (time.monotonic() - began) / (WAIT * second / 1_000))
 
     def test_bodies_hold_no_more_than_they_may(self):
         started = self.serve(second=WHOLE)
