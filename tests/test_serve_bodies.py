@@ -1,0 +1,202 @@
+"""Bodies of requests to `filehost serve`: those that wait for room have no deadline meanwhile, and whatever becomes of one, its room is free then.
+
+What is expected follows from docs/WIRE.md, "Memory" and "Deadlines and places". A second of the deadlines is shorter in some tests.
+"""
+
+import json
+import random
+import socket
+import time
+import unittest
+
+from lib.client import LARGEST_FILE, PATIENCE, digest_of, refused, request, sent
+from lib.crowds import LOOK, TRANSFER, WHOLE, Crowds, drip, reset
+from lib.held_file import HeldFile
+from lib.launched import limited_to
+from lib.rooms import MEBIBYTE, WAIT, Room
+from lib.served import FILE, ask, seconds_until_closed
+
+# How many bodies fill the room: each has so many bytes that none of the program's steps has room for another one then. They are 48 MiB but for 250 KiB, beside
+# the first body, which has room of its own.
+FILL, FILLED = 13, 4 * MEBIBYTE - 21_500
+# How many bodies stay behind where there is room for them, and how many bytes each has.
+BODIES, TAKEN = 12, 3_670_016
+# How many bodies wait, and how many bytes each sends: at most one step takes them.
+WAITING, SENT = 200, 100_000
+HELLO, NO_DEPLOY = sent(b"hello"), refused("NoSuchDeploy")
+# How many descriptors a program has where others take the places of connections.
+FEW = 64
+
+
+def sent_to(port):
+    """How many bytes were sent to a port over connections, and were not read there."""
+    unread = 0
+    with open("/proc/net/tcp", encoding="ascii") as file:
+        for local, remote, _, queues, *_ in (line.split()[1:] for line in list(file)[1:]):
+            out, came = (int(number, 16) for number in queues.split(":"))
+            unread += out * remote.endswith(f":{port:04X}") + came * local.endswith(f":{port:04X}")
+    return unread
+
+
+class Bodies(Room, Crowds):
+    def assert_all_taken(self, seconds=PATIENCE):
+        """The program reads all that was sent to it."""
+        self.assert_in_time(lambda: sent_to(self.port) == 0, seconds)
+
+    def begin_fill(self):
+        """Bodies that fill the room, and stay behind."""
+        plugs = self.begin_bodies(1, FILL)
+        for plug in plugs:
+            plug.sendall(bytes(FILLED))
+            self.assert_all_taken()
+        return plugs
+
+    def assert_has_room(self):
+        """There is room for as many bodies as ever: they stay behind, all taken."""
+        plugs = self.begin_bodies(1, BODIES)
+        for plug in plugs:
+            plug.sendall(bytes(TAKEN))
+        # One that waits is taken only once another one ends for it, or later.
+        self.assert_all_taken(WAIT / 2)
+        for plug in plugs:
+            plug.close()
+        self.assert_alone()
+
+    def count_gone(self, plugs):
+        return [self.is_open(plug) for plug in plugs].count(False)
+
+
+class Waits(Bodies):
+    def test_have_no_deadline(self):
+        """One of all that hold something goes every ten seconds, for those that wait. The others wait for longer than a body may stay behind."""
+        self.begin(second=50)
+        fill = self.begin_fill()
+        for plug in fill:
+            plug.setblocking(False)
+            plug.send(bytes(300_000))
+        plugs = self.begin_bodies(1, WAITING)
+        for plug in plugs:
+            plug.sendall(bytes(SENT))
+        time.sleep(self.seconds(TRANSFER + 8))
+        self.assertLess(self.count_gone(fill + plugs), WAITING // 4)
+
+    def test_go_on_once_others_are_late(self):
+        """Before any has waited so long that one goes for it."""
+        self.begin(second=60)
+        fill, content = self.begin_fill(), bytes(LARGEST_FILE)
+        time.sleep(self.seconds(TRANSFER - 8))
+        mark, began = self.stalls.mark(), time.monotonic()
+        self.assertEqual(ask(self.client(), "PUT", "/api/v1/deploys/9/files/a", content)[0], 404)
+        self.assertLess(time.monotonic() - began, 3 + self.stalls.since(mark))
+        self.assertGreater(self.count_gone(fill), 0)
+
+    def test_one_that_moves_stays_and_one_that_stays_behind_goes(self):
+        """That one counts as a client that came and went, as each other does."""
+        self.begin("--conns", str(FILL + 3), second=100)
+        moving = self.begin_bodies(1, 1)
+        drip(moving, bytes(20_000))
+        self.assert_all_taken()
+        fill = self.begin_fill()
+        content, began = bytes(MEBIBYTE), time.monotonic()
+        waiting = self.plug(request("PUT", "/api/v1/deploys/9/files/a", body=content))
+        waiting.setblocking(False)
+        while self.is_open_and_silent(waiting):
+            self.assertLess(time.monotonic() - began, PATIENCE)
+            drip(moving, bytes(20_000))
+            time.sleep(LOOK)
+        waiting.settimeout(PATIENCE)
+        self.assert_receives(waiting, NO_DEPLOY)
+        self.assertEqual(self.count_gone(moving), 0)
+        self.assertGreater(self.count_gone(fill), 0)
+        for plug in [*moving, *fill, waiting]:
+            plug.close()
+        self.assertEqual(self.started.wait(PATIENCE), 0)
+
+    def is_open_and_silent(self, plug):
+        try:
+            return plug.recv(1, socket.MSG_PEEK) == b"never"
+        except BlockingIOError:
+            return True
+
+
+class Rooms(Bodies):
+    """The room of a body is free again."""
+
+    def test_once_it_is_answered(self):
+        """Beside one that stays behind, and has the room of its own that the first one has."""
+        self.begin(second=WHOLE)
+        first = self.begin_bodies(1, 1)[0]
+        first.sendall(bytes(MEBIBYTE))
+        self.assert_all_taken()
+        asked = request("PUT", "/api/v1/deploys/9/files/a", body=bytes(4 * MEBIBYTE))
+        mark, began = self.stalls.mark(), time.monotonic()
+        kept = self.plug()
+        for _ in range(20):
+            plug = self.plug()
+            for one in (kept, plug):
+                one.sendall(asked)
+                self.assert_receives(one, NO_DEPLOY)
+            plug.close()
+        self.assertLess(time.monotonic() - began, WAIT + self.stalls.since(mark))
+        first.close()
+        kept.close()
+        self.assert_has_room()
+
+    def test_once_its_connection_has_ended(self):
+        self.begin(second=WHOLE)
+        for how in (reset, socket.socket.close, lambda plug: plug.shutdown(socket.SHUT_WR)):
+            plugs = self.begin_fill()
+            # One that waits then has no room, and goes too.
+            plugs += self.begin_bodies(1, 5)
+            for plug in plugs[FILL:]:
+                plug.sendall(bytes(SENT))
+            time.sleep(0.1)
+            for plug in plugs:
+                how(plug)
+            self.assert_alone()
+        self.assert_has_room()
+
+    def evict(self, plugs):
+        """Other clients come and are answered, until these have gone for them."""
+        others = []
+        for _ in range(2 * FEW):
+            others.append(self.plug(request("GET", FILE)))
+            self.assert_receives(others[-1], HELLO)
+        for plug in plugs:
+            self.assertLess(seconds_until_closed(plug, PATIENCE), PATIENCE)
+        for plug in others:
+            plug.close()
+
+    def reset_all(self, plugs):
+        for plug in plugs:
+            reset(plug)
+
+    def test_once_it_is_answered_though_its_client_has_gone(self):
+        """Threads that may wait have the requests, and are held."""
+        contents = [random.Random(number).randbytes(TAKEN) for number in range(FILL - 1)]
+        listed = json.dumps({"files": {f"/{number}": digest_of(content) for number, content in enumerate(contents)}, "draft": True})
+        for end_all in (self.reset_all, self.evict):
+            store = self.folder().resolve()
+            # Both threads are held at the sync after a file's table.
+            held = HeldFile(self.folder(), store)
+            held.open()
+            self.begin("--store", str(store), second=WHOLE, environment=held.environment, **limited_to(FEW))
+            client = self.client()
+            status, told = ask(client, "POST", "/api/v1/sites/two/deploys", listed)
+            self.assertEqual(status, 200, told)
+            # From now on it is in the cache, and no thread is needed for it.
+            self.assertEqual(ask(client, "GET", FILE), (200, b"hello"))
+            client.close()
+            held.close()
+            target = f"/api/v1/deploys/{json.loads(told)['id']}/files"
+            plugs = [self.plug(request("PUT", f"{target}/{number}", body=content)) for number, content in enumerate(contents)]
+            self.assert_all_taken()
+            end_all(plugs)
+            held.open()
+            self.assert_in_time(lambda: self.sockets() == 0, PATIENCE)
+            self.assert_has_room()
+            self.end(self.started)
+
+
+if __name__ == "__main__":
+    unittest.main()
