@@ -10,15 +10,12 @@ import time
 import unittest
 
 from lib.client import LARGEST_FILE, PATIENCE, digest_of, refused, request, sent
-from lib.crowds import LOOK, TRANSFER, WHOLE, Crowds, drip, reset
+from lib.crowds import LOOK, TRANSFER, WHOLE, drip, reset
 from lib.held_file import HeldFile
 from lib.launched import limited_to
-from lib.rooms import MEBIBYTE, WAIT, Room
+from lib.rooms import FILL, MEBIBYTE, WAIT, Room
 from lib.served import FILE, ask, seconds_until_closed
 
-# How many bodies fill the room: each has so many bytes that none of the program's steps has room for another one then. They are 48 MiB but for 250 KiB, beside
-# the first body, which has room of its own.
-FILL, FILLED = 13, 4 * MEBIBYTE - 21_500
 # How many bodies stay behind where there is room for them, and how many bytes each has.
 BODIES, TAKEN = 12, 3_670_016
 # How many bodies wait, and how many bytes each sends: at most one step takes them.
@@ -28,29 +25,7 @@ HELLO, NO_DEPLOY = sent(b"hello"), refused("NoSuchDeploy")
 FEW = 64
 
 
-def sent_to(port):
-    """How many bytes were sent to a port over connections, and were not read there."""
-    unread = 0
-    with open("/proc/net/tcp", encoding="ascii") as file:
-        for local, remote, _, queues, *_ in (line.split()[1:] for line in list(file)[1:]):
-            out, came = (int(number, 16) for number in queues.split(":"))
-            unread += out * remote.endswith(f":{port:04X}") + came * local.endswith(f":{port:04X}")
-    return unread
-
-
-class Bodies(Room, Crowds):
-    def assert_all_taken(self, seconds=PATIENCE):
-        """The program reads all that was sent to it."""
-        self.assert_in_time(lambda: sent_to(self.port) == 0, seconds)
-
-    def begin_fill(self):
-        """Bodies that fill the room, and stay behind."""
-        plugs = self.begin_bodies(1, FILL)
-        for plug in plugs:
-            plug.sendall(bytes(FILLED))
-            self.assert_all_taken()
-        return plugs
-
+class Bodies(Room):
     def assert_has_room(self):
         """There is room for as many bodies as ever: they stay behind, all taken."""
         plugs = self.begin_bodies(1, BODIES)

@@ -7,6 +7,7 @@ import contextlib
 import itertools
 import os
 import resource
+import select
 import socket
 import time
 import unittest
@@ -203,10 +204,10 @@ class First(Ways):
             plugs.append(self.plug(GET))
             self.assert_receives(plugs[-1], HELLO)
         self.assertLess(seconds_until_closed(gone, SOON), SOON)
-        left = plugs[-EACH:]
+        left = plugs[-self.sockets():]
         self.held.open()
-        for plug in left:
-            self.assert_silent(plug, 0.3 / EACH)
+        time.sleep(0.3)
+        self.assertEqual(select.select(left, [], [], 0)[0], [])
         for plug in left:
             plug.sendall(GET)
             self.assert_receives(plug, HELLO)

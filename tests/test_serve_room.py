@@ -7,12 +7,13 @@ import contextlib
 import hashlib
 import random
 import select
+import threading
 import time
 import unittest
 
 from lib.client import LARGEST_FILE, PATIENCE, SECONDS, digest_of
-from lib.crowds import WHOLE
-from lib.rooms import MEBIBYTE, OF_BODIES, OF_REPLIES, Room
+from lib.crowds import WHOLE, reset
+from lib.rooms import MEBIBYTE, OF_BODIES, OF_REPLIES, WAIT, Room
 from lib.served import FILE, ask, publish, sockets_of
 from lib.stalls import Stalls
 from lib.stores import PIECE, files_of, opening_of
@@ -26,8 +27,10 @@ OF_PIECES = 17 / 16
 OF_THE_CACHE = 64
 # How many bodies there are, and how many bytes each sends at first, which are all taken, and then: for these there isn't room enough.
 BODIES, TAKEN, MORE = 12, 3_670_016, MEBIBYTE
-# A second of the deadlines where bodies are to go, in milliseconds.
-SECOND = 200
+# A second of the deadlines where bodies are to go, in milliseconds, and where replies are.
+SECOND, SHORT = 200, 50
+# More bytes of a reply than the system holds.
+MUCH = 2 * MEBIBYTE
 # How many workers a node has where its memory is measured, and how many MiB each takes beside what replies may hold: a reply counts once its first step has
 # ended.
 WORKERS, OF_A_WORKER = 2, 16
@@ -94,12 +97,12 @@ class Rooms(Room):
             plug.settimeout(PATIENCE)
             self.assertEqual(self.received(plug, 12), b"HTTP/1.1 200")
 
-    def write_store(self):
-        """A folder with a store of `hello` and of a file for each reader, all different, and the digests of these files."""
+    def write_store(self, readers=READERS):
+        """A folder with a store of `hello` and of a file for each of so many readers, all different, and the digests of these files."""
         folder, entries, digests = self.folder(), [opening_of({"/a.txt": b"hello"}), ("publish", "one", 1)], []
         drawn = random.Random(4)
         contents = [drawn.randbytes(LARGEST_FILE - PIECE) for _ in range(CONTENTS)]
-        lasts = [drawn.randbytes(PIECE) for _ in range(READERS)]
+        lasts = [drawn.randbytes(PIECE) for _ in range(readers)]
         for content in (b"hello", *contents, *lasts):
             for name, data in files_of(content).items():
                 (folder / name).write_bytes(data)
@@ -148,6 +151,54 @@ class Rooms(Room):
         self.assertLess(self.resident(started)[0], before + (OF_THE_CACHE + of_one) * OF_PIECES + OTHERS)
         self.read_all(plugs)
         self.assert_takes_at_most(started, before + OF_THE_CACHE * OF_PIECES + OTHERS)
+
+    def test_a_reply_gives_its_room_back_once_it_is_sent_or_broken_off(self):
+        """One connection reads more files in turn than there is room for, and as many others ask for one and go. Then there is room for as many as before."""
+        folder, digests = self.write_store(LEFT + 4)
+        started = self.serve("--store", str(folder), "--workers", "2", second=WHOLE)
+        alone, client = sockets_of(started), self.client()
+        for number in range(LEFT + 4):
+            status, content = ask(client, "GET", f"/s/site{number}/large")
+            self.assertEqual((status, digest_of(content)), (200, digests[number]))
+        client.close()
+        for number in range(LEFT + 4):
+            reset(self.reader(f"/s/site{number}/large"))
+        self.assert_has_at_most(started, alone)
+        plugs = [self.reader(f"/s/site{number}/large") for number in range(LEFT - 2)]
+        for number, body in enumerate(self.read_all(plugs)):
+            self.assertEqual(body.hash.hexdigest(), digests[number])
+
+    @contextlib.contextmanager
+    def reading(self, plug):
+        """Reads what comes over a connection all the time, slowly."""
+        ended = threading.Event()
+
+        def go():
+            while not ended.wait(0.005):
+                plug.recv(4_096)
+
+        thread = threading.Thread(target=go)
+        thread.start()
+        try:
+            yield
+        finally:
+            ended.set()
+            thread.join()
+
+    def test_of_replies_that_hold_too_much_the_one_goes_that_moved_least_of_late(self):
+        """It is one that moved much, but long ago; and not the one that began first, whose client goes on to read."""
+        started = self.serve("--store", str(self.write_store(LEFT + 1)[0]), "--workers", "1", second=SHORT)
+        alone = sockets_of(started)
+        moving, once = self.reader("/s/site0/large"), self.reader("/s/site1/large")
+        self.assertEqual(len(self.received(once, MUCH)), MUCH)
+        with self.reading(moving):
+            time.sleep(2 * WAIT * SHORT / 1_000)
+            # Each of the others moves what the system holds of it.
+            others = [self.reader(f"/s/site{number}/large") for number in range(2, LEFT + 1)]
+            self.assert_has_at_most(started, alone + LEFT)
+        for plug in [moving, *others]:
+            self.assertEqual(len(self.received(plug, MUCH)), MUCH)
+        self.assertLess(len(self.received(once, LARGEST_FILE - MUCH)), MUCH)
 
     def test_readers_of_one_file_are_not_cut(self):
         self.serve("--workers", "4", second=WHOLE)

@@ -10,8 +10,8 @@ import select
 import time
 
 from lib.client import LARGEST_FILE, PATIENCE, request
-from lib.crowds import Plug
-from lib.served import Served, sockets_of
+from lib.crowds import Crowds, Plug
+from lib.served import sockets_of
 from lib.stores import PIECE
 from lib.wire import END
 
@@ -20,6 +20,19 @@ MEBIBYTE = 1_048_576
 OF_BODIES, OF_REPLIES = 64, 256
 # How long a body waits for room until another one goes, in seconds.
 WAIT = 10
+# How many bodies fill the room: each has so many bytes that none of the program's steps has room for another one then. They are 48 MiB but for 250 KiB, beside
+# the first body, which has room of its own.
+FILL, FILLED = 13, 4 * MEBIBYTE - 21_500
+
+
+def sent_to(port):
+    """How many bytes were sent to a port over connections, and were not read there."""
+    unread = 0
+    with open("/proc/net/tcp", encoding="ascii") as file:
+        for local, remote, _, queues, *_ in (line.split()[1:] for line in list(file)[1:]):
+            out, came = (int(number, 16) for number in queues.split(":"))
+            unread += out * remote.endswith(f":{port:04X}") + came * local.endswith(f":{port:04X}")
+    return unread
 
 
 class Body:
@@ -37,7 +50,7 @@ class Body:
         self.size += len(piece)
 
 
-class Room(Served):
+class Room(Crowds):
     """Connections that hold much of a program's memory."""
 
     def resident(self, started):
@@ -77,6 +90,18 @@ class Room(Served):
         """Connections over each of which the head of an upload was sent."""
         head = f"PUT /api/v1/deploys/{number}/files/large HTTP/1.1\r\nHost: h\r\nContent-Length: {LARGEST_FILE}\r\n\r\n"
         return [self.plug(head.encode()) for _ in range(count)]
+
+    def assert_all_taken(self, seconds=PATIENCE):
+        """The program reads all that was sent to it."""
+        self.assert_in_time(lambda: sent_to(self.port) == 0, seconds)
+
+    def begin_fill(self):
+        """Bodies that fill the room, and stay behind."""
+        plugs = self.begin_bodies(1, FILL)
+        for plug in plugs:
+            plug.sendall(bytes(FILLED))
+            self.assert_all_taken()
+        return plugs
 
     def push(self, plugs, each, patience):
         """Sends so many bytes over each connection, until all are taken, or for so many seconds none is."""
