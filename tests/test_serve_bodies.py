@@ -10,7 +10,7 @@ import time
 import unittest
 
 from lib.client import LARGEST_FILE, PATIENCE, digest_of, refused, request, sent
-from lib.crowds import LOOK, TRANSFER, WHOLE, drip, reset
+from lib.crowds import GRACE, LOOK, TRANSFER, WHOLE, drip, reset
 from lib.held_file import HeldFile
 from lib.launched import limited_to
 from lib.rooms import FILL, MEBIBYTE, WAIT, Room
@@ -18,8 +18,10 @@ from lib.served import FILE, ask, seconds_until_closed
 
 # How many bodies stay behind where there is room for them, and how many bytes each has.
 BODIES, TAKEN = 12, 3_670_016
-# How many bodies wait, and how many bytes each sends: at most one step takes them.
-WAITING, SENT = 200, 100_000
+# How many small bodies fill the room, and how many bytes more of one then wait.
+SMALL, SENT = 97, 100_000
+# A second of the deadlines where bodies are to be late, in milliseconds.
+SHORT = 60
 HELLO, NO_DEPLOY = sent(b"hello"), refused("NoSuchDeploy")
 # How many descriptors a program has where others take the places of connections.
 FEW = 64
@@ -42,28 +44,37 @@ class Bodies(Room):
 
 
 class Waits(Bodies):
-    def test_have_no_deadline(self):
-        """One of all that hold something goes every ten seconds, for those that wait. The others wait for longer than a body may stay behind."""
-        self.begin(second=50)
-        fill = self.begin_fill()
-        for plug in fill:
-            plug.setblocking(False)
-            plug.send(bytes(300_000))
-        plugs = self.begin_bodies(1, WAITING)
+    def begin_waiting(self):
+        """Bodies that fill the room, send more, and wait for longer than one may stay behind."""
+        # Small ones: what one gives that goes is room for few of the others.
+        plugs, began = self.begin_fill(SMALL), time.monotonic()
         for plug in plugs:
-            plug.sendall(bytes(SENT))
+            plug.setblocking(False)
+            plug.send(bytes(SENT))
         time.sleep(self.seconds(TRANSFER + 8))
-        self.assertLess(self.count_gone(fill + plugs), WAITING // 4)
+        # One goes in each time that one waits at most, for the others. The first one doesn't wait, and is late.
+        self.assertLessEqual(self.count_gone(plugs), (time.monotonic() - began) / self.seconds(WAIT) + 1)
+        for plug in plugs:
+            plug.close()
+        self.assert_alone()
+
+    def test_have_no_deadline(self):
+        self.begin(second=SHORT)
+        self.in_time(self.begin_waiting)
 
     def test_go_on_once_others_are_late(self):
-        """Before any has waited so long that one goes for it."""
-        self.begin(second=60)
-        fill, content = self.begin_fill(), bytes(LARGEST_FILE)
-        time.sleep(self.seconds(TRANSFER - 8))
+        """Before any has waited so long that one goes for it. The room of those that were late is free then."""
+        self.begin(second=SHORT)
+        began, content = time.monotonic(), bytes(LARGEST_FILE)
+        fill = self.begin_fill()
+        # Before the first of them is late, and not so long before the last one is.
+        time.sleep(max(0, began + self.seconds(TRANSFER - 5) - time.monotonic()))
         mark, began = self.stalls.mark(), time.monotonic()
         self.assertEqual(ask(self.client(), "PUT", "/api/v1/deploys/9/files/a", content)[0], 404)
         self.assertLess(time.monotonic() - began, 3 + self.stalls.since(mark))
         self.assertGreater(self.count_gone(fill), 0)
+        self.assert_in_time(lambda: self.sockets() <= 1, self.seconds(TRANSFER) + GRACE)
+        self.begin_fill(seconds=WAIT)
 
     def test_one_that_moves_stays_and_one_that_stays_behind_goes(self):
         """That one counts as a client that came and went, as each other does."""
@@ -129,6 +140,24 @@ class Rooms(Bodies):
             for plug in plugs:
                 how(plug)
             self.assert_alone()
+        self.assert_has_room()
+
+    def test_once_its_place_is_needed(self):
+        """One that waits for room goes on soon, long before another one would have to go for it."""
+        self.begin(second=WHOLE, **limited_to(FEW))
+        plugs, waiting = self.begin_fill(), self.plug(request("GET", FILE))
+        # So its place is needed last.
+        self.assert_receives(waiting, HELLO)
+        mark, began = self.stalls.mark(), time.monotonic()
+        waiting.sendall(request("PUT", "/api/v1/deploys/9/files/a", body=bytes(SENT)))
+        others = self.crowd(2 * FEW)
+        for plug in plugs:
+            self.assertLess(seconds_until_closed(plug, PATIENCE), PATIENCE)
+        self.assert_receives(waiting, NO_DEPLOY)
+        self.assertLess(time.monotonic() - began, WAIT / 2 + self.stalls.since(mark))
+        for plug in [*others, waiting]:
+            plug.close()
+        self.assert_alone()
         self.assert_has_room()
 
     def evict(self, plugs):

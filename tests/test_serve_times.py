@@ -25,8 +25,6 @@ EACH = 5
 # How many bytes of a body have to move in its time, and some more.
 ENOUGH = 62_000
 UPLOAD = request("PUT", "/api/v1/deploys/9/files/a", body=bytes(3 * ENOUGH))
-# How often a test is made at most, where the machine held it up.
-TRIES = 3
 
 
 class Times(Crowds):
@@ -52,16 +50,6 @@ class Times(Crowds):
 
     def wait(self, seconds):
         time.sleep(self.seconds(seconds))
-
-    def in_time(self, work):
-        """Does some work, again where a connection was late since the machine stood still."""
-        for left in reversed(range(TRIES)):
-            mark = self.stalls.mark()
-            try:
-                return work()
-            except (AssertionError, ConnectionError):
-                if not left or not self.is_excused(mark):
-                    raise
 
     def keep(self):
         """Connections to clients and to other nodes that ask three times, within 24 seconds."""

@@ -20,18 +20,20 @@ MEBIBYTE = 1_048_576
 OF_BODIES, OF_REPLIES = 64, 256
 # How long a body waits for room until another one goes, in seconds.
 WAIT = 10
-# How many bodies fill the room: each has so many bytes that none of the program's steps has room for another one then. They are 48 MiB but for 250 KiB, beside
-# the first body, which has room of its own.
-FILL, FILLED = 13, 4 * MEBIBYTE - 21_500
+# How many bodies fill the room, if no other number is asked for. Beside the first one, which has room of its own, they have 48 MiB, but for less than a step of
+# the program takes.
+FILL, FILLED = 13, 48 * MEBIBYTE - 261_000
 
 
 def sent_to(port):
     """How many bytes were sent to a port over connections, and were not read there."""
-    unread = 0
-    with open("/proc/net/tcp", encoding="ascii") as file:
-        for local, remote, _, queues, *_ in (line.split()[1:] for line in list(file)[1:]):
-            out, came = (int(number, 16) for number in queues.split(":"))
-            unread += out * remote.endswith(f":{port:04X}") + came * local.endswith(f":{port:04X}")
+    name, unread = f":{port:04X}".encode(), 0
+    # There may be very many of others.
+    with open("/proc/net/tcp", "rb") as file:
+        lines = [line.split() for line in file if name in line]
+    for _, local, remote, _, queues, *_ in lines:
+        out, came = (int(number, 16) for number in queues.split(b":"))
+        unread += out * remote.endswith(name) + came * local.endswith(name)
     return unread
 
 
@@ -93,14 +95,15 @@ class Room(Crowds):
 
     def assert_all_taken(self, seconds=PATIENCE):
         """The program reads all that was sent to it."""
-        self.assert_in_time(lambda: sent_to(self.port) == 0, seconds)
+        self.assert_in_time(lambda: sent_to(self.port) == 0, seconds, look=0.005)
 
-    def begin_fill(self):
-        """Bodies that fill the room, and stay behind."""
-        plugs = self.begin_bodies(1, FILL)
-        for plug in plugs:
-            plug.sendall(bytes(FILLED))
-            self.assert_all_taken()
+    def begin_fill(self, count=FILL, seconds=PATIENCE):
+        """So many bodies that fill the room, and stay behind. All are taken in time."""
+        plugs = []
+        for _ in range(count):
+            plugs += self.begin_bodies(1, 1)
+            plugs[-1].sendall(bytes(FILLED // (count - 1)))
+        self.assert_all_taken(seconds)
         return plugs
 
     def push(self, plugs, each, patience):
