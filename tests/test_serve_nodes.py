@@ -14,29 +14,40 @@ import unittest
 
 from lib.client import REQUESTS, digest_of, request, sent
 from lib.crowds import LONGEST, WHOLE, Crowds
+from lib.held_file import HeldFile
 from lib.ring import NO_CHUNK, PEERS, answer_with, asking_for, owner
-from lib.served import FILE, publish
+from lib.served import FILE, free_ports, publish
 from lib.stores import opening_of, write_store
 
 NODES = 3
 # How many times each of two workers of a node is asked while nothing changes, about, how many connections to a node see what comes then, and how often.
 QUIET, KEPT, ROUNDS = 1_200, 8, 3
-# How long a node that wasn't reached is passed over, in seconds, and how soon it is asked again then.
-PASSED_OVER, SOON = 5, 1
+# How long a node waits for another one, in seconds, how long it passes over one that gave no answer, and how soon it asks that again then.
+FETCH, PASSED_OVER, SOON = 2, 5, 1
 TOLD = re.compile(r"filehost: \S+Z peer: node (\S+) (is passed over for 5 seconds|answers again)\n")
 
 
 class Nodes(Crowds):
-    def begin_cold(self):
-        """A store with files that no node has read, of one piece each: for each two nodes one that the first is to read and the second owns."""
-        drawn, self.store = random.Random(1), self.folder() / "store"
+    def begin_cold(self, **how):
+        """A store with files that no node has read: many of one piece each, some of which each node owns, and a large one."""
+        drawn, self.store = random.Random(1), self.folder().resolve() / "store"
         contents = {f"/{number}": drawn.randbytes(60_000) for number in range(60)}
         large = drawn.randbytes(3_000_000)
         write_store(self.store, [opening_of({**contents, "/large": large}, "two"), ("publish", "two", 1)], *contents.values(), large)
-        self.begin("--store", str(self.store), "--workers", "2", nodes=NODES, second=WHOLE)
-        self.large, self.owned = large, {node: [] for node in range(NODES)}
+        self.large, self.owned, port = large, {node: [] for node in range(NODES)}, free_ports()
         for path, content in contents.items():
-            self.owned[owner(self.port, digest_of(content), NODES)].append((path, content))
+            self.owned[owner(port, digest_of(content), NODES)].append((path, content))
+        how = self.held_in(**how)
+        self.begin("--store", str(self.store), "--workers", "2", nodes=NODES, port=port, second=WHOLE, **how)
+
+    def held_in(self, most=None):
+        """What the program is started with: so many reads are to be held of the next file that the second node owns, if a number is said."""
+        if most is None:
+            return {}
+        self.held = HeldFile(self.folder(), self.store / f"c-{digest_of(self.owned[1][-1][1])}", most)
+        # The program reads each piece once as it opens the store.
+        self.held.open()
+        return {"environment": self.held.environment}
 
     def assert_reads(self, node, path, content):
         """The node answers a read at once."""
@@ -70,6 +81,20 @@ class Nodes(Crowds):
         self.begin_cold()
         for node in range(NODES):
             self.assert_reads(node, "/large", self.large)
+
+    def test_one_that_gives_nothing_in_time_is_passed_over(self):
+        """Its read from the store is held, and that of the node that asked it is not."""
+        self.begin_cold(most=1)
+        self.held.close()
+        (path, content), self.lines = self.owned[1].pop(), ""
+        mark, began = self.stalls.mark(), time.monotonic()
+        self.assertEqual(self.read(f"/s/two{path}"), (200, content))
+        took = time.monotonic() - began
+        self.assertGreater(took, FETCH / 2)
+        self.assertLess(took, FETCH + LONGEST + self.stalls.since(mark))
+        self.assertEqual(self.held.told(), ["opened", "held", "opened"])
+        self.assert_in_time(lambda: self.told() == [(f"127.0.0.1:{self.port + PEERS + 1}", "is passed over for 5 seconds")], 2)
+        self.held.open()
 
     def told(self):
         """What the operator was told of other nodes."""

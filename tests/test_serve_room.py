@@ -7,12 +7,14 @@ import contextlib
 import hashlib
 import random
 import select
+import socket
 import threading
 import time
 import unittest
 
-from lib.client import LARGEST_FILE, PATIENCE, SECONDS, digest_of
+from lib.client import LARGEST_FILE, PATIENCE, SECONDS, digest_of, request, sent
 from lib.crowds import WHOLE, reset
+from lib.launched import limited_to
 from lib.rooms import MEBIBYTE, OF_BODIES, OF_REPLIES, WAIT, Room
 from lib.served import FILE, ask, publish, sockets_of
 from lib.stalls import Stalls
@@ -36,8 +38,10 @@ MUCH = 2 * MEBIBYTE
 WORKERS, OF_A_WORKER = 2, 16
 # How many readers there are, and how many of them are left: their replies hold as much as replies may.
 READERS, LEFT = 64, OF_REPLIES * MEBIBYTE // LARGEST_FILE
-# All but the last piece of a file are those of one of so many contents. So many together are more than a node's cache has.
-CONTENTS = 8
+# All but the last piece of a file are those of one of so many contents. So many together are more than a node's cache has; or fewer, for which it has room.
+CONTENTS, CACHED = 8, 2
+# How many descriptors a program has where others take the places of connections, and what these are answered.
+FEW, HELLO = 64, sent(b"hello")
 # How many replies hold one file, which is read from the store for each.
 HOLDERS = 8
 
@@ -97,18 +101,19 @@ class Rooms(Room):
             plug.settimeout(PATIENCE)
             self.assertEqual(self.received(plug, 12), b"HTTP/1.1 200")
 
-    def write_store(self, readers=READERS):
-        """A folder with a store of `hello` and of a file for each of so many readers, all different, and the digests of these files."""
+    def write_store(self, readers=READERS, count=CONTENTS):
+        """A folder with a store of `hello` and of a file for each of so many readers, all different, and the digests of these files. They have so many contents
+        but for their last pieces."""
         folder, entries, digests = self.folder(), [opening_of({"/a.txt": b"hello"}), ("publish", "one", 1)], []
         drawn = random.Random(4)
-        contents = [drawn.randbytes(LARGEST_FILE - PIECE) for _ in range(CONTENTS)]
+        contents = [drawn.randbytes(LARGEST_FILE - PIECE) for _ in range(count)]
         lasts = [drawn.randbytes(PIECE) for _ in range(readers)]
         for content in (b"hello", *contents, *lasts):
             for name, data in files_of(content).items():
                 (folder / name).write_bytes(data)
         fronts = [hashlib.sha1(content) for content in contents]
         for number, last in enumerate(lasts):
-            front = fronts[number % CONTENTS]
+            front = fronts[number % count]
             whole = front.copy()
             whole.update(last)
             digests.append(whole.hexdigest())
@@ -152,10 +157,19 @@ class Rooms(Room):
         self.read_all(plugs)
         self.assert_takes_at_most(started, before + OF_THE_CACHE * OF_PIECES + OTHERS)
 
+    def go_for_others(self, plugs):
+        """Clients come that are answered, more than there are places, so these connections go. Returns the clients."""
+        others = []
+        for _ in range(2 * FEW):
+            others.append(self.plug(request("GET", FILE)))
+            self.assert_receives(others[-1], HELLO)
+        self.assertGreater(len(self.read_all(plugs)), 0)
+        return others
+
     def test_a_reply_gives_its_room_back_once_it_is_sent_or_broken_off(self):
-        """One connection reads more files in turn than there is room for, and as many others ask for one and go. Then there is room for as many as before."""
-        folder, digests = self.write_store(LEFT + 4)
-        started = self.serve("--store", str(folder), "--workers", "2", second=WHOLE)
+        """One connection reads more files in turn than there is room for. As many others ask for one and go, and some have to. Then there is room as before."""
+        folder, digests = self.write_store(LEFT + 4, CACHED)
+        started = self.serve("--store", str(folder), "--workers", "2", second=WHOLE, **limited_to(FEW))
         alone, client = sockets_of(started), self.client()
         for number in range(LEFT + 4):
             status, content = ask(client, "GET", f"/s/site{number}/large")
@@ -164,7 +178,12 @@ class Rooms(Room):
         for number in range(LEFT + 4):
             reset(self.reader(f"/s/site{number}/large"))
         self.assert_has_at_most(started, alone)
-        plugs = [self.reader(f"/s/site{number}/large") for number in range(LEFT - 2)]
+        for plug in self.go_for_others([self.reader(f"/s/site{number}/large") for number in range(LEFT - 2)]):
+            plug.close()
+        self.assert_has_at_most(started, alone)
+        plugs = [self.plug(request("GET", f"/s/site{number}/large", "Connection: close")) for number in range(LEFT - 2)]
+        for plug in plugs:
+            self.assertEqual(plug.recv(1, socket.MSG_PEEK), b"H")
         for number, body in enumerate(self.read_all(plugs)):
             self.assertEqual(body.hash.hexdigest(), digests[number])
 
@@ -187,7 +206,7 @@ class Rooms(Room):
 
     def test_of_replies_that_hold_too_much_the_one_goes_that_moved_least_of_late(self):
         """It is one that moved much, but long ago; and not the one that began first, whose client goes on to read."""
-        started = self.serve("--store", str(self.write_store(LEFT + 1)[0]), "--workers", "1", second=SHORT)
+        started = self.serve("--store", str(self.write_store(LEFT + 1, CACHED)[0]), "--workers", "1", second=SHORT)
         alone = sockets_of(started)
         moving, once = self.reader("/s/site0/large"), self.reader("/s/site1/large")
         self.assertEqual(len(self.received(once, MUCH)), MUCH)
