@@ -5,6 +5,7 @@ What is expected follows from docs/WIRE.md, "Memory" and "Deadlines and places".
 
 import json
 import random
+import select
 import socket
 import time
 import unittest
@@ -46,6 +47,7 @@ class Bodies(Room):
 class Waits(Bodies):
     def begin_waiting(self):
         """Bodies that fill the room, send more, and wait for longer than one may stay behind."""
+        self.begin(second=SHORT)
         # Small ones: what one gives that goes is room for few of the others.
         plugs, began = self.begin_fill(SMALL), time.monotonic()
         for plug in plugs:
@@ -54,12 +56,8 @@ class Waits(Bodies):
         time.sleep(self.seconds(TRANSFER + 8))
         # One goes in each time that one waits at most, for the others. The first one doesn't wait, and is late.
         self.assertLessEqual(self.count_gone(plugs), (time.monotonic() - began) / self.seconds(WAIT) + 1)
-        for plug in plugs:
-            plug.close()
-        self.assert_alone()
 
     def test_have_no_deadline(self):
-        self.begin(second=SHORT)
         self.in_time(self.begin_waiting)
 
     def test_go_on_once_others_are_late(self):
@@ -76,8 +74,8 @@ class Waits(Bodies):
         self.assert_in_time(lambda: self.sockets() <= 1, self.seconds(TRANSFER) + GRACE)
         self.begin_fill(seconds=WAIT)
 
-    def test_one_that_moves_stays_and_one_that_stays_behind_goes(self):
-        """That one counts as a client that came and went, as each other does."""
+    def move_one(self):
+        """A body moves all the time, and others stay behind. Then one comes that waits for room."""
         self.begin("--conns", str(FILL + 3), second=100)
         moving = self.begin_bodies(1, 1)
         drip(moving, bytes(20_000))
@@ -85,12 +83,9 @@ class Waits(Bodies):
         fill = self.begin_fill()
         content, began = bytes(MEBIBYTE), time.monotonic()
         waiting = self.plug(request("PUT", "/api/v1/deploys/9/files/a", body=content))
-        waiting.setblocking(False)
-        while self.is_open_and_silent(waiting):
+        while not select.select([waiting], [], [], LOOK)[0]:
             self.assertLess(time.monotonic() - began, PATIENCE)
             drip(moving, bytes(20_000))
-            time.sleep(LOOK)
-        waiting.settimeout(PATIENCE)
         self.assert_receives(waiting, NO_DEPLOY)
         self.assertEqual(self.count_gone(moving), 0)
         self.assertGreater(self.count_gone(fill), 0)
@@ -98,11 +93,9 @@ class Waits(Bodies):
             plug.close()
         self.assertEqual(self.started.wait(PATIENCE), 0)
 
-    def is_open_and_silent(self, plug):
-        try:
-            return plug.recv(1, socket.MSG_PEEK) == b"never"
-        except BlockingIOError:
-            return True
+    def test_one_that_moves_stays_and_one_that_stays_behind_goes(self):
+        """That one counts as a client that came and went, as each other does."""
+        self.in_time(self.move_one)
 
 
 class Rooms(Bodies):
@@ -150,7 +143,7 @@ class Rooms(Bodies):
         self.assert_receives(waiting, HELLO)
         mark, began = self.stalls.mark(), time.monotonic()
         waiting.sendall(request("PUT", "/api/v1/deploys/9/files/a", body=bytes(SENT)))
-        others = self.crowd(2 * FEW)
+        others = self.crowd(FEW)
         for plug in plugs:
             self.assertLess(seconds_until_closed(plug, PATIENCE), PATIENCE)
         self.assert_receives(waiting, NO_DEPLOY)
@@ -163,7 +156,7 @@ class Rooms(Bodies):
     def evict(self, plugs):
         """Other clients come and are answered, until these have gone for them."""
         others = []
-        for _ in range(2 * FEW):
+        for _ in range(FEW):
             others.append(self.plug(request("GET", FILE)))
             self.assert_receives(others[-1], HELLO)
         for plug in plugs:

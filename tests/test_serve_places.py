@@ -27,8 +27,9 @@ UPLOAD = b"PUT /api/v1/deploys/1/files/a HTTP/1.1\r\nContent-Length: 1000000\r\n
 OPENING = request("POST", "/api/v1/sites/two/deploys", body=b'{"files":{"/a":"' + digest_of(b"a").encode() + b'"},"draft":true}')
 # The most connections of a node.
 PLACES = 1_024
-# How many descriptors a program has where there are to be few places, and how many connections come at once then: fewer than places, and more than half.
-FEW, EACH = 64, 24
+# How many descriptors a program has where there are to be few places, and how many connections come at once then: fewer than there are places, and more than
+# a third of them.
+FEW, EACH = 64, 20
 # A second of the deadlines where connections are to be late, in milliseconds.
 SECOND = 50
 # A connection whose place is wanted has gone before this time, in seconds.
@@ -90,7 +91,7 @@ class Free(Ways):
 
     def test_of_clients_that_end_in_any_way(self):
         self.begin(second=SECOND, **limited_to(FEW))
-        for _ in range(2):
+        for _ in range(3):
             self.come_and_go(*CLIENTS)
         self.assert_all_at_once(EACH, GET, HELLO)
 
@@ -200,7 +201,7 @@ class First(Ways):
         gone = self.plug(request("GET", "/s/two/cold"))
         self.held.wait("opened", "held")
         plugs = []
-        for _ in range(2 * FEW):
+        for _ in range(FEW):
             plugs.append(self.plug(GET))
             self.assert_receives(plugs[-1], HELLO)
         self.assertLess(seconds_until_closed(gone, SOON), SOON)

@@ -160,7 +160,7 @@ class Rooms(Room):
     def go_for_others(self, plugs):
         """Clients come that are answered, more than there are places, so these connections go. Returns the clients."""
         others = []
-        for _ in range(2 * FEW):
+        for _ in range(FEW):
             others.append(self.plug(request("GET", FILE)))
             self.assert_receives(others[-1], HELLO)
         self.assertGreater(len(self.read_all(plugs)), 0)

@@ -3,7 +3,6 @@
 What is expected follows from docs/WIRE.md, "Deadlines and places" and "Threads". A second of the deadlines is shorter here.
 """
 
-import os
 import time
 import unittest
 
@@ -13,7 +12,6 @@ from lib.held_file import HeldFile
 from lib.ring import PEERS, answer_with, asking_for
 from lib.rows import OTHER
 from lib.served import FILE
-from lib.stalls import Stalls
 from lib.stores import opening_of, write_store
 
 HELLO = sent(b"hello")
@@ -28,10 +26,6 @@ UPLOAD = request("PUT", "/api/v1/deploys/9/files/a", body=bytes(3 * ENOUGH))
 
 
 class Times(Crowds):
-    def setUp(self):
-        # Until there is a program.
-        self.stalls = Stalls(os.getpid())
-
     def exchange(self, plugs, asked=request("GET", FILE), wanted=HELLO):
         """Each of these connections asks, and is answered. Its time counts from then."""
         for plug in plugs:

@@ -84,6 +84,10 @@ class Crowds(Served):
 
     asked, usual = ASKED, LONGEST
 
+    def setUp(self):
+        # Until there is a program.
+        self.stalls = Stalls("self")
+
     def begin(self, *words, nodes=1, files=FILES, second=SECOND, **how):
         """Serves some files. Then the program has the sockets of its ports alone."""
         soft, hard = resource.getrlimit(resource.RLIMIT_NOFILE)
