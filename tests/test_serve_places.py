@@ -160,6 +160,16 @@ class Counted(Ways):
 class First(Ways):
     """Who goes for whom."""
 
+    def count_places(self):
+        """How many places there are: more connections come, and then go."""
+        plugs = self.crowd(FEW)
+        self.assert_in_time(lambda: len(select.select(plugs, [], [], 0)[0]) == FEW - self.sockets(), PATIENCE)
+        places = self.sockets()
+        for plug in plugs:
+            plug.close()
+        self.assert_alone()
+        return places
+
     def crowd_later(self, count):
         """So many silent connections, which come some time after all others."""
         time.sleep(0.1)
@@ -167,21 +177,22 @@ class First(Ways):
 
     def test_a_client_in_the_midst_of_its_next_head_outlasts_silent_ones(self):
         """Since it was answered, however long ago that is."""
-        self.begin(second=WHOLE)
+        self.begin(second=WHOLE, **limited_to(FEW))
         kept = self.plug(GET)
         self.assert_receives(kept, HELLO)
         kept.sendall(GET[:10])
-        first = self.crowd_later(PLACES + 200)[0]
+        first = self.crowd_later(2 * FEW)[0]
         self.assertLess(seconds_until_closed(first, SOON), SOON)
         kept.sendall(GET[10:])
         self.assert_receives(kept, HELLO)
 
     def test_of_silent_ones_the_one_that_sent_a_byte_outlasts_others_that_came_later(self):
-        self.begin(second=WHOLE)
-        plug, other = self.crowd(1)[0], self.crowd_later(PLACES - 10)[0]
+        self.begin(second=WHOLE, **limited_to(FEW))
+        places = self.count_places()
+        plug, other = self.crowd(1)[0], self.crowd_later(places - 1)[0]
         time.sleep(0.1)
         plug.sendall(GET[:1])
-        self.crowd_later(100)
+        self.crowd_later(places // 2)
         self.assertLess(seconds_until_closed(other, SOON), SOON)
         plug.sendall(GET[1:])
         self.assert_receives(plug, HELLO)

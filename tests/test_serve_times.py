@@ -16,8 +16,8 @@ from lib.stores import opening_of, write_store
 
 HELLO = sent(b"hello")
 NO_DEPLOY = refused("NoSuchDeploy")
-# A second of the deadlines, in milliseconds.
-SECOND = 50
+# A second of the deadlines, in milliseconds, and where a test has many of them.
+SECOND, SHORTER = 50, 30
 # How many connections are of a kind.
 EACH = 5
 # How many bytes of a body have to move in its time, and some more.
@@ -87,7 +87,7 @@ class Times(Crowds):
         self.exchange(whole, UPLOAD[half:], NO_DEPLOY)
 
     def test_each_part_of_a_body_has_its_time(self):
-        self.begin(second=SHORT)
+        self.begin(second=SHORTER)
         self.in_time(self.send_bodies)
 
     def hold_requests(self):
