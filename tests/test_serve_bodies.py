@@ -30,12 +30,12 @@ FEW = 64
 
 class Bodies(Room):
     def assert_has_room(self):
-        """There is room for as many bodies as ever: they stay behind, all taken."""
+        """There is room for as many bodies as ever: they stay behind, all taken, and none has to go for another one."""
         plugs = self.begin_bodies(1, BODIES)
         for plug in plugs:
             plug.sendall(bytes(TAKEN))
-        # One that waits is taken only once another one ends for it, or later.
-        self.assert_all_taken(WAIT / 2)
+        self.assert_all_taken()
+        self.assertEqual(self.count_gone(plugs), 0)
         for plug in plugs:
             plug.close()
         self.assert_alone()
