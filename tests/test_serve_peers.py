@@ -4,10 +4,8 @@ What is expected follows from docs/WIRE.md, "Deadlines and places", and docs/DEC
 the fetches of a request. A second of the deadlines is shorter here, but not those of a fetch.
 """
 
-import bisect
 import concurrent.futures
 import contextlib
-import hashlib
 import itertools
 import random
 import resource
@@ -19,6 +17,7 @@ import unittest
 
 from lib.client import PATIENCE, REQUESTS, digest_of
 from lib.crowds import FILES, HEAD, IDLE, LONGEST, LOOK, REPLY, SECOND, SHORT, Crowds, drip, for_seconds, reset
+from lib.ring import asking_for, owner
 from lib.served import HOST
 
 # The port for other nodes of the second node.
@@ -32,21 +31,6 @@ OTHERS = 100
 HEAD_OF_A_CHUNK = b"HTTP/1.1 200 OK\r\nContent-Length: 65536\r\n\r\n"
 # The longest that a node tries to fetch a chunk, in seconds.
 FETCH = 2
-POINTS = 50
-
-
-def place(text):
-    return hashlib.sha1(text.encode()).digest()[:4]
-
-
-def owner(port, digest):
-    """Which of two nodes from this port on owns a chunk: the one with the next point on the ring."""
-    points = sorted((place(f"{number}{HOST}:{port + 8 + node}"), node) for node in (0, 1) for number in range(POINTS))
-    return points[bisect.bisect_left(points, (place(digest), 0)) % len(points)][1]
-
-
-def asking_for(content):
-    return f"GET /_groupcache/chunks/{digest_of(content)} HTTP/1.1\r\nHost: peer\r\n\r\n".encode()
 
 
 class AtPeers(Crowds):

@@ -7,6 +7,7 @@ folders, so files that weren't read yet, uploads and changes have to wait.
 
 import collections
 import concurrent.futures
+import itertools
 import json
 import random
 import re
@@ -24,8 +25,8 @@ SITE = "/api/v1/sites/one"
 HISTORIES, LONG, MOST = 30, 60, 25
 # How often a connection to each node sends the same kinds of requests.
 TURNS = 6
-# How many connections go on side by side, and how many deploys each makes.
-BESIDE, DEPLOYS = 8, 20
+# How many connections go on side by side, how many deploys each makes, and how many drafts.
+BESIDE, DEPLOYS, DRAFTS = 8, 20, 60
 
 
 def without_numbers(replies):
@@ -148,6 +149,26 @@ class Beside(Pipelines):
         with concurrent.futures.ThreadPoolExecutor(BESIDE) as pool:
             for done in [pool.submit(self.go_on, place) for place in range(BESIDE)]:
                 done.result()
+
+    def open_drafts(self, place):
+        """Opens drafts of a site, over one connection, and returns their numbers."""
+        client, numbers = self.client(place % 2), []
+        for turn in range(DRAFTS):
+            body = json.dumps({"files": {"/a": digest_of(b"%d" % turn)}, "draft": True})
+            status, told = ask(client, "POST", f"/api/v1/sites/site{place}/deploys", body)
+            self.assertEqual(status, 200, told)
+            numbers.append(int(json.loads(told)["id"]))
+        return numbers
+
+    def test_open_drafts_at_once(self):
+        """None is refused since another one is opened just then, and each is one entry of its site."""
+        self.begin()
+        with concurrent.futures.ThreadPoolExecutor(BESIDE) as pool:
+            opened = list(pool.map(self.open_drafts, range(BESIDE)))
+        self.assertEqual(sorted(itertools.chain(*opened)), list(range(1, BESIDE * DRAFTS + 1)))
+        for place, numbers in enumerate(opened):
+            listed = json.loads(ask(self.client(), "GET", f"/api/v1/sites/site{place}/changes")[1])["changes"]
+            self.assertEqual([change["entry"] for change in listed], numbers)
 
 
 if __name__ == "__main__":

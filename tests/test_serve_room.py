@@ -5,155 +5,49 @@ What is expected follows from docs/WIRE.md, "Deadlines and places". A second of 
 
 import contextlib
 import hashlib
-import pathlib
 import random
 import select
+import socket
+import threading
 import time
 import unittest
 
-from lib.client import LARGEST_FILE, PATIENCE, SECONDS, digest_of, request
-from lib.crowds import WHOLE, Plug
-from lib.served import FILE, Served, ask, publish, sockets_of
+from lib.client import LARGEST_FILE, PATIENCE, SECONDS, digest_of, request, sent
+from lib.crowds import WHOLE, reset
+from lib.launched import limited_to
+from lib.rooms import MEBIBYTE, OF_BODIES, OF_REPLIES, WAIT, Room
+from lib.served import FILE, ask, publish, sockets_of
 from lib.stalls import Stalls
 from lib.stores import PIECE, files_of, opening_of
-from lib.wire import END
 import journal
 
-MEBIBYTE = 1_048_576
 # How many MiB the program takes for other things than what its connections hold.
 OTHERS = 24
 # How many bytes a piece of a file takes, times its own: it has whole pages, and one for its head.
 OF_PIECES = 17 / 16
-# How many MiB bodies may hold, replies may hold, and the cache of a node has.
-OF_BODIES, OF_REPLIES, OF_THE_CACHE = 64, 256, 64
+# How many MiB the cache of a node has.
+OF_THE_CACHE = 64
 # How many bodies there are, and how many bytes each sends at first, which are all taken, and then: for these there isn't room enough.
 BODIES, TAKEN, MORE = 12, 3_670_016, MEBIBYTE
-# A second of the deadlines where bodies are to go, in milliseconds, and how long one waits until another one goes, in these seconds.
-SECOND, WAIT = 200, 10
+# A second of the deadlines where bodies are to go, in milliseconds, and where replies are.
+SECOND, SHORT = 200, 50
+# More bytes of a reply than the system holds.
+MUCH = 2 * MEBIBYTE
 # How many workers a node has where its memory is measured, and how many MiB each takes beside what replies may hold: a reply counts once its first step has
 # ended.
 WORKERS, OF_A_WORKER = 2, 16
 # How many readers there are, and how many of them are left: their replies hold as much as replies may.
 READERS, LEFT = 64, OF_REPLIES * MEBIBYTE // LARGEST_FILE
-# All but the last piece of a file are those of one of so many contents. So many together are more than a node's cache has.
-CONTENTS = 8
+# All but the last piece of a file are those of one of so many contents. So many together are more than a node's cache has; or fewer, for which it has room.
+CONTENTS, CACHED = 8, 2
+# How many descriptors a program has where others take the places of connections, and what these are answered.
+FEW, HELLO = 64, sent(b"hello")
 # How many replies hold one file, which is read from the store for each.
 HOLDERS = 8
 
 
-class Body:
-    """The body of a reply that is read: its digest, and how many bytes it has."""
-
-    def __init__(self):
-        self.head, self.hash, self.size = b"", hashlib.sha1(), 0
-
-    def add(self, piece):
-        if END not in self.head:
-            self.head += piece
-            self.head, end, piece = self.head.partition(END)
-            self.head += end
-        self.hash.update(piece)
-        self.size += len(piece)
-
-
-class Room(Served):
+class Rooms(Room):
     """Bodies that wait for room, and replies that hold too much."""
-
-    def resident(self, started):
-        """How many MiB of memory a program takes, and how many it took at most."""
-        lines = pathlib.Path(f"/proc/{started.pid}/status").read_text().splitlines()
-        values = dict(line.split(":", 1) for line in lines)
-        return tuple(int(values[name].split()[0]) / 1_024 for name in ("VmRSS", "VmHWM"))
-
-    def reader(self, target):
-        """A connection that asks for a file, takes few bytes which it doesn't read, and has got the first of them."""
-        plug = Plug()
-        self.addCleanup(plug.close)
-        plug.come(self.port, request("GET", target, "Connection: close"), room=4_096)
-        self.assertEqual(plug.recv(1), b"H")
-        return plug
-
-    def read_all(self, plugs):
-        """Reads what comes over these connections until each has ended, all at once so that none is slow. Returns the body of each."""
-        bodies, left, ready = [Body() for _ in plugs], {plug.fileno(): place for place, plug in enumerate(plugs)}, select.poll()
-        for number in left:
-            ready.register(number, select.POLLIN)
-        while left:
-            found = ready.poll(PATIENCE * 1_000)
-            self.assertTrue(found)
-            for number, _ in found:
-                piece = b""
-                with contextlib.suppress(ConnectionError):
-                    piece = plugs[left[number]].recv(PIECE)
-                if piece:
-                    bodies[left[number]].add(piece)
-                else:
-                    ready.unregister(number)
-                    del left[number]
-        return bodies
-
-    def begin_bodies(self, number, count):
-        """Connections over each of which the head of an upload was sent."""
-        head = f"PUT /api/v1/deploys/{number}/files/large HTTP/1.1\r\nHost: h\r\nContent-Length: {LARGEST_FILE}\r\n\r\n"
-        return [self.plug(head.encode()) for _ in range(count)]
-
-    def push(self, plugs, each, patience):
-        """Sends so many bytes over each connection, until all are taken, or for so many seconds none is."""
-        left, ready = {plug.fileno(): (plug, each) for plug in plugs}, select.poll()
-        for number, (plug, _) in left.items():
-            plug.setblocking(False)
-            ready.register(number, select.POLLOUT)
-        # A poll that comes late still finds the room.
-        while left and (found := ready.poll(patience * 1_000)):
-            for number, _ in found:
-                plug, rest = left[number]
-                try:
-                    rest -= plug.send(bytes(min(262_144, rest)))
-                except BlockingIOError:
-                    pass
-                except ConnectionError:
-                    # It has gone.
-                    rest = 0
-                left[number] = plug, rest
-                if not rest:
-                    ready.unregister(number)
-                    del left[number]
-
-    def is_open(self, plug):
-        """Whether a connection over which nothing came is still open."""
-        plug.setblocking(False)
-        try:
-            return plug.recv(1) != b""
-        except BlockingIOError:
-            return True
-        except ConnectionError:
-            return False
-
-    def assert_has_at_most(self, started, sockets):
-        """The program comes to have no more sockets than these."""
-        until = time.monotonic() + PATIENCE
-        while sockets_of(started) > sockets:
-            self.assertLess(time.monotonic(), until)
-            time.sleep(0.01)
-
-    def assert_takes(self, started, least):
-        """The program comes to take so many MiB at least."""
-        until = time.monotonic() + PATIENCE
-        while self.resident(started)[0] < least:
-            self.assertLess(time.monotonic(), until)
-            time.sleep(0.01)
-
-    def assert_takes_at_most(self, started, most):
-        """The program comes to take no more MiB than that."""
-        until = time.monotonic() + PATIENCE
-        while self.resident(started)[0] > most:
-            self.assertLess(time.monotonic(), until)
-            time.sleep(0.01)
-
-    def assert_stay(self, plugs, began, second):
-        """None of them goes before a body has waited for room so long, and then one in each such time."""
-        gone = [self.is_open(plug) for plug in plugs].count(False)
-        self.assertLessEqual(gone, (time.monotonic() - began) / (WAIT * second / 1_000))
 
     def test_bodies_hold_no_more_than_they_may(self):
         started = self.serve(second=WHOLE)
@@ -207,18 +101,19 @@ class Room(Served):
             plug.settimeout(PATIENCE)
             self.assertEqual(self.received(plug, 12), b"HTTP/1.1 200")
 
-    def write_store(self):
-        """A folder with a store of `hello` and of a file for each reader, all different, and the digests of these files."""
+    def write_store(self, readers=READERS, count=CONTENTS):
+        """A folder with a store of `hello` and of a file for each of so many readers, all different, and the digests of these files. They have so many contents
+        but for their last pieces."""
         folder, entries, digests = self.folder(), [opening_of({"/a.txt": b"hello"}), ("publish", "one", 1)], []
         drawn = random.Random(4)
-        contents = [drawn.randbytes(LARGEST_FILE - PIECE) for _ in range(CONTENTS)]
-        lasts = [drawn.randbytes(PIECE) for _ in range(READERS)]
+        contents = [drawn.randbytes(LARGEST_FILE - PIECE) for _ in range(count)]
+        lasts = [drawn.randbytes(PIECE) for _ in range(readers)]
         for content in (b"hello", *contents, *lasts):
             for name, data in files_of(content).items():
                 (folder / name).write_bytes(data)
         fronts = [hashlib.sha1(content) for content in contents]
         for number, last in enumerate(lasts):
-            front = fronts[number % CONTENTS]
+            front = fronts[number % count]
             whole = front.copy()
             whole.update(last)
             digests.append(whole.hexdigest())
@@ -261,6 +156,70 @@ class Room(Served):
         self.assertLess(self.resident(started)[0], before + (OF_THE_CACHE + of_one) * OF_PIECES + OTHERS)
         self.read_all(plugs)
         self.assert_takes_at_most(started, before + OF_THE_CACHE * OF_PIECES + OTHERS)
+
+    def go_for_others(self, plugs):
+        """Clients come that are answered, more than there are places, so these connections go. Returns the clients."""
+        others = []
+        for _ in range(FEW):
+            others.append(self.plug(request("GET", FILE)))
+            self.assert_receives(others[-1], HELLO)
+        self.assertGreater(len(self.read_all(plugs)), 0)
+        return others
+
+    def test_a_reply_gives_its_room_back_once_it_is_sent_or_broken_off(self):
+        """One connection reads more files in turn than there is room for. As many others ask for one and go, and some have to. Then there is room as before."""
+        folder, digests = self.write_store(LEFT + 4, CACHED)
+        started = self.serve("--store", str(folder), "--workers", "2", second=WHOLE, **limited_to(FEW))
+        alone, client = sockets_of(started), self.client()
+        for number in range(LEFT + 4):
+            status, content = ask(client, "GET", f"/s/site{number}/large")
+            self.assertEqual((status, digest_of(content)), (200, digests[number]))
+        client.close()
+        for number in range(LEFT + 4):
+            reset(self.reader(f"/s/site{number}/large"))
+        self.assert_has_at_most(started, alone)
+        for plug in self.go_for_others([self.reader(f"/s/site{number}/large") for number in range(LEFT - 2)]):
+            plug.close()
+        self.assert_has_at_most(started, alone)
+        # They aren't all of the same files as those before.
+        numbers = range(6, LEFT + 4)
+        plugs = [self.plug(request("GET", f"/s/site{number}/large", "Connection: close")) for number in numbers]
+        for plug in plugs:
+            self.assertEqual(plug.recv(1, socket.MSG_PEEK), b"H")
+        for number, body in zip(numbers, self.read_all(plugs)):
+            self.assertEqual(body.hash.hexdigest(), digests[number])
+
+    @contextlib.contextmanager
+    def reading(self, plug):
+        """Reads what comes over a connection all the time, slowly."""
+        ended = threading.Event()
+
+        def go():
+            while not ended.wait(0.005):
+                plug.recv(4_096)
+
+        thread = threading.Thread(target=go)
+        thread.start()
+        try:
+            yield
+        finally:
+            ended.set()
+            thread.join()
+
+    def test_of_replies_that_hold_too_much_the_one_goes_that_moved_least_of_late(self):
+        """It is one that moved much, but long ago; and not the one that began first, whose client goes on to read."""
+        started = self.serve("--store", str(self.write_store(LEFT + 1, CACHED)[0]), "--workers", "1", second=SHORT)
+        alone = sockets_of(started)
+        moving, once = self.reader("/s/site0/large"), self.reader("/s/site1/large")
+        self.assertEqual(len(self.received(once, MUCH)), MUCH)
+        with self.reading(moving):
+            time.sleep(2 * WAIT * SHORT / 1_000)
+            # Each of the others moves what the system holds of it.
+            others = [self.reader(f"/s/site{number}/large") for number in range(2, LEFT + 1)]
+            self.assert_has_at_most(started, alone + LEFT)
+        for plug in [moving, *others]:
+            self.assertEqual(len(self.received(plug, MUCH)), MUCH)
+        self.assertLess(len(self.received(once, LARGEST_FILE - MUCH)), MUCH)
 
     def test_readers_of_one_file_are_not_cut(self):
         self.serve("--workers", "4", second=WHOLE)

@@ -11,7 +11,7 @@ import socket
 import time
 import unittest
 
-from lib.client import PATIENCE, PROGRAM, digest_of, request
+from lib.client import PATIENCE, PROGRAM, digest_of, request, sent
 from lib.crowds import WHOLE, Plug
 from lib.held_file import HeldFile
 from lib.launched import Launched, limited_to
@@ -127,6 +127,23 @@ class Stops(Launched):
         self.assertEqual([entry[0] for entry in journal.read((store / "journal").read_bytes())], ["open", "publish"] * 2 + ["undo"] * 2)
         self.begin("--store", str(store))
         self.assertEqual(ask(self.client(), "GET", FILE)[0], 404)
+
+    def test_a_head_of_which_a_part_has_come_goes_on(self):
+        """That of a first request, and that of a second one."""
+        self.begin()
+        publish(self.client(), {"/a.txt": b"hello"})
+        asked, wanted = request("GET", FILE), sent(b"hello")
+        plugs = [self.plug(), self.plug(asked)]
+        self.assert_receives(plugs[1], wanted)
+        for plug in plugs:
+            plug.sendall(asked[:10])
+        begun = self.ask_to_end()
+        # Idle connections have ended.
+        time.sleep(SEEN)
+        for plug in plugs:
+            plug.sendall(asked[10:])
+            self.assert_receives(plug, wanted)
+        self.assert_ends(DRAIN, begun)
 
     def test_nothing_else_goes_on(self):
         """Idle connections end at once, and who comes then isn't answered."""

@@ -1,22 +1,35 @@
-"""The threads of `filehost serve`: all of them run, or the program says that there is no memory, and takes no client.
+"""The threads of `filehost serve`: all of them run, or the program says that there is no memory, and takes no client. Where all wait, they take little
+processor time.
 
 What is expected follows from docs/WIRE.md and docs/ARCHITECTURE.md. A thread is refused by a library in C before the C library's pthread_create.
 """
 
 import os
+import pathlib
+import socket
 import subprocess
 import time
 import unittest
 
-from lib.client import HERE, PATIENCE, SECONDS
+from lib.client import HERE, LARGEST_FILE, PATIENCE, REQUESTS, SECONDS, digest_of, request
+from lib.crowds import FILES, WHOLE, reset
+from lib.held_file import HeldFile
 from lib.launched import Launched
-from lib.served import HOST, Served, ask, ports_of_several
+from lib.ring import PEERS, asking_for
+from lib.rooms import Room
+from lib.served import FILE, HOST, Served, ask, ports_of_several
+from lib.stores import PIECE, opening_of, write_store
 
 SOURCE = HERE / "refuse_thread.c"
 # The last thread of those that are refused, which the program doesn't make.
 LAST = 12
 # How many threads a node has beside its workers: two for what its workers leave, and two for other nodes.
 OTHERS = 4
+# A body that is larger than it may be, and one of which a part has come.
+TOO_LARGE, UPLOAD = (
+    f"PUT /api/v1/deploys/1/files/a HTTP/1.1\r\nContent-Length: {length}\r\n\r\n".encode() + bytes(rest)
+    for length, rest in ((LARGEST_FILE + 1, 0), (LARGEST_FILE, 1_000))
+)
 # A start that waits for a thread ends after so many seconds, and a stop takes no longer.
 LONGEST = 10
 
@@ -68,6 +81,70 @@ class Counted(Launched):
 
     def test_of_eight_nodes_with_eight_workers(self):
         self.assert_has(8, 8)
+
+
+def half_close(plug):
+    plug.shutdown(socket.SHUT_WR)
+
+
+def read_and_half_close(plug):
+    """The reply is read, and no request follows."""
+    plug.recv(65_536)
+    half_close(plug)
+
+
+class Quiet(Room):
+    """Connections that all wait for something."""
+
+    # What each sends, how many bytes of room it has for what comes, and what its client does then.
+    clients = [
+        (b"", None, None), (b"GET /s", None, None), (request("GET", FILE), None, None), (request("GET", "/s/one/large") * 4, 4_096, None),
+        (request("GET", "/s/one/large") * 4, 4_096, half_close), (UPLOAD, None, None), (TOO_LARGE, None, None), (TOO_LARGE, None, read_and_half_close),
+        (request("GET", "/s/two/cold"), None, None), (request("GET", "/s/two/cold"), None, half_close),
+    ]
+    nodes = [(b"", None, None), (b"GET /_", None, None), (asking_for(FILES["/large"][:PIECE]) * REQUESTS, 4_096, None)]
+
+    def begin_all(self):
+        """Two connections of each kind, and bodies that wait for room. A load from the store is held."""
+        content, folder = bytes(1_000), self.folder().resolve() / "store"
+        write_store(folder, [opening_of({"/cold": content}, "two"), ("publish", "two", 1)], content)
+        held = HeldFile(self.folder(), folder / f"c-{digest_of(content)}")
+        held.open()
+        self.begin("--store", str(folder), second=WHOLE, environment=held.environment)
+        self.assertEqual(self.read("/s/one/large")[0], 200)
+        held.close()
+        fill = self.begin_fill()
+        pairs = [self.begin_bodies(1, 2)]
+        for plug in pairs[0]:
+            plug.sendall(bytes(1_000))
+        for kinds, node in ((self.clients, 0), (self.nodes, PEERS)):
+            for given, room, how in kinds:
+                pairs.append(self.crowd(2, given, node, room))
+                for plug in pairs[-1] if how else ():
+                    how(plug)
+        return fill, pairs
+
+    def processor_time(self):
+        """How much the program took so far, in seconds."""
+        fields = pathlib.Path(f"/proc/{self.started.pid}/stat").read_text().rpartition(")")[2].split()
+        return sum(map(int, fields[11:13])) / os.sysconf("SC_CLK_TCK")
+
+    def assert_takes_little(self):
+        """Less than a tenth of a processor."""
+        # Until then it does what is to be done.
+        time.sleep(0.3)
+        took, began = self.processor_time(), time.monotonic()
+        time.sleep(1.5)
+        self.assertLess(self.processor_time() - took, (time.monotonic() - began) / 10)
+
+    def test_take_little_processor_time(self):
+        """Also once a client of each kind has reset its connection."""
+        fill, pairs = self.begin_all()
+        self.assert_takes_little()
+        for plug, _ in pairs:
+            reset(plug)
+        self.assert_takes_little()
+        del fill
 
 
 if __name__ == "__main__":

@@ -4,9 +4,10 @@ What is expected follows from docs/DECISIONS.md, "Serving over TCP": an upload t
 """
 
 import random
+import time
 import unittest
 
-from lib.client import digest_of, done, opened, opening, refused, request, sent, upload, uploaded
+from lib.client import PATIENCE, digest_of, done, opened, opening, refused, request, sent, upload, uploaded
 from lib.held_file import HeldFile
 from lib.served import Served, ask, publish
 from lib.stores import PIECE, is_stored
@@ -21,9 +22,12 @@ STANDS = done(id="3", required=sorted([X, Y]), site="two", state="open")
 class HeldSyncs(Served):
     """A file is served, and deploy 3 lists two that aren't uploaded yet. The first piece that is written after that is held before its sync."""
 
+    # Of which file of the store syncs are held, or of the folder itself.
+    file = "blob-0.tmp"
+
     def begin(self, workers, nodes=1):
         room, self.store = self.folder().resolve(), self.folder().resolve()
-        self.held = HeldFile(room, self.store / "blob-0.tmp")
+        self.held = HeldFile(room, self.store / self.file)
         self.held.open()
         started = self.serve("--workers", str(workers), "--store", str(self.store), nodes=nodes, environment=self.held.environment)
         publish(self.client(), {"/z.txt": FILES["/z.txt"]})
@@ -92,6 +96,30 @@ class Syncs(HeldSyncs):
         self.assert_served("/x.txt", "/y.txt")
 
 
+class Folders(HeldSyncs):
+    """Syncs of the folder, by which the names of files last."""
+
+    file = "."
+
+    def test_begin_after_the_last_file_has_its_name(self):
+        """While the sync for one upload goes on, another one gets its names. It isn't answered before the folder was synced since."""
+        self.begin(workers=2)
+        self.assert_receives(self.plug(opening({"/x.txt": X, "/y.txt": Y, "/w.txt": digest_of(b"w")}, site="three")), opened(4, *sorted([X, Y, digest_of(b"w")])))
+        first = self.plug(upload(4, "x.txt", FILES["/x.txt"]))
+        self.held.wait("opened", "held")
+        second = self.plug(upload(4, "y.txt", FILES["/y.txt"]))
+        until = time.monotonic() + PATIENCE
+        while not (self.store / f"t-{Y}").exists():
+            self.assertLess(time.monotonic(), until)
+            time.sleep(0.01)
+        for plug in (first, second):
+            self.assert_silent(plug)
+        self.held.open()
+        self.assert_receives(first, uploaded(FILES["/x.txt"]))
+        self.assert_receives(second, uploaded(FILES["/y.txt"]))
+        self.assertGreaterEqual(self.held.told().count("held"), 2)
+
+
 class Failures(HeldSyncs):
     def test_of_one_put_leave_the_others(self):
         """A folder has the name of a piece, so it can't be put there."""
@@ -105,6 +133,20 @@ class Failures(HeldSyncs):
         self.assert_goes_on(first, "/y.txt", 4)
         self.assert_served("/x.txt", "/y.txt")
         self.assertEqual(list(self.store.glob("*.tmp")), [])
+
+    def test_of_a_table_leave_pieces_that_the_next_put_writes_again(self):
+        """They were damaged meanwhile. The program goes on, so it might know them."""
+        self.begin(workers=2)
+        self.held.open()
+        table, piece = self.store / f"t-{X}", self.store / f"c-{X}"
+        table.mkdir()
+        self.assert_receives(self.upload("/x.txt"), refused("Device"))
+        piece.write_bytes(bytes(len(FILES["/x.txt"])))
+        table.rmdir()
+        self.assert_receives(self.upload("/x.txt"), uploaded(FILES["/x.txt"]))
+        self.assert_receives(self.upload("/y.txt"), uploaded(FILES["/y.txt"], 4))
+        self.assert_served("/x.txt", "/y.txt")
+        self.assertTrue(is_stored(self.store, FILES["/x.txt"]))
 
 
 class Kills(HeldSyncs):

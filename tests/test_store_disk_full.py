@@ -1,13 +1,14 @@
 """A store whose folder can't be written while the program runs: what is answered then, and what is there once it is opened again.
 
-A limit on the size of files acts as a full disk, as does a small file system where one may be mounted.
+A limit on the size of files acts as a full disk, as does a small file system where one may be mounted. With `solo` and with `serve`.
 """
 
 import contextlib
 import unittest
 
 from lib.client import HELLO, asking, done, opened, opening, refused, request, sent, upload, uploaded
-from lib.stores import Conversation, Stored, limited, opening_of, small_file_system, write_store
+from lib.served_stores import OfServe
+from lib.stores import Stored, limited, opening_of, small_file_system, write_store
 from lib.worked_runs import (
     LISTING, NO_DEPLOY, NO_FILE, aliasing, cancelling, deleting, entry, patching, reading, removing, renaming, restoring, serves,
     showing, stands, unaliasing, undoing,
@@ -44,7 +45,7 @@ class FullDisk(Stored):
     def begin(self, room):
         """A program over a deploy, whose journal has room for `room` bytes more."""
         self.write(DEPLOYED, b"hello")
-        return Conversation(self, **limited((self.folder / "journal").stat().st_size + room))
+        return self.talk(**limited((self.folder / "journal").stat().st_size + room))
 
     def test_a_change_that_finds_no_room_is_told_and_no_other_is_made(self):
         for room in (0, 1, 4, 5, 20, 25):
@@ -83,7 +84,7 @@ class FullDisk(Stored):
     def test_an_upload_remains_whose_publishing_finds_no_room(self):
         self.write([])
         size = len(journal.write([opening_of({"/a.txt": b"hello"})]))
-        talk = Conversation(self, **limited(size))
+        talk = self.talk(**limited(size))
         talk.ask_all([(opening({"/a.txt": HELLO}), opened(1, HELLO)), (upload(1, "a.txt", b"hello"), DEVICE)])
         talk.ask_all([
             (removing("/b.txt"), BROKEN), (undoing(1), BROKEN), (upload(1, "a.txt", b"hello"), BROKEN), (upload(9, "a.txt", b"hello"), NO_DEPLOY),
@@ -97,7 +98,7 @@ class FullDisk(Stored):
         content = bytes(60_000)
         digest = opening_of({"/c": content})[3][0][1]
         self.write([*DEPLOYED, opening_of({"/c": content})], b"hello")
-        talk = Conversation(self, **limited(50_000))
+        talk = self.talk(**limited(50_000))
         talk.ask_all([(upload(3, "c", content), DEVICE), (showing(3), stands(3, "open", digest)), (upload(3, "c", content), DEVICE)])
         talk.ask_all([(renaming("/a.txt", "/c.txt"), entry(4)), (undoing(4), entry(5)), *READS[:2]])
         talk.end()
@@ -121,7 +122,7 @@ class FullDisk(Stored):
         """Makes changes until there is no room for one, and some more; returns how many entries were acknowledged."""
         count, replies = len(DEPLOYED), []
         while DEVICE not in replies:
-            talk = Conversation(self, **how)
+            talk = self.talk(**how)
             replies = [talk.answer_to(aliasing("next", 1)) for _ in range(90)]
             accepted = replies.index(DEVICE) if DEVICE in replies else len(replies)
             self.assertEqual(replies[:accepted], [entry(count + 1 + place) for place in range(accepted)])
@@ -131,6 +132,10 @@ class FullDisk(Stored):
             talk.end()
         self.assertGreater(count, len(DEPLOYED))
         return count
+
+
+class FullDiskOfServe(OfServe, FullDisk):
+    """The same of `serve`."""
 
 
 if __name__ == "__main__":

@@ -1,6 +1,6 @@
 """A store whose files fail: each call of the system on them is refused in turn, and what was acknowledged is there afterwards.
 
-A library in C is before these calls (refuse_device.c).
+A library in C is before these calls (refuse_device.c). With `solo` and with `serve`.
 """
 
 import os
@@ -10,7 +10,8 @@ import unittest
 from lib.client import HERE, SECONDS, digest_of, refused
 from lib.generated_histories import in_json
 from lib.plain_model import Model, Request
-from lib.stores import Conversation, Stored, as_bytes, found_in, looks, told
+from lib.served_stores import OfServe
+from lib.stores import Stored, as_bytes, found_in, looks, told
 from lib.worked_runs import NO_DEPLOY
 
 SOURCE = HERE / "refuse_device.c"
@@ -58,6 +59,8 @@ class Failures(Stored):
     """Runs with one of their calls on the store's files refused, from the first to the last."""
 
     first, second, third = (bytes([place]) * 70_000 for place in (1, 2, 3))
+    # The name under which its first put writes.
+    temporary = "blob.tmp"
 
     def setUp(self):
         super().setUp()
@@ -91,14 +94,14 @@ class Failures(Stored):
     def converse(self, model, requests, place, is_late):
         """Asks all of one program. Returns what its host may be, and how the program ended."""
         possible = Possible(model)
-        talk = Conversation(self, env=self.environment(place, is_late))
+        talk = self.talk(env=self.environment(place, is_late))
         for asked in requests:
             if not (got := talk.answer_to(as_bytes(asked))):
                 break
             possible.take(asked, got)
             self.assertNotEqual(possible.hosts, [], f"{asked[:2]}: {got[:300]}")
-        talk.client.program.stdin.close()
-        return possible, talk.client.end()
+        # Only a program that ends by itself tells how many calls there were.
+        return possible, talk.close(waits=place == 0)
 
     def assert_found(self, possible):
         """The store has what was acknowledged, and answers so when it is opened again."""
@@ -118,7 +121,7 @@ class Failures(Stored):
     def assert_tidy(self, possible, end):
         """If uploads were tried, there is no temporary file, neither theirs nor one that a stop had left."""
         if end not in FAULTS and not all(is_broken for _, is_broken in possible.hosts):
-            self.assertFalse((self.folder / "blob.tmp").exists())
+            self.assertEqual(list(self.folder.glob("*.tmp")), [])
 
     def assert_swept(self, prepare, requests):
         """Each of the calls of such a run is refused, early or late, and a reply or the end of the program tells it."""
@@ -147,7 +150,7 @@ class Failures(Stored):
         self.write(list(map(told, model.entries)), self.first, self.second)
         with (self.folder / "journal").open("ab") as file:
             file.write(b"the front of an entry")
-        (self.folder / "blob.tmp").write_bytes(b"the front of a piece")
+        (self.folder / self.temporary).write_bytes(b"the front of a piece")
         return model
 
     def test_no_failure_in_a_new_store_loses_what_was_acknowledged(self):
@@ -161,6 +164,10 @@ class Failures(Stored):
             Request("PUT", "/api/v1/deploys/7/files/c", body=self.third),
             Request("GET", "/s/two/c"),
         ])
+
+
+class FailuresOfServe(OfServe, Failures):
+    """The same of `serve`."""
 
 
 if __name__ == "__main__":

@@ -1,11 +1,12 @@
 """A store whose files are lost or damaged while the program runs: what is read of them is refused, unless it was read before and is still in memory, and
-all else goes on."""
+all else goes on. With `solo` and with `serve`."""
 
 import itertools
 import unittest
 
 from lib.client import HELLO, digest_of, opened, opening, refused, request, sent, to_head, upload, uploaded
-from lib.stores import PIECE, Conversation, Stored, files_of, opening_of, pieces_of
+from lib.served_stores import OfServe
+from lib.stores import PIECE, Stored, files_of, opening_of, pieces_of
 from lib.worked_runs import NO_FILE, entry, reading, removing, renaming, showing, stands, undoing
 
 MISSING, DAMAGED, DEVICE = refused("Missing"), refused("Damaged"), refused("Device")
@@ -21,7 +22,7 @@ class Damage(Stored):
     def begin(self):
         """A program that has opened the store, and has read nothing of these files yet."""
         self.write(self.entries, b"hello", self.content)
-        talk = Conversation(self)
+        talk = self.talk()
         talk.ask(reading("/s/one/nothing"), NO_FILE)
         return talk
 
@@ -129,7 +130,7 @@ class Uploaded(Stored):
     def begin(self):
         """A program with an open deploy of both files."""
         self.write([])
-        talk = Conversation(self)
+        talk = self.talk()
         digests = {path: digest_of(content) for path, content in self.contents.items()}
         talk.ask(opening(digests), opened(1, *sorted(digests.values())))
         return talk
@@ -188,7 +189,7 @@ class Cached(Stored):
         """A program that has opened the store and has read the small file, before one of its pieces was lost."""
         files = {"/small": self.small} | {f"/{number}": content for number, content in enumerate(self.large)}
         self.write([opening_of(files), ("publish", "one", 1)], self.small, *self.large)
-        talk = Conversation(self)
+        talk = self.talk()
         talk.ask(reading("/s/one/small"), sent(self.small, kind=BINARY))
         (self.folder / f"c-{digest_of(pieces_of(self.small)[1])}").unlink()
         return talk
@@ -207,6 +208,18 @@ class Cached(Stored):
             talk.ask(reading(f"/s/one/{number}"), sent(content, kind=BINARY))
         talk.ask(reading("/s/one/small"), MISSING)
         talk.end()
+
+
+class DamageOfServe(OfServe, Damage):
+    """The same of `serve`."""
+
+
+class UploadedOfServe(OfServe, Uploaded):
+    """The same of `serve`."""
+
+
+class CachedOfServe(OfServe, Cached):
+    """The same of `serve`."""
 
 
 if __name__ == "__main__":

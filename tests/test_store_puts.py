@@ -9,7 +9,8 @@ import subprocess
 import sys
 import unittest
 
-from lib.client import SECONDS, TOP, digest_of, opened, opening, refused, upload, uploaded
+from lib.client import SECONDS, TOP, digest_of, opened, opening, refused, request, sent, upload, uploaded
+from lib.rows import OTHER
 from lib.served import Served
 from lib.stores import PIECE, Conversation, Stored, files_of, is_stored, limited, opening_of, pieces_of, small_file_system
 from lib.worked_runs import showing, stands
@@ -144,6 +145,23 @@ class Failed(Puts):
                     (self.store / name).rmdir()
                     self.converse(command, puts(1, CONTENT))
                     self.assert_stored(CONTENT)
+
+    def test_is_replaced_by_the_next_put_where_it_was_damaged_meanwhile(self):
+        """Its length tells nothing: the file of a piece is written again, whatever it has."""
+        read = request("GET", "/s/one/a"), sent(CONTENT, kind=OTHER)
+        for command in TEMPORARIES:
+            for place, piece in enumerate(pieces_of(CONTENT)):
+                with self.subTest(command, place=place):
+                    self.begin(command)
+                    (self.store / "journal").touch()
+                    table = self.store / f"t-{digest_of(CONTENT)}"
+                    table.mkdir()
+                    self.converse(command, opens(1, CONTENT), fails(1, CONTENT))
+                    (self.store / f"c-{digest_of(piece)}").write_bytes(bytes([piece[0] ^ 4]) + piece[1:])
+                    table.rmdir()
+                    self.converse(command, puts(1, CONTENT), read)
+                    self.assert_stored(CONTENT)
+                    self.converse(command, read)
 
     def test_at_a_limit_of_file_sizes_is_nothing(self):
         for command in TEMPORARIES:

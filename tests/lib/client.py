@@ -213,6 +213,11 @@ class Client:
         out = self.program.stdout.read()
         return self.program.wait(), out, self.program.stderr.read()
 
+    def close(self, waits=True):
+        """The same where nothing more is asked. It is waited for in any case."""
+        self.program.stdin.close()
+        return self.end()
+
     def leave(self):
         self.watch.cancel()
         self.program.kill()
@@ -249,6 +254,5 @@ class Program(unittest.TestCase):
         for number, (asked, wanted) in enumerate(exchanges, 1):
             client.send(asked)
             self.assertEqual(client.receive(len(wanted)), wanted, f"exchange {number}: {asked[:200]}")
-        if b"Connection: close" not in exchanges[-1][1]:
-            client.program.stdin.close()
-        self.assertEqual(client.end(), (0, b"", b""))
+        ended = client.end() if b"Connection: close" in exchanges[-1][1] else client.close()
+        self.assertEqual(ended, (0, b"", b""))

@@ -28,6 +28,8 @@ SHORT = 20
 WHOLE = 1_000
 # How many seconds later than its deadline a connection is gone at the latest: the program looks through its connections once in a second of the deadlines.
 GRACE = 2
+# How often something is tried at most that the machine may hold up.
+TRIES = 3
 # How often it is looked whether something is done, in seconds.
 LOOK = 0.05
 # The longest that the program lets an honest client wait, in seconds, and how many connections one has at most, with those that it closed and the program
@@ -82,6 +84,10 @@ class Crowds(Served):
 
     asked, usual = ASKED, LONGEST
 
+    def setUp(self):
+        # Until there is a program.
+        self.stalls = Stalls("self")
+
     def begin(self, *words, nodes=1, files=FILES, second=SECOND, **how):
         """Serves some files. Then the program has the sockets of its ports alone."""
         soft, hard = resource.getrlimit(resource.RLIMIT_NOFILE)
@@ -116,6 +122,16 @@ class Crowds(Served):
         """Whether the machine held this process or the program up since then for so long that a connection may be late, and is cut for that."""
         return self.stalls.since(mark) > self.seconds(IDLE) / 2
 
+    def in_time(self, work):
+        """Does some work, and again where it failed since the machine stood still meanwhile."""
+        for left in reversed(range(TRIES)):
+            mark = self.stalls.mark()
+            try:
+                return work()
+            except (AssertionError, ConnectionError):
+                if not left or not self.is_excused(mark):
+                    raise
+
     def read(self, target, node=0):
         """The status and the body of a file, over a new connection."""
         mark, client = self.stalls.mark(), self.client(node)
@@ -134,7 +150,7 @@ class Crowds(Served):
         self.assertIsNone(self.started.poll())
         return count - self.alone
 
-    def assert_in_time(self, is_done, seconds, turn=None):
+    def assert_in_time(self, is_done, seconds, turn=None, look=LOOK):
         """Does a turn now and then until something is done, which is so before these seconds have passed, without those that the machine took."""
         mark, began = self.stalls.mark(), time.monotonic()
         undone = looked = began
@@ -144,7 +160,7 @@ class Crowds(Served):
             self.assertLess(undone - began, seconds + PATIENCE + self.stalls.since(mark))
             if turn:
                 turn()
-            time.sleep(LOOK)
+            time.sleep(look)
             looked = time.monotonic()
         self.assertLess(undone - began, seconds + self.stalls.since(mark))
 

@@ -11,14 +11,14 @@ LONGEST_HOLD = 60
 
 
 class HeldFile:
-    """The file. The library, the gate and what was told are in a folder of their own."""
+    """The file. The library, the gate and what was told are in a folder of their own. While the gate is closed, so many calls are held at most, if that is said."""
 
-    def __init__(self, room, file):
+    def __init__(self, room, file, most=None):
         self.library, self.gate, self.told_in = (room / name for name in ("hold_file.so", "gate", "told"))
         subprocess.run(["gcc", "-O1", "-shared", "-fPIC", "-o", self.library, SOURCE, "-ldl"], check=True, timeout=SECONDS)
         self.environment = {
             "LD_PRELOAD": str(self.library), "HELD_FILE": str(file), "GATE_FILE": str(self.gate), "TOLD_FILE": str(self.told_in),
-            "HELD_SECONDS": str(LONGEST_HOLD),
+            "HELD_SECONDS": str(LONGEST_HOLD), **({} if most is None else {"HELD_MOST": str(most)}),
         }
 
     def told(self):

@@ -136,6 +136,10 @@ class Stored(Program):
         self.folder = folder
         self.words = ("solo", "--store", str(folder))
 
+    def talk(self, **how):
+        """A conversation with a program over the store."""
+        return Conversation(self, **how)
+
     def write(self, entries, *contents):
         """Writes the store anew."""
         if self.folder.exists():
@@ -172,9 +176,11 @@ class Stored(Program):
 class Conversation:
     """A program over a store that is asked one request after the other."""
 
+    clients = Client
+
     def __init__(self, test, **how):
         self.test = test
-        self.client = Client(test, **how)
+        self.client = self.clients(test, **how)
 
     def answer_to(self, asked):
         """The reply, or as much of it as comes before the program ends."""
@@ -193,9 +199,12 @@ class Conversation:
         for exchange in exchanges:
             self.ask(*exchange)
 
+    def close(self, waits=False):
+        """What the program ends with if nothing more is asked: its status, its last replies and words."""
+        return self.client.close(waits)
+
     def end(self):
-        self.client.program.stdin.close()
-        self.test.assertEqual(self.client.end(), (0, b"", b""))
+        self.test.assertEqual(self.close(), (0, b"", b""))
 
 
 def limited(size):
