@@ -142,10 +142,13 @@ class Nginx:
         stack.callback(self.started.terminate)
 
     def wait_for(self, port):
+        """Waits until it listens. It tries ports that are taken for two seconds, with the others open."""
         for _ in range(200):
-            with contextlib.suppress(OSError), socket.create_connection((HOST, port), timeout=SECONDS):
-                return self
             time.sleep(0.05)
+            with contextlib.suppress(OSError), socket.create_connection((HOST, port), timeout=SECONDS):
+                said = (self.room / "error.log").read_text()
+                assert self.started.poll() is None and "[emerg]" not in said, said
+                return self
         raise AssertionError((self.room / "error.log").read_text())
 
     def logged(self):
@@ -187,9 +190,9 @@ class Visitor(http.client.HTTPConnection):
 
 
 class Stand:
-    """nginx before a host with two nodes, on loopback. `edited` changes the text of nginx.conf before it is used."""
+    """nginx before a host with two nodes, on loopback. `edited` changes the text of nginx.conf before it is used; it may listen on `spare_port`."""
 
-    def __init__(self, stack, edited=lambda text: text, between=None):
+    def __init__(self, stack, edited=lambda text, stand: text, between=None):
         self.stack = stack
         self.room = pathlib.Path(stack.enter_context(tempfile.TemporaryDirectory(prefix="filehost-operate-"))).resolve()
         self.etc = self.room / "etc"
@@ -198,11 +201,11 @@ class Stand:
         subprocess.run(["htpasswd", "-B", "-b", "-c", self.etc / "users", USER, PASSWORD], check=True, capture_output=True, timeout=SECONDS)
         self.host = Host(stack, self.room).start()
         first = free_ports()
-        self.port, self.plain_port, self.types_port = first, first + 1, first + 2
+        self.port, self.plain_port, self.types_port, self.spare_port = range(first, first + 4)
         # Where nginx finds the nodes: there, or something in between.
         nodes = between(self.host) if between else (self.host.port, self.host.port + 1)
         self.text = self.configuration(nodes)
-        self.nginx = Nginx(stack, self.room / "nginx", edited(self.text)).wait_for(self.port)
+        self.nginx = Nginx(stack, self.room / "nginx", edited(self.text, self)).wait_for(self.port)
 
     def configuration(self, nodes):
         text = re.sub(r"(?m)^ *listen \[::\].*\n", "", (TOP / "operate/nginx.conf").read_text())
