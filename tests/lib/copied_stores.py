@@ -72,11 +72,27 @@ class CopiedStores(Served):
         return started, time.monotonic() - began
 
 
+class PacedClients(ManyClients):
+    """They go on only while they may, so that the store doesn't grow while a copy is looked at."""
+
+    def __init__(self, client_of):
+        super().__init__(client_of)
+        self.may = threading.Event()
+
+    def publish(self, client, content):
+        self.may.wait()
+        return super().publish(client, content)
+
+    def look(self, client, connection):
+        self.may.wait()
+        super().look(client, connection)
+
+
 class Load:
     """Deployers, who also undo, and readers of a host, until they are ended. A kill of the host ends them too."""
 
     def __init__(self, test):
-        self.clients = ManyClients(test.client)
+        self.clients = PacedClients(test.client)
 
     def begin(self, seed):
         self.thread = threading.Thread(target=self.clients.go, args=(SECONDS, seed))
@@ -84,6 +100,7 @@ class Load:
 
     def end(self):
         self.clients.ended.set()
+        self.clients.may.set()
         self.thread.join()
 
     def told(self):
@@ -105,7 +122,8 @@ class Rounds:
         host, _ = self.test.serve_store(self.test.store)
         load.begin(0)
         for number in range(count):
-            time.sleep(0.02)
+            load.clients.may.set()
+            time.sleep(0.05)
             self.copy_once(load, is_killed=number % 4 != 3)
             if number % 10 == 9 or number == count - 1:
                 self.test.end(host)
@@ -127,6 +145,7 @@ class Rounds:
                 time.sleep(self.random.random() * self.longest * 1.1)
                 os.killpg(started.pid, 9)
             status, errors = started.wait(SECONDS), started.stderr.read()
+        load.clients.may.clear()
         if status == 0:
             self.longest, self.wanted, self.copied = time.monotonic() - began, told, self.copied + 1
         else:
