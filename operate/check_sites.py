@@ -84,12 +84,14 @@ class Sites(unittest.TestCase):
 
     def test_nothing_is_changed_at_the_public_names(self):
         before = len(self.changes())
+        read = ("/s/www/small.txt", "/a/www/first/small.txt", f"/d/www/{self.number}/small.txt")
         for name in (PUBLIC, OWN):
             for method in ("PUT", "POST", "DELETE", "PATCH", "OPTIONS", "TRACE", "put"):
-                for target in ("/s/www/small.txt", "/", "/api/v1/sites/www/files/small.txt", f"/api/v1/deploys/{self.number}", "/api/v1/sites/www/undo"):
+                for target in (*read, "/", "/api/v1/sites/www/files/small.txt", f"/api/v1/deploys/{self.number}", "/api/v1/sites/www/undo"):
                     with self.subTest(f"{method} {name}{target}"):
+                        status = self.stand.visitor(name).ask(method, target).status
                         # nginx itself refuses TRACE, and a method in small letters.
-                        self.assertIn(self.stand.visitor(name).ask(method, target).status, (400, 403, 404, 405))
+                        self.assertIn(status, (403,) if target in read and method.isupper() and method != "TRACE" else (400, 403, 404, 405))
         self.assertEqual(len(self.changes()), before)
 
     def changes(self):
