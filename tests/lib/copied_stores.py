@@ -119,6 +119,13 @@ class Rounds:
 
     def go(self, count):
         load = Load(self.test)
+        try:
+            self.go_under(load, count)
+        finally:
+            # Clients that go on would hold the test, whatever it has found.
+            load.end()
+
+    def go_under(self, load, count):
         host, _ = self.test.serve_store(self.test.store)
         load.begin(0)
         for number in range(count):
@@ -131,8 +138,6 @@ class Rounds:
                 self.switch()
                 host, _ = self.test.serve_store(self.test.store)
                 load.begin(number)
-        load.end()
-        return load
 
     def copy_once(self, load, is_killed):
         """Copies, and looks whether the copy opens and has what it has to."""
