@@ -9,7 +9,7 @@ import unittest
 
 from lib.repository import TOP, crates
 
-FOLDERS = ("tests", "tests/lib", "scripts", "bench", "examples", "client/filehost_client")
+FOLDERS = ("tests", "tests/lib", "scripts", "bench", "operate", "examples", "client/filehost_client")
 # The crates in which some lines of clauses are still over 120 columns.
 WIDE = (
     "byte_view", "chunk_reads", "blob_store", "http_wire", "range_reply", "persistent_collections", "site_state", "site_change", "touch_index", "change_undo",

@@ -17,13 +17,13 @@ from urllib.parse import unquote
 from lib.client import LARGEST_FILE, REQUESTS, content_length, cut_after
 from lib.sandbox import TOP, Sandbox
 
-# Scripts outside of scripts/ and bench/.
+# Scripts outside of scripts/, bench/ and operate/.
 OTHERS = ("site", "test", "tests/run", "examples/listen", "examples/make-deploy")
 OF_CRATES = ("scripts/draw-bugs --seed 1", "scripts/fail-allocations", "scripts/slow-proofs", "scripts/try-wrong-bodies", "scripts/wrong-bodies")
 
 
 def scripts():
-    files = (file for folder in ("scripts", "bench") for file in (TOP / folder).iterdir() if file.is_file() and os.access(file, os.X_OK))
+    files = (file for folder in ("scripts", "bench", "operate") for file in (TOP / folder).iterdir() if file.is_file() and os.access(file, os.X_OK))
     return [*OTHERS, *sorted(str(file.relative_to(TOP)) for file in files)]
 
 
@@ -68,7 +68,7 @@ class Words(unittest.TestCase):
 
     def test_those_without_words_take_none(self):
         measuring = ("bench/compare", "bench/endure", "bench/group", "bench/journal", "bench/run", "bench/serve", "bench/site", "bench/store")
-        for script in ("test", "scripts/lines", "scripts/pack-site", "bench/install-groupcache", "bench/install-servers", *measuring):
+        for script in ("test", "scripts/lines", "scripts/pack-site", "bench/install-groupcache", "bench/install-servers", "operate/install", *measuring):
             with self.subTest(script):
                 self.assertIn("no_word", self.assert_refuses(script, "no_word"))
 
