@@ -31,7 +31,7 @@ class Console(unittest.TestCase):
         first = self.stand.deploy({"/index.html": b"<h1>first</h1>", "/about.html": b"about"}, "www", "deploy", "--draft")["deploy"]
         second = self.stand.deploy({"/index.html": b"<h1>second</h1>", "/about.html": b"about"}, "www", "deploy", "--draft")["deploy"]
         self.drafts = first, second
-        self.page = Browser(self.stack, self.stand.room)
+        self.page = Browser(self.stack)
         self.page.size(1000, 800)
 
     def act(self, number, words):
