@@ -5,7 +5,9 @@ import contextlib
 import json
 import os
 import select
+import signal
 import subprocess
+import tempfile
 import time
 
 from stand import PASSWORD, SECONDS, USER, find
@@ -14,8 +16,9 @@ from stand import PASSWORD, SECONDS, USER, find
 class Browser:
     """A browser with one page. Every name is on this machine, whatever the certificate."""
 
-    def __init__(self, stack, room):
-        profile = room / "browser"
+    def __init__(self, stack):
+        # Its processes may still write there for a moment after it has ended.
+        profile = stack.enter_context(tempfile.TemporaryDirectory(prefix="filehost-browser-", ignore_cleanup_errors=True))
         to_browser, from_us = os.pipe()
         from_browser, to_us = os.pipe()
         words = [
@@ -24,7 +27,8 @@ class Browser:
         ]
         # The browser reads commands from the descriptor 3, and writes to 4.
         shell = ["bash", "-c", f'exec "$@" 3<&{to_browser} 4>&{to_us}', "browser", *words]
-        self.started = subprocess.Popen(shell, pass_fds=(to_browser, to_us), stdin=subprocess.DEVNULL, stdout=subprocess.DEVNULL, stderr=subprocess.DEVNULL)
+        self.started = subprocess.Popen(shell, pass_fds=(to_browser, to_us), stdin=subprocess.DEVNULL, stdout=subprocess.DEVNULL, stderr=subprocess.DEVNULL,
+                                        start_new_session=True)
         os.close(to_browser)
         os.close(to_us)
         self.out, self.come, self.rest, self.count = from_us, from_browser, b"", 0
@@ -37,7 +41,9 @@ class Browser:
         self.call("Fetch.enable", handleAuthRequests=True)
 
     def end(self):
-        self.started.kill()
+        """Ends it with all that it has started."""
+        with contextlib.suppress(ProcessLookupError):
+            os.killpg(self.started.pid, signal.SIGKILL)
         self.started.wait()
         for one in (self.out, self.come):
             with contextlib.suppress(OSError):
