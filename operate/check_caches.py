@@ -15,7 +15,7 @@ from lib.served import HOST, free_ports
 LOGIN = base64.b64encode(f"{USER}:{PASSWORD}".encode()).decode()
 PATHS = ("/index.html", "/style.css", "/script.js", "/one.html", "/two.html")
 # For how long nginx-cache.conf keeps a page, and how much longer the slowest machine may take.
-KEPT, SLACK = 2, 1.5
+KEPT, SLACK = 2, 2.5
 LARGE = bytes(range(256)) * 12_000
 
 

@@ -67,8 +67,9 @@ class ThroughNginx(HiddenRequests, unittest.TestCase):
             self.compare(asked, logged, whole)
 
     def taken(self, logged):
-        """The requests that nginx logs as handed on. Of one that it couldn't read the line may have anything between the quotes."""
-        lines = self.stand.nginx.log.read_text().splitlines()[logged:] if self.stand.nginx.log.exists() else []
+        """The requests that nginx logs as handed on. Of one that it couldn't read the line may have anything between the quotes. A line that is still being written
+        doesn't count."""
+        lines = self.stand.nginx.log.read_text().rpartition("\n")[0].split("\n")[logged:] if self.stand.nginx.log.exists() else []
         return [re.search(r'"(.*) HTTP/1\.[01]" ', line)[1] for line in lines if not line.rpartition("host=")[2].startswith("-")]
 
     def compare(self, asked, logged, whole):
