@@ -1,9 +1,11 @@
-"""A store whose files fail: each call of the system on them is refused in turn, and what was acknowledged is there afterwards.
+"""A store whose files fail: each call of the system on them is refused in turn, or the program is killed at it, and what was acknowledged is there
+afterwards.
 
 A library in C is before these calls (refuse_device.c). With `solo` and with `serve`.
 """
 
 import os
+import signal
 import subprocess
 import unittest
 
@@ -137,6 +139,33 @@ class Failures(Stored):
                     self.assert_tidy(possible, end)
                     self.assert_found(possible)
 
+    def converse_until_killed(self, model, requests, place, is_late):
+        """Asks a program that is killed at this call. Returns what it acknowledged, and what was in hand: nothing, if it was killed as it ended."""
+        talk, in_hand = self.talk(env=self.environment(place, is_late) | {"REFUSED_KILLS": "1"}), None
+        for asked in requests:
+            done = model.copy()
+            wanted = done.answer(asked)
+            if not (got := talk.answer_to(as_bytes(asked))):
+                in_hand = asked
+                break
+            self.assertEqual(got, wanted)
+            model = done
+        else:
+            talk.close(waits=True)
+        self.assertEqual(talk.client.program.wait(SECONDS), -signal.SIGKILL)
+        return model, in_hand
+
+    def assert_outlives_kills(self, prepare, requests):
+        """A kill at each of the calls of such a run, before it or after it, leaves what was acknowledged, and at most what was in hand."""
+        self.converse(prepare(), requests, 0, False)
+        calls = int(self.told_in.read_text())
+        self.assertGreater(calls, 20)
+        for is_late in (False, True):
+            for place in range(1, calls + 1):
+                with self.subTest(place=place, is_late=is_late):
+                    found = found_in(self, self.folder, *self.converse_until_killed(prepare(), requests, place, is_late))
+                    self.assert_answers_as(found, looks(found))
+
     def prepare_nothing(self):
         self.write([])
         (self.folder / "journal").unlink()
@@ -153,17 +182,27 @@ class Failures(Stored):
         (self.folder / self.temporary).write_bytes(b"the front of a piece")
         return model
 
-    def test_no_failure_in_a_new_store_loses_what_was_acknowledged(self):
-        self.assert_swept(self.prepare_nothing, self.requests())
-
-    def test_no_failure_in_a_store_that_is_opened_again_loses_what_was_acknowledged(self):
-        self.assert_swept(self.prepare_store, [
+    def more_requests(self):
+        """What is asked of a store with two deploys."""
+        return [
             Request("GET", "/d/two/5/b"), self.opening("one", draft=True), Request("POST", "/api/v1/sites/one/deploys/8/restore"),
             Request("GET", "/s/one/b"),
             Request("POST", "/api/v1/sites/two/deploys", body=in_json(files={"/c": digest_of(self.third)})),
             Request("PUT", "/api/v1/deploys/7/files/c", body=self.third),
             Request("GET", "/s/two/c"),
-        ])
+        ]
+
+    def test_no_failure_in_a_new_store_loses_what_was_acknowledged(self):
+        self.assert_swept(self.prepare_nothing, self.requests())
+
+    def test_no_failure_in_a_store_that_is_opened_again_loses_what_was_acknowledged(self):
+        self.assert_swept(self.prepare_store, self.more_requests())
+
+    def test_no_kill_in_a_new_store_loses_what_was_acknowledged(self):
+        self.assert_outlives_kills(self.prepare_nothing, self.requests())
+
+    def test_no_kill_in_a_store_that_is_opened_again_loses_what_was_acknowledged(self):
+        self.assert_outlives_kills(self.prepare_store, self.more_requests())
 
 
 class FailuresOfServe(OfServe, Failures):

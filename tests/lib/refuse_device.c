@@ -1,11 +1,12 @@
 /* Is before the C library's calls on files in a program, and lets one of those fail that are on the files of the folder REFUSED_FOLDER, or on the
  * folder: that at the place REFUSED_PLACE, counted from 1. It fails before anything is done, or where REFUSED_LATE is 1 after all is done; a
- * write, before its second half. At the end it writes how many there were to the file CALLS_FILE, if that is named. A program with threads ends by
- * _exit, which calls no destructor. */
+ * write, before its second half. Where REFUSED_KILLS is 1 the program is killed in place of the failure. At the end it writes how many there were to
+ * the file CALLS_FILE, if that is named. A program with threads ends by _exit, which calls no destructor. */
 #define _GNU_SOURCE
 #include <dlfcn.h>
 #include <errno.h>
 #include <fcntl.h>
+#include <signal.h>
 #include <stdarg.h>
 #include <stdio.h>
 #include <stdlib.h>
@@ -19,15 +20,19 @@
 
 static unsigned long count;
 
-static int is_late(void) {
-    const char *text = getenv("REFUSED_LATE");
+static int is_set(const char *name) {
+    const char *text = getenv(name);
     return text && *text == '1';
+}
+
+static int is_late(void) {
+    return is_set("REFUSED_LATE");
 }
 
 static int is_refused_at(const char *path) {
     const char *folder = getenv("REFUSED_FOLDER"), *place = getenv("REFUSED_PLACE");
     if (!folder || !place || strncmp(path, folder, strlen(folder)) != 0) return 0;
-    return ++count == strtoul(place, NULL, 10);
+    return __atomic_add_fetch(&count, 1, __ATOMIC_RELAXED) == strtoul(place, NULL, 10);
 }
 
 static int is_refused(int fd) {
@@ -40,6 +45,7 @@ static int is_refused(int fd) {
 }
 
 static int fail(void) {
+    if (is_set("REFUSED_KILLS")) kill(getpid(), SIGKILL);
     errno = EIO;
     return -1;
 }

@@ -1,5 +1,5 @@
-/* Is before the C library's calls that change, sync or rename a file in a program, and tells each of them, in order, in a line of the file
- * TRACE_FILE: its name, the path of the file, and what else it was given. */
+/* Is before the C library's calls that change, sync or rename a file in a program or send to a socket, and tells each of them, in order, in a line of
+ * the file TRACE_FILE: its name, the path of the file or the word `socket`, and what else it was given. A line is told before its call is made. */
 #define _GNU_SOURCE
 #include <dlfcn.h>
 #include <fcntl.h>
@@ -7,6 +7,7 @@
 #include <stdio.h>
 #include <stdlib.h>
 #include <string.h>
+#include <sys/socket.h>
 #include <sys/stat.h>
 #include <sys/uio.h>
 #include <unistd.h>
@@ -18,13 +19,20 @@ static FILE *told_in(void) {
     return file;
 }
 
-/* Begins a line, unless it would be of the trace itself or of a file that has no path. */
+/* The file, for one line: no other thread has one in the meantime. */
+static FILE *take(void) {
+    FILE *file = told_in();
+    if (file) flockfile(file);
+    return file;
+}
+
+/* Begins a line, unless it would be of a file that has no path. */
 static FILE *begin(const char *call, int fd) {
     char link[64], path[4096];
-    FILE *file = told_in();
     snprintf(link, sizeof link, "/proc/self/fd/%d", fd);
     ssize_t size = readlink(link, path, sizeof path - 1);
-    if (!file || size < 0 || path[0] != '/') return NULL;
+    FILE *file = size < 0 || path[0] != '/' ? NULL : take();
+    if (!file) return NULL;
     path[size] = 0;
     fprintf(file, "%s %s", call, path);
     return file;
@@ -34,6 +42,7 @@ static void end(FILE *file) {
     if (!file) return;
     fputc('\n', file);
     fflush(file);
+    funlockfile(file);
 }
 
 static void tell(const char *call, int fd) {
@@ -102,8 +111,24 @@ int fdatasync(int fd) {
 }
 
 int rename(const char *from, const char *to) {
-    FILE *file = told_in();
+    FILE *file = take();
     if (file) fprintf(file, "rename %s %s", from, to);
     end(file);
     return NEXT(rename)(from, to);
+}
+
+static void tell_sent(void) {
+    FILE *file = take();
+    if (file) fprintf(file, "send socket");
+    end(file);
+}
+
+ssize_t send(int fd, const void *bytes, size_t size, int flags) {
+    tell_sent();
+    return NEXT(send)(fd, bytes, size, flags);
+}
+
+ssize_t sendmsg(int fd, const struct msghdr *message, int flags) {
+    tell_sent();
+    return NEXT(sendmsg)(fd, message, flags);
 }
